@@ -1,0 +1,5 @@
+pub mod Bytes
+pub mod Ceilings
+pub mod Spans
+pub mod Pieces
+pub mod Examples
