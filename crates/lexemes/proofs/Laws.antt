@@ -12,10 +12,9 @@ use lib.Seq.{drop-cons, take-all}
 use Rattle.base.specs.Choice.{pick, both, either}
 use Rattle.base.specs.Lists.{same}
 use Rattle.lexemes.specs.Bytes.{isBlank, isLetter, isDigit, isWord, quote, slash, star}
-use Rattle.lexemes.specs.Spans.{inRun, span, decimalFrom, find, oneMore, closing, moveOf, further, moved, quoted}
-use Rattle.tokens.specs.Kinds.{keywords}
+use Rattle.lexemes.specs.Spans.{inRun, span, decimalFrom, oneMore, closing, moveOf, further, moved, quoted}
 use native.Mathlib.Decide.{ℕ-discrete}
-use Rattle.lexemes.specs.Pieces.{orElse, keywordOf, wordOf, numberOf, stringOf, commentOf, markOf, pieceOf}
+use Rattle.lexemes.specs.Pieces.{wordOf, numberOf, stringOf, commentOf, markOf, pieceOf}
 use Rattle.lexemes.specs.declared.Piece.{Piece}
 use Rattle.lexemes.specs.declared.Piece.the-variants.{Skip}
 use Rattle.base.proofs.Tests.{both-true}
@@ -84,31 +83,6 @@ module _ (most : ℕ) where
   pub cut-end : (s : List ℕ) (i v : ℕ) → length s ≤ i → v ≤ most → v ≡ min most (decimalFrom v (drop i s))
   unfolding decimalFrom
   cut-end s i v h k = rw (drop-of-length-le s h) (omega arith)
-
--- ---- a table of spellings
-pub find-here : (w x : List ℕ) (xs : List (List ℕ)) (k : ℕ) → same w x ≡ true → find w (x ∷ xs) k ≡ k
-unfolding find
-find-here w x xs k e = rw e
-
-pub find-there : (w x : List ℕ) (xs : List (List ℕ)) (k : ℕ) → same w x ≡ false → find w (x ∷ xs) k ≡ find w xs (k + 1)
-unfolding find
-find-there w x xs k e = rw e
-
-pub find-append : (w : List ℕ) (xs ys : List (List ℕ)) (k : ℕ) → 0 < k → find w (xs ++ ys) k ≡ orElse (find w xs k) (find w ys (k + length xs))
-unfolding find
-find-append w [] ys k h = ap (find w ys) (omega arith)
-find-append w (x ∷ xs) ys k h = go (same w x) (find-append w xs ys (k + 1) (omega arith))
-  where
-    here : orElse k (find w ys (k + suc (length xs))) ≡ k
-    here = rw (ne-eqb k 0 (omega arith))
-
-    shift : find w ys (k + 1 + length xs) ≡ find w ys (k + suc (length xs))
-    shift = ap (find w ys) (omega arith)
-
-    go : (t : Bool) → find w (xs ++ ys) (k + 1) ≡ orElse (find w xs (k + 1)) (find w ys (k + 1 + length xs)) →
-        pick t k (find w (xs ++ ys) (k + 1)) ≡ orElse (pick t k (find w xs (k + 1))) (find w ys (k + suc (length xs)))
-    go true e = sym here
-    go false e = e ∙ ap (orElse (find w xs (k + 1))) shift
 
 -- ---- a comment
 abbrev pub later : ℕ → Close → Close
@@ -219,36 +193,6 @@ module _ (x : Quoted) (s : List ℕ) (n : ℕ) (e : x ≡ quoted false s) where
   pub spoiled-within : x ≡ Spoiled n → n ≤ length s
   unfolding reach
   spoiled-within q = rw (← e, q) at (quoted-le s false)
-
--- ---- keywords, table by table
-pub keyword-parts : (w : List ℕ) → keywordOf w ≡
-    orElse (find w (take 8 (drop 0 keywords)) 38) (orElse (find w (take 8 (drop 8 keywords)) 46) (orElse (find w (take 8 (drop 16 keywords)) 54) (find w (take 8 (drop 24 keywords)) 62)))
-keyword-parts w =
-    find-append w (take 8 keywords) (drop 8 keywords) 38 (omega arith)
-    ∙ ap (orElse (find w (take 8 keywords) 38))
-    (find-append w (take 8 (drop 8 keywords)) (drop 16 keywords) 46 (omega arith)
-    ∙ ap (orElse (find w (take 8 (drop 8 keywords)) 46)) (find-append w (take 8 (drop 16 keywords)) (drop 24 keywords) 54 (omega arith)))
-
--- ---- marks of two bytes, as one number
-pub two-split : (a b x y : ℕ) → b < 256 → y < 256 → a * 256 + b ≡ x * 256 + y → (a ≡ x) × (b ≡ y)
-two-split a b x y h k e = omega arith
-
-pub two-one : (a b x : ℕ) → same (a ∷ b ∷ []) (x ∷ []) ≡ false
-unfolding same
-two-one a b x = go (eqb a x)
-  where
-    go : (t : Bool) → both t false ≡ false
-    go true = refl
-    go false = refl
-
-pub two-differ : (a b x y : ℕ) → (a * 256 + b ≡ x * 256 + y → ⊥) → same (a ∷ b ∷ []) (x ∷ y ∷ []) ≡ false
-unfolding same
-two-differ a b x y h = go (ℕ-discrete a x) (ℕ-discrete b y)
-  where
-    go : Dec (a ≡ x) → Dec (b ≡ y) → both (eqb a x) (both (eqb b y) true) ≡ false
-    go (yes p) (yes q) = absurd (h (rw (p, q)))
-    go (yes p) (no q) = rw (eq-eqb a x p, ne-eqb b y q)
-    go (no p) d = rw (ne-eqb a x p)
 
 -- ---- the piece at the front, by places of the text
 abbrev pub frontOf : ℕ → List ℕ → Piece

@@ -5,7 +5,8 @@ use Prim.Native.Nat.{ℕ}
 use lib.ListN.{replicate}
 use Rattle.base.specs.Lists.{same}
 use Rattle.tokens.specs.Kinds.{bytes}
-use Rattle.lexemes.specs.Spans.{span, decimalFrom, find, closing, quoted}
+use Rattle.lexemes.specs.Spans.{span, decimalFrom, closing, quoted}
+use Rattle.spellings.specs.Find.{find}
 use Rattle.lexemes.specs.Pieces.{pieceOf}
 use Rattle.lexemes.specs.declared.Piece.{Piece}
 use Rattle.lexemes.specs.declared.Piece.the-variants.{Skip, Take, Stop}

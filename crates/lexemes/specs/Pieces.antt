@@ -6,26 +6,17 @@ use Prim.Native.Nat.{ℕ, _+_, _-_}
 use lib.Dec.{eqb, ltb}
 use lib.ListN.{length, getD, take, drop}
 use Rattle.base.specs.Choice.{pick, both}
-use Rattle.tokens.specs.Kinds.{marks, keywords, name-kind, number-kind, string-kind}
+use Rattle.tokens.specs.Kinds.{marks, number-kind, string-kind}
+use Rattle.spellings.specs.Find.{find, wordKind}
 use Rattle.lexemes.specs.Bytes.{isBlank, isLetter, isDigit, isWord, quote, slash, star}
 use Rattle.lexemes.specs.Ceilings.{word-most, string-most, number-most}
-use Rattle.lexemes.specs.Spans.{span, decimal, find, closing, quoted}
+use Rattle.lexemes.specs.Spans.{span, decimal, closing, quoted}
 use Rattle.lexemes.specs.declared.Piece.{Piece}
 use Rattle.lexemes.specs.declared.Piece.the-variants.{Skip, Take, Stop}
 use Rattle.lexemes.specs.declared.Close.{Close}
 use Rattle.lexemes.specs.declared.Close.the-variants.{After, Never}
 use Rattle.lexemes.specs.declared.Quoted.{Quoted}
 use Rattle.lexemes.specs.declared.Quoted.the-variants.{Closed, Spoiled, Unclosed}
-
--- "Keywords .. Each is compared byte for byte with the fixed spelling": a word's kind
-abbrev pub keywordOf : List ℕ → ℕ
-keywordOf w = find w keywords 38
-
-abbrev pub orElse : ℕ → ℕ → ℕ
-orElse k other = pick (eqb k 0) other k
-
-abbrev pub wordKind : List ℕ → ℕ
-wordKind w = orElse (keywordOf w) name-kind
 
 -- "Words start with a letter or `_`, then letters, digits, `_`"; "word 32 bytes"
 abbrev pub wordOf : List ℕ → ℕ → Piece

@@ -4,7 +4,6 @@ use mathlib.Core.List.{List, [], _∷_}
 use Prim.Native.Nat.{ℕ, suc, _+_, _-_, _*_}
 use lib.Dec.{eqb}
 use Rattle.base.specs.Choice.{pick, both, either}
-use Rattle.base.specs.Lists.{same}
 use Rattle.lexemes.specs.Bytes.{isDigit, isLetter, isPlain, isEscape, quote, backslash, slash, star}
 use Rattle.lexemes.specs.declared.Close.{Close}
 use Rattle.lexemes.specs.declared.Close.the-variants.{After, Never}
@@ -29,11 +28,6 @@ decimalFrom v (b ∷ s) = decimalFrom (v * 10 + (b - 48)) s
 
 abbrev pub decimal : List ℕ → ℕ
 decimal s = decimalFrom 0 s
-
--- the place of a spelling in a table that counts from k; 0 where it is not there
-unfoldable pub find : List ℕ → List (List ℕ) → ℕ → ℕ
-find w [] k = 0
-find w (x ∷ xs) k = pick (same w x) k (find w xs (k + 1))
 
 -- "Comments run from `/*` to the next `*/` and hold any bytes": how many bytes through the next `*/`; `starred` if the byte before is a star
 abbrev pub oneMore : Close → Close

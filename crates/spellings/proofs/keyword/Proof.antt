@@ -1,9 +1,9 @@
 use borrow.Author.Tests.{ne-eqb, eq-eqb}
-use Rattle.lexemes.proofs.Laws as laws
+use Rattle.spellings.proofs.Laws as laws
 use denote.Ref.{now}
 use borrow.Author.Needs.{needs}
-use Rattle.lexemes.proofs.keyword.Statement.{statement}
-use Rattle.lexemes.proofs.keyword.Tie as tie
+use Rattle.spellings.proofs.keyword.Statement.{statement}
+use Rattle.spellings.proofs.keyword.Tie as tie
 
 returns : tie.Need-returns
 returns c = rw (laws.keyword-parts (now (c .before .before .before .args .w)), ← c .before .type-kind .ensures, ne-eqb (c .before .type-kind .result) 0 (c .if1 .taken))

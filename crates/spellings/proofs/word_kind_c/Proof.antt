@@ -1,8 +1,8 @@
-use Rattle.lexemes.specs.Spans.{find}
+use Rattle.spellings.specs.Find.{find}
 use Rattle.base.specs.Lists.{same}
 use borrow.Author.Needs.{needs}
-use Rattle.lexemes.proofs.word_kind_a.Statement.{statement}
-use Rattle.lexemes.proofs.word_kind_a.Tie as tie
+use Rattle.spellings.proofs.word_kind_c.Statement.{statement}
+use Rattle.spellings.proofs.word_kind_c.Tie as tie
 
 returns : tie.Need-returns
 unfolding find
@@ -40,8 +40,8 @@ returns-9 : tie.Need-returns-9
 unfolding find
 returns-9 c = rw (← c .before .before .before .before .before .before .before .before .before .before .before .before .before .before .before .before .before .before .before .before .before .before .same .ensures, c .before .before .before .before .before .before .before .before .before .before .before .before .before .before .before .before .before .before .before .before .before .if1 .left, ← c .before .before .before .before .before .before .before .before .before .before .before .before .before .before .before .before .before .before .before .same2 .ensures, c .before .before .before .before .before .before .before .before .before .before .before .before .before .before .before .before .before .before .if2 .left, ← c .before .before .before .before .before .before .before .before .before .before .before .before .before .before .before .before .same3 .ensures, c .before .before .before .before .before .before .before .before .before .before .before .before .before .before .before .if3 .left, ← c .before .before .before .before .before .before .before .before .before .before .before .before .before .same4 .ensures, c .before .before .before .before .before .before .before .before .before .before .before .before .if4 .left, ← c .before .before .before .before .before .before .before .before .before .before .same5 .ensures, c .before .before .before .before .before .before .before .before .before .if5 .left, ← c .before .before .before .before .before .before .before .same6 .ensures, c .before .before .before .before .before .before .if6 .left, ← c .before .before .before .before .same7 .ensures, c .before .before .before .if7 .left, ← c .before .same8 .ensures, c .if8 .left)
 
-pub word-kind-a-spec : {M : Type 1} → statement M
-word-kind-a-spec =
+pub word-kind-c-spec : {M : Type 1} → statement M
+word-kind-c-spec =
     tie.close
     (tie.spec
     (λ c. search needs)

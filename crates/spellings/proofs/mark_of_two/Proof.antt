@@ -1,10 +1,10 @@
 use Rattle.base.specs.Lists.{same}
-use Rattle.lexemes.specs.Spans.{find}
-use Rattle.lexemes.proofs.Laws as laws
+use Rattle.spellings.specs.Find.{find}
+use Rattle.spellings.proofs.Laws as laws
 use native.Mathlib.Omega.{arith}
 use borrow.Author.Needs.{needs}
-use Rattle.lexemes.proofs.mark_of_two.Statement.{statement}
-use Rattle.lexemes.proofs.mark_of_two.Tie as tie
+use Rattle.spellings.proofs.mark_of_two.Statement.{statement}
+use Rattle.spellings.proofs.mark_of_two.Tie as tie
 
 returns : tie.Need-returns
 unfolding find same

@@ -1,8 +1,8 @@
 use Rattle.base.specs.Lists.{same}
-use Rattle.lexemes.specs.Spans.{find}
+use Rattle.spellings.specs.Find.{find}
 use borrow.Author.Tests.{ne-eqb}
-use Rattle.lexemes.proofs.mark_of_one.Statement.{statement}
-use Rattle.lexemes.proofs.mark_of_one.Tie as tie
+use Rattle.spellings.proofs.mark_of_one.Statement.{statement}
+use Rattle.spellings.proofs.mark_of_one.Tie as tie
 
 returns : tie.Need-returns
 unfolding find same
