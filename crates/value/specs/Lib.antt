@@ -1,0 +1,5 @@
+pub mod Bits
+pub mod Faults
+pub mod Operators
+pub mod Types
+pub mod Examples
