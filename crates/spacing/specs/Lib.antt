@@ -1,0 +1,4 @@
+pub mod Spelled
+pub mod Layout
+pub mod Writing
+pub mod Examples

@@ -1,0 +1,1 @@
+// Tokens written out, and the one-space rule: definitions in specs/, theorems in proofs/. The writer that follows them is in another crate.
