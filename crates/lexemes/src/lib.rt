@@ -130,6 +130,13 @@ fn run(s: &[u8], letters: bool) -> usize
     i
 }
 
+// How many digits stand at the front.
+pub fn digits(s: &[u8]) -> usize
+    ensures { λ r. ⌜ r ≡ span isDigit (now (s .entry)) ⌝ }
+{
+    run(s, false)
+}
+
 fn digit(b: u8) -> u64
     ensures { λ r. ⌜ r ≡ b - 48 ⌝ }
 {
@@ -146,7 +153,7 @@ fn lesser(a: u64, b: u64) -> u64
 }
 
 // The number that these digits write; every number past the most counts as one past it.
-fn value(s: &[u8]) -> u64
+pub fn value(s: &[u8]) -> u64
     ensures { λ r. ⌜ r ≡ min (number-most + 1) (decimal (now (s .entry))) ⌝ }
 {
     let mut v: u64 = 0;
@@ -323,7 +330,7 @@ pub fn front(s: &[u8]) -> Piece
         return word(s, run(s, true));
     }
     if is_digit(b) {
-        return number(s, run(s, false));
+        return number(s, digits(s));
     }
     if b == b'"' {
         return string(&s[1..]);

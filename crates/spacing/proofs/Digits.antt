@@ -92,7 +92,7 @@ pub digits-spelled : (n : ℕ) → n ≤ number-most → Spelled 71 (digitsOf n)
 digits-spelled n h = number-spelled (digitsOf n) (ten n h .are) (ten n h .some (omega arith)) (rw (digits-write n h) h)
 
 -- digits hold less than 10 to their count
-decimal-below : (x : List ℕ) (v : ℕ) → all isDigit x ≡ true → suc (decimalFrom v x) ≤ suc v * 10 ^ length x
+pub decimal-below : (x : List ℕ) (v : ℕ) → all isDigit x ≡ true → suc (decimalFrom v x) ≤ suc v * 10 ^ length x
 unfolding all decimalFrom
 decimal-below [] v a = omega arith
 decimal-below (b ∷ x) v a =

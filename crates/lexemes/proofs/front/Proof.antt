@@ -1,9 +1,9 @@
-use Rattle.lexemes.specs.Pieces.{wordOf, numberOf}
-use denote.Ref.{now}
-use lib.ListN.{getD}
-use mathlib.Core.Path.{_∙_, ap, sym}
-use borrow.Author.Tests.{ne-eqb, eq-eqb}
 use Rattle.lexemes.proofs.Laws as laws
+use borrow.Author.Tests.{ne-eqb, eq-eqb}
+use mathlib.Core.Path.{_∙_, ap, sym}
+use lib.ListN.{getD}
+use denote.Ref.{now}
+use Rattle.lexemes.specs.Pieces.{wordOf, numberOf}
 use borrow.Author.Needs.{needs}
 use Rattle.lexemes.proofs.front.Statement.{statement}
 use Rattle.lexemes.proofs.front.Tie as tie
@@ -21,10 +21,10 @@ returns-3 : tie.Need-returns-3
 returns-3 c = rw (laws.front-of (now (c .before .before .before .before .before .before .before .before .before .args .s)) (c .before .before .before .before .before .before .before .if1 .left), ← c .before .before .before .before .before .is-blank .ensures, c .before .before .before .before .if2 .left, ← c .before .before .before .is-letter .ensures, c .before .before .if3 .taken) (c .word .ensures ∙ ap (wordOf (now (c .before .before .before .before .before .before .before .before .before .args .s))) (c .before .run .ensures))
 
 number-requires : tie.Need-number-requires
-number-requires c κs = rw (c .run2 .ensures) (laws.span-le _ (now (c .before .before .before .before .before .before .before .before .before .before .args .s)))
+number-requires c κs = rw (c .digits .ensures) (laws.span-le _ (now (c .before .before .before .before .before .before .before .before .before .before .args .s)))
 
 returns-4 : tie.Need-returns-4
-returns-4 c = rw (laws.front-of (now (c .before .before .before .before .before .before .before .before .before .before .before .args .s)) (c .before .before .before .before .before .before .before .before .before .if1 .left), ← c .before .before .before .before .before .before .before .is-blank .ensures, c .before .before .before .before .before .before .if2 .left, ← c .before .before .before .before .before .is-letter .ensures, c .before .before .before .before .if3 .left, ← c .before .before .before .is-digit .ensures, c .before .before .if4 .taken) (c .number .ensures ∙ ap (numberOf (now (c .before .before .before .before .before .before .before .before .before .before .before .args .s))) (c .before .run2 .ensures ∙ laws.span-digits (now (c .before .before .before .before .before .before .before .before .before .before .before .args .s))))
+returns-4 c = rw (laws.front-of (now (c .before .before .before .before .before .before .before .before .before .before .before .args .s)) (c .before .before .before .before .before .before .before .before .before .if1 .left), ← c .before .before .before .before .before .before .before .is-blank .ensures, c .before .before .before .before .before .before .if2 .left, ← c .before .before .before .before .before .is-letter .ensures, c .before .before .before .before .if3 .left, ← c .before .before .before .is-digit .ensures, c .before .before .if4 .taken) (c .number .ensures ∙ ap (numberOf (now (c .before .before .before .before .before .before .before .before .before .before .before .args .s))) (c .before .digits .ensures))
 
 returns-5 : tie.Need-returns-5
 returns-5 c = rw (laws.front-of (now (c .before .before .before .before .before .before .before .before .before .before .before .before .args .s)) (c .before .before .before .before .before .before .before .before .before .before .if1 .left), ← c .before .before .before .before .before .before .before .before .is-blank .ensures, c .before .before .before .before .before .before .before .if2 .left, ← c .before .before .before .before .before .before .is-letter .ensures, c .before .before .before .before .before .if3 .left, ← c .before .before .before .before .is-digit .ensures, c .before .before .before .if4 .left, eq-eqb (getD (now (c .before .before .before .before .before .before .before .before .before .before .before .before .args .s)) 0 0) 34 (c .before .before .if5 .taken)) (rw (laws.tail-part 1 (now (c .before .before .before .before .before .before .before .before .before .before .before .before .args .s))) at (c .string .ensures))
