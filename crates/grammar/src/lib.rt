@@ -1,0 +1,333 @@
+// Parsing: from the kinds of tokens to the items of the tree, by one loop over an explicit stack that the tables of `productions` drive.
+ghost use mathlib.Core.Path.{_≡_};
+ghost use mathlib.Core.List.{List, _++_, map};
+ghost use Prim.Native.Nat.{ℕ, _+_, _-_, _*_, _≤_, _<_, min};
+ghost use lib.ListN.{length, take, drop, getD};
+ghost use Rattle.productions.specs.Tables.{span};
+ghost use Rattle.machine.specs.Depth.{counted, opens, closes, selects, unselects, too-deep};
+ghost use Rattle.machine.specs.Machine.{symbol-of, place-of, count-of, clipped, column, marked, mark, write, expand, step, machine};
+ghost use Rattle.grammar.specs.Parse.{parsed, Parses};
+ghost use Rattle.grammar.specs.Views.{Stepped, Ran, Spread, conf};
+
+pub enum Parsed {
+    // How many items are written.
+    Items(usize),
+    // Why not, and at which token.
+    Refused(u8, usize),
+}
+
+// Where the machine stands: the stack is stack[sp..], the next token kinds[pos], the items out[..n].
+struct State {
+    sp: usize,
+    pos: usize,
+    n: usize,
+}
+
+enum Step {
+    Go(State),
+    Stop(usize),
+    Done(usize),
+    Spent,
+}
+
+enum Halt {
+    Accepted(usize),
+    Stopped(usize),
+    Exhausted,
+}
+
+fn wide(x: u8) -> usize
+    ensures { λ r. ⌜ r ≡ x ⌝ }
+    ensures { λ r. ⌜ r < 256 ⌝ }
+{
+    x as usize
+}
+
+// a - b, or 0 where b is more.
+fn minus(a: usize, b: usize) -> usize
+    ensures { λ r. ⌜ r ≡ a - b ⌝ }
+{
+    if b <= a { a - b } else { 0 }
+}
+
+// The column of the tables for a kind: 73 for what is none.
+fn clip(k: u8) -> u8
+    ensures { λ r. ⌜ r ≡ clipped k ⌝ }
+{
+    if k == 0 {
+        return 73;
+    }
+    if k < 73 { k } else { 73 }
+}
+
+// And for the token at a place: 0 at the end.
+fn column(kinds: &[u8], pos: usize) -> u8
+    ensures { λ r. ⌜ r ≡ column (now (kinds .entry)) pos ⌝ }
+{
+    if pos < kinds.len() {
+        clip(kinds[pos])
+    } else {
+        0
+    }
+}
+
+// How many brackets are open after a token, where n were open before it.
+fn brackets(k: u8, n: usize) -> usize
+    requires { ⌜ n ≤ 2048 ⌝ }
+    ensures { λ r. ⌜ r ≡ counted (opens k) (closes k) n ⌝ }
+{
+    match k {
+        tokens::OPEN_ROUND => n + 1,
+        tokens::CLOSE_ROUND => minus(n, 1),
+        tokens::OPEN_SQUARE => n + 1,
+        tokens::CLOSE_SQUARE => minus(n, 1),
+        tokens::OPEN_BRACE => n + 1,
+        tokens::CLOSE_BRACE => minus(n, 1),
+        _ => n,
+    }
+}
+
+// The same for selections.
+fn selections(k: u8, n: usize) -> usize
+    requires { ⌜ n ≤ 2048 ⌝ }
+    ensures { λ r. ⌜ r ≡ counted (selects k) (unselects k) n ⌝ }
+{
+    match k {
+        tokens::DO => n + 1,
+        tokens::FI => minus(n, 1),
+        tokens::IF => n + 1,
+        tokens::OD => minus(n, 1),
+        _ => n,
+    }
+}
+
+// The place of the first token that is too deep; one past the end where there is none.
+fn first_too_deep(kinds: &[u8]) -> usize
+    requires { ⌜ length (now kinds) ≤ 2048 ⌝ }
+    ensures { λ r. ⌜ r ≡ too-deep (now (kinds .entry)) ⌝ }
+{
+    let mut b: usize = 0;
+    let mut s: usize = 0;
+    let mut i: usize = 0;
+    while i < kinds.len() {
+        b = brackets(kinds[i], b);
+        s = selections(kinds[i], s);
+        if b > 32 {
+            return i;
+        }
+        if s > 8 {
+            return i;
+        }
+        i += 1;
+    }
+    i + 1
+}
+
+// An item for the stack's number v and the token at, if there is room.
+fn write(out: &mut [usize], v: usize, at: usize, s: State) -> Step
+    requires { ⌜ (at < 4096) × (s .sp ≤ 40960) × (s .n ≤ 8192) × (s .pos ≤ 2048) × (length (now out) ≡ 8192) ⌝ }
+    ensures { λ r. ⌜ ((a : List ℕ) → Stepped (write v at (drop (s .sp) a) (s .pos) (take (s .n) (now (out .entry)))) r a (now (out .exit))) ⌝ }
+{
+    let n = s.n;
+    if n < 8192 {
+        out[n] = v % 256 + 256 * at + 1048576 * minus(n, v / 1048576 % 65536);
+        return Step::Go(State {
+            sp: s.sp,
+            pos: s.pos,
+            n: n + 1,
+        });
+    }
+    Step::Spent
+}
+
+// The symbols of a row of right sides, from place first on, n of them, above the top; the new top.
+fn push(stack: &mut [usize], top: usize, first: usize, n: usize, marking: usize) -> usize
+    requires { ⌜ (n ≤ top) × (top ≤ length (now stack)) × (first < 8192) × (n < 256) × (marking ≤ 18446744073709551360) ⌝ }
+    ensures { λ r. ⌜ (drop r (now (stack .exit)) ≡ marked marking (span first n) ++ drop top (now (stack .entry))) × (r ≡ top - n) × (length (now (stack .exit)) ≡ length (now (stack .entry))) ⌝ }
+{
+    let mut k = n;
+    let mut at = top;
+    while k > 0 {
+        k -= 1;
+        at -= 1;
+        stack[at] = wide(productions::right_at(first + k)) + marking;
+    }
+    at
+}
+
+// What is added to each symbol of a right side.
+fn mark_of(v: usize, pos: usize, n: usize) -> usize
+    requires { ⌜ (pos ≤ 2048) × (n ≤ 8192) ⌝ }
+    ensures { λ r. ⌜ ((o : List ℕ) → length o ≡ n → r ≡ mark v pos o) × (r ≤ 18446744073709551360) ⌝ }
+{
+    if v % 256 < 143 {
+        256 * pos + 1048576 * n
+    } else {
+        v - v % 256
+    }
+}
+
+// The symbols of the right side p take the place of v, which is on top.
+fn expand(stack: &mut [usize], v: usize, p: usize, s: State) -> Step
+    requires { ⌜ (p < 512) × (s .sp < 40960) × (s .n ≤ 8192) × (s .pos ≤ 2048) × (length (now stack) ≡ 40960) ⌝ }
+    ensures { λ r. ⌜ ((o : List ℕ) → length o ≡ 8192 → Stepped (expand v (drop (s .sp + 1) (now (stack .entry))) (s .pos) (take (s .n) o) p) r (now (stack .exit)) o) ⌝ }
+{
+    let sp = s.sp;
+    let pos = s.pos;
+    let n = s.n;
+    if p == 0 {
+        return Step::Stop(pos);
+    }
+    let size = wide(productions::right_at(p * 13));
+    if size > sp + 1 {
+        return Step::Spent;
+    }
+    let top = push(stack, sp + 1, p * 13 + 1, size, mark_of(v, pos, n));
+    Step::Go(State { sp: top, pos, n })
+}
+
+fn symbol_of(v: usize) -> u8
+    ensures { λ r. ⌜ r ≡ symbol-of v ⌝ }
+{
+    (v % 256) as u8
+}
+
+fn step_on(kinds: &[u8], stack: &mut [usize], out: &mut [usize], s: State) -> Step
+    requires { ⌜ (s .sp ≤ 40960) × (s .n ≤ 8192) × (s .pos ≤ 2048) × (length (now kinds) ≤ 2048) × (length (now stack) ≡ 40960) × (length (now out) ≡ 8192) ⌝ }
+    ensures { λ r. ⌜ Stepped (step (now (kinds .entry)) (conf (now (stack .entry)) (now (out .entry)) s)) r (now (stack .exit)) (now (out .exit)) ⌝ }
+{
+    let sp = s.sp;
+    let pos = s.pos;
+    let n = s.n;
+    if sp >= 40960 {
+        if pos < kinds.len() {
+            return Step::Stop(pos);
+        }
+        return Step::Done(n);
+    }
+    let v = stack[sp];
+    let x = symbol_of(v);
+    let k = column(kinds, pos);
+    if x < 73 {
+        if pos >= kinds.len() {
+            return Step::Stop(pos);
+        }
+        if x != k {
+            return Step::Stop(pos);
+        }
+        if x < 70 {
+            return Step::Go(State {
+                sp: sp + 1,
+                pos: pos + 1,
+                n,
+            });
+        }
+        return write(
+            out,
+            v,
+            pos,
+            State {
+                sp: sp + 1,
+                pos: pos + 1,
+                n,
+            },
+        );
+    }
+    if x < 147 {
+        return expand(stack, v, productions::production(x, k), s);
+    }
+    write(out, v, v / 256 % 4096, State { sp: sp + 1, pos, n })
+}
+
+// The loop.
+fn run(kinds: &[u8], stack: &mut [usize], out: &mut [usize]) -> Halt
+    requires { ⌜ (length (now kinds) ≤ 2048) × (length (now stack) ≡ 40960) × (length (now out) ≡ 8192) ⌝ }
+    ensures { λ r. ⌜ Ran (machine (now (kinds .entry))) r (now (out .exit)) ⌝ }
+{
+    stack[40959] = 141;
+    let mut s = State {
+        sp: 40959,
+        pos: 0,
+        n: 0,
+    };
+    let mut fuel: usize = 81920;
+    while fuel > 0 {
+        fuel -= 1;
+        let next = step_on(kinds, stack, out, s);
+        match next {
+            Step::Go(t) => {
+                s = t;
+            }
+            Step::Stop(i) => {
+                return Halt::Stopped(i);
+            }
+            Step::Done(n) => {
+                return Halt::Accepted(n);
+            }
+            Step::Spent => {
+                return Halt::Exhausted;
+            }
+        }
+    }
+    Halt::Exhausted
+}
+
+fn token_of(v: usize) -> u32
+    ensures { λ r. ⌜ r ≡ place-of v ⌝ }
+{
+    (v / 256 % 4096) as u32
+}
+
+fn size_of(v: usize) -> u32
+    ensures { λ r. ⌜ r ≡ count-of v ⌝ }
+{
+    (v / 1048576 % 65536) as u32
+}
+
+// The first n items, taken apart into three arrays.
+fn spread(work: &[usize], n: usize, codes: &mut [u8], tokens: &mut [u32], sizes: &mut [u32])
+    requires { ⌜ (n ≤ length (now work)) × (n ≤ length (now codes)) × (n ≤ length (now tokens)) × (n ≤ length (now sizes)) ⌝ }
+    ensures { λ _. ⌜ Spread n (now (work .entry)) (now (codes .entry)) (now (codes .exit)) (now (tokens .entry)) (now (tokens .exit)) (now (sizes .entry)) (now (sizes .exit)) ⌝ }
+{
+    let mut i: usize = 0;
+    while i < n {
+        let v = work[i];
+        codes[i] = symbol_of(v);
+        tokens[i] = token_of(v);
+        sizes[i] = size_of(v);
+        i += 1;
+    }
+}
+
+// The items of the tokens of these kinds, or the first that can continue no text of the grammar, or that is too deep.
+pub fn parse(kinds: &[u8], codes: &mut [u8], tokens: &mut [u32], sizes: &mut [u32]) -> Parsed
+    ensures { λ r. ⌜ Parses (parsed (now (kinds .entry)) (min (length (now (codes .entry))) (min (length (now (tokens .entry))) (length (now (sizes .entry)))))) r (now (codes .entry)) (now (codes .exit)) (now (tokens .entry)) (now (tokens .exit)) (now (sizes .entry)) (now (sizes .exit)) ⌝ }
+{
+    if base::least(codes.len(), base::least(tokens.len(), sizes.len())) < 8192 {
+        return Parsed::Refused(7, 0);
+    }
+    if kinds.len() > 2048 {
+        return Parsed::Refused(2, 2048);
+    }
+    let d = first_too_deep(kinds);
+    let mut stack = [0usize; 40960];
+    let mut work = [0usize; 8192];
+    let a = run(kinds, &mut stack, &mut work);
+    match a {
+        Halt::Stopped(i) => {
+            if d <= i {
+                Parsed::Refused(2, d)
+            } else {
+                Parsed::Refused(3, i)
+            }
+        }
+        Halt::Accepted(n) => {
+            if d <= kinds.len() {
+                return Parsed::Refused(2, d);
+            }
+            spread(&work, n, codes, tokens, sizes);
+            Parsed::Items(n)
+        }
+        Halt::Exhausted => Parsed::Refused(6, 0),
+    }
+}

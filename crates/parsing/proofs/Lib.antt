@@ -1,0 +1,14 @@
+pub mod Tests
+pub mod Core
+pub mod Inst
+pub mod LinkE
+pub mod LinkS
+pub mod Link
+pub mod Meaning
+pub mod MeansE
+pub mod MeansS
+pub mod MeansU
+pub mod Table
+pub mod Main
+pub mod Judged
+pub mod Bound
