@@ -1,22 +1,21 @@
 -- Laws on lists that the loops cite, over plain variables. Assumes nothing.
-use Prim.Native.Nat.{ℕ, zero, suc, _+_, _-_, _*_, _/_, _%_, _≤_, _<_}
+use Prim.Native.Nat.{ℕ, zero, suc, _+_, _-_, _*_, _%_, _≤_, _<_}
 use native.Mathlib.Omega.{arith}
 use native.Mathlib.Nat.{le-of-suc-le-suc, not-suc-le-zero}
 use native.Mathlib.Numerals.{add-one}
 use mathlib.Core.Path.{_≡_, refl, sym, ap, _∙_}
 use mathlib.Core.List.{List, [], _∷_, _++_, map}
-use lib.ListN.{length, getD, take, drop, set, drop-of-length-le, length-drop}
-use lib.Seq.{drop-cons, drop-set-lt, length-take-le, take-suc-set}
-use lib.Dec.{ltb, leb, eqb}
-use borrow.Author.Tests.{lt-ltb, le-ltb, eq-eqb, ne-eqb, le-leb, lt-leb}
+use lib.ListN.{length, getD, take, drop, set, drop-of-length-le}
+use lib.Seq.{drop-cons}
+use borrow.Author.Tests.{lt-ltb, le-ltb}
 use Rattle.productions.specs.Tables.{span, rights}
-use Rattle.machine.specs.Depth.{deep, counted, opens, closes, selects, unselects}
+use Rattle.machine.specs.Depth.{deep, brackets, selections}
 use Rattle.machine.specs.Machine.{marked, mark, symbol-of, place-of, count-of}
 use Rattle.grammar.specs.Views.{Spread}
 
 -- ---- depth: one turn of the loop, at place i
 module _ (ks : List ℕ) (b s i b' s' whole : ℕ) (h : i < length ks)
-    (eb : b' ≡ counted (opens (getD ks i 0)) (closes (getD ks i 0)) b) (es : s' ≡ counted (selects (getD ks i 0)) (unselects (getD ks i 0)) s)
+    (eb : b' ≡ brackets (getD ks i 0) b) (es : s' ≡ selections (getD ks i 0) s)
     (inv : whole ≡ deep (drop i ks) b s i) where
   pub many-brackets : 32 < b' → i ≡ whole
   unfolding deep

@@ -1,22 +1,25 @@
 -- Runs of the machine: what a turn of the loop does to them, and the entry. Over plain variables. Assumes nothing.
-use Prim.Native.Nat.{ℕ, zero, suc, _+_, _-_, _≤_, _<_}
+use Prim.Native.Nat.{ℕ, suc, _-_, _≤_, _<_}
 use native.Mathlib.Omega.{arith}
-use mathlib.Core.Path.{_≡_, refl, sym, ap, subst, _∙_}
-use mathlib.Core.List.{List, [], _∷_, _++_, map}
+use mathlib.Core.Path.{_≡_, sym, ap, subst, _∙_}
+use mathlib.Core.List.{List, [], _∷_, map}
 use lib.ListN.{length, take, drop, set, length-set, drop-of-length-le}
 use lib.Seq.{length-take-le, drop-cons, getD-set-same}
-use lib.Dec.{ltb, leb}
 use borrow.Author.Tests.{lt-ltb, le-ltb, le-leb, lt-leb}
+use Rattle.tokens.specs.Kinds.{Token, kindOf}
+use Rattle.parsing.specs.Depth.{judge}
 use Rattle.machine.specs.Depth.{too-deep}
-use Rattle.machine.specs.Machine.{Outcome, done, refused, spent, Next, go, stop, Config, step, next, run, start, machine, symbol-of, place-of, count-of}
-use Rattle.grammar.specs.Parse.{Answer, items, refuse, judged, parsed, answer, filled, Parses}
+use Rattle.machine.specs.Items.{All-proper, meant}
+use Rattle.machine.proofs.Judge.{same-judgement}
+use Rattle.machine.specs.Machine.{Outcome, done, refused, spent, Next, Config, step, next, run, start, machine}
+use Rattle.machine.specs.Answer.{items, refuse, judged, parsed}
+use Rattle.grammar.specs.Parse.{Parses}
 use Rattle.grammar.specs.Views.{conf, Stepped, Ran, Spread}
 use Rattle.grammar.specs.declared.State.{State}
 use Rattle.grammar.specs.declared.Step.{Step}
 use Rattle.grammar.specs.declared.Step.the-variants.{Go, Stop, Done, Spent}
 use Rattle.grammar.specs.declared.Halt.{Halt}
 use Rattle.grammar.specs.declared.Halt.the-variants.{Accepted, Stopped, Exhausted}
-use Rattle.grammar.specs.declared.Parsed.{Parsed}
 use Rattle.grammar.specs.declared.Parsed.the-variants.{Items, Refused}
 
 one-left : (l : List ℕ) (j x : ℕ) → j < length l → length l ≡ suc j → drop j (set l j x) ≡ x ∷ []
@@ -59,9 +62,12 @@ module _ (ks a o a' o' : List ℕ) (s : State) (f : ℕ) (res : Outcome) (x : St
   spent-run e = after _ (at-variant Spent e)
 
 -- ---- the entry
+means-law : (ks : List ℕ) (room : ℕ) (ts : List Token) → map kindOf ts ≡ ks → All-proper ts → length ts ≤ 2048 → 8192 ≤ room → meant ts (parsed ks room) ≡ judge ts
+means-law ks room ts e proper short enough = rw (← e) (same-judgement ts proper short room enough)
+
 module _ (ks codes tokens sizes : List ℕ) (room : ℕ) where
-  pub refusing : (k i : ℕ) → parsed ks room ≡ refuse k i → Parses (parsed ks room) (Refused k i) codes codes tokens tokens sizes sizes
-  refusing k i e = rw e (record { answered = refl; codes-are = refl; tokens-are = refl; sizes-are = refl })
+  pub refusing : (k i : ℕ) → parsed ks room ≡ refuse k i → Parses ks room (Refused k i) codes codes tokens tokens sizes sizes
+  refusing k i e = record { answered = rw e; codes-are = rw e; tokens-are = rw e; sizes-are = rw e; means = means-law ks room }
 
   pub no-room : room < 8192 → parsed ks room ≡ refuse 7 0
   unfolding parsed
@@ -99,7 +105,13 @@ module _ (ks codes tokens sizes : List ℕ) (room : ℕ) where
         accepted : parsed ks room ≡ items (take n o)
         accepted = is-judged ∙ ap (judged d (length ks)) (variant (Accepted n) e .0) ∙ simp (lt-leb d (length ks) l)
 
-        pub accepting : (codes' tokens' sizes' : List ℕ) → Spread n o codes codes' tokens tokens' sizes sizes' → Parses (parsed ks room) (Items n) codes codes' tokens tokens' sizes sizes'
+        pub accepting : (codes' tokens' sizes' : List ℕ) → Spread n o codes codes' tokens tokens' sizes sizes' → Parses ks room (Items n) codes codes' tokens tokens' sizes sizes'
         accepting codes' tokens' sizes' w =
             let t : length (take n o) ≡ n = length-take-le n o (omega (arith, small n e)) in
-            rw accepted (record { answered = rw t; codes-are = rw t (w .codes-are); tokens-are = rw t (w .tokens-are); sizes-are = rw t (w .sizes-are) })
+            record {
+              answered = rw (accepted, t);
+              codes-are = rw (accepted, t) (w .codes-are);
+              tokens-are = rw (accepted, t) (w .tokens-are);
+              sizes-are = rw (accepted, t) (w .sizes-are);
+              means = means-law ks room;
+            }

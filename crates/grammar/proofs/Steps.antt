@@ -1,15 +1,14 @@
 -- One step of the machine, by the tests that the code makes. Over plain variables. Assumes nothing.
-use Prim.Native.Nat.{ℕ, zero, suc, _+_, _-_, _*_, _/_, _%_, _≤_, _<_}
+use Prim.Native.Nat.{ℕ, _+_, _-_, _*_, _≤_, _<_}
 use native.Mathlib.Omega.{arith}
 use native.Mathlib.Numerals.{add-one}
-use mathlib.Core.Path.{_≡_, refl, sym, ap, subst, _∙_}
+use mathlib.Core.Path.{_≡_, sym, ap, subst, _∙_}
 use mathlib.Core.List.{List, [], _∷_, _++_}
-use lib.ListN.{length, getD, take, drop, set, length-drop, length-append, drop-of-length-le}
+use lib.ListN.{length, getD, take, drop, set, length-drop, drop-of-length-le}
 use lib.Seq.{drop-cons, length-take-le, take-suc-set}
-use lib.Dec.{eqb, ltb, leb}
 use borrow.Author.Tests.{eq-eqb, ne-eqb, lt-ltb, le-ltb, le-leb, lt-leb}
 use Rattle.productions.specs.Tables.{production, right, span, rights}
-use Rattle.machine.specs.Machine.{Next, go, stop, done, refused, spent, Config, packed, symbol-of, place-of, count-of, column, written, write, eat, mark, marked, expand, step, step-on}
+use Rattle.machine.specs.Machine.{Next, go, stop, done, refused, spent, packed, symbol-of, place-of, count-of, column, write, eat, mark, marked, expand, step, step-on}
 use Rattle.grammar.specs.Views.{conf, Stepped}
 use Rattle.grammar.specs.declared.State.{State}
 use Rattle.grammar.specs.declared.Step.{Step}

@@ -2,7 +2,7 @@
 use Prim.Native.Nat.{ℕ, _≤_}
 use mathlib.Core.Path.{_≡_}
 use mathlib.Core.List.{List, _++_, map}
-use lib.ListN.{length, take, drop}
+use lib.ListN.{take, drop}
 use Rattle.machine.specs.Machine.{Config, Outcome, done, refused, spent, Next, go, stop, symbol-of, place-of, count-of}
 use Rattle.grammar.specs.declared.State.{State}
 use Rattle.grammar.specs.declared.Step.{Step}

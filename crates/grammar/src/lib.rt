@@ -1,13 +1,43 @@
 // Parsing: from the kinds of tokens to the items of the tree, by one loop over an explicit stack that the tables of `productions` drive.
 ghost use mathlib.Core.Path.{_≡_};
-ghost use mathlib.Core.List.{List, _++_, map};
+ghost use mathlib.Core.List.{List, _++_};
 ghost use Prim.Native.Nat.{ℕ, _+_, _-_, _*_, _≤_, _<_, min};
-ghost use lib.ListN.{length, take, drop, getD};
+ghost use lib.ListN.{length, take, drop};
 ghost use Rattle.productions.specs.Tables.{span};
-ghost use Rattle.machine.specs.Depth.{counted, opens, closes, selects, unselects, too-deep};
+ghost use Rattle.machine.specs.Depth.{brackets, selections, too-deep};
 ghost use Rattle.machine.specs.Machine.{symbol-of, place-of, count-of, clipped, column, marked, mark, write, expand, step, machine};
-ghost use Rattle.grammar.specs.Parse.{parsed, Parses};
+ghost use Rattle.grammar.specs.Parse.{Parses};
 ghost use Rattle.grammar.specs.Views.{Stepped, Ran, Spread, conf};
+
+// Document 01, "Ceilings".
+const MOST_TOKENS: usize = 2048;
+
+const MOST_BRACKETS: usize = 32;
+
+const MOST_SELECTIONS: usize = 8;
+
+// What the tokens can ask of the loop at most: four items, 19 places of the stack and 37 turns for each.
+pub const ITEMS: usize = 8192;
+
+const STACK: usize = 40960;
+
+const BOTTOM: usize = STACK - 1;
+
+const TURNS: usize = 81920;
+
+// Where the numbers of symbols change (specs/Numbering.antt of `productions`): from terminals that write to nonterminals, to those that go on with what was begun, to items.
+const NAME: u8 = 70;
+
+const NONTERMINALS: u8 = 73;
+
+const LATE: usize = 143;
+
+const WRITTEN: u8 = 147;
+
+const MODEL: usize = 141;
+
+// What is no kind has the column after the last.
+const NO_KIND: u8 = 73;
 
 pub enum Parsed {
     // How many items are written.
@@ -55,9 +85,9 @@ fn clip(k: u8) -> u8
     ensures { λ r. ⌜ r ≡ clipped k ⌝ }
 {
     if k == 0 {
-        return 73;
+        return NO_KIND;
     }
-    if k < 73 { k } else { 73 }
+    if k < NO_KIND { k } else { NO_KIND }
 }
 
 // And for the token at a place: 0 at the end.
@@ -74,7 +104,7 @@ fn column(kinds: &[u8], pos: usize) -> u8
 // How many brackets are open after a token, where n were open before it.
 fn brackets(k: u8, n: usize) -> usize
     requires { ⌜ n ≤ 2048 ⌝ }
-    ensures { λ r. ⌜ r ≡ counted (opens k) (closes k) n ⌝ }
+    ensures { λ r. ⌜ r ≡ brackets k n ⌝ }
 {
     match k {
         tokens::OPEN_ROUND => n + 1,
@@ -90,7 +120,7 @@ fn brackets(k: u8, n: usize) -> usize
 // The same for selections.
 fn selections(k: u8, n: usize) -> usize
     requires { ⌜ n ≤ 2048 ⌝ }
-    ensures { λ r. ⌜ r ≡ counted (selects k) (unselects k) n ⌝ }
+    ensures { λ r. ⌜ r ≡ selections k n ⌝ }
 {
     match k {
         tokens::DO => n + 1,
@@ -112,10 +142,10 @@ fn first_too_deep(kinds: &[u8]) -> usize
     while i < kinds.len() {
         b = brackets(kinds[i], b);
         s = selections(kinds[i], s);
-        if b > 32 {
+        if b > MOST_BRACKETS {
             return i;
         }
-        if s > 8 {
+        if s > MOST_SELECTIONS {
             return i;
         }
         i += 1;
@@ -129,7 +159,7 @@ fn write(out: &mut [usize], v: usize, at: usize, s: State) -> Step
     ensures { λ r. ⌜ ((a : List ℕ) → Stepped (write v at (drop (s .sp) a) (s .pos) (take (s .n) (now (out .entry)))) r a (now (out .exit))) ⌝ }
 {
     let n = s.n;
-    if n < 8192 {
+    if n < ITEMS {
         out[n] = v % 256 + 256 * at + 1048576 * minus(n, v / 1048576 % 65536);
         return Step::Go(State {
             sp: s.sp,
@@ -160,7 +190,7 @@ fn mark_of(v: usize, pos: usize, n: usize) -> usize
     requires { ⌜ (pos ≤ 2048) × (n ≤ 8192) ⌝ }
     ensures { λ r. ⌜ ((o : List ℕ) → length o ≡ n → r ≡ mark v pos o) × (r ≤ 18446744073709551360) ⌝ }
 {
-    if v % 256 < 143 {
+    if v % 256 < LATE {
         256 * pos + 1048576 * n
     } else {
         v - v % 256
@@ -199,7 +229,7 @@ fn step_on(kinds: &[u8], stack: &mut [usize], out: &mut [usize], s: State) -> St
     let sp = s.sp;
     let pos = s.pos;
     let n = s.n;
-    if sp >= 40960 {
+    if sp >= STACK {
         if pos < kinds.len() {
             return Step::Stop(pos);
         }
@@ -208,14 +238,14 @@ fn step_on(kinds: &[u8], stack: &mut [usize], out: &mut [usize], s: State) -> St
     let v = stack[sp];
     let x = symbol_of(v);
     let k = column(kinds, pos);
-    if x < 73 {
+    if x < NONTERMINALS {
         if pos >= kinds.len() {
             return Step::Stop(pos);
         }
         if x != k {
             return Step::Stop(pos);
         }
-        if x < 70 {
+        if x < NAME {
             return Step::Go(State {
                 sp: sp + 1,
                 pos: pos + 1,
@@ -233,7 +263,7 @@ fn step_on(kinds: &[u8], stack: &mut [usize], out: &mut [usize], s: State) -> St
             },
         );
     }
-    if x < 147 {
+    if x < WRITTEN {
         return expand(stack, v, productions::production(x, k), s);
     }
     write(out, v, v / 256 % 4096, State { sp: sp + 1, pos, n })
@@ -244,13 +274,13 @@ fn run(kinds: &[u8], stack: &mut [usize], out: &mut [usize]) -> Halt
     requires { ⌜ (length (now kinds) ≤ 2048) × (length (now stack) ≡ 40960) × (length (now out) ≡ 8192) ⌝ }
     ensures { λ r. ⌜ Ran (machine (now (kinds .entry))) r (now (out .exit)) ⌝ }
 {
-    stack[40959] = 141;
+    stack[BOTTOM] = MODEL;
     let mut s = State {
-        sp: 40959,
+        sp: BOTTOM,
         pos: 0,
         n: 0,
     };
-    let mut fuel: usize = 81920;
+    let mut fuel: usize = TURNS;
     while fuel > 0 {
         fuel -= 1;
         let next = step_on(kinds, stack, out, s);
@@ -301,17 +331,17 @@ fn spread(work: &[usize], n: usize, codes: &mut [u8], tokens: &mut [u32], sizes:
 
 // The items of the tokens of these kinds, or the first that can continue no text of the grammar, or that is too deep.
 pub fn parse(kinds: &[u8], codes: &mut [u8], tokens: &mut [u32], sizes: &mut [u32]) -> Parsed
-    ensures { λ r. ⌜ Parses (parsed (now (kinds .entry)) (min (length (now (codes .entry))) (min (length (now (tokens .entry))) (length (now (sizes .entry)))))) r (now (codes .entry)) (now (codes .exit)) (now (tokens .entry)) (now (tokens .exit)) (now (sizes .entry)) (now (sizes .exit)) ⌝ }
+    ensures { λ r. ⌜ Parses (now (kinds .entry)) (min (length (now (codes .entry))) (min (length (now (tokens .entry))) (length (now (sizes .entry))))) r (now (codes .entry)) (now (codes .exit)) (now (tokens .entry)) (now (tokens .exit)) (now (sizes .entry)) (now (sizes .exit)) ⌝ }
 {
-    if base::least(codes.len(), base::least(tokens.len(), sizes.len())) < 8192 {
+    if base::least(codes.len(), base::least(tokens.len(), sizes.len())) < ITEMS {
         return Parsed::Refused(7, 0);
     }
-    if kinds.len() > 2048 {
-        return Parsed::Refused(2, 2048);
+    if kinds.len() > MOST_TOKENS {
+        return Parsed::Refused(2, MOST_TOKENS);
     }
     let d = first_too_deep(kinds);
-    let mut stack = [0usize; 40960];
-    let mut work = [0usize; 8192];
+    let mut stack = [0usize; STACK];
+    let mut work = [0usize; ITEMS];
     let a = run(kinds, &mut stack, &mut work);
     match a {
         Halt::Stopped(i) => {

@@ -1,24 +1,25 @@
 -- The machine never runs out of fuel, of stack or of room for items: three potentials, each a weight for every symbol and a price for every token. Each right side
 -- passes one test of the tables: what it costs, with the weights of its symbols, is paid by its nonterminal's weight and by the token that it will eat at once.
 -- Assumes nothing.
-use Prim.Native.Nat.{ℕ, zero, suc, _+_, _-_, _*_, _/_, _%_, _≤_, _<_, min}
+use Prim.Native.Nat.{ℕ, zero, suc, _+_, _-_, _*_, _%_, _≤_, _<_, min}
 use native.Mathlib.Omega.{arith}
 use native.Mathlib.Nat.{not-suc-le-zero}
-use mathlib.Core.Path.{_≡_, refl, sym, ap, subst, _∙_}
+use mathlib.Core.Path.{_≡_, refl, ap, _∙_}
 use mathlib.Core.Bool.{Bool, true, false}
 use mathlib.Core.List.{List, [], _∷_, _++_}
 use mathlib.Core.Logic.{_⊎_, inl, inr, ⊎-elim}
 use native.Mathlib.Decide.{decLt}
 use lib.ListN.{length, getD, length-append}
 use lib.Dec.{T, eqb, ltb, leb, leb→le, lit≤}
-use borrow.Author.Tests.{eq-eqb, ne-eqb, lt-ltb, le-ltb, eqb-false, eqb-true, ltb-true, ltb-false, leb-true, leb-false}
-use Rattle.base.specs.Choice.{pick, both, either}
-use Rattle.parsing.proofs.Tests.{below, below-out}
+use borrow.Author.Tests.{eq-eqb, ne-eqb, lt-ltb, le-ltb, eqb-false, ltb-true, ltb-false, leb-false}
+use Rattle.base.specs.Choice.{pick, either}
+use Rattle.parsing.proofs.Tests.{below-out}
 use Rattle.productions.specs.Tables.{choices, bases, rights, production, span, right}
 use Rattle.productions.proofs.Tables.{each-right, at-right}
-use Rattle.machine.specs.Machine.{symbol-of, count-of, clipped, column, Config, Outcome, done, refused, spent, Next, go, stop, written, write, eat, mark, marked, expand, step-on, step, next, run, start, machine}
+use Rattle.machine.specs.Machine.{symbol-of, column, Config, Outcome, done, refused, spent, Next, go, written, write, eat, mark, marked, expand, step-on, next, run, start, machine, most-steps, most-stack, most-items}
+use Rattle.machine.specs.Answer.{most-tokens}
 
-lt-or-ge : (a b : ℕ) → (a < b) ⊎ (b ≤ a)
+pub lt-or-ge : (a b : ℕ) → (a < b) ⊎ (b ≤ a)
 lt-or-ge a b = elim (decLt a b) [ yes h ↦ inl h | no h ↦ inr (omega arith) ]
 
 -- ---- columns
@@ -288,7 +289,7 @@ length-written v at out = length-append out _
 
 module _ (ks : List ℕ) (f : Config → Outcome) (v : ℕ) (st : List ℕ) (pos : ℕ) (out : List ℕ)
     (ih : (c : Config) → Lower ks (v ∷ st) pos out c → Fine (f c))
-    (room : potential w-stack 19 (v ∷ st) (length ks - pos) ≤ 40960) (space : length out + potential w-items 4 (v ∷ st) (length ks - pos) ≤ 8192) where
+    (room : potential w-stack 19 (v ∷ st) (length ks - pos) ≤ most-stack) (space : length out + potential w-items 4 (v ∷ st) (length ks - pos) ≤ most-items) where
   act-lower : (at : ℕ) → 147 ≤ v % 256 → Lower ks (v ∷ st) pos out (record { st = st; pos = pos; out = written v at out })
   act-lower at h =
       record {
@@ -300,8 +301,8 @@ module _ (ks : List ℕ) (f : Config → Outcome) (v : ℕ) (st : List ℕ) (pos
   act-fine : (at : ℕ) → 147 ≤ v % 256 → Fine (next f (write v at st pos out))
   unfolding write
   act-fine at h =
-      fine-pick (ltb (length out) 8192) (go (record { st = st; pos = pos; out = written v at out })) (stop spent) f (λ e. ih _ (act-lower at h))
-      (λ e. omega (arith, ltb-false (length out) 8192 e, act-pays w-items 4 0 items-paid v st (length ks - pos) h, items-one (v % 256) (inr h)))
+      fine-pick (ltb (length out) most-items) (go (record { st = st; pos = pos; out = written v at out })) _ f (λ e. ih _ (act-lower at h))
+      (λ e. omega (arith, ltb-false (length out) most-items e, act-pays w-items 4 0 items-paid v st (length ks - pos) h, items-one (v % 256) (inr h)))
 
   module _ (low : v % 256 < 73) (here : pos < length ks) where
     left : length ks - pos ≡ suc (length ks - (pos + 1))
@@ -319,9 +320,9 @@ module _ (ks : List ℕ) (f : Config → Outcome) (v : ℕ) (st : List ℕ) (pos
     name-fine : 70 ≤ v % 256 → Fine (next f (write v pos st (pos + 1) out))
     unfolding write
     name-fine h =
-        fine-pick (ltb (length out) 8192) (go (record { st = st; pos = pos + 1; out = written v pos out })) (stop spent) f
+        fine-pick (ltb (length out) most-items) (go (record { st = st; pos = pos + 1; out = written v pos out })) _ f
         (λ e. ih _ (record { steps = eat-steps; stack = eat-stack; items = omega (arith, eat-items, items-one (v % 256) (inl (h, low)), length-written v pos out) }))
-        (λ e. omega (arith, ltb-false (length out) 8192 e, eat-items, items-one (v % 256) (inl (h, low))))
+        (λ e. omega (arith, ltb-false (length out) most-items e, eat-items, items-one (v % 256) (inl (h, low))))
 
     eat-fine : Fine (next f (pick (ltb (symbol-of v) 70) (go (record { st = st; pos = pos + 1; out = out })) (write v pos st (pos + 1) out)))
     eat-fine =
@@ -331,8 +332,8 @@ module _ (ks : List ℕ) (f : Config → Outcome) (v : ℕ) (st : List ℕ) (pos
   terminal-fine : v % 256 < 73 → Fine (next f (eat ks v st pos out))
   unfolding eat
   terminal-fine low =
-      fine-pick (ltb pos (length ks)) _ (stop (refused pos)) f
-      (λ h. fine-pick (eqb (symbol-of v) (column ks pos)) _ (stop (refused pos)) f (λ e. eat-fine low (ltb-true pos (length ks) h)) (λ e. tt)) (λ h. tt)
+      fine-pick (ltb pos (length ks)) _ _ f
+      (λ h. fine-pick (eqb (symbol-of v) (column ks pos)) _ _ f (λ e. eat-fine low (ltb-true pos (length ks) h)) (λ e. tt)) (λ h. tt)
 
   module _ (lo : 73 ≤ v % 256) (hi : v % 256 < 147) (p : ℕ) (ep : p ≡ production (v % 256) (column ks pos)) (ne : p ≡ 0 → ⊥) where
     stack-pays : potential w-stack 19 (marked (mark v pos out) (right p) ++ st) (length ks - pos) + 0 ≤ potential w-stack 19 (v ∷ st) (length ks - pos)
@@ -346,7 +347,7 @@ module _ (ks : List ℕ) (f : Config → Outcome) (v : ℕ) (st : List ℕ) (pos
           items = omega (arith, expand-pays w-items 4 0 items-paid ks v (mark v pos out) st pos p (mark-plain v pos out) lo hi ep ne);
         }
 
-    fits : length (right p) + length st ≤ 40960
+    fits : length (right p) + length st ≤ most-stack
     fits =
         let l : length (marked (mark v pos out) (right p) ++ st) ≡ length (right p) + length st = length-append (marked (mark v pos out) (right p)) st ∙ ap (λ (n : ℕ). n + length st) (length-marked (mark v pos out) (right p)) in
         omega (arith, stack-length (marked (mark v pos out) (right p) ++ st), stack-pays)
@@ -354,13 +355,13 @@ module _ (ks : List ℕ) (f : Config → Outcome) (v : ℕ) (st : List ℕ) (pos
   nonterminal-fine : 73 ≤ v % 256 → v % 256 < 147 → (p : ℕ) → p ≡ production (v % 256) (column ks pos) → Fine (next f (expand v st pos out p))
   unfolding expand
   nonterminal-fine lo hi p ep =
-      fine-pick (eqb p 0) (stop (refused pos)) _ f (λ e. tt)
-      (λ e. fine-pick (leb (length (right p) + length st) 40960) (go (record { st = marked (mark v pos out) (right p) ++ st; pos = pos; out = out })) (stop spent) f
+      fine-pick (eqb p 0) _ _ f (λ e. tt)
+      (λ e. fine-pick (leb (length (right p) + length st) most-stack) (go (record { st = marked (mark v pos out) (right p) ++ st; pos = pos; out = out })) _ f
       (λ g. ih _ (expand-lower lo hi p ep (eqb-false p 0 e)))
-      (λ g. omega (arith, leb-false (length (right p) + length st) 40960 g, fits lo hi p ep (eqb-false p 0 e))))
+      (λ g. omega (arith, leb-false (length (right p) + length st) most-stack g, fits lo hi p ep (eqb-false p 0 e))))
 
 turn-fine : (ks : List ℕ) (f : Config → Outcome) (st : List ℕ) (pos : ℕ) (out : List ℕ) → ((c : Config) → Lower ks st pos out c → Fine (f c)) →
-    potential w-stack 19 st (length ks - pos) ≤ 40960 → length out + potential w-items 4 st (length ks - pos) ≤ 8192 → Fine (next f (step-on ks st pos out))
+    potential w-stack 19 st (length ks - pos) ≤ most-stack → length out + potential w-items 4 st (length ks - pos) ≤ most-items → Fine (next f (step-on ks st pos out))
 unfolding step-on
 turn-fine ks f [] pos out ih room space = fine-end (ltb pos (length ks)) pos out
 turn-fine ks f (v ∷ st) pos out ih room space =
@@ -369,8 +370,8 @@ turn-fine ks f (v ∷ st) pos out ih room space =
     (λ g. nonterminal-fine ks f v st pos out ih room space (ltb-false (symbol-of v) 73 e) (ltb-true (symbol-of v) 147 g) _ refl)
     (λ g. act-fine ks f v st pos out ih room space _ (ltb-false (symbol-of v) 147 g)))
 
-safe : (ks : List ℕ) (f : ℕ) (c : Config) → potential w-steps 37 (c .st) (length ks - c .pos) < f → potential w-stack 19 (c .st) (length ks - c .pos) ≤ 40960 →
-    length (c .out) + potential w-items 4 (c .st) (length ks - c .pos) ≤ 8192 → Fine (run ks f c)
+safe : (ks : List ℕ) (f : ℕ) (c : Config) → potential w-steps 37 (c .st) (length ks - c .pos) < f → potential w-stack 19 (c .st) (length ks - c .pos) ≤ most-stack →
+    length (c .out) + potential w-items 4 (c .st) (length ks - c .pos) ≤ most-items → Fine (run ks f c)
 unfolding run
 safe ks zero c h room space = absurd (not-suc-le-zero h)
 safe ks (suc f) c h room space =
@@ -389,9 +390,9 @@ price-4 zero = refl
 price-4 (suc n) = omega (arith, price-4 n)
 
 -- NEVER SPENT, for any list of at most 2,048 kinds: 37 steps a token, 19 places of the stack, 4 items
-pub never-spent : (ks : List ℕ) → length ks ≤ 2048 → Fine (machine ks)
+pub never-spent : (ks : List ℕ) → length ks ≤ most-tokens → Fine (machine ks)
 unfolding w-steps w-stack w-items by-list steps-list stack-list items-list
 never-spent ks h =
-    safe ks 81920 start (omega (arith, due-le 37 (length ks - 0) (leads (141 ∷ [])), price-37 (length ks - 0)))
+    safe ks most-steps start (omega (arith, due-le 37 (length ks - 0) (leads (141 ∷ [])), price-37 (length ks - 0)))
     (omega (arith, due-le 19 (length ks - 0) (leads (141 ∷ [])), price-19 (length ks - 0)))
     (omega (arith, due-le 4 (length ks - 0) (leads (141 ∷ [])), price-4 (length ks - 0)))

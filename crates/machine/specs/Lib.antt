@@ -1,2 +1,4 @@
 pub mod Depth
 pub mod Machine
+pub mod Answer
+pub mod Items

@@ -1,10 +1,9 @@
 -- The parsing machine: a stack of symbols (specs/Numbering.antt of `productions`), top first, a place in the list of kinds, and the items written so far.
--- Document 01, "first token that can continue no text of the grammar", is the place where it refuses (proofs/Meaning.antt).
+-- Document 01, "first token that can continue no text of the grammar", is the place where it refuses (proofs/Same.antt, proofs/Main.antt).
 -- A number on the stack is a symbol, with the place and the count of items at which its right side was begun. An item is a symbol, with the place of its token
 -- and the count of items written since then.
 use Prim.Native.Nat.{ℕ, zero, suc, _+_, _-_, _*_, _/_, _%_, min}
-use mathlib.Core.Bool.{Bool}
-use mathlib.Core.List.{List, [], _∷_, _++_, map}
+use mathlib.Core.List.{List, [], _∷_, _++_}
 use lib.ListN.{length, getD}
 use lib.Dec.{ltb, leb, eqb}
 use Rattle.base.specs.Choice.{pick}

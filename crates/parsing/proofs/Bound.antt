@@ -14,6 +14,7 @@ use Rattle.syntax.specs.Code.{Item, i-name, i-number, i-text, each, code}
 use Rattle.parsing.specs.Engine.{nt, tm, act, L, done, emit, eat, by}
 use Rattle.parsing.specs.Productions.{NT, e1, e2, e3, e4, e5, e6, e7, e8, e9, e10, t1, t2, t3, t4, t5, t6, t7, t8, t9, t10, n-operand, n-ref, n-ix, n-opened, n-closing, n-argument, n-arguments, n-more-arguments, n-sent, n-received, n-more-received, n-got, n-statement, n-after-name, n-action, n-after-ref, n-right-side, n-other, n-sequence, n-more-statements, n-after-separator, n-option, n-more-options, n-plain-type, n-type, n-value, n-set, n-variable, n-size, n-more-variables, n-chan-variable, n-chan-rest, n-chan-value, n-field, n-more-fields, n-more-chan-variables, n-declaration, n-body, n-items, n-parted, n-more-parted, n-parameters, n-group, n-more-groups, n-parameter, n-more-parameters, n-unit, n-after-mtype, n-message, n-more-messages, n-activity, n-process, n-model, n-more-units, Ter, sy, any-name, any-number, any-text, Right, eats, prods, G}
 use Rattle.parsing.proofs.Tests.{is-some}
+use Rattle.parsing.proofs.Numbered.{every}
 use Rattle.parsing.proofs.Inst.{all, all-in, sy-in}
 use Rattle.parsing.proofs.Link.{into-table}
 
@@ -205,82 +206,9 @@ abbrev covered : NT → Right → Bool
 covered n r = leb (all-owe r + leaves n) (all-leave r + owes n)
 
 tested : (n : NT) → T (all (covered n) (prods n))
-tested e1 = tt
-tested e2 = tt
-tested e3 = tt
-tested e4 = tt
-tested e5 = tt
-tested e6 = tt
-tested e7 = tt
-tested e8 = tt
-tested e9 = tt
-tested e10 = tt
-tested t1 = tt
-tested t2 = tt
-tested t3 = tt
-tested t4 = tt
-tested t5 = tt
-tested t6 = tt
-tested t7 = tt
-tested t8 = tt
-tested t9 = tt
-tested t10 = tt
-tested n-operand = tt
-tested n-ref = tt
-tested n-ix = tt
-tested n-opened = tt
-tested n-closing = tt
-tested n-argument = tt
-tested n-arguments = tt
-tested n-more-arguments = tt
-tested n-sent = tt
-tested n-received = tt
-tested n-more-received = tt
-tested n-got = tt
-tested n-statement = tt
-tested n-after-name = tt
-tested n-action = tt
-tested n-after-ref = tt
-tested n-right-side = tt
-tested n-other = tt
-tested n-sequence = tt
-tested n-more-statements = tt
-tested n-after-separator = tt
-tested n-option = tt
-tested n-more-options = tt
-tested n-plain-type = tt
-tested n-type = tt
-tested n-value = tt
-tested n-set = tt
-tested n-variable = tt
-tested n-size = tt
-tested n-more-variables = tt
-tested n-chan-variable = tt
-tested n-chan-rest = tt
-tested n-chan-value = tt
-tested n-field = tt
-tested n-more-fields = tt
-tested n-more-chan-variables = tt
-tested n-declaration = tt
-tested n-body = tt
-tested n-items = tt
-tested n-parted = tt
-tested n-more-parted = tt
-tested n-parameters = tt
-tested n-group = tt
-tested n-more-groups = tt
-tested n-parameter = tt
-tested n-more-parameters = tt
-tested n-unit = tt
-tested n-after-mtype = tt
-tested n-message = tt
-tested n-more-messages = tt
-tested n-activity = tt
-tested n-process = tt
-tested n-model = tt
-tested n-more-units = tt
+tested n = every (λ m. all (covered m) (prods m)) tt n
 
-paid : (t : Ter) (c : Token) (a : List Item) → eats t c ≡ some a → 2 * length a + pays t ≤ 5
+pub paid : (t : Ter) (c : Token) (a : List Item) → eats t c ≡ some a → 2 * length a + pays t ≤ 5
 paid (sy j) (sym k) a e = rw (← sy-in j k a e .1) (omega arith)
 paid (sy j) (name v) a e = absurd (is-some e)
 paid (sy j) (number n) a e = absurd (is-some e)

@@ -248,7 +248,7 @@ module _ {C S N A : Type 0} (G : Grammar C S N A) (U : Guide C S N A) (K : ℕ) 
     left-wrote a (some o) none = refl
     left-wrote a (some o) (some p) = ap some (sym (append-assoc a o p))
 
-    finish-app : (r k : List (Sym N S A)) → finish G U (r ++ k) ≡ left-out (finish G U r) (finish G U k)
+    pub finish-app : (r k : List (Sym N S A)) → finish G U (r ++ k) ≡ left-out (finish G U r) (finish G U k)
     finish-app [] k = wrote-nil (finish G U k)
     finish-app (act a ∷ r) k = ap (wrote (a ∷ [])) (finish-app r k) ∙ left-wrote (a ∷ []) (finish G U r) (finish G U k)
     finish-app (tm t ∷ r) k = refl

@@ -11,4 +11,9 @@ pub mod MeansU
 pub mod Table
 pub mod Main
 pub mod Judged
+pub mod Numbered
 pub mod Bound
+pub mod Weights
+pub mod Steps
+pub mod Items
+pub mod Stack

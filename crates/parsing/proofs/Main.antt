@@ -8,6 +8,7 @@ use Rattle.tokens.specs.Kinds.{Token}
 use Rattle.syntax.specs.Tree.{Model}
 use Rattle.syntax.specs.Grammar.{Gram}
 use Rattle.syntax.specs.Code.{Item, code}
+use Rattle.syntax.specs.Print.{print-model}
 use Rattle.parsing.specs.Engine.{nt, Answer, ok, bad, L}
 use Rattle.parsing.specs.Productions.{n-model, G}
 use Rattle.parsing.specs.Guide.{U, parse-model}
@@ -16,6 +17,7 @@ use Rattle.parsing.proofs.Inst.{K, good, start}
 use Rattle.parsing.proofs.Link.{into-table}
 use Rattle.parsing.proofs.Table.{from-table}
 use Rattle.syntax.proofs.Built.{code-injective}
+use Rattle.syntax.proofs.Printed.{print-in}
 
 -- what is accepted is a text of the grammar, and the answer is the code of its tree
 pub parse-sound : (ts : List Token) (o : List Item) → parse-model ts ≡ ok o → (m : Model) × Gram ts m × (o ≡ code m)
@@ -46,3 +48,11 @@ parse-refused ts i e = go (parse-model ts) (ran G U K good (nt n-model ∷ []) t
         let (m, x, w) = from-table d in
         let z : Refused ts j = record { viable = (us, m, x); dead = λ l vs n y. f l vs (code n) (into-table y); no-text = λ n y. g (code n) (into-table y) } in
         rw h at z
+
+-- the printed tokens of a text's tree read back to the same code
+pub round-trip : (ts : List Token) (m : Model) → Gram ts m → parse-model (print-model m) ≡ ok (code m)
+round-trip ts m x = parse-complete (print-model m) m (print-in x)
+
+-- texts whose trees print alike have one tree
+pub print-injective : (ts us : List Token) (m n : Model) → Gram ts m → Gram us n → print-model m ≡ print-model n → m ≡ n
+print-injective ts us m n x y e = one-tree (print-model m) m n (print-in x) (rw e (print-in y))

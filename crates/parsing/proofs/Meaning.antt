@@ -179,9 +179,27 @@ split (tm any-number ∷ r) k (m-number m) = split-number (split r k m)
 split (tm any-text ∷ r) k (m-text m) = split-text (split r k m)
 split (nt n ∷ r) k (m-nt ts p g m) = split-nt ts p g (split r k m)
 
--- what is to be shown of a right side, and what follows for derivations
+-- what is to be shown of a right side: given what each of its symbols stands for, what stands for the whole
+abbrev pub Given : Right → (List Token → List Item → Type 0) → Type 0
+Given [] Q = Q [] []
+Given (act a ∷ k) Q = Given k (λ w o. Q w (a ∷ o))
+Given (tm (sy j) ∷ k) Q = Given k (λ w o. Q (sym j ∷ w) o)
+Given (tm any-name ∷ k) Q = (v : Name) → Given k (λ w o. Q (name v ∷ w) (i-name v ∷ o))
+Given (tm any-number ∷ k) Q = (n : ℕ) → Given k (λ w o. Q (number n ∷ w) (i-number n ∷ o))
+Given (tm any-text ∷ k) Q = (v : List ℕ) → Given k (λ w o. Q (text v ∷ w) (i-text v ∷ o))
+Given (nt n ∷ k) Q = (ts : List Token) (p : List Item) → NG n ts p → Given k (λ w o. Q (ts ++ w) (p ++ o))
+
 abbrev pub Means : NT → Right → Type 0
-Means n r = (w : List Token) (o : List Item) → M r w o → NG n w o
+Means n r = Given r (NG n)
+
+use-given : (r : Right) (Q : List Token → List Item → Type 0) {w : List Token} {o : List Item} → Given r Q → M r w o → Q w o
+use-given [] Q g m-nil = g
+use-given (act a ∷ k) Q g (m-act m) = use-given k (λ w o. Q w (a ∷ o)) g m
+use-given (tm (sy j) ∷ k) Q g (m-sy m) = use-given k (λ w o. Q (sym j ∷ w) o) g m
+use-given (tm any-name ∷ k) Q g (m-name {v = v} m) = use-given k (λ w o. Q (name v ∷ w) (i-name v ∷ o)) (g v) m
+use-given (tm any-number ∷ k) Q g (m-number {n = n} m) = use-given k (λ w o. Q (number n ∷ w) (i-number n ∷ o)) (g n) m
+use-given (tm any-text ∷ k) Q g (m-text {v = v} m) = use-given k (λ w o. Q (text v ∷ w) (i-text v ∷ o)) (g v) m
+use-given (nt n ∷ k) Q g (m-nt ts p x m) = use-given k (λ w o. Q (ts ++ w) (p ++ o)) (g ts p x) m
 
 to-m-eat : (t : Ter) (c : Token) (a : List Item) {k : Right} {w : List Token} {o : List Item} → eats t c ≡ some a → M k w o → M (tm t ∷ k) (c ∷ w) (a ++ o)
 to-m-eat (sy j) (sym i) a e m = let (h, h′) = sy-in j i a e in rw (← h, ← h′) (m-sy m)
@@ -202,7 +220,7 @@ to-m-eat any-text (number n) a e m = absurd (is-some e)
 to-m-eat any-text (text v) a e m = let h : i-text v ∷ [] ≡ a = cc in rw (← h) (m-text m)
 
 to-m-by : ((n : NT) → Each (Means n) (prods n)) → (n : NT) (r k : Right) {w : List Token} {o : List Item} → In r (prods n) → Split r k w o → M (nt n ∷ k) w o
-to-m-by f n r k i (parts {w = w} {o = o} x y) = m-nt w o (each-in (Means n) (prods n) (f n) r i w o x) y
+to-m-by f n r k i (parts {w = w} {o = o} x y) = m-nt w o (use-given r (NG n) (each-in (Means n) (prods n) (f n) r i) x) y
 
 pub to-m : ((n : NT) → Each (Means n) (prods n)) → {k : Right} {w : List Token} {o : List Item} → L G k w o → M k w o
 to-m f done = m-nil

@@ -10,7 +10,7 @@ use Rattle.syntax.specs.Grammar.{Listed, one, more, Maybe-listed, no-list, a-li
 use Rattle.syntax.specs.Code.{Item, i-name, i-number, i-active, i-active-many, i-body, i-channel, i-declared, i-end-body, i-false, i-field, i-global, i-group, i-init, i-local, i-message, i-minus, i-mtypes, i-named, i-parameter, i-proctype, i-size, i-true, i-type, i-value, each, code-tree, code-field, code-size, code-value, code-variable, code-declaration, code-parameter, code-group, code-body, code-activity, code-message, code-part, code}
 use Rattle.parsing.specs.Engine.{nt, tm, act}
 use Rattle.parsing.specs.Productions.{n-sequence, n-plain-type, n-type, n-value, n-set, n-variable, n-size, n-more-variables, n-chan-variable, n-chan-rest, n-chan-value, n-field, n-more-fields, n-more-chan-variables, n-declaration, n-body, n-items, n-parted, n-more-parted, n-parameters, n-group, n-more-groups, n-parameter, n-more-parameters, n-unit, n-after-mtype, n-message, n-more-messages, n-activity, n-process, n-model, n-more-units, any-name, any-number, key, is-of-type}
-use Rattle.parsing.proofs.Meaning.{Phrase, Further, Setting, not-set, set-to, Sizing, no-size, sized, Any-variable, code-items, m-nil, m-act, m-sy, m-name, m-number, m-nt, Means}
+use Rattle.parsing.proofs.Meaning.{Phrase, Further, Setting, not-set, set-to, Sizing, no-size, sized, Any-variable, code-items, Means}
 use Rattle.parsing.proofs.MeansE.{joined, out-two, moved, moved-one, none-after, carry, carry-on}
 use Rattle.parsing.proofs.MeansS.{parted-semi, parted-arrow}
 
@@ -23,44 +23,44 @@ out-process c p q x y h i = rw (h, i, append-nil y, append-assoc c x y)
 
 -- types
 pub means-plain-type : (t : ℕ) → Is-type t → Means n-plain-type (is-of-type t)
-means-plain-type t h w o (m-sy (m-act m-nil)) = (t, a-type h, refl)
+means-plain-type t h = (t, a-type h, refl)
 
 pub means-type-plain : Means n-type (nt n-plain-type ∷ [])
-means-type-plain w o (m-nt ts p (t, x, h) m-nil) = (t, rw append-nil x, append-nil p ∙ h)
+means-type-plain ts p (t, x, h) = (t, rw append-nil x, append-nil p ∙ h)
 
 pub means-type : (t : ℕ) → Is-type t → Means n-type (is-of-type t)
-means-type t h w o (m-sy (m-act m-nil)) = (t, a-type h, refl)
+means-type t h = (t, a-type h, refl)
 
 pub means-field : Means n-field (nt n-type ∷ act i-field ∷ [])
-means-field w o (m-nt ts p (t, x, h) (m-act m-nil)) = (t, rw append-nil x, rw h)
+means-field ts p (t, x, h) = (t, rw append-nil x, rw h)
 
 -- declarations
 pub means-value-number : Means n-value (tm any-number ∷ act i-value ∷ [])
-means-value-number w o (m-number {n = n} (m-act m-nil)) = (set-number n, v-number, refl)
+means-value-number n = (set-number n, v-number, refl)
 
 pub means-value-minus : Means n-value (key '- ∷ tm any-number ∷ act i-minus ∷ [])
-means-value-minus w o (m-sy (m-number {n = n} (m-act m-nil))) = (set-minus n, v-minus, refl)
+means-value-minus n = (set-minus n, v-minus, refl)
 
 pub means-value-true : Means n-value (key 'true ∷ act i-true ∷ act i-value ∷ [])
-means-value-true w o (m-sy (m-act (m-act m-nil))) = (set-true, v-true, refl)
+means-value-true = (set-true, v-true, refl)
 
 pub means-value-false : Means n-value (key 'false ∷ act i-false ∷ act i-value ∷ [])
-means-value-false w o (m-sy (m-act (m-act m-nil))) = (set-false, v-false, refl)
+means-value-false = (set-false, v-false, refl)
 
 pub means-value-name : Means n-value (tm any-name ∷ act i-named ∷ [])
-means-value-name w o (m-name {v = v} (m-act m-nil)) = (set-name v, v-name, refl)
+means-value-name v = (set-name v, v-name, refl)
 
 pub means-unset : Means n-set []
-means-unset w o m-nil = (unset, not-set, refl)
+means-unset = (unset, not-set, refl)
 
 pub means-setting : Means n-set (key '= ∷ nt n-value ∷ [])
-means-setting w o (m-sy (m-nt ts p (v, x, h) m-nil)) = (v, rw append-nil (set-to x), append-nil p ∙ h)
+means-setting ts p (v, x, h) = (v, rw append-nil (set-to x), append-nil p ∙ h)
 
 pub means-scalar : Means n-size []
-means-scalar w o m-nil = (none, no-size, refl)
+means-scalar = (none, no-size, refl)
 
 pub means-array : Means n-size (key '[ ∷ tm any-number ∷ key '] ∷ act i-size ∷ [])
-means-array w o (m-sy (m-number {n = n} (m-sy (m-act m-nil)))) = (some n, sized, refl)
+means-array n = (some n, sized, refl)
 
 variable-of : {v : Name} {ts us : List Token} {s : Option ℕ} {y : Value} → Sizing ts s → Setting us y → (t : ℕ) → A-variable t (name v ∷ ts ++ us) (variable v s y)
 variable-of no-size not-set t = x-bare
@@ -69,27 +69,27 @@ variable-of sized not-set t = x-array
 variable-of sized (set-to x) t = x-array-set x
 
 pub means-variable : Means n-variable (tm any-name ∷ act i-declared ∷ nt n-size ∷ nt n-set ∷ [])
-means-variable w o (m-name {v = v} (m-act (m-nt ts p (s, x, h) (m-nt us q (y, z, i) m-nil)))) =
+means-variable v ts p (s, x, h) us q (y, z, i) =
     (variable v s y, λ t. rw append-nil (variable-of x z t), ap (λ (z : List Item). i-name v ∷ i-declared ∷ z) (out-two p q (code-size s) (code-value y) h i))
 
 pub means-channel : Means n-chan-variable (tm any-name ∷ act i-declared ∷ nt n-chan-rest ∷ [])
-means-channel w o (m-name {v = v} (m-act (m-nt ts p f m-nil))) = carry (A-variable 43) code-variable (i-name v ∷ i-declared ∷ []) p (name v ∷ (ts ++ [])) (name v ∷ ts) (none-after (name v ∷ []) ts) (f v)
+means-channel v ts p f = carry (A-variable 43) code-variable (i-name v ∷ i-declared ∷ []) p (name v ∷ (ts ++ [])) (name v ∷ ts) (none-after (name v ∷ []) ts) (f v)
 
 pub means-channel-bare : Means n-chan-rest []
-means-channel-bare w o m-nil v = (variable v none unset, x-bare, refl)
+means-channel-bare v = (variable v none unset, x-bare, refl)
 
 pub means-channel-array : Means n-chan-rest (key '[ ∷ tm any-number ∷ key '] ∷ act i-size ∷ nt n-set ∷ [])
-means-channel-array w o (m-sy (m-number {n = n} (m-sy (m-act (m-nt us q (y, z, i) m-nil))))) v =
+means-channel-array n us q (y, z, i) v =
     (variable v (some n) y, rw append-nil (variable-of sized z 43), ap (λ (z : List Item). i-name v ∷ i-declared ∷ i-number n ∷ i-size ∷ z) (append-nil q ∙ i))
 
 pub means-channel-set : Means n-chan-rest (key '= ∷ nt n-chan-value ∷ [])
-means-channel-set w o (m-sy (m-nt ts p f m-nil)) v = carry (A-variable 43) code-variable (i-name v ∷ i-declared ∷ []) p (name v ∷ '= ∷ (ts ++ [])) (name v ∷ '= ∷ ts) (none-after (name v ∷ '= ∷ []) ts) (f v)
+means-channel-set ts p f v = carry (A-variable 43) code-variable (i-name v ∷ i-declared ∷ []) p (name v ∷ '= ∷ (ts ++ [])) (name v ∷ '= ∷ ts) (none-after (name v ∷ '= ∷ []) ts) (f v)
 
 pub means-channel-value : Means n-chan-value (nt n-value ∷ [])
-means-channel-value w o (m-nt ts p (y, z, i) m-nil) v = (variable v none y, rw append-nil (x-set z), ap (λ (z : List Item). i-name v ∷ i-declared ∷ z) (append-nil p ∙ i))
+means-channel-value ts p (y, z, i) v = (variable v none y, rw append-nil (x-set z), ap (λ (z : List Item). i-name v ∷ i-declared ∷ z) (append-nil p ∙ i))
 
 pub means-channel-made : Means n-chan-value (key '[ ∷ tm any-number ∷ key '] ∷ act i-channel ∷ key 'of ∷ key 'lbrace ∷ nt n-field ∷ nt n-more-fields ∷ key 'rbrace ∷ [])
-means-channel-made w o (m-sy (m-number {n = n} (m-sy (m-act (m-sy (m-sy (m-nt ts p (t, x, h) (m-nt us q (l, y, i) (m-sy m-nil))))))))) v = (
+means-channel-made n ts p (t, x, h) us q (l, y, i) v = (
   variable v none (set-channel n (t ∷ l)),
   rw append-assoc at (x-channel {w = v} {n = n} (joined A-type x y)),
   ap (λ (z : List Item). i-name v ∷ i-declared ∷ i-number n ∷ i-channel ∷ z) (out-two p q (code-field t) (each code-field l) h i),
@@ -103,39 +103,39 @@ declaration-of : {t : ℕ} {xs ts us : List Token} {x : Variable} {l : List Vari
 declaration-of {t} (a-type h) x y = declaration h (listed-any t (joined Any-variable x y))
 
 pub means-local : Means n-declaration (nt n-plain-type ∷ act i-local ∷ nt n-variable ∷ nt n-more-variables ∷ [])
-means-local w o (m-nt xs r (t, g, j) (m-act (m-nt ts p (x, y, h) (m-nt us q (l, z, i) m-nil)))) =
+means-local xs r (t, g, j) ts p (x, y, h) us q (l, z, i) =
     (declare t (x ∷ l), rw append-nil (rw append-assoc at (declaration-of g y z)), out-typed r t i-local p q (code-variable x) (each code-variable l) j h i)
 
 pub means-local-mtype : Means n-declaration (key 'mtype ∷ act (i-type 41) ∷ act i-local ∷ nt n-variable ∷ nt n-more-variables ∷ [])
-means-local-mtype w o (m-sy (m-act (m-act (m-nt ts p (x, y, h) (m-nt us q (l, z, i) m-nil))))) =
+means-local-mtype ts p (x, y, h) us q (l, z, i) =
     (declare 41 (x ∷ l), rw append-nil (declaration-of (a-type is-mtype) y z), out-typed (i-type 41 ∷ []) 41 i-local p q (code-variable x) (each code-variable l) refl h i)
 
 pub means-local-chan : Means n-declaration (key 'chan ∷ act (i-type 43) ∷ act i-local ∷ nt n-chan-variable ∷ nt n-more-chan-variables ∷ [])
-means-local-chan w o (m-sy (m-act (m-act (m-nt ts p (x, y, h) (m-nt us q (l, z, i) m-nil))))) =
+means-local-chan ts p (x, y, h) us q (l, z, i) =
     (declare 43 (x ∷ l), rw append-nil (declaration is-chan (joined (A-variable 43) y z)), out-typed (i-type 43 ∷ []) 43 i-local p q (code-variable x) (each code-variable l) refl h i)
 
 -- bodies
 pub means-items-declaration : Means n-items (nt n-declaration ∷ nt n-parted ∷ [])
-means-items-declaration w o (m-nt ts p (d, x, h) (m-nt us q f m-nil)) =
+means-items-declaration ts p (d, x, h) us q f =
     carry-on Items code-items p q (code-declaration i-local d) (ts ++ (us ++ [])) (ts ++ us) (none-after ts us) h (f ts d x)
 
 pub means-items-sequence : Means n-items (nt n-sequence ∷ [])
-means-items-sequence w o (m-nt ts p (q, x, h) m-nil) = (body [] q, rw append-nil (statements x), append-nil p ∙ h)
+means-items-sequence ts p (q, x, h) = (body [] q, rw append-nil (statements x), append-nil p ∙ h)
 
 pub means-parted-semi : Means n-parted (key 'semi ∷ nt n-more-parted ∷ [])
-means-parted-semi w o (m-sy (m-nt vs p f m-nil)) xs d x =
+means-parted-semi vs p f xs d x =
     carry Items code-items (code-declaration i-local d) p (xs ++ ('semi ∷ (vs ++ []))) (xs ++ 'semi ∷ [] ++ vs) (moved-one xs vs 'semi) (f xs ('semi ∷ []) d x (by-semi none-trails))
 
 pub means-parted-arrow : Means n-parted (key '-> ∷ nt n-more-parted ∷ [])
-means-parted-arrow w o (m-sy (m-nt vs p f m-nil)) xs d x =
+means-parted-arrow vs p f xs d x =
     carry Items code-items (code-declaration i-local d) p (xs ++ ('-> ∷ (vs ++ []))) (xs ++ '-> ∷ [] ++ vs) (moved-one xs vs '->) (f xs ('-> ∷ []) d x (by-arrow none-trails))
 
 pub means-parted-more-semi : Means n-more-parted (key 'semi ∷ nt n-more-parted ∷ [])
-means-parted-more-semi w o (m-sy (m-nt vs p f m-nil)) xs us d x u =
+means-parted-more-semi vs p f xs us d x u =
     carry Items code-items (code-declaration i-local d) p (xs ++ us ++ ('semi ∷ (vs ++ []))) (xs ++ (us ++ 'semi ∷ []) ++ vs) (moved xs us vs 'semi) (f xs (us ++ 'semi ∷ []) d x (parted-semi u))
 
 pub means-parted-more-arrow : Means n-more-parted (key '-> ∷ nt n-more-parted ∷ [])
-means-parted-more-arrow w o (m-sy (m-nt vs p f m-nil)) xs us d x u =
+means-parted-more-arrow vs p f xs us d x u =
     carry Items code-items (code-declaration i-local d) p (xs ++ us ++ ('-> ∷ (vs ++ []))) (xs ++ (us ++ '-> ∷ []) ++ vs) (moved xs us vs '->) (f xs (us ++ '-> ∷ []) d x (parted-arrow u))
 
 more-items : (xs us vs : List Token) (d : Declaration) (b : Body) (p : List Item) → A-declaration xs d → Parted us → Items vs b → p ≡ code-items b →
@@ -144,70 +144,70 @@ more-items xs us vs d (body ds q) p x u y h =
     (body (d ∷ ds) q, rw append-nil (declared x u y), ap (code-declaration i-local d ++_) (append-nil p ∙ h) ∙ inv (append-assoc (code-declaration i-local d) (each (code-declaration i-local) ds) (code-tree q)))
 
 pub means-parted-items : Means n-more-parted (nt n-items ∷ [])
-means-parted-items w o (m-nt vs p (b, y, h) m-nil) xs us d x u = more-items xs us vs d b p x u y h
+means-parted-items vs p (b, y, h) xs us d x u = more-items xs us vs d b p x u y h
 
 code-body-items : (b : Body) → code-body b ≡ i-body ∷ code-items b ++ i-end-body ∷ []
 code-body-items (body ds q) = refl
 
 pub means-body : Means n-body (key 'lbrace ∷ act i-body ∷ nt n-items ∷ key 'rbrace ∷ act i-end-body ∷ [])
-means-body w o (m-sy (m-act (m-nt ts p (b, x, h) (m-sy (m-act m-nil))))) = (b, a-body x, rw (h, code-body-items b))
+means-body ts p (b, x, h) = (b, a-body x, rw (h, code-body-items b))
 
 -- parameters
 pub means-no-parameters : Means n-parameters []
-means-no-parameters w o m-nil = ([], no-list, refl)
+means-no-parameters = ([], no-list, refl)
 
 pub means-parameters : Means n-parameters (nt n-group ∷ nt n-more-groups ∷ [])
-means-parameters w o (m-nt ts p (g, x, h) (m-nt us q (l, y, i) m-nil)) = (g ∷ l, rw append-nil (a-list (joined A-group x y)), out-two p q (code-group g) (each code-group l) h i)
+means-parameters ts p (g, x, h) us q (l, y, i) = (g ∷ l, rw append-nil (a-list (joined A-group x y)), out-two p q (code-group g) (each code-group l) h i)
 
 group-of : {t : ℕ} {xs ts us : List Token} {v : Name} {l : List Name} → A-type xs t → A-name ts v → Further 'comma A-name us l → A-group (xs ++ ts ++ us) (group t (v ∷ l))
 group-of (a-type h) x y = a-group h (joined A-name x y)
 
 pub means-parameter-group : Means n-group (nt n-type ∷ act i-group ∷ nt n-parameter ∷ nt n-more-parameters ∷ [])
-means-parameter-group w o (m-nt xs r (t, g, j) (m-act (m-nt ts p (v, x, h) (m-nt us q (l, y, i) m-nil)))) =
+means-parameter-group xs r (t, g, j) ts p (v, x, h) us q (l, y, i) =
     (group t (v ∷ l), rw append-nil (rw append-assoc at (group-of g x y)), out-typed r t i-group p q (code-parameter v) (each code-parameter l) j h i)
 
 pub means-parameter : Means n-parameter (tm any-name ∷ act i-parameter ∷ [])
-means-parameter w o (m-name {v = v} (m-act m-nil)) = (v, a-name, refl)
+means-parameter v = (v, a-name, refl)
 
 pub means-message : Means n-message (tm any-name ∷ act i-message ∷ [])
-means-message w o (m-name {v = v} (m-act m-nil)) = (v, a-name, refl)
+means-message v = (v, a-name, refl)
 
 -- units
 pub means-global : Means n-unit (nt n-plain-type ∷ act i-global ∷ nt n-variable ∷ nt n-more-variables ∷ [])
-means-global w o (m-nt xs r (t, g, j) (m-act (m-nt ts p (x, y, h) (m-nt us q (l, z, i) m-nil)))) =
+means-global xs r (t, g, j) ts p (x, y, h) us q (l, z, i) =
     (global (declare t (x ∷ l)), rw append-nil (rw append-assoc at (u-global (declaration-of g y z))), out-typed r t i-global p q (code-variable x) (each code-variable l) j h i)
 
 pub means-mtype : Means n-unit (key 'mtype ∷ nt n-after-mtype ∷ [])
-means-mtype w o (m-sy (m-nt ts p (u, x, h) m-nil)) = (u, rw append-nil x, append-nil p ∙ h)
+means-mtype ts p (u, x, h) = (u, rw append-nil x, append-nil p ∙ h)
 
 pub means-global-chan : Means n-unit (key 'chan ∷ act (i-type 43) ∷ act i-global ∷ nt n-chan-variable ∷ nt n-more-chan-variables ∷ [])
-means-global-chan w o (m-sy (m-act (m-act (m-nt ts p (x, y, h) (m-nt us q (l, z, i) m-nil))))) =
+means-global-chan ts p (x, y, h) us q (l, z, i) =
     (global (declare 43 (x ∷ l)), rw append-nil (u-global (declaration is-chan (joined (A-variable 43) y z))), out-typed (i-type 43 ∷ []) 43 i-global p q (code-variable x) (each code-variable l) refl h i)
 
 pub means-idle : Means n-unit (key 'proctype ∷ tm any-name ∷ act i-proctype ∷ nt n-process ∷ [])
-means-idle w o (m-sy (m-name {v = v} (m-act (m-nt ts p f m-nil)))) =
+means-idle v ts p f =
     carry A-unit code-part (i-name v ∷ i-proctype ∷ []) p ('proctype ∷ name v ∷ (ts ++ [])) ('proctype ∷ name v ∷ ts) (none-after ('proctype ∷ name v ∷ []) ts) (f [] idle v not-active)
 
 pub means-some-active : Means n-unit (key 'active ∷ nt n-activity ∷ [])
-means-some-active w o (m-sy (m-nt ts p (u, x, h) m-nil)) = (u, rw append-nil x, append-nil p ∙ h)
+means-some-active ts p (u, x, h) = (u, rw append-nil x, append-nil p ∙ h)
 
 pub means-init : Means n-unit (key 'init ∷ act i-init ∷ nt n-body ∷ [])
-means-init w o (m-sy (m-act (m-nt ts p (b, x, h) m-nil))) = (init b, rw append-nil (u-init x), ap (i-init ∷_) (append-nil p ∙ h))
+means-init ts p (b, x, h) = (init b, rw append-nil (u-init x), ap (i-init ∷_) (append-nil p ∙ h))
 
 pub means-mtypes : Means n-after-mtype (key '= ∷ act i-mtypes ∷ key 'lbrace ∷ nt n-message ∷ nt n-more-messages ∷ key 'rbrace ∷ [])
-means-mtypes w o (m-sy (m-act (m-sy (m-nt ts p (v, x, h) (m-nt us q (l, y, i) (m-sy m-nil)))))) =
+means-mtypes ts p (v, x, h) us q (l, y, i) =
     (mtypes (v ∷ l), rw append-assoc at (u-mtypes (joined A-name x y)), ap (i-mtypes ∷_) (out-two p q (code-message v) (each code-message l) h i))
 
 pub means-global-mtype : Means n-after-mtype (act (i-type 41) ∷ act i-global ∷ nt n-variable ∷ nt n-more-variables ∷ [])
-means-global-mtype w o (m-act (m-act (m-nt ts p (x, y, h) (m-nt us q (l, z, i) m-nil)))) =
+means-global-mtype ts p (x, y, h) us q (l, z, i) =
     (global (declare 41 (x ∷ l)), rw append-nil (u-global (declaration-of (a-type is-mtype) y z)), out-typed (i-type 41 ∷ []) 41 i-global p q (code-variable x) (each code-variable l) refl h i)
 
 pub means-active : Means n-activity (key 'proctype ∷ tm any-name ∷ act i-active ∷ nt n-process ∷ [])
-means-active w o (m-sy (m-name {v = v} (m-act (m-nt ts p f m-nil)))) =
+means-active v ts p f =
     carry A-unit code-part (i-name v ∷ i-active ∷ []) p ('active ∷ 'proctype ∷ name v ∷ (ts ++ [])) ('active ∷ 'proctype ∷ name v ∷ ts) (none-after ('active ∷ 'proctype ∷ name v ∷ []) ts) (f ('active ∷ []) once v active)
 
 pub means-active-many : Means n-activity (key '[ ∷ tm any-number ∷ key '] ∷ key 'proctype ∷ tm any-name ∷ act i-active-many ∷ nt n-process ∷ [])
-means-active-many w o (m-sy (m-number {n = n} (m-sy (m-sy (m-name {v = v} (m-act (m-nt ts p f m-nil))))))) =
+means-active-many n v ts p f =
     carry A-unit code-part (i-number n ∷ i-name v ∷ i-active-many ∷ []) p ('active ∷ '[ ∷ number n ∷ '] ∷ 'proctype ∷ name v ∷ (ts ++ [])) ('active ∷ '[ ∷ number n ∷ '] ∷ 'proctype ∷ name v ∷ ts)
     (none-after ('active ∷ '[ ∷ number n ∷ '] ∷ 'proctype ∷ name v ∷ []) ts) (f ('active ∷ '[ ∷ number n ∷ '] ∷ []) (times n) v active-times)
 
@@ -216,7 +216,7 @@ process-of : (xs ts us : List Token) (a : Activity) (v : Name) (gs : List Group)
 process-of xs ts us a v gs b z x y = rw append-nil (rw append-assoc at (u-process {w = v} z x y))
 
 pub means-process : Means n-process (key 'lpar ∷ nt n-parameters ∷ key 'rpar ∷ nt n-body ∷ [])
-means-process w o (m-sy (m-nt ts p (gs, x, h) (m-sy (m-nt us q (b, y, i) m-nil)))) xs a v z =
+means-process ts p (gs, x, h) us q (b, y, i) xs a v z =
     (process a v gs b, process-of xs ts us a v gs b z x y, out-process (code-activity a v) p q (each code-group gs) (code-body b) h i)
 
 -- models
@@ -231,16 +231,16 @@ more-parts : (xs us ts : List Token) (u : Part) (p : List Item) → A-unit xs u 
 more-parts xs us ts u p x s (m, y, h) = (u ∷ m, g-more x s y, ap (code-part u ++_) h)
 
 pub means-model : Means n-model (nt n-unit ∷ nt n-more-units ∷ [])
-means-model w o (m-nt ts p (u, x, h) (m-nt us q f m-nil)) =
+means-model ts p (u, x, h) us q f =
     carry-on Gram code p q (code-part u) (ts ++ (us ++ [])) (ts ++ [] ++ us) (one-after ts us) h (f ts [] u x no-semi)
 
 pub means-no-units : Means n-more-units []
-means-no-units w o m-nil xs us u x s = (u ∷ [], rw append-nil (g-last x s), refl)
+means-no-units xs us u x s = (u ∷ [], rw append-nil (g-last x s), refl)
 
 pub means-unit-semi : Means n-more-units (key 'semi ∷ nt n-more-units ∷ [])
-means-unit-semi w o (m-sy (m-nt vs p f m-nil)) xs us u x s =
+means-unit-semi vs p f xs us u x s =
     carry Gram code (code-part u) p (xs ++ us ++ ('semi ∷ (vs ++ []))) (xs ++ (us ++ 'semi ∷ []) ++ vs) (moved xs us vs 'semi) (f xs (us ++ 'semi ∷ []) u x (semicolons-more s))
 
 pub means-units : Means n-more-units (nt n-unit ∷ nt n-more-units ∷ [])
-means-units w o (m-nt vs p (u′, y, h) (m-nt ws q f m-nil)) xs us u x s =
+means-units vs p (u′, y, h) ws q f xs us u x s =
     more-parts xs us (vs ++ (ws ++ [])) u (p ++ (q ++ [])) x s (carry-on Gram code p q (code-part u′) (vs ++ (ws ++ [])) (vs ++ [] ++ ws) (one-after vs ws) h (f vs [] u′ y no-semi))

@@ -162,6 +162,22 @@ statement-28 = refl
 statement-29 : Statement ('do ∷ ':: ∷ name a ∷ 'semi ∷ '-> ∷ 'semi ∷ 'break ∷ 'semi ∷ 'semi ∷ ':: ∷ 'skip ∷ '-> ∷ 'od ∷ []) (loop (option (then (bare (express (get (plain a)))) (then (bare break) end)) (option (then (bare skip) end) over)))
 statement-29 = refl
 
+-- a conditional as index and as right side: a[(b->c:d)]=(b->1:0)
+statement-30 : Statement (name a ∷ '[ ∷ 'lpar ∷ name b ∷ '-> ∷ name c ∷ ': ∷ name d ∷ 'rpar ∷ '] ∷ '= ∷ 'lpar ∷ name b ∷ '-> ∷ number 1 ∷ ': ∷ number 0 ∷ 'rpar ∷ []) (assign (indexed a (choice (get (plain b)) (get (plain c)) (get (plain d)))) (choice (get (plain b)) (num 1) (num 0)))
+statement-30 = refl
+
+-- conditionals as arguments: c!(a->b:c),(a->1:2)
+statement-31 : Statement (name c ∷ '! ∷ 'lpar ∷ name a ∷ '-> ∷ name b ∷ ': ∷ name c ∷ 'rpar ∷ 'comma ∷ 'lpar ∷ name a ∷ '-> ∷ number 1 ∷ ': ∷ number 2 ∷ 'rpar ∷ []) (send (plain c) ((choice (get (plain a)) (get (plain b)) (get (plain c))) ∷ (choice (get (plain a)) (num 1) (num 2)) ∷ []))
+statement-31 = refl
+
+-- a conditional in `eval`: c?eval((a->b:c))
+statement-32 : Statement (name c ∷ '? ∷ 'eval ∷ 'lpar ∷ 'lpar ∷ name a ∷ '-> ∷ name b ∷ ': ∷ name c ∷ 'rpar ∷ 'rpar ∷ []) (receive (plain c) (equal (choice (get (plain a)) (get (plain b)) (get (plain c))) ∷ []))
+statement-32 = refl
+
+-- a conditional as an argument: run p((a->b:c),1)
+statement-33 : Statement ('run ∷ name p ∷ 'lpar ∷ 'lpar ∷ name a ∷ '-> ∷ name b ∷ ': ∷ name c ∷ 'rpar ∷ 'comma ∷ number 1 ∷ 'rpar ∷ []) (run p ((choice (get (plain a)) (get (plain b)) (get (plain c))) ∷ (num 1) ∷ []))
+statement-33 = refl
+
 -- Declarations
 -- a name: int a
 declaration-1 : parse-model ('int ∷ name a ∷ []) ≡ ok (code (global (declare 45 (variable a none unset ∷ [])) ∷ []))
@@ -212,9 +228,13 @@ unit-5 = refl
 unit-6 : parse-model ('init ∷ 'lbrace ∷ name a ∷ ': ∷ name b ∷ 'semi ∷ name c ∷ ': ∷ name d ∷ '= ∷ number 1 ∷ 'semi ∷ name e ∷ ': ∷ 'if ∷ ':: ∷ name f ∷ ': ∷ 'skip ∷ 'fi ∷ 'rbrace ∷ []) ≡ ok (code (init (body [] (then (labelled a (express (get (plain b)))) (then (labelled c (assign (plain d) (num 1))) (then (labelled e (select (option (then (labelled f skip) end) over))) end)))) ∷ []))
 unit-6 = refl
 
+-- a label on `else` and on `goto`, which the rules judge later: init{if::a:else fi;b:goto a}
+unit-7 : parse-model ('init ∷ 'lbrace ∷ 'if ∷ ':: ∷ name a ∷ ': ∷ 'else ∷ 'fi ∷ 'semi ∷ name b ∷ ': ∷ 'goto ∷ name a ∷ 'rbrace ∷ []) ≡ ok (code (init (body [] (then (bare (select (option (then (labelled a else) end) over))) (then (labelled b (goto a)) end))) ∷ []))
+unit-7 = refl
+
 -- Refusals: the first token that can continue no text of the grammar, or the end
 -- no units:
-no-text-1 : parse-model ([]) ≡ bad 0
+no-text-1 : parse-model [] ≡ bad 0
 no-text-1 = refl
 
 -- two labels: init{a:b:skip}

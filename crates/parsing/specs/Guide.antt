@@ -1,5 +1,6 @@
 -- What helps the machine choose, as data: for each nonterminal the kinds of tokens that may begin it and that may follow it, what is written where it is empty,
 -- and a bound on the choices before a token is eaten. Nothing here need be believed: proofs/Inst.antt has the tests that these numbers pass.
+-- A kind past the last, which no token of a text has, counts as 73.
 use mathlib.Core.Bool.{Bool, true, false}
 use mathlib.Core.Option.{Option, none, some}
 use mathlib.Core.List.{List, [], _∷_}

@@ -1,5 +1,5 @@
 -- THE GRAMMAR AS DATA, left-factored so that one token of lookahead chooses: named nonterminals, their right sides, and the items that are written on the way.
--- It derives exactly the texts of specs/Grammar.antt, each with the code of its tree (proofs/Link.antt, proofs/Model.antt). A kind past the last is clipped to 73.
+-- It derives exactly the texts of specs/Grammar.antt, each with the code of its tree (proofs/Link.antt, proofs/Table.antt).
 use mathlib.Core.Bool.{Bool, true, false, cond}
 use mathlib.Core.Option.{Option, none, some}
 use mathlib.Core.List.{List, [], _∷_, _++_, map}

@@ -1,9 +1,9 @@
 -- What the code's numbers say of a production, over plain variables. Assumes nothing.
 use Prim.Native.Nat.{ℕ, _+_, _-_, _*_, _<_}
 use native.Mathlib.Omega.{arith}
-use mathlib.Core.Path.{_≡_, refl, sym, ap, _∙_}
+use mathlib.Core.Path.{_≡_, sym, _∙_}
 use lib.ListN.{getD}
-use lib.Dec.{eqb, lit≤}
+use lib.Dec.{lit≤}
 use borrow.Author.Tests.{eq-eqb, ne-eqb}
 use Rattle.productions.specs.Tables.{choices, bases, numbered, production, Numbered}
 

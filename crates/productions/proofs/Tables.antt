@@ -6,17 +6,16 @@ use native.Mathlib.Nat.{not-suc-le-zero, le-of-suc-le-suc}
 use mathlib.Core.Path.{_≡_, refl, sym, ap, subst, _∙_}
 use mathlib.Core.Bool.{Bool, true, false, cond}
 use mathlib.Core.Option.{Option, none, some}
-use mathlib.Core.List.{List, [], _∷_, _++_, map}
+use mathlib.Core.List.{List, [], _∷_, map}
 use lib.ListN.{length, getD}
 use lib.Dec.{T, eqb, ltb, eqb→eq}
-use borrow.Author.Tests.{eq-eqb, ne-eqb}
+use borrow.Author.Tests.{ne-eqb}
 use Rattle.syntax.specs.Code.{Item}
-use Rattle.parsing.specs.Engine.{In, here, there, isSome, pick, either, first, choose, finish}
+use Rattle.parsing.specs.Engine.{In, here, there, isSome, pick, first, choose, finish}
 use Rattle.parsing.specs.Productions.{NT, e1, Right, prods, G}
 use Rattle.parsing.specs.Guide.{U}
-use Rattle.parsing.proofs.Tests.{below, below-out, is-some, Fits}
-use Rattle.parsing.proofs.Core.{Good}
-use Rattle.parsing.proofs.Inst.{K, good}
+use Rattle.parsing.proofs.Tests.{below, below-out, Fits}
+use Rattle.parsing.proofs.Inst.{good}
 use Rattle.productions.specs.Numbering.{nonterminals, nth, nonterminal, symbol}
 use Rattle.productions.specs.Tables.{choices, bases, rights, numbered, production, span, right}
 use Rattle.productions.proofs.Table.{at}

@@ -1,5 +1,6 @@
 -- THE GRAMMAR of document 01 ("The edition we read", Grammar) as relations between lists of tokens and trees.
--- Read `X ts t`: the tokens ts are an X, and t is its tree. In quotes stand the paper's words. How deep brackets and selections may nest is no matter of the grammar.
+-- Read `X ts t`: the tokens ts are an X, and t is its tree. In quotes stand the paper's words. The paper goes from the whole to the parts;
+-- here each part stands before what it is a part of, so the model is at the end. How deep brackets and selections may nest is no matter of the grammar.
 use mathlib.Core.Path.{_≡_}
 use mathlib.Core.Bool.{cond}
 use mathlib.Core.Option.{none, some}

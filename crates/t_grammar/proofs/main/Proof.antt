@@ -5,10 +5,10 @@ use Rattle.t_grammar.proofs.main.Statement.{statement}
 use Rattle.t_grammar.proofs.main.Tie as tie
 
 abbrev Inv-loop : tie.InvT-loop
-Inv-loop head₀ kinds₀ end₀ left₀ head kinds end left = (length head ≡ 6) × (length kinds ≡ 4096) × (length end ≡ 1)
+Inv-loop kinds₀ left₀ kinds left = length kinds ≡ 4096
 
 abbrev μ-loop : tie.MeasureT-loop
-μ-loop head₀ kinds₀ end₀ left₀ head kinds end left = left
+μ-loop kinds₀ left₀ kinds left = left
 
 pub main-spec : {M : Type 1} → statement M
 main-spec =
@@ -22,9 +22,9 @@ main-spec =
     (λ c κs. search needs)
     (λ c. search needs)
     (λ c. search needs)
-    (λ c κs. search needs)
-    (λ c κs. search needs)
     (λ c. search needs)
+    (λ c. search needs)
+    (λ c κs. search needs)
     (λ c κs. search needs)
     (λ c. search needs)
     (λ c. search needs)

@@ -5,10 +5,10 @@ use Rattle.t_tokens.proofs.main.Statement.{statement}
 use Rattle.t_tokens.proofs.main.Tie as tie
 
 abbrev Inv-loop : tie.InvT-loop
-Inv-loop head₀ text₀ end₀ left₀ head text end left = (length head ≡ 6) × (length text ≡ 16384) × (length end ≡ 1)
+Inv-loop text₀ left₀ text left = length text ≡ 16384
 
 abbrev μ-loop : tie.MeasureT-loop
-μ-loop head₀ text₀ end₀ left₀ head text end left = left
+μ-loop text₀ left₀ text left = left
 
 pub main-spec : {M : Type 1} → statement M
 main-spec =
@@ -22,9 +22,9 @@ main-spec =
     (λ c κs. search needs)
     (λ c. search needs)
     (λ c. search needs)
-    (λ c κs. search needs)
-    (λ c κs. search needs)
     (λ c. search needs)
+    (λ c. search needs)
+    (λ c κs. search needs)
     (λ c κs. search needs)
     (λ c. search needs)
     (λ c. search needs)

@@ -1,0 +1,49 @@
+use denote.Ref.{now}
+use Rattle.finding.specs.Search as finding
+use Rattle.sheets.specs.Walks as walks
+use Rattle.sheets.proofs.Walks as laws
+use Prim.Native.Nat.{_-_, _≤_}
+use mathlib.Core.Path.{_≡_, _∙_}
+use native.Mathlib.Omega.{arith}
+use borrow.Author.Tests.{eq-eqb, ne-eqb}
+use borrow.Author.Needs.{needs}
+use Rattle.finding.proofs.find.Statement.{statement}
+use Rattle.finding.proofs.find.Tie as tie
+
+abbrev Inv-loop : tie.InvT-loop
+Inv-loop codes args homes set w h to d₀ d = (d ≤ to) × (walks.first (finding.declares codes args homes set w h) d (to - d) ≡ finding.find codes args homes set w h to)
+
+abbrev μ-loop : tie.MeasureT-loop
+μ-loop codes args homes set w h to d₀ d = to - d
+
+returns : tie.Need-returns Inv-loop μ-loop
+unfolding finding.find
+returns c = simp (eq-eqb _ _ (c .if1 .taken))
+
+loop-holds : tie.Need-loop-holds Inv-loop μ-loop
+unfolding finding.find
+loop-holds c = (omega arith, laws.first-start (finding.declares (now (c .before .before .before .before .args .codes)) (now (c .before .before .before .before .args .args)) (now (c .before .before .before .before .args .homes)) (c .before .before .before .before .args .set) (c .before .before .before .before .args .w) (c .before .before .before .before .args .h)) (c .before .before .before .before .args .to) ∙ simp (ne-eqb _ _ (c .if1 .left)))
+
+returns-2 : tie.Need-returns-2 Inv-loop μ-loop
+returns-2 c = laws.first-stop (finding.declares (now (c .before .before .before .before .before .before .before .before .args .codes)) (now (c .before .before .before .before .before .before .before .before .args .args)) (now (c .before .before .before .before .before .before .before .before .args .homes)) (c .before .before .before .before .before .before .before .before .args .set) (c .before .before .before .before .before .before .before .before .args .w) (c .before .before .before .before .before .before .before .before .args .h)) (c .before .before .before .loop .d) (c .before .before .before .before .before .before .before .before .args .to - c .before .before .before .loop .d) (omega arith) (c .before .declares .ensures) (c .if2 .taken) ∙ c .before .before .before .loop .inv .1
+
+loop-again : tie.Need-loop-again Inv-loop μ-loop
+loop-again c = (omega arith, laws.first-more (finding.declares (now (c .before .before .before .before .before .before .before .before .args .codes)) (now (c .before .before .before .before .before .before .before .before .args .args)) (now (c .before .before .before .before .before .before .before .before .args .homes)) (c .before .before .before .before .before .before .before .before .args .set) (c .before .before .before .before .before .before .before .before .args .w) (c .before .before .before .before .before .before .before .before .args .h)) (c .before .before .before .loop .d) (c .before .before .before .before .before .before .before .before .args .to) (omega arith) (c .before .declares .ensures) (c .if2 .left) ∙ c .before .before .before .loop .inv .1)
+
+returns-3 : tie.Need-returns-3 Inv-loop μ-loop
+returns-3 c = laws.first-end (finding.declares (now (c .before .before .before .before .before .before .args .codes)) (now (c .before .before .before .before .before .before .args .args)) (now (c .before .before .before .before .before .before .args .homes)) (c .before .before .before .before .before .before .args .set) (c .before .before .before .before .before .before .args .w) (c .before .before .before .before .before .before .args .h)) (c .before .loop .d) (c .before .before .before .before .before .before .args .to - c .before .loop .d) (omega arith) ∙ c .before .loop .inv .1
+
+pub find-spec : {M : Type 1} → statement M
+find-spec =
+    tie.close
+    (tie.spec
+    Inv-loop
+    μ-loop
+    returns
+    loop-holds
+    (λ c κs. search needs)
+    returns-2
+    (λ c. search needs)
+    (λ c. search needs)
+    loop-again
+    returns-3)

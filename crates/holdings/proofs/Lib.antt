@@ -1,0 +1,5 @@
+pub mod Marks
+pub mod Drawn
+pub mod Tokens
+pub mod Accepted
+pub mod Read

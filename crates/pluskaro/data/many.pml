@@ -1,0 +1,1 @@
+active [17] proctype p() { skip }

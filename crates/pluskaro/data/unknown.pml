@@ -1,0 +1,4 @@
+init {
+	int a;
+	a = b + 1
+}

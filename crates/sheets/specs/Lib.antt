@@ -1,0 +1,4 @@
+pub mod Walks
+pub mod Payload
+pub mod Homes
+pub mod Spans

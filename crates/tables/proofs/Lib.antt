@@ -1,0 +1,6 @@
+pub mod Building
+pub mod Reading
+pub mod Holds
+pub mod Back
+pub mod Fits
+pub mod Trees

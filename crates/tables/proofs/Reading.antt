@@ -1,0 +1,16 @@
+-- Laws of the accessors.
+use Prim.Native.Nat.{ℕ, _+_, _/_, _%_, _<_, _≤_}
+use mathlib.Core.Path.{_≡_, sym, _∙_}
+use mathlib.Core.List.{List}
+use native.Mathlib.Omega.{arith}
+use borrow.Author.Tests.{lt-ltb, le-ltb}
+use Rattle.tables.specs.Access.{argOf, nameLength, poolByte, nameByte}
+
+module _ (t : List ℕ) (i k : ℕ) {n : ℕ} (en : n ≡ nameLength t i) where
+  pub byte-in : k < n → {a r : ℕ} → a ≡ argOf t i → r ≡ poolByte t (a / 128 + k) → r ≡ nameByte t i k
+  unfolding nameByte
+  byte-in h {a} ea er = let g : k < a % 128 = omega arith in er ∙ sym (simp (← ea, lt-ltb _ _ g))
+
+  pub byte-out : n ≤ k → 0 ≡ nameByte t i k
+  unfolding nameByte
+  byte-out h = let g : nameLength t i ≤ k = omega arith in sym (simp (le-ltb _ _ g))

@@ -1,0 +1,5 @@
+pub mod Tables
+pub mod Access
+pub mod Back
+pub mod Trees
+pub mod Examples
