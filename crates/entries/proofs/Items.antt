@@ -4,12 +4,11 @@ use mathlib.Core.Path.{_≡_, refl, sym, _∙_, ap, ap₂}
 use mathlib.Core.List.{List, [], _∷_, map}
 use native.Mathlib.Omega.{arith}
 use lib.ListN.{length}
-use lib.Dec.{eqb}
 use borrow.Author.Tests.{ne-eqb}
-use Rattle.syntax.specs.Code.{Item, i-name, i-text, i-number, i-plain}
+use Rattle.syntax.specs.Code.{Item, i-plain}
 use Rattle.productions.specs.Numbering.{items, nth, item}
 use Rattle.entries.specs.Entry.{Entry, entry, runs}
-use Rattle.entries.specs.Items.{codeOf, entryOf, itemOf, Known, is-name, is-text, is-number, is-mark, AllKnown}
+use Rattle.entries.specs.Items.{entryOf, itemOf, Known, is-name, is-text, is-number, is-mark, AllKnown}
 
 abbrev marked : ℕ → Entry
 marked x = entry x [] 0

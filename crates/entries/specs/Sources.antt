@@ -2,7 +2,7 @@
 -- Arrays are read as 0 past their ends, a token that reaches past the text ends with it, a spelling has at most 64 bytes (document 01, "Ceilings": word 32, string 64),
 -- a number is at most one more than its ceiling, and items past 8,192 are left out: none of this happens in a text that is accepted.
 use Prim.Native.Nat.{ℕ, _+_, _-_, min}
-use mathlib.Core.List.{List, [], _∷_}
+use mathlib.Core.List.{List, []}
 use lib.ListN.{length, getD, take, drop}
 use lib.Dec.{eqb}
 use Rattle.base.specs.Choice.{pick}

@@ -1,10 +1,9 @@
 -- THE TABLES OF EVERY TEXT OF THE GRAMMAR FIT in the room of document 01 ("Ceilings"), and two such texts have equal tables only if they are of one tree.
-use mathlib.Core.Path.{_≡_, sym, _∙_}
-use mathlib.Core.List.{List, [], _∷_, map}
-use Prim.Native.Nat.{ℕ, _+_, _*_, _≤_, _<_}
+use mathlib.Core.Path.{_≡_}
+use mathlib.Core.List.{List}
+use Prim.Native.Nat.{ℕ, _≤_}
 use native.Mathlib.Omega.{arith}
 use lib.ListN.{length, length-map}
-use Rattle.tokens.specs.Kinds.{Token}
 use Rattle.lexis.specs.Reading.{Placed, tokens, reading}
 use Rattle.spacing.specs.Writing.{tokenIn, tokensIn}
 use Rattle.spacing.proofs.Exact.{reading-exact}
@@ -14,14 +13,13 @@ use Rattle.syntax.specs.Grammar.{Gram}
 use Rattle.syntax.specs.Code.{code}
 use Rattle.parsing.proofs.Link.{into-table}
 use Rattle.parsing.proofs.Bound.{code-bound}
-use Rattle.entries.specs.Entry.{number, bytes, joined}
+use Rattle.entries.specs.Entry.{bytes, joined}
 use Rattle.entries.specs.Items.{entryOf, AllKnown}
 use Rattle.tables.specs.Tables.{numbers}
 use Rattle.tables.specs.Back.{AllFair, Small}
 use Rattle.tables.specs.Trees.{entriesIn, tablesIn}
 use Rattle.tables.proofs.Fits.{fits}
 use Rattle.tables.proofs.Trees.{items-fair, tables-trees}
-use Rattle.holdings.specs.Marks.{brought}
 use Rattle.holdings.proofs.Drawn.{Drawn, drawn}
 use Rattle.holdings.proofs.Tokens.{all-held, brought-most}
 

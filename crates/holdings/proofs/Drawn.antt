@@ -1,9 +1,9 @@
 -- What a derivation writes comes from its tokens: the items are known, numbers are no more than tokens, and bytes no more than the tokens bring.
-use mathlib.Core.Path.{_≡_, refl}
+use mathlib.Core.Path.{_≡_}
 use mathlib.Core.Bool.{Bool, true, false}
 use mathlib.Core.Option.{some}
 use mathlib.Core.List.{List, [], _∷_, _++_, map}
-use Prim.Native.Nat.{ℕ, suc, _≤_, _+_, _*_}
+use Prim.Native.Nat.{_≤_, _+_}
 use native.Mathlib.Omega.{arith}
 use lib.Dec.{T}
 use lib.ListN.{length, length-append}
@@ -16,7 +16,7 @@ use Rattle.parsing.proofs.Tests.{is-some}
 use Rattle.parsing.proofs.Inst.{all, all-in, sy-in}
 use Rattle.pens.specs.Pack.{Bytes}
 use Rattle.entries.specs.Entry as E
-use Rattle.entries.specs.Entry.{Entry, bytes, joined}
+use Rattle.entries.specs.Entry.{bytes, joined}
 use Rattle.entries.specs.Items.{entryOf, Known, is-name, is-text, is-number, AllKnown}
 use Rattle.holdings.specs.Marks.{isMark, marksIn, brings, brought}
 use Rattle.holdings.proofs.Marks.{both-parts, mark-known, mark-silent}

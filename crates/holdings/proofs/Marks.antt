@@ -2,15 +2,14 @@
 use Prim.Native.Nat.{ℕ, zero, suc, _+_, _-_, _≤_}
 use mathlib.Core.Path.{_≡_, refl}
 use mathlib.Core.Bool.{Bool, true, false}
-use mathlib.Core.List.{List, [], _∷_}
+use mathlib.Core.List.{[]}
 use native.Mathlib.Omega.{arith}
 use lib.ListN.{length}
-use lib.Dec.{T, eqb, ltb, leb, leb→le, eqb→eq}
+use lib.Dec.{T, eqb, leb, leb→le, eqb→eq}
 use borrow.Author.Tests.{ne-eqb}
 use Rattle.base.specs.Choice.{both, either}
 use Rattle.syntax.specs.Code.{Item, i-name, i-text, i-number, i-type, i-unary, i-binary, i-plain, i-index, i-true, i-false, i-len, i-otherwise, i-choice, i-argument, i-into, i-equal, i-constant, i-end, i-label, i-express, i-target, i-assign, i-increment, i-decrement, i-send, i-receive, i-assert, i-skip, i-goto, i-break, i-timeout, i-else, i-run, i-set-run, i-if, i-fi, i-do, i-od, i-option, i-end-option, i-local, i-global, i-declared, i-size, i-value, i-minus, i-named, i-channel, i-field, i-mtypes, i-message, i-group, i-parameter, i-proctype, i-active, i-active-many, i-init, i-body, i-end-body}
-use Rattle.productions.specs.Numbering.{item}
-use Rattle.entries.specs.Entry.{Entry, entry, number}
+use Rattle.entries.specs.Entry.{entry, number}
 use Rattle.entries.specs.Items.{entryOf, Known, is-name, is-text, is-number, is-mark}
 use Rattle.entries.proofs.Items.{mark-entry}
 use Rattle.holdings.specs.Marks.{isMark}

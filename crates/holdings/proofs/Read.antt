@@ -1,20 +1,19 @@
 -- THE ENTRIES READ FROM A TEXT'S ARRAYS ARE THOSE OF ITS ITEMS.
-use Prim.Native.Nat.{ℕ, zero, suc, _+_, _-_, _*_, _≤_, _<_, min}
+use Prim.Native.Nat.{ℕ, zero, suc, _+_, _-_, _≤_, _<_, min}
 use mathlib.Core.Path.{_≡_, refl, sym as inv, _∙_, ap, ap₂}
-use mathlib.Core.Bool.{Bool, true, false, cond}
+use mathlib.Core.Bool.{Bool, true, false}
 use mathlib.Core.Logic.{_⊎_, inl, inr, ⊎-elim}
 use mathlib.Core.List.{List, [], _∷_, _++_, map}
 use native.Mathlib.Omega.{arith}
-use native.Mathlib.Nat.{add-zero, zero-add}
-use lib.ListN.{length, getD, take, drop, length-map, length-take, length-drop, List·getD-append, List·getD-map}
+use native.Mathlib.Nat.{add-zero}
+use lib.ListN.{length, getD, take, drop, length-map, length-drop}
 use lib.Seq.{drop-drop, take-take, length-take-le}
 use lib.Dec.{eqb, ltb}
 use borrow.Author.Tests.{lt-ltb, le-ltb, ne-eqb, eqb-true, eqb-false, ltb-true, ltb-false}
-use Rattle.base.specs.Choice.{pick}
-use Rattle.tokens.specs.Kinds.{Token, sym, name, number, text}
+use Rattle.tokens.specs.Kinds.{sym, name, number, text}
 use Rattle.lexemes.specs.Ceilings.{number-most}
 use Rattle.lexemes.specs.Spans.{decimal}
-use Rattle.lexis.specs.Reading.{Placed, placed, tokens, reading}
+use Rattle.lexis.specs.Reading.{Placed, tokens, reading}
 use Rattle.spacing.specs.Writing.{partOf, tokenIn, tokensIn, Sound, AllSound}
 use Rattle.spacing.proofs.Written.{tokens-sound, tokens-ordered}
 use Rattle.spacing.specs.Layout.{Ordered}
@@ -22,10 +21,9 @@ use Rattle.syntax.specs.Code.{Item}
 use Rattle.productions.specs.Numbering.{item}
 use Rattle.entries.specs.Entry.{Entry, entry, runs}
 use Rattle.entries.specs.Items.{entryOf}
-use Rattle.entries.specs.Sources.{piece, clipped, bytesOf, valueOf, entryAt, entriesOf}
+use Rattle.entries.specs.Sources.{piece, bytesOf, valueOf, entryAt, entriesOf}
 use Rattle.entries.proofs.Items.{mark-entry}
 use Rattle.holdings.specs.Read.{held, read, nowhere, Right}
-use Rattle.holdings.proofs.Drawn.{Held}
 use Rattle.holdings.proofs.Tokens.{sound-held}
 
 -- ## parts of a text
@@ -143,7 +141,7 @@ get-map f [] z j d b h = absurd (omega arith)
 get-map f (a ∷ l) z zero d b h = refl
 get-map f (a ∷ l) z (suc j) d b h = get-map f l z j d b (omega arith)
 
-get-only : {A B : Type 0} (f : A → B) (l : List A) (j : ℕ) (d : A) (b : B) → j < length l → getD (map f l) j b ≡ f (getD l j d)
+pub get-only : {A B : Type 0} (f : A → B) (l : List A) (j : ℕ) (d : A) (b : B) → j < length l → getD (map f l) j b ≡ f (getD l j d)
 get-only f [] j d b h = absurd (omega arith)
 get-only f (a ∷ l) zero d b h = refl
 get-only f (a ∷ l) (suc j) d b h = get-only f l j d b (omega arith)

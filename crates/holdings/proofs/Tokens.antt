@@ -1,18 +1,18 @@
 -- Tokens of a text are within the ceilings, and bring no more bytes than it has.
 use mathlib.Core.Path.{_≡_, refl, sym as inv, _∙_, ap}
-use mathlib.Core.Bool.{Bool, true, false}
+use mathlib.Core.Bool.{true}
 use mathlib.Core.Logic.{_⊎_, inl, inr}
 use mathlib.Core.List.{List, [], _∷_, _++_}
-use Prim.Native.Nat.{ℕ, suc, _+_, _≤_, _<_}
+use Prim.Native.Nat.{ℕ, _≤_, _<_}
 use native.Mathlib.Omega.{arith}
 use lib.Dec.{eqb, leb}
 use lib.ListN.{length, take, length-append}
 use lib.Seq.{take-at}
 use borrow.Author.Tests.{leb-true, eqb-true}
-use Rattle.base.specs.Choice.{pick, both, either}
+use Rattle.base.specs.Choice.{pick, either}
 use Rattle.base.proofs.Tests.{both-true, either-true}
 use Rattle.tokens.specs.Kinds.{Token, sym, name, number, text}
-use Rattle.lexemes.specs.Bytes.{within, isLetter, isDigit, isWord, isPlain, isEscape, quote, backslash}
+use Rattle.lexemes.specs.Bytes.{within, isLetter, isDigit, isWord, isPlain, isEscape, quote}
 use Rattle.spacing.specs.Spelled.{Spelled, word, digits, string, mark, Between, empty, plain, escape, all}
 use Rattle.spacing.specs.Writing.{spell, Sound, AllSound, apart, writeBehind, write}
 use Rattle.spacing.proofs.Tables.{mark-range, word-range}

@@ -3,7 +3,7 @@ use Prim.Native.Nat.{ℕ, _+_}
 use mathlib.Core.Bool.{Bool, true, false}
 use mathlib.Core.List.{List, [], _∷_}
 use lib.ListN.{length}
-use lib.Dec.{eqb, ltb, leb}
+use lib.Dec.{eqb, leb}
 use Rattle.base.specs.Choice.{both, either}
 use Rattle.tokens.specs.Kinds.{Token, sym, name, number, text}
 use Rattle.syntax.specs.Code.{Item, i-name, i-text, i-number, i-type, i-unary, i-binary, i-plain, i-index, i-true, i-false, i-len, i-otherwise, i-choice, i-argument, i-into, i-equal, i-constant, i-end, i-label, i-express, i-target, i-assign, i-increment, i-decrement, i-send, i-receive, i-assert, i-skip, i-goto, i-break, i-timeout, i-else, i-run, i-set-run, i-if, i-fi, i-do, i-od, i-option, i-end-option, i-local, i-global, i-declared, i-size, i-value, i-minus, i-named, i-channel, i-field, i-mtypes, i-message, i-group, i-parameter, i-proctype, i-active, i-active-many, i-init, i-body, i-end-body}

@@ -1,14 +1,12 @@
 -- Laws of packed bytes: poured and settled they are the packed list written; and each comes back.
-use Prim.Native.Nat.{ℕ, zero, suc, _+_, _*_, _/_, _%_, _≤_, _<_}
-use mathlib.Core.Path.{_≡_, refl, sym, _∙_, ap}
+use Prim.Native.Nat.{ℕ, zero, suc, _+_, _/_, _%_, _≤_, _<_}
+use mathlib.Core.Path.{_≡_, refl}
 use mathlib.Core.List.{List, [], _∷_, _++_}
 use native.Mathlib.Omega.{arith}
 use native.Mathlib.Numerals.{add-one}
 use lib.ListN.{length, getD, drop, drop-of-length-le}
 use lib.Seq.{drop-cons}
-use lib.Dec.{eqb}
-use borrow.Author.Tests.{eq-eqb, ne-eqb}
-use Rattle.pens.specs.Pen.{Pen, pen, write, puts}
+use Rattle.pens.specs.Pen.{Pen, write, puts}
 use Rattle.pens.specs.Pack.{four, packed, Bytes, digit, Well, well, drip, pour, settle}
 
 pub pour-append : (xs ys : List ℕ) (w : Well) → pour (xs ++ ys) w ≡ pour ys (pour xs w)

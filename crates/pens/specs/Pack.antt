@@ -1,10 +1,9 @@
 -- Bytes packed four to a number, the first lowest, zeros at the end; the same written as the bytes come; and a byte read out again.
 use Prim.Native.Nat.{ℕ, _+_, _*_, _/_, _%_, _<_}
 use mathlib.Core.List.{List, [], _∷_}
-use lib.ListN.{getD}
 use lib.Dec.{eqb}
 use Rattle.base.specs.Choice.{pick}
-use Rattle.pens.specs.Pen.{Pen, pen, write}
+use Rattle.pens.specs.Pen.{Pen, write}
 
 unfoldable pub four : ℕ → ℕ → ℕ → ℕ → ℕ
 four a b c d = a + 256 * b + 65536 * c + 16777216 * d

@@ -1,3 +1,4 @@
 pub mod Walks
 pub mod Payload
 pub mod Fills
+pub mod Meaning

@@ -1,9 +1,9 @@
 -- THE TABLES DETERMINE THE ENTRIES: read back, they are the entries that were written.
-use Prim.Native.Nat.{ℕ, zero, suc, _+_, _≤_, _<_}
+use Prim.Native.Nat.{ℕ, zero, suc, _+_, _<_}
 use mathlib.Core.Path.{_≡_, refl, sym, _∙_, ap}
 use mathlib.Core.Bool.{Bool, true, false}
 use mathlib.Core.Logic.{_⊎_, inl, inr}
-use mathlib.Core.List.{List, [], _∷_}
+use mathlib.Core.List.{List, []}
 use native.Mathlib.Omega.{arith}
 use native.Mathlib.Nat.{add-zero, zero-add}
 use lib.ListN.{length, getD}
@@ -14,8 +14,8 @@ use Rattle.base.specs.Choice.{pick}
 use Rattle.entries.specs.Entry.{Entry, nothing, runs}
 use Rattle.entries.proofs.Runs.{length-runs}
 use Rattle.tables.specs.Tables.{tablesOf}
-use Rattle.tables.specs.Access.{codeOf, linkOf, numberOf, nameLength, nameByte}
-use Rattle.tables.specs.Back.{Fair, AllFair, Small, upto, bytesBack, valueBack, entryBack, entriesBack}
+use Rattle.tables.specs.Access.{linkOf, numberOf, nameLength, nameByte}
+use Rattle.tables.specs.Back.{AllFair, Small, upto, bytesBack, valueBack, entryBack, entriesBack}
 use Rattle.tables.proofs.Holds.{fair-at, holds-items, holds-code, holds-link, holds-number, holds-name-length, holds-name-byte}
 
 runs-at : (f : ℕ → Entry) (i n j : ℕ) → j < n → getD (runs f i n) j nothing ≡ f (i + j)

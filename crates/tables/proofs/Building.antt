@@ -1,22 +1,22 @@
 -- Laws of the builder: each pass over the items, one item at a time.
-use Prim.Native.Nat.{ℕ, zero, suc, _+_, _-_, _*_, _/_, _≤_, min}
-use mathlib.Core.Path.{_≡_, refl, sym, _∙_, ap}
+use Prim.Native.Nat.{ℕ, suc, _+_, _-_, _*_, _/_, _≤_, min}
+use mathlib.Core.Path.{_≡_, refl, sym, _∙_}
 use mathlib.Core.Bool.{Bool, true, false}
-use mathlib.Core.List.{List, [], _∷_, _++_, append-nil}
+use mathlib.Core.List.{List, [], _∷_, _++_}
 use native.Mathlib.Omega.{arith}
 use native.Mathlib.Nat.{add-assoc, add-zero, zero-add}
 use lib.ListN.{length, getD, length-append}
 use lib.Dec.{eqb}
 use borrow.Author.Tests.{eq-eqb, ne-eqb}
 use Rattle.base.specs.Choice.{pick}
-use Rattle.pens.specs.Pen.{Pen, pen, write, puts}
-use Rattle.pens.specs.Pack.{Well, well, pour, settle, packed}
+use Rattle.pens.specs.Pen.{Pen, write, puts}
+use Rattle.pens.specs.Pack.{Well, well, pour, settle}
 use Rattle.pens.proofs.Pen.{puts-append}
 use Rattle.pens.proofs.Pack.{pour-append, poured, length-packed}
 use Rattle.entries.specs.Entry.{Entry, number, bytes, joined, runs}
 use Rattle.entries.specs.Sources.{entryAt, entriesOf}
 use Rattle.entries.proofs.Runs.{runs-more, runs-end, length-runs, joined-more, joined-end}
-use Rattle.tables.specs.Tables.{argument, itemWord, one, itemWords, linked, numbers, pool, whole, tablesOf}
+use Rattle.tables.specs.Tables.{itemWord, one, itemWords, linked, numbers, pool, whole, tablesOf}
 
 pub code-at : (text starts ends codes toks : List ℕ) (i : ℕ) {c : ℕ} → c ≡ getD codes i 0 → c ≡ entryAt text starts ends codes toks i .code
 unfolding entryAt

@@ -1,15 +1,13 @@
 -- THE TABLES FIT: document 01, "Ceilings", "tables are lent as 16,384 unsigned 32-bit numbers"; and what the builder leaves where they fit.
-use Prim.Native.Nat.{ℕ, _+_, _*_, _/_, _≤_}
+use Prim.Native.Nat.{ℕ, _≤_}
 use mathlib.Core.Path.{_≡_, sym, _∙_, ap}
-use mathlib.Core.List.{List, [], _∷_, _++_}
+use mathlib.Core.List.{List, _++_}
 use native.Mathlib.Omega.{arith}
 use lib.ListN.{length, drop}
 use Rattle.pens.specs.Pen.{Pen, pen, puts}
 use Rattle.pens.proofs.Pen.{puts-fit}
-use Rattle.entries.specs.Entry.{Entry, number, bytes, joined}
-use Rattle.entries.specs.Sources.{entriesOf}
+use Rattle.entries.specs.Entry.{Entry, bytes, joined}
 use Rattle.tables.specs.Tables.{numbers, pool, whole, tablesOf}
-use Rattle.tables.specs.Access.{lengthOf}
 use Rattle.tables.proofs.Building.{length-pool}
 use Rattle.tables.proofs.Holds.{holds-length}
 

@@ -1,23 +1,20 @@
 -- THE TABLES HOLD THE ENTRIES AND THE LINKS: what each accessor gives over the tables of entries.
-use Prim.Native.Nat.{ℕ, zero, suc, _+_, _*_, _/_, _%_, _≤_, _<_, min}
+use Prim.Native.Nat.{ℕ, zero, suc, _+_, _*_, _/_, _%_, _<_, min}
 use mathlib.Core.Path.{_≡_, refl, sym, _∙_, ap}
-use mathlib.Core.Bool.{Bool, true, false}
 use mathlib.Core.Logic.{_⊎_, inl, inr}
 use mathlib.Core.List.{List, [], _∷_, _++_}
 use native.Mathlib.Omega.{arith}
 use native.Mathlib.Nat.{add-zero, zero-add}
 use lib.ListN.{length, getD, take, length-append, List·getD-append}
 use lib.Seq.{getD-append-add}
-use lib.Dec.{eqb}
-use borrow.Author.Tests.{eq-eqb, ne-eqb, lt-ltb}
-use Rattle.base.specs.Choice.{pick}
-use Rattle.pens.specs.Pack.{packed, digit, Bytes}
-use Rattle.pens.proofs.Pack.{length-packed, unpacked}
+use borrow.Author.Tests.{eq-eqb, lt-ltb}
+use Rattle.pens.specs.Pack.{Bytes}
+use Rattle.pens.proofs.Pack.{unpacked}
 use Rattle.entries.specs.Entry.{Entry, nothing, number, bytes, joined}
 use Rattle.tables.specs.Tables.{argument, itemWord, one, itemWords, linked, numbers, pool, whole, tablesOf}
 use Rattle.tables.specs.Access.{lengthOf, itemsOf, numbersOf, wordOf, codeOf, argOf, linkOf, numberOf, nameLength, poolByte, nameByte}
 use Rattle.tables.specs.Back.{Fair, AllFair, Small}
-use Rattle.tables.proofs.Building.{length-number, length-pool}
+use Rattle.tables.proofs.Building.{length-number}
 
 -- ## the parts
 pub length-items : (o k : ℕ) (es : List Entry) → length (itemWords o k es) ≡ length es

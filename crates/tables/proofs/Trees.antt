@@ -1,14 +1,12 @@
 -- EQUAL TABLES ARE OF EQUAL TREES, and equal trees with equal links have equal tables: document 01, "Tables hold exactly what the tree holds".
-use Prim.Native.Nat.{ℕ, zero, suc, _+_, _≤_, _<_}
-use mathlib.Core.Path.{_≡_, refl, sym, _∙_, ap, ap₂}
+use Prim.Native.Nat.{ℕ, _≤_}
+use mathlib.Core.Path.{_≡_, refl, ap₂}
 use mathlib.Core.List.{List, [], _∷_, map}
 use native.Mathlib.Omega.{arith}
-use lib.ListN.{length}
 use Rattle.syntax.specs.Tree.{Model}
 use Rattle.syntax.specs.Code.{Item, code}
 use Rattle.syntax.proofs.Built.{code-injective}
-use Rattle.productions.specs.Numbering.{item}
-use Rattle.entries.specs.Entry.{Entry, entry}
+use Rattle.entries.specs.Entry.{entry}
 use Rattle.entries.specs.Items.{entryOf, Known, is-name, is-text, is-number, is-mark, AllKnown}
 use Rattle.entries.proofs.Items.{mark-entry, entries-injective}
 use Rattle.tables.specs.Back.{Fair, AllFair, Small}

@@ -4,7 +4,7 @@ use mathlib.Core.Path.{_≡_}
 use mathlib.Core.List.{List, [], _∷_}
 use lib.ListN.{length}
 use lib.Dec.{eqb}
-use Rattle.base.specs.Choice.{pick, either}
+use Rattle.base.specs.Choice.{pick}
 use Rattle.pens.specs.Pack.{Bytes}
 use Rattle.entries.specs.Entry.{Entry, entry, bytes, joined, runs}
 use Rattle.tables.specs.Access.{itemsOf, codeOf, numberOf, nameLength, nameByte}
