@@ -2,3 +2,4 @@ pub mod Walks
 pub mod Payload
 pub mod Homes
 pub mod Spans
+pub mod Examples
