@@ -25,11 +25,11 @@ use Rattle.reader.specs.Judging.{atToken, ruled, byRules, grammatical, byGramma
 use Rattle.accepting.specs.Meaning.{Accepts}
 
 -- ---- a token has its kind, and only names, numbers and strings have theirs
-record Known (k : ℕ) (x : List ℕ) : Type 0 where
-  kind : kindOf (tokenOf k x) ≡ k
-  proper : Proper (tokenOf k x)
+pub record Known (k : ℕ) (x : List ℕ) : Type 0 where
+  pub kind : kindOf (tokenOf k x) ≡ k
+  pub proper : Proper (tokenOf k x)
 
-known : (k : ℕ) (x : List ℕ) → Known k x
+pub known : (k : ℕ) (x : List ℕ) → Known k x
 known k x = go (ℕ-discrete k 70) (ℕ-discrete k 71) (ℕ-discrete k 72)
   where
     go : Dec (k ≡ 70) → Dec (k ≡ 71) → Dec (k ≡ 72) → Known k x
@@ -44,11 +44,11 @@ known k x = go (ℕ-discrete k 70) (ℕ-discrete k 71) (ℕ-discrete k 72)
         out (inl h) = inl h
         out (inr h) = inr (omega (arith, a, b, c))
 
-kinds-are : (t : List ℕ) (ps : List Placed) → map kindOf (tokensIn t ps) ≡ map Placed.kind ps
+pub kinds-are : (t : List ℕ) (ps : List Placed) → map kindOf (tokensIn t ps) ≡ map Placed.kind ps
 kinds-are t [] = refl
 kinds-are t (p ∷ ps) = rw (known (p .kind) (partOf t p) .kind, kinds-are t ps)
 
-all-proper : (t : List ℕ) (ps : List Placed) → All-proper (tokensIn t ps)
+pub all-proper : (t : List ℕ) (ps : List Placed) → All-proper (tokensIn t ps)
 all-proper t [] = tt
 all-proper t (p ∷ ps) = (known (p .kind) (partOf t p) .proper, all-proper t ps)
 
@@ -72,7 +72,7 @@ module _ (t : List ℕ) where
       go true e = absurd (let z : _≡_ {A = ℕ} 0 1 = cc in omega arith)
       go false e = absurd (let z : _≡_ {A = ℕ} 0 1 = cc in omega arith)
 
-  short : (ps : List Placed) → reading t ≡ tokens ps → length (tokensIn t ps) ≤ 2048
+  pub short : (ps : List Placed) → reading t ≡ tokens ps → length (tokensIn t ps) ≤ 2048
   short ps e = omega (arith, length-map ps (tokenIn t), reading-exact t ps .0 e .2)
 
   from-grammar : (ps : List Placed) → reading t ≡ tokens ps → (a : Answer) → parsed (map Placed.kind ps) 8192 ≡ a

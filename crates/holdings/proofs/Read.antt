@@ -150,7 +150,7 @@ ordered-most : (i e : ℕ) (ps : List Placed) → Ordered i e ps → i ≤ e
 ordered-most i e [] h = h
 ordered-most i e (p ∷ ps) h = omega (arith, h .0, h .1, ordered-most (p .end) e ps (h .2))
 
-ordered-at : (i e : ℕ) (ps : List Placed) → Ordered i e ps → (k : ℕ) → k < length ps → (getD ps k nowhere .start ≤ getD ps k nowhere .end) × (getD ps k nowhere .end ≤ e)
+pub ordered-at : (i e : ℕ) (ps : List Placed) → Ordered i e ps → (k : ℕ) → k < length ps → (getD ps k nowhere .start ≤ getD ps k nowhere .end) × (getD ps k nowhere .end ≤ e)
 ordered-at i e [] h k l = absurd (omega arith)
 ordered-at i e (p ∷ ps) h zero l = (omega (arith, h .1), ordered-most (p .end) e ps (h .2))
 ordered-at i e (p ∷ ps) h (suc k) l = ordered-at (p .end) e ps (h .2) k (omega arith)

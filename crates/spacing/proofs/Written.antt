@@ -64,6 +64,20 @@ tokens-sound t ps e =
     let L = reading-exact t ps .0 e .0 in
     rw (contents-in [] L refl) (contents-sound L)
 
+-- every token's bytes are of its kind
+parts-spelled : (pre : List ℕ) {i : ℕ} {t : List ℕ} {ps : List Placed} (L : Laid i t ps) → i ≡ length pre → (k : ℕ) → k < length ps
+    → Spelled (getD ps k (placed 0 0 0) .kind) (partOf (pre ++ t) (getD ps k (placed 0 0 0)))
+parts-spelled pre (ends G) e k h = absurd (omega arith)
+parts-spelled pre (token {i = i} {g = g} {x = x} {s = s} G z j L) e zero h =
+    let a : i + length g ≡ length pre + length g = omega arith in
+    rw (part-is pre g x s (i + length g) a) z
+parts-spelled pre (token {i = i} {g = g} {x = x} {s = s} G z j L) e (suc k) h =
+    let l : i + length g + length x ≡ length (pre ++ (g ++ x)) = omega (arith, length-append pre (g ++ x), length-append g x) in
+    rw (regroup pre g x s) (parts-spelled (pre ++ (g ++ x)) L l k (omega arith))
+
+pub tokens-spelled : (t : List ℕ) (ps : List Placed) → reading t ≡ tokens ps → (k : ℕ) → k < length ps → Spelled (getD ps k (placed 0 0 0) .kind) (partOf t (getD ps k (placed 0 0 0)))
+tokens-spelled t ps e = parts-spelled [] (reading-exact t ps .0 e .0) refl
+
 -- ---- NO TEXT OF THE SAME TOKENS IS SHORTER
 head-of : (x s : List ℕ) → 0 < length x → getD (x ++ s) 0 0 ≡ getD x 0 0
 head-of x s h = List·getD-append x s 0 0 h
