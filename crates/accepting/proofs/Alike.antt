@@ -47,7 +47,7 @@ use Rattle.accepting.specs.Meaning.{Accepts}
 use Rattle.accepting.proofs.Main.{kinds-are, all-proper, short, means-accepted}
 
 -- ---- the parser's items are the machine's
-parsed-done : (ks o : List ℕ) → parsed ks 8192 ≡ items o → machine ks ≡ done o
+pub parsed-done : (ks o : List ℕ) → parsed ks 8192 ≡ items o → machine ks ≡ done o
 unfolding parsed
 parsed-done ks o e = go (ltb 2048 (length ks)) (machine ks) refl e
   where
