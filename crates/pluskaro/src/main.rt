@@ -92,18 +92,18 @@ fn part(text: &[u8], a: usize, e: usize) -> &[u8] {
     &text[start..end]
 }
 
-// Line and column of a refused part, its line, and a caret under it.
+// Line and column of a refused part, its line, and a caret under it. The margin keeps a model's line from being taken for an answer.
 fn explain(text: &[u8], place: usize, len: usize) {
     let p = lexis::located(text, place);
     put(b"line ");
     put_number(p.line);
     put(b" column ");
     put_number(p.column);
-    put(b"\n");
+    put(b"\n  ");
     let start = line_start(text, place);
     let stop = line_stop(text, place);
     put_bytes(part(text, start, stop));
-    put(b"\n");
+    put(b"\n  ");
     put_under(part(text, start, place), b' ');
     let named = part(
         reader::refused_part(text),
