@@ -41,8 +41,8 @@ use Rattle.holdings.proofs.Wrote.{machine-right}
 use Rattle.sheets.specs.Payload.{piece, spelled}
 use Rattle.sheets.proofs.Meaning.{Alike, args-alike}
 use Rattle.faults.proofs.Theorems.{places-free}
-use Rattle.reader.specs.declared.Judged.the-variants.{Accepted}
-use Rattle.reader.specs.Judging.{judgeOf}
+use Rattle.judging.specs.declared.Judged.the-variants.{Accepted}
+use Rattle.judging.specs.Judging.{payload, judgeOf}
 use Rattle.accepting.specs.Meaning.{Accepts}
 use Rattle.accepting.proofs.Main.{kinds-are, all-proper, short, means-accepted}
 
@@ -205,6 +205,25 @@ module _ (t : List ℕ) (ps : List Placed) (e : reading t ≡ tokens ps) (o : Li
             ∙ inv (text-says t2 ps2 e2 (getD o2 j 0) (b .code-two) (right2 j (b .two))) ∙ place-two j 72 b;
       }
 
+-- ---- the items of two texts of one tree, and what they say
+module _ (t : List ℕ) (ps : List Placed) (e : reading t ≡ tokens ps) (o : List ℕ) (w : parsed (map Placed.kind ps) 8192 ≡ items o)
+    (u : List ℕ) (qs : List Placed) (f : reading u ≡ tokens qs) (p : List ℕ) (v : parsed (map Placed.kind qs) 8192 ≡ items p)
+    (same : map (read (tokensIn t ps)) o ≡ map (read (tokensIn u qs)) p) where
+  right-t : (j : ℕ) → j < length o → Right ps (symbol-of (getD o j 0)) (place-of (getD o j 0))
+  right-t = machine-right ps o (reading-exact t ps .0 e .2) (parsed-done (map Placed.kind ps) o w)
+
+  right-u : (j : ℕ) → j < length p → Right qs (symbol-of (getD p j 0)) (place-of (getD p j 0))
+  right-u = machine-right qs p (reading-exact u qs .0 f .2) (parsed-done (map Placed.kind qs) p v)
+
+  pub same-codes : map symbol-of o ≡ map symbol-of p
+  same-codes = codes-same t ps e o right-t u qs f p right-u same
+
+  pub same-payload : payload t (map Placed.start ps) (map Placed.end ps) (map symbol-of o) (map place-of o) ≡ payload u (map Placed.start qs) (map Placed.end qs) (map symbol-of p) (map place-of p)
+  same-payload =
+      args-alike (map symbol-of o) t (map Placed.start ps) (map Placed.end ps) (map place-of o) u (map Placed.start qs) (map Placed.end qs) (map place-of p)
+      (alike t ps e o right-t u qs f p right-u same) (replicate 8192 0) (reading-exact t ps .0 e .1) (reading-exact u qs .0 f .1)
+      ∙ ap (λ (cs : List ℕ). payload u (map Placed.start qs) (map Placed.end qs) cs (map place-of p)) same-codes
+
 -- ---- a text of an accepted text's tree that is not too deep is accepted
 pub same-tree : (t u : List ℕ) (a : Accepts t) (qs : List Placed) → reading u ≡ tokens qs → Gram (tokensIn u qs) (a .tree) → too-deep (tokensIn u qs) ≡ none → judgeOf u ≡ Accepted
 same-tree t u a qs e g d =
@@ -212,12 +231,8 @@ same-tree t u a qs e g d =
     let o = a .numbers in
     let (p, h, c) = accepts (tokensIn u qs) (all-proper u qs) (short u qs e) 8192 (omega arith) (a .tree) g d in
     let w : parsed (map Placed.kind qs) 8192 ≡ items p = ap (λ (ks : List ℕ). parsed ks 8192) (inv (kinds-are u qs)) ∙ h in
-    let right = machine-right ps o (reading-exact t ps .0 (a .reads) .2) (parsed-done (map Placed.kind ps) o (a .written)) in
-    let right2 = machine-right qs p (reading-exact u qs .0 e .2) (parsed-done (map Placed.kind qs) p w) in
-    let s : map (read (tokensIn t ps)) o ≡ map (read (tokensIn u qs)) p = a .coded ∙ inv c in
-    let k = codes-same t ps (a .reads) o right u qs e p right2 s in
-    let v = args-alike (map symbol-of o) t (map Placed.start ps) (map Placed.end ps) (map place-of o) u (map Placed.start qs) (map Placed.end qs) (map place-of p)
-    (alike t ps (a .reads) o right u qs e p right2 s) (replicate 8192 0) (reading-exact t ps .0 (a .reads) .1) (reading-exact u qs .0 e .1) in
+    let k = same-codes t ps (a .reads) o (a .written) u qs e p w (a .coded ∙ inv c) in
+    let v = same-payload t ps (a .reads) o (a .written) u qs e p w (a .coded ∙ inv c) in
     means-accepted u
     record {
       parts = qs;
@@ -228,6 +243,6 @@ same-tree t u a qs e g d =
       numbers = p;
       written = w;
       coded = c;
-      faultless = rw (← k) (rw (← v) (places-free _ _ (map place-of o) (map place-of p) (a .faultless)));
-      within = rw (← k) (rw (← v) (a .within));
+      faultless = rw (← v, ← k) (places-free _ _ (map place-of o) (map place-of p) (a .faultless));
+      within = rw (← v, ← k) (a .within);
     }

@@ -20,8 +20,8 @@ use Rattle.machine.specs.Items.{Proper, All-proper}
 use Rattle.machine.proofs.Main.{items-mean}
 use Rattle.faults.specs.declared.Fault.{Fault}
 use Rattle.faults.specs.declared.Fault.the-variants.{None, At}
-use Rattle.reader.specs.declared.Judged.the-variants.{Accepted, Refused}
-use Rattle.reader.specs.Judging.{atToken, ruled, byRules, grammatical, byGrammar, lexical, judgeOf}
+use Rattle.judging.specs.declared.Judged.the-variants.{Accepted, Refused}
+use Rattle.judging.specs.Judging.{atToken, ruled, byRules, grammatical, byGrammar, lexical, judgeOf}
 use Rattle.accepting.specs.Meaning.{Accepts}
 
 -- ---- a token has its kind, and only names, numbers and strings have theirs

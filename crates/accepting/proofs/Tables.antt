@@ -1,19 +1,28 @@
--- AN ACCEPTED TEXT'S TABLES: what the builder leaves, from the arrays of the lexer and the parser, is the tables of the text's tree, and behind them what was there;
--- equal tables are of equal trees. Assumes nothing.
+-- AN ACCEPTED TEXT'S TABLES are those of its tree, with links that are the tree's too; they fit in the room of document 01; tables are equal exactly where trees are; and
+-- what the reader leaves is the tables, and behind them what was there. Assumes nothing.
 use Prim.Native.Nat.{ℕ, _≤_}
-use mathlib.Core.Path.{_≡_}
-use mathlib.Core.List.{List, _++_, map}
+use mathlib.Core.Path.{_≡_, refl, sym as inv, ap, ap₂, _∙_}
+use mathlib.Core.List.{List, [], _∷_, _++_, map}
+use native.Mathlib.Omega.{arith}
 use lib.ListN.{length, drop}
 use Rattle.lexis.specs.Reading.{Placed}
+use Rattle.spacing.specs.Writing.{tokensIn}
+use Rattle.spacing.proofs.Exact.{reading-exact}
+use Rattle.syntax.specs.Code.{code}
 use Rattle.machine.specs.Machine.{symbol-of, place-of}
+use Rattle.machine.specs.Items.{read}
 use Rattle.pens.specs.Pen.{pen, puts}
+use Rattle.entries.specs.Entry.{Entry}
 use Rattle.entries.specs.Sources.{entriesOf}
 use Rattle.tables.specs.Tables.{tablesOf}
-use Rattle.tables.specs.Trees.{tablesIn}
-use Rattle.holdings.proofs.Accepted.{accepted-trees}
-use Rattle.holdings.proofs.Built.{machine-built}
-use Rattle.accepting.specs.Meaning.{Accepts}
-use Rattle.accepting.proofs.Alike.{parsed-done}
+use Rattle.tables.specs.Trees.{entriesIn, tablesIn}
+use Rattle.tables.proofs.Fits.{written}
+use Rattle.holdings.proofs.Accepted.{accepted-trees, accepted-fits}
+use Rattle.holdings.proofs.Built.{accepted-entries, machine-built}
+use Rattle.holdings.proofs.Wrote.{machine-right}
+use Rattle.judging.specs.Judging.{laid, tablesFrom, tablesAt, tablesText}
+use Rattle.accepting.specs.Meaning.{Accepts, linksAt}
+use Rattle.accepting.proofs.Alike.{parsed-done, same-codes, same-payload}
 
 -- x, y and z are what lies beyond the written parts of the arrays
 pub built-tables : (t : List ℕ) (a : Accepts t) (x y z ls old new : List ℕ) (r : ℕ) → 16384 ≤ length old
@@ -24,3 +33,50 @@ built-tables t a x y z ls old new r =
 
 pub equal-tables : (t u : List ℕ) (a : Accepts t) (b : Accepts u) (ls ms : List ℕ) → tablesIn (a .tree) ls ≡ tablesIn (b .tree) ms → a .tree ≡ b .tree
 equal-tables t u a b ls ms = accepted-trees t u (a .parts) (b .parts) (a .tree) (b .tree) (a .reads) (a .gram) (b .reads) (b .gram) ls ms
+
+-- ---- the tables that the passes build
+no-more : (l : List ℕ) → l ++ [] ≡ l
+no-more [] = refl
+no-more (a ∷ l) = ap (a ∷_) (no-more l)
+
+module _ (t : List ℕ) (a : Accepts t) where
+  abbrev ss : List ℕ
+  ss = map Placed.start (a .parts)
+
+  abbrev es : List ℕ
+  es = map Placed.end (a .parts)
+
+  abbrev cs : List ℕ
+  cs = map symbol-of (a .numbers)
+
+  abbrev ks : List ℕ
+  ks = map place-of (a .numbers)
+
+  entries-are : entriesOf t ss es cs ks ≡ entriesIn (a .tree)
+  entries-are =
+      rw (← no-more ss, ← no-more es, ← no-more ks) (accepted-entries t (a .parts) (a .tree) (a .reads) (a .gram) [] [] [] symbol-of place-of (a .numbers)
+      (machine-right (a .parts) (a .numbers) (reading-exact t (a .parts) .0 (a .reads) .2) (parsed-done (map Placed.kind (a .parts)) (a .numbers) (a .written))) (a .coded))
+
+  pub text-tables : tablesText t ≡ tablesIn (a .tree) (linksAt t a)
+  unfolding tablesAt tablesFrom
+  text-tables = rw (a .reads, a .written) (ap (λ (x : List Entry). tablesOf x (linksAt t a)) entries-are)
+
+  pub text-fits : length (tablesText t) ≤ 16384
+  text-fits = rw text-tables (accepted-fits t (a .parts) (a .tree) (a .reads) (a .gram) (linksAt t a))
+
+  -- in the room of document 01 the tables stand at the front, and behind them what was there
+  pub text-laid : (old : List ℕ) → 16384 ≤ length old → laid (tablesText t) old ≡ tablesText t ++ drop (length (tablesText t)) old
+  text-laid old h = written (tablesText t) old (laid (tablesText t) old) (puts (tablesText t) (pen old 0) .at) (omega (arith, text-fits)) refl .0
+
+module _ (t u : List ℕ) (a : Accepts t) (b : Accepts u) where
+  pub tree-links : a .tree ≡ b .tree → linksAt t a ≡ linksAt u b
+  tree-links e =
+      let s : map (read (tokensIn t (a .parts))) (a .numbers) ≡ map (read (tokensIn u (b .parts))) (b .numbers) = a .coded ∙ ap code e ∙ inv (b .coded) in
+      rw (same-payload t (a .parts) (a .reads) (a .numbers) (a .written) u (b .parts) (b .reads) (b .numbers) (b .written) s, same-codes t (a .parts) (a .reads) (a .numbers) (a .written) u (b .parts) (b .reads) (b .numbers) (b .written) s)
+
+  -- "Tables hold exactly what the tree holds"
+  pub tree-tables : a .tree ≡ b .tree → tablesText t ≡ tablesText u
+  tree-tables e = text-tables t a ∙ ap₂ tablesIn e (tree-links e) ∙ inv (text-tables u b)
+
+  pub tables-tree : tablesText t ≡ tablesText u → a .tree ≡ b .tree
+  tables-tree e = equal-tables t u a b (linksAt t a) (linksAt u b) (inv (text-tables t a) ∙ e ∙ text-tables u b)

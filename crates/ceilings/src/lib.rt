@@ -13,7 +13,7 @@ use sheets::word_at;
 const ITEMS_MOST: usize = 8192;
 
 // How many numbers item j declares for the body h.
-fn numbers_at(codes: &[u8], args: &[u32], homes: &[u32], h: usize, j: usize) -> usize
+pub fn numbers_at(codes: &[u8], args: &[u32], homes: &[u32], h: usize, j: usize) -> usize
     ensures { λ r. ⌜ r ≡ tops.numbersAt (now (codes .entry)) (now (args .entry)) (now (homes .entry)) h j ⌝ }
     ensures { λ r. ⌜ r < 4294967296 ⌝ }
 {

@@ -1,8 +1,11 @@
 // The program over model files. The last line of what it writes is always the answer.
 ghost use Prim.Native.Nat.{_≤_, min};
 ghost use lib.ListN.{length};
-use libc::STDOUT_FILENO;
-use reader::Judged;
+use display::part;
+use display::put;
+use display::put_bytes;
+use display::put_number;
+use judging::Judged;
 
 // The most bytes of a model, and of a list of commands.
 const TEXT_MOST: usize = 8192;
@@ -15,112 +18,10 @@ enum Loaded {
     Failed,
 }
 
-fn put(s: &[u8]) {
-    io::write_all(STDOUT_FILENO, s);
-}
-
-fn put_number(n: usize) {
-    io::print_decimal(STDOUT_FILENO, n as u64);
-}
-
-// Is it shown as itself?
-fn is_shown(b: u8) -> bool {
-    match b {
-        32..=126 => true,
-        _ => false,
-    }
-}
-
-// A byte, escaped where it cannot be printed.
-fn put_byte(b: u8) {
-    if is_shown(b) {
-        put(&[b]);
-    } else {
-        put(b"\\x");
-        io::print_hex(STDOUT_FILENO, b as u64, 2);
-    }
-}
-
-fn put_bytes(s: &[u8]) {
-    let mut i: usize = 0;
-    while i < s.len() {
-        put_byte(s[i]);
-        i += 1;
-    }
-}
-
-// As many of one byte as the bytes of s take when they are shown.
-fn put_under(s: &[u8], mark: u8) {
-    let mut i: usize = 0;
-    while i < s.len() {
-        put(&[mark]);
-        if !is_shown(s[i]) {
-            put(&[mark, mark, mark]);
-        }
-        i += 1;
-    }
-}
-
-// Where the line of a place begins.
-fn line_start(text: &[u8], place: usize) -> usize {
-    let mut k = base::least(place, text.len());
-    while k > 0 {
-        if text[k - 1] == b'\n' {
-            return k;
-        }
-        k -= 1;
-    }
-    0
-}
-
-// Where the line of a place ends.
-fn line_stop(text: &[u8], place: usize) -> usize {
-    let mut k = base::least(place, text.len());
-    while k < text.len() {
-        if text[k] == b'\n' {
-            return k;
-        }
-        k += 1;
-    }
-    k
-}
-
-// The part from a to e, as far as it lies in the text.
-fn part(text: &[u8], a: usize, e: usize) -> &[u8] {
-    let end = base::least(e, text.len());
-    let start = base::least(a, end);
-    &text[start..end]
-}
-
-// Line and column of a refused part, its line, and a caret under it. The margin keeps a model's line from being taken for an answer.
-fn explain(text: &[u8], place: usize, len: usize) {
-    let p = lexis::located(text, place);
-    put(b"line ");
-    put_number(p.line);
-    put(b" column ");
-    put_number(p.column);
-    put(b"\n  ");
-    let start = line_start(text, place);
-    let stop = line_stop(text, place);
-    put_bytes(part(text, start, stop));
-    put(b"\n  ");
-    put_under(part(text, start, place), b' ');
-    let named = part(
-        reader::refused_part(text),
-        0,
-        base::least(len, sheets::minus(stop, place)),
-    );
-    if named.len() == 0 {
-        put(b"^");
-    } else {
-        put_under(named, b'^');
-    }
-    put(b"\n");
-}
-
 // The answer for a model.
 fn answer(text: &[u8]) {
-    let j = reader::judge(text);
+    let mut tables = [0u32; 16384];
+    let j = reader::read(text, &mut tables);
     match j {
         Judged::Accepted => {
             put(b"accepted\n");
@@ -128,7 +29,7 @@ fn answer(text: &[u8]) {
         Judged::Refused(x, place, len) => {
             if x != 6 {
                 if text.len() <= TEXT_MOST {
-                    explain(text, place, len);
+                    display::explain(text, place, len, reader::refused_part(text));
                 }
             }
             put(b"refused ");

@@ -148,7 +148,7 @@ fn bad_goto(codes: &[u8], args: &[u32], homes: &[u32], j: usize) -> u8
 }
 
 // The first global declaration of the name of item m, in the whole text.
-fn global(codes: &[u8], args: &[u32], homes: &[u32], m: usize) -> usize
+pub fn global(codes: &[u8], args: &[u32], homes: &[u32], m: usize) -> usize
     ensures { λ r. ⌜ r ≡ rules.globalOf (now (codes .entry)) (now (args .entry)) (now (homes .entry)) m ⌝ }
 {
     find(codes, args, homes, 1, word_at(args, m), 0, codes.len())

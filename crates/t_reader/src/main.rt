@@ -1,10 +1,11 @@
 // Prints whether each text on standard input is accepted, or its refusal.
 use cases::Case;
+use judging::Judged;
 use libc::STDOUT_FILENO;
-use reader::Judged;
 
 fn show(text: &[u8]) {
-    let j = reader::judge(text);
+    let mut tables = [0u32; 16384];
+    let j = reader::read(text, &mut tables);
     match j {
         Judged::Accepted => {
             io::write_all(STDOUT_FILENO, b"accepted");

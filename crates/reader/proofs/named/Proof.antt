@@ -1,5 +1,5 @@
 use native.Mathlib.Omega.{arith}
-use Rattle.reader.proofs.Passes as laws
+use Rattle.reader.proofs.Laws as laws
 use borrow.Author.Needs.{needs}
 use Rattle.reader.proofs.named.Statement.{statement}
 use Rattle.reader.proofs.named.Tie as tie

@@ -1,0 +1,13 @@
+use native.Mathlib.Omega.{arith}
+use Rattle.links.specs.Links.{classOf}
+use Rattle.rules.proofs.Table.{tabled, tabled-at}
+use borrow.Author.Needs.{needs}
+use Rattle.links.proofs.class_of.Statement.{statement}
+use Rattle.links.proofs.class_of.Tie as tie
+
+returns : tie.Need-returns
+unfolding classOf tabled
+returns c = tabled-at classOf 256 (c .args .c) (omega arith)
+
+pub class-of-spec : {M : Type 1} → statement M
+class-of-spec = tie.close (tie.spec (λ c. search needs) returns)
