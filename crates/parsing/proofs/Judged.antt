@@ -65,7 +65,7 @@ take-take (suc i) zero l h = absurd (omega arith)
 take-take (suc i) (suc j) [] h = ([], refl)
 take-take (suc i) (suc j) (a ∷ l) h = let (us, e) = take-take i j l (omega arith) in (us, ap (a ∷_) e)
 
-before : (ts : List Token) (i j : ℕ) → i ≤ j → (us : List Token) × (m : Model) × Gram (take j ts ++ us) m → (us : List Token) × (m : Model) × Gram (take i ts ++ us) m
+pub before : (ts : List Token) (i j : ℕ) → i ≤ j → (us : List Token) × (m : Model) × Gram (take j ts ++ us) m → (us : List Token) × (m : Model) × Gram (take i ts ++ us) m
 before ts i j h (us, m, x) = let (vs, e) = take-take i j ts h in (vs ++ us, m, rw (← append-assoc, e) x)
 
 pub judge-two : (ts : List Token) (i : ℕ) → judge ts ≡ refused-2 i → Two ts i
