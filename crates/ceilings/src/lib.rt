@@ -75,8 +75,8 @@ fn wide_at(codes: &[u8], homes: &[u32], j: usize) -> usize
     ensures { λ r. ⌜ r ≡ tops.wideAt (now (codes .entry)) (now (homes .entry)) j ⌝ }
     ensures { λ r. ⌜ r < 4294967296 ⌝ }
 {
-    let o = finding::opener(codes, j);
     if base::byte_at(codes, j) == 187 {
+        let o = finding::opener(codes, j);
         if base::byte_at(codes, o) == 72 {
             if 4 < finding::count(codes, homes, 5, word_at(homes, j), o, j) {
                 return 1;

@@ -5,8 +5,26 @@ ghost use Prim.Native.Nat.{_-_, _<_};
 ghost use lib.ListN.{getD};
 ghost use Rattle.productions.specs.Tables.{choices, bases, rights, Numbered};
 
+fn wide(x: u8) -> usize
+    ensures { λ r. ⌜ r ≡ x ⌝ }
+    ensures { λ r. ⌜ r < 256 ⌝ }
+{
+    x as usize
+}
+
+// a - b, or 0 where b is more.
+fn minus(a: usize, b: usize) -> usize
+    ensures { λ r. ⌜ r ≡ a - b ⌝ }
+{
+    if b <= a { a - b } else { 0 }
+}
+
 // A row for each nonterminal, and in it a column for the end of the text, for each kind from 1 to 72 and for what is no kind.
-const CHOICES: [u8; 5476] = *b"\
+fn choice_at(i: usize) -> u8
+    ensures { λ r. ⌜ r ≡ getD choices i 0 ⌝ }
+{
+    base::byte_at(
+        b"\
 00000000000000010001110000000000000000000000000000001000010000000100001100\
 00000000000000010001110000000000000000000000000000001000010000000100001100\
 00000000000000010001110000000000000000000000000000001000010000000100001100\
@@ -80,18 +98,32 @@ const CHOICES: [u8; 5476] = *b"\
 22222222222222222222000200202122222200000000000000000200002000000000000000\
 66666666666666666664000000606066123500000000000000000600006000000000000000\
 00000000000000000000000000000000100000000000000000000000000000000000002000\
-00000000000000000000000200000000000000000000000000000000000001000000000000";
+00000000000000000000000200000000000000000000000000000000000001000000000000",
+        i,
+    )
+}
 
 // How many right sides the nonterminals before it have.
-const BASES: [u8; 74] = *b"\
+fn base_at(i: usize) -> u8
+    ensures { λ r. ⌜ r ≡ getD bases i 0 ⌝ }
+{
+    base::byte_at(
+        b"\
 \x00\x01\x02\x03\x04\x05\x06\x07\x08\x09\x0a\x0c\x0e\x10\x12\x14\
 \x17\x1c\x1f\x22\x26\x28\x29\x2b\x33\x35\x36\x38\x3a\x3c\x41\x43\
 \x45\x47\x49\x4b\x56\x57\x5a\x5e\x5f\x61\x67\x6a\x6f\x71\x72\x74\
 \x76\x77\x7a\x7c\x7d\x7f\x81\x84\x85\x87\x89\x8c\x8e\x8f\x91\x92\
-\x94\x9a\x9b\x9d\x9e\x9f\xa2\xa4\xaa\xac";
+\x94\x9a\x9b\x9d\x9e\x9f\xa2\xa4\xaa\xac",
+        i,
+    )
+}
 
 // The right sides, thirteen numbers for each: its length and its symbols.
-const RIGHTS: [u8; 2275] = *b"\
+pub fn right_at(i: usize) -> u8
+    ensures { λ r. ⌜ r ≡ getD rights i 0 ⌝ }
+{
+    base::byte_at(
+        b"\
 \x00\x00\x00\x00\x00\x00\x00\x00\x00\x00\x00\x00\x00\
 \x02\x4a\x53\x00\x00\x00\x00\x00\x00\x00\x00\x00\x00\
 \x02\x4b\x54\x00\x00\x00\x00\x00\x00\x00\x00\x00\x00\
@@ -266,39 +298,9 @@ const RIGHTS: [u8; 2275] = *b"\
 \x06\x20\xdb\x19\x8a\x8b\x1a\x00\x00\x00\x00\x00\x00\
 \x04\xab\xd3\x76\x78\x00\x00\x00\x00\x00\x00\x00\x00\
 \x04\x3d\x46\xe0\x8c\x00\x00\x00\x00\x00\x00\x00\x00\
-\x07\x17\x47\x18\x3d\x46\xe1\x8c\x00\x00\x00\x00\x00";
-
-fn wide(x: u8) -> usize
-    ensures { λ r. ⌜ r ≡ x ⌝ }
-    ensures { λ r. ⌜ r < 256 ⌝ }
-{
-    x as usize
-}
-
-// a - b, or 0 where b is more.
-fn minus(a: usize, b: usize) -> usize
-    ensures { λ r. ⌜ r ≡ a - b ⌝ }
-{
-    if b <= a { a - b } else { 0 }
-}
-
-fn choice_at(i: usize) -> u8
-    ensures { λ r. ⌜ r ≡ getD choices i 0 ⌝ }
-{
-    if i < 5476 { CHOICES[i] } else { 0 }
-}
-
-fn base_at(i: usize) -> u8
-    ensures { λ r. ⌜ r ≡ getD bases i 0 ⌝ }
-{
-    if i < 74 { BASES[i] } else { 0 }
-}
-
-// What stands at a place of the rows of right sides.
-pub fn right_at(i: usize) -> u8
-    ensures { λ r. ⌜ r ≡ getD rights i 0 ⌝ }
-{
-    if i < 2275 { RIGHTS[i] } else { 0 }
+\x07\x17\x47\x18\x3d\x46\xe1\x8c\x00\x00\x00\x00\x00",
+        i,
+    )
 }
 
 // The number of the right side that the symbol x has at column k, 0 where it has none.

@@ -1,3 +1,4 @@
+use mathlib.Core.Path.{_∙_}
 use native.Mathlib.Omega.{arith}
 use Rattle.links.specs.Links.{classOf}
 use Rattle.rules.proofs.Table.{tabled, tabled-at}
@@ -7,7 +8,7 @@ use Rattle.links.proofs.class_of.Tie as tie
 
 returns : tie.Need-returns
 unfolding classOf tabled
-returns c = tabled-at classOf 256 (c .args .c) (omega arith)
+returns c = c .byte-at .ensures ∙ tabled-at classOf 256 (c .before .before .args .c) (omega arith)
 
 pub class-of-spec : {M : Type 1} → statement M
-class-of-spec = tie.close (tie.spec (λ c. search needs) returns)
+class-of-spec = tie.close (tie.spec (λ c. search needs) (λ c κs. search needs) returns)
