@@ -1,0 +1,3 @@
+pub mod Variables
+pub mod Expressions
+pub mod Examples

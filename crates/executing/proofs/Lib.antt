@@ -1,0 +1,2 @@
+mod Bits
+pub mod Laws

@@ -1,0 +1,4 @@
+pub mod Fills
+pub mod Starts
+pub mod Heights
+pub mod Inside

@@ -1,0 +1,47 @@
+-- Expressions of a tree as phrases of its code: where their items stand, and how high they are.
+use mathlib.Core.Path.{_≡_}
+use mathlib.Core.Bool.{Bool}
+use mathlib.Core.List.{List, [], _∷_}
+use Prim.Native.Nat.{ℕ, suc, max, _≤_}
+use lib.ListN.{getD}
+use lib.Dec.{eqb, ltb}
+use Rattle.base.specs.Choice.{both, either}
+use Rattle.syntax.specs.Tree.{Shape, Exp, plain, indexed, num, tru, fls, get, len, unary, binary, choice}
+use Rattle.syntax.specs.Grammar.{Is-unary}
+use Rattle.syntax.specs.Code.{Item}
+use Rattle.entries.specs.Items.{codeOf}
+
+-- Document 01, "Ceilings": "expression height 32 (operand 1; operator, index, `len` 1 above its highest part)". A conditional is 1 above its highest part, as an operator is.
+abbrev pub height : {s : Shape} → Exp s → ℕ
+height (plain w) = 1
+height (indexed w e) = suc (height e)
+height (num n) = 1
+height tru = 1
+height fls = 1
+height (get r) = height r
+height (len r) = suc (height r)
+height (unary o e) = suc (height e)
+height (binary o a b) = suc (max (height a) (height b))
+height (choice a b c) = suc (max (height a) (max (height b) (height c)))
+
+-- its operators are operators
+abbrev pub Proper : {s : Shape} → Exp s → Type 0
+Proper (plain w) = Unit {0}
+Proper (indexed w e) = Proper e
+Proper (num n) = Unit {0}
+Proper tru = Unit {0}
+Proper fls = Unit {0}
+Proper (get r) = Proper r
+Proper (len r) = Proper r
+Proper (unary o e) = Is-unary o × Proper e
+Proper (binary o a b) = (1 ≤ o) × (o ≤ 18) × Proper a × Proper b
+Proper (choice a b c) = Proper a × Proper b × Proper c
+
+-- these items stand at place i of a list of codes
+abbrev pub At : List ℕ → ℕ → List Item → Type 0
+At cs i [] = Unit {0}
+At cs i (x ∷ l) = (getD cs i 0 ≡ codeOf x) × At cs (suc i) l
+
+-- the codes of items that expressions are made of: names and numbers, operators, and `plain` to `choice`
+unfoldable pub inExpression : ℕ → Bool
+inExpression c = either (eqb c 70) (either (eqb c 71) (either (both (ltb 146 c) (ltb c 168)) (both (ltb 175 c) (ltb c 183))))

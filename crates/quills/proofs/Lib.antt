@@ -1,0 +1,4 @@
+pub mod Laws
+pub mod Sheet
+pub mod Marks
+pub mod After

@@ -1,0 +1,17 @@
+use Rattle.writer.proofs.Rows as laws
+use borrow.Author.Needs.{needs}
+use Rattle.writer.proofs.cell.Statement.{statement}
+use Rattle.writer.proofs.cell.Tie as tie
+
+returns : tie.Need-returns
+returns c = (laws.cell-is (c .before .before .args .r) (c .before .before .args .k) _ _ (c .before .before .pre .1) (c .before .cell-at .ensures) (c .wide .ensures .0), c .wide .ensures .1)
+
+pub cell-spec : {M : Type 1} → statement M
+cell-spec =
+    tie.close
+    (tie.spec
+    (λ c. search needs)
+    (λ c. search needs)
+    (λ c κs. search needs)
+    (λ c κs. search needs)
+    returns)

@@ -1,0 +1,5 @@
+pub mod Rules
+pub mod Turning
+pub mod Places
+pub mod Normal
+pub mod Examples
