@@ -6,6 +6,7 @@ use display::put;
 use display::put_bytes;
 use display::put_number;
 use judging::Judged;
+use normal::Written;
 
 // The most bytes of a model, and of a list of commands.
 const TEXT_MOST: usize = 8192;
@@ -18,28 +19,44 @@ enum Loaded {
     Failed,
 }
 
-// The answer for a model.
-fn answer(text: &[u8]) {
+// A model that is refused: where, and the refusal.
+fn refuse(text: &[u8], x: u8, place: usize, len: usize) {
+    if x != 6 {
+        if text.len() <= TEXT_MOST {
+            display::explain(text, place, len, reader::refused_part(text));
+        }
+    }
+    put(b"refused ");
+    put_number(x as usize);
+    put(b" ");
+    put_number(place);
+    put(b" ");
+    put_number(len);
+    put(b"\n");
+}
+
+// `read MODEL`
+fn judge(text: &[u8]) {
     let mut tables = [0u32; 16384];
     let j = reader::read(text, &mut tables);
     match j {
         Judged::Accepted => {
             put(b"accepted\n");
         }
-        Judged::Refused(x, place, len) => {
-            if x != 6 {
-                if text.len() <= TEXT_MOST {
-                    display::explain(text, place, len, reader::refused_part(text));
-                }
-            }
-            put(b"refused ");
-            put_number(x as usize);
-            put(b" ");
-            put_number(place);
-            put(b" ");
-            put_number(len);
+        Judged::Refused(x, place, len) => refuse(text, x, place, len),
+    }
+}
+
+// `normal MODEL`
+fn show_normal(text: &[u8]) {
+    let mut out = [0u8; 8192];
+    let w = normal::normal(text, &mut out);
+    match w {
+        Written::Text(n) => {
+            put(part(&out, 0, n));
             put(b"\n");
         }
+        Written::Refused(x, place, len) => refuse(text, x, place, len),
     }
 }
 
@@ -66,13 +83,20 @@ fn unreadable(path: &[u8]) {
     put(b"\n");
 }
 
-// `read MODEL`
-fn read_model(path: &[u8]) {
-    let mut text = [0u8; 8193];
-    let l = load(path, &mut text);
-    match l {
-        Loaded::Failed => unreadable(path),
-        Loaded::Bytes(n) => answer(part(&text, 0, n)),
+// A command with the text of its model.
+fn perform_on(command: &[u8], text: &[u8]) {
+    if base::same(command, b"normal") {
+        show_normal(text);
+    } else {
+        judge(text);
+    }
+}
+
+fn is_command(command: &[u8]) -> bool {
+    if base::same(command, b"read") {
+        true
+    } else {
+        base::same(command, b"normal")
     }
 }
 
@@ -92,13 +116,18 @@ fn seek(line: &[u8], from: usize, b: u8) -> usize
 
 // A command with one file.
 fn perform(command: &[u8], file: &[u8]) {
-    if base::same(command, b"read") {
-        read_model(file);
+    if !is_command(command) {
+        put(b"error: unknown command ");
+        put_bytes(command);
+        put(b"\n");
         return;
     }
-    put(b"error: unknown command ");
-    put_bytes(command);
-    put(b"\n");
+    let mut text = [0u8; 8193];
+    let l = load(file, &mut text);
+    match l {
+        Loaded::Failed => unreadable(file),
+        Loaded::Bytes(n) => perform_on(command, part(&text, 0, n)),
+    }
 }
 
 // A line of a list: a command, a blank and a file.
@@ -148,7 +177,7 @@ fn batch(path: &[u8]) {
 
 fn main() {
     if os::arg_count() != 3 {
-        put(b"error: usage: pluskaro read MODEL, or pluskaro batch LIST\n");
+        put(b"error: usage: pluskaro read MODEL, pluskaro normal MODEL, or pluskaro batch LIST\n");
         return;
     }
     let mut command = [0u8; 16];

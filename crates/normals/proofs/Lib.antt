@@ -1,0 +1,3 @@
+pub mod Algebra
+pub mod Lightened
+pub mod Main
