@@ -1,2 +1,2 @@
-mod Bits
+pub mod Bits
 pub mod Laws

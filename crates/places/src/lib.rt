@@ -19,7 +19,8 @@ pub fn is_part(c: u8) -> bool
     )
 }
 
-fn is_mark(c: u8) -> bool
+// Or is it none, so a mark?
+pub fn is_mark(c: u8) -> bool
     ensures { λ r. ⌜ r ≡ places.isMark c ⌝ }
 {
     if is_part(c) { false } else { true }
@@ -39,7 +40,8 @@ pub fn mark_from(codes: &[u8], i: usize) -> usize
     k
 }
 
-fn is_alone(c: u8) -> bool
+// Does a statement begin with this mark of its own?
+pub fn is_alone(c: u8) -> bool
     ensures { λ r. ⌜ r ≡ places.isAlone c ⌝ }
 {
     either(
@@ -48,7 +50,8 @@ fn is_alone(c: u8) -> bool
     )
 }
 
-fn is_lead(c: u8) -> bool
+// Is this the mark of a statement that begins with a phrase?
+pub fn is_lead(c: u8) -> bool
     ensures { λ r. ⌜ r ≡ places.isLead c ⌝ }
 {
     either(

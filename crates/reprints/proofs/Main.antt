@@ -28,7 +28,8 @@ use Rattle.tables.proofs.Back.{entry-back}
 use Rattle.tables.proofs.Trees.{items-fair}
 use Rattle.holdings.specs.Marks.{isMark}
 use Rattle.writer.specs.Turning.{marked, after, marks, told, walk, whole}
-use Rattle.writer.specs.Normal.{spelled, heldOf, tokenBy, codesIn, tokensOf, normalOf}
+use Rattle.lettering.specs.Tokens.{spelled, heldOf, tokenBy}
+use Rattle.writer.specs.Normal.{codesIn, tokensOf, normalOf}
 use Rattle.reprints.specs.Here.{holds, tok, Sane, Here}
 use Rattle.reprints.proofs.Models.{walk-model}
 

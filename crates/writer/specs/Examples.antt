@@ -17,7 +17,8 @@ use Rattle.tables.specs.Trees.{tablesIn}
 use Rattle.value.specs.Operators.{levelOf}
 use Rattle.writer.specs.Rules.{rows}
 use Rattle.writer.specs.Turning.{cell, rowFrom, rowOf, laid, operated, turned, kept, told, walk, marks}
-use Rattle.writer.specs.Normal.{heldOf, tokenBy, codesIn, tokensOf, normalOf}
+use Rattle.lettering.specs.Tokens.{heldOf, tokenBy}
+use Rattle.writer.specs.Normal.{codesIn, tokensOf, normalOf}
 
 -- P10
 sum : Model

@@ -1,0 +1,150 @@
+// Taking the step of the statement at a place, `run` among them.
+ghost use mathlib.Core.Path.{_≡_};
+ghost use Prim.Native.Nat.{_<_};
+ghost use Rattle.frames.specs.Layout.{processesOf};
+ghost use Rattle.effects.specs.Effects as effects;
+use evaluating::Located;
+use messages::Gathered;
+use statements::Taken;
+
+// Where the arguments from item a on end.
+fn end_of(t: &[u32], a: usize) -> usize
+    ensures { λ r. ⌜ r ≡ effects.endFrom (now (t .entry)) 32 a ⌝ }
+{
+    let mut j = a;
+    let mut n: usize = 0;
+    while n < 32 {
+        if tables::code(t, j) == 187 {
+            return j;
+        }
+        j = tables::link(t, j) + 1;
+        n += 1;
+    }
+    j
+}
+
+fn set_parameter(t: &[u32], s: &mut [i32], p: u8, values: &[i32], j: u32)
+    ensures { λ _. ⌜ now (s .exit) ≡ effects.parameterSet (now (t .entry)) p (now (values .entry)) j (now (s .entry)) ⌝ }
+{
+    if tables::code(t, j as usize) == 222 {
+        let l = tables::link(t, j as usize) as u32;
+        let v = value::cast(
+            evaluating::type_of(l),
+            frames::cell(values, (l / 1024) as usize),
+        );
+        frames::put(s, evaluating::slot(l, p, 0), v);
+    }
+}
+
+// One more process of the unit that item u begins, with the values of its arguments.
+fn call(t: &[u32], s: &mut [i32], u: u32, values: &[i32])
+    requires { ⌜ processesOf (now s) < 16 ⌝ }
+    ensures { λ _. ⌜ now (s .exit) ≡ effects.called (now (t .entry)) u (now (values .entry)) (now (s .entry)) ⌝ }
+{
+    let p = frames::processes(s) as u8;
+    starting::make_process(t, s, u);
+    let n = starting::unit_length(t, u);
+    let mut k: u32 = 0;
+    while k < n {
+        set_parameter(t, s, p, values, u + k);
+        k += 1;
+    }
+}
+
+fn run(t: &[u32], s: &mut [i32], p: u8, m: usize) -> Taken
+    requires { ⌜ m < 4294967296 ⌝ }
+    ensures { λ r. ⌜ (r, now (s .exit)) ≡ effects.ran (now (t .entry)) p m (now (s .entry)) ⌝ }
+{
+    let u = tables::link(t, m) as u32;
+    if !executing::has_room(t, s, u) {
+        return Taken::Idle;
+    }
+    let mut values = [0i32; 32];
+    let g = messages::gather(t, s, p, m + 1, &mut values);
+    match g {
+        Gathered::Upto(e) => {
+            call(t, s, u, &values);
+            statements::move_to(s, p, tables::link(t, e));
+            Taken::Done
+        }
+        Gathered::Failed(f) => Taken::Faulted(f),
+    }
+}
+
+// `v = run` with the marks m of its target, which stands in place i, and e of run.
+fn set_run_at(t: &[u32], s: &mut [i32], p: u8, i: usize, m: usize, e: usize) -> Taken
+    requires { ⌜ e < 4294967296 ⌝ }
+    ensures { λ r. ⌜ (r, now (s .exit)) ≡ effects.setRunAt (now (t .entry)) p i m e (now (s .entry)) ⌝ }
+{
+    let u = tables::link(t, e) as u32;
+    if !executing::has_room(t, s, u) {
+        statements::store_at(t, s, m, i, 0);
+        statements::move_to(s, p, tables::link(t, end_of(t, e + 1)));
+        return Taken::Done;
+    }
+    let n = frames::processes(s);
+    let mut values = [0i32; 32];
+    let g = messages::gather(t, s, p, e + 1, &mut values);
+    match g {
+        Gathered::Upto(z) => {
+            call(t, s, u, &values);
+            statements::store_at(t, s, m, i, frames::kept(n as usize));
+            statements::move_to(s, p, tables::link(t, z));
+            Taken::Done
+        }
+        Gathered::Failed(f) => Taken::Faulted(f),
+    }
+}
+
+fn set_run(t: &[u32], s: &mut [i32], p: u8, q: usize, m: usize, e: usize) -> Taken
+    requires { ⌜ e < 4294967296 ⌝ }
+    ensures { λ r. ⌜ (r, now (s .exit)) ≡ effects.setRan (now (t .entry)) p q m e (now (s .entry)) ⌝ }
+{
+    let x = evaluating::locate(t, s, p, q, m);
+    match x {
+        Located::At(i) => set_run_at(t, s, p, i, m, e),
+        Located::Astray(f) => Taken::Faulted(f),
+    }
+}
+
+fn target(t: &[u32], s: &mut [i32], p: u8, q: usize, m: usize) -> Taken
+    requires { ⌜ m < 4294967296 ⌝ }
+    ensures { λ r. ⌜ (r, now (s .exit)) ≡ effects.targeted (now (t .entry)) p q m (now (s .entry)) ⌝ }
+{
+    let e = tables::link(t, m);
+    if tables::code(t, e) == 203 {
+        set_run(t, s, p, q, m, e)
+    } else {
+        statements::assign(t, s, p, q, m, e)
+    }
+}
+
+fn take_by(t: &[u32], s: &mut [i32], p: u8, q: usize, m: usize) -> Taken
+    requires { ⌜ m < 4294967296 ⌝ }
+    ensures { λ r. ⌜ (r, now (s .exit)) ≡ effects.takenBy (now (t .entry)) p q m (now (s .entry)) ⌝ }
+{
+    match tables::code(t, m) {
+        72 => statements::print(t, s, p, m),
+        189 => statements::express(t, s, p, q, m),
+        190 => target(t, s, p, q, m),
+        192 => statements::step_by(t, s, p, 1, q, m),
+        193 => statements::step_by(t, s, p, -1, q, m),
+        194 => statements::send(t, s, p, q, m),
+        195 => statements::receive(t, s, p, q, m),
+        196 => statements::assert_that(t, s, p, q, m),
+        197 => statements::pass(t, s, p, m),
+        198 => statements::pass(t, s, p, m),
+        199 => statements::pass(t, s, p, m),
+        200 => statements::pass(t, s, p, m),
+        201 => statements::pass(t, s, p, m),
+        202 => run(t, s, p, m),
+        _ => Taken::Idle,
+    }
+}
+
+// The step of the statement at place q.
+pub fn take(t: &[u32], s: &mut [i32], p: u8, q: u32) -> Taken
+    ensures { λ r. ⌜ (r, now (s .exit)) ≡ effects.takenOf (now (t .entry)) p q (now (s .entry)) ⌝ }
+{
+    take_by(t, s, p, q as usize, executing::mark(t, q))
+}

@@ -1,0 +1,4 @@
+pub mod Fits
+pub mod Shapes
+pub mod Standing
+pub mod Meaning
