@@ -1,0 +1,46 @@
+-- Which steps are offered in a state, over all its processes, and its verdict: document 01, "How it moves": "`else` and all the rest are judged with `timeout` not executable; it is
+-- executable exactly where nothing then is, in any process. Offered steps are listed by process number, then text order." "`finished` (all ended), `blocked`, `open` (some step offered)".
+-- `t` are tables, `s` a state.
+use Prim.Native.Nat.{ℕ, zero, suc, _+_, _-_, min}
+use mathlib.Core.Bool.{Bool, true, false}
+use mathlib.Core.List.{List}
+use lib.IntN.{ℤ}
+use lib.Dec.{eqb, ltb}
+use Rattle.base.specs.Choice.{pick}
+use Rattle.tables.specs.Access.{codeOf}
+use Rattle.frames.specs.Layout.{processesMost, processesOf, placeOf}
+use Rattle.offering.specs.Offers.{offersOf, isSome, pickAt}
+use Rattle.offering.specs.declared.Walk.{Walk}
+use Rattle.offering.specs.declared.Walk.the-variants.{Left}
+use Rattle.moving.specs.declared.Verdict.{Verdict}
+use Rattle.moving.specs.declared.Verdict.the-variants.{Finished, Blocked, Open}
+
+-- how many processes there are
+abbrev pub processes : List ℤ → ℕ
+processes s = min processesMost (processesOf s)
+
+module _ (t : List ℕ) (s : List ℤ) where
+  -- the steps that process p is offered, each by its place, where `late` says whether `timeout` is executable
+  abbrev pub stepsBy : Bool → ℕ → List ℕ
+  stepsBy late p = offersOf t s p late (placeOf s p)
+
+  -- one of n processes from p on is offered a step
+  unfoldable pub anyFrom : Bool → ℕ → ℕ → Bool
+  anyFrom late p zero = false
+  anyFrom late p (suc n) = pick (isSome (stepsBy late p)) true (anyFrom late (p + 1) n)
+
+  -- `timeout` is executable
+  unfoldable pub lateOf : Bool
+  lateOf = pick (anyFrom false 0 (processes s)) false true
+
+  -- the k-th step, from 1, that process p is offered; none where there is no such process
+  unfoldable pub stepAt : ℕ → ℕ → Walk
+  stepAt p k = pick (ltb p (processes s)) (pick (eqb k 0) (Left 0) (pickAt (k - 1) (stepsBy lateOf p))) (Left 0)
+
+  -- each of n processes from p on has ended: its place is the end of its body (228)
+  unfoldable pub endedFrom : ℕ → ℕ → Bool
+  endedFrom p zero = true
+  endedFrom p (suc n) = pick (eqb (codeOf t (placeOf s p)) 228) (endedFrom (p + 1) n) false
+
+  unfoldable pub verdictOf : Verdict
+  verdictOf = pick (endedFrom 0 (processes s)) Finished (pick (anyFrom lateOf 0 (processes s)) Open Blocked)

@@ -1,0 +1,82 @@
+// The steps that are offered in a state, over all its processes, and its verdict.
+ghost use mathlib.Core.Path.{_≡_};
+ghost use Prim.Native.Nat.{_≤_};
+ghost use Rattle.moving.specs.Moving as moving;
+use offering::Walk;
+
+pub enum Verdict {
+    Finished,
+    Blocked,
+    Open,
+}
+
+// How many processes there are.
+fn processes(s: &[i32]) -> u32
+    ensures { λ r. ⌜ r ≡ moving.processes (now (s .entry)) ⌝ }
+    ensures { λ r. ⌜ r ≤ 16 ⌝ }
+{
+    base::least(16, frames::processes(s) as usize) as u32
+}
+
+// Is any process offered a step?
+fn is_any(t: &[u32], s: &[i32], late: bool) -> bool
+    ensures { λ r. ⌜ r ≡ moving.anyFrom (now (t .entry)) (now (s .entry)) late 0 (moving.processes (now (s .entry))) ⌝ }
+{
+    let n = processes(s);
+    let mut p: u32 = 0;
+    while p < n {
+        if offering::is_offered(t, s, p as u8, late) {
+            return true;
+        }
+        p += 1;
+    }
+    false
+}
+
+// Is `timeout` executable?
+fn is_late(t: &[u32], s: &[i32]) -> bool
+    ensures { λ r. ⌜ r ≡ moving.lateOf (now (t .entry)) (now (s .entry)) ⌝ }
+{
+    if is_any(t, s, false) { false } else { true }
+}
+
+// The place of the k-th step, from 1, that a process is offered.
+pub fn step_at(t: &[u32], s: &[i32], process: u32, k: u32) -> Walk
+    ensures { λ r. ⌜ r ≡ moving.stepAt (now (t .entry)) (now (s .entry)) process k ⌝ }
+{
+    if processes(s) <= process {
+        return Walk::Left(0);
+    }
+    if k == 0 {
+        return Walk::Left(0);
+    }
+    offering::offered(t, s, process as u8, is_late(t, s), k - 1)
+}
+
+// Has every process ended?
+fn is_ended(t: &[u32], s: &[i32]) -> bool
+    ensures { λ r. ⌜ r ≡ moving.endedFrom (now (t .entry)) (now (s .entry)) 0 (moving.processes (now (s .entry))) ⌝ }
+{
+    let n = processes(s);
+    let mut p: u32 = 0;
+    while p < n {
+        if tables::code(t, frames::place_of(s, p as u8) as usize) != 228 {
+            return false;
+        }
+        p += 1;
+    }
+    true
+}
+
+pub fn verdict_of(t: &[u32], s: &[i32]) -> Verdict
+    ensures { λ r. ⌜ r ≡ moving.verdictOf (now (t .entry)) (now (s .entry)) ⌝ }
+{
+    if is_ended(t, s) {
+        return Verdict::Finished;
+    }
+    if is_any(t, s, is_late(t, s)) {
+        Verdict::Open
+    } else {
+        Verdict::Blocked
+    }
+}
