@@ -1,3 +1,5 @@
 pub mod Laws
 pub mod Uses
 pub mod Meaning
+pub mod Kept
+pub mod Exact

@@ -1,17 +1,17 @@
--- `isStateOf` lets through what document 01 calls a state of the model, and nothing else, whatever the tables are.
+-- `isStateOf` lets through nothing but what document 01 calls a state of the model (specs/Meaning.antt), whatever the tables are.
 use Prim.Native.Nat.{ℕ, zero, suc, min, _+_, _≤_, _<_}
-use mathlib.Core.Path.{_≡_, refl, sym, ap, subst, _∙_}
+use mathlib.Core.Path.{_≡_, sym, ap, subst, _∙_}
 use mathlib.Core.Bool.{Bool, true, false}
 use mathlib.Core.List.{List}
 use mathlib.Core.Logic.{_⊎_, inl, inr}
 use native.Mathlib.Omega.{arith}
 use native.Mathlib.Decide.{ℕ-discrete}
-use lib.ListN.{length, getD, set, replicate, getD-replicate, length-replicate, length-set}
-use lib.Seq.{getD-set-same, getD-set-other}
+use lib.ListN.{length, set, replicate, getD-replicate}
+use lib.Seq.{getD-set-other}
 use lib.IntN.{ℤ, pos, negsuc}
 use lib.Dec.{eqb, ltb, leb}
 use borrow.Author.Tests.{eqb-true, ltb-true, leb-true}
-use Rattle.base.specs.Choice.{pick, both, either}
+use Rattle.base.specs.Choice.{pick, both}
 use Rattle.base.proofs.Tests.{both-true, either-true, true-false}
 use Rattle.tables.specs.Access.{codeOf, linkOf}
 use Rattle.value.specs.Operators.{same}
@@ -20,10 +20,10 @@ use Rattle.frames.specs.Layout.{stateSize, processesMost, channelsMost, message
 use Rattle.evaluating.specs.Variables.{typeOf, sizeOf, slotOf}
 use Rattle.starting.specs.Starting.{unitLength, scanned}
 use Rattle.executing.specs.Channels.{capacityOf, fieldsOf}
-use Rattle.standing.specs.Fits.{every, countsAt, countsFrom, fitsAt, elementFits, variableFits, isGlobal, isLocal, fieldType, globalFits, localFits, localsFit, fieldFits, messageFits}
-use Rattle.standing.specs.Shapes.{shaped, processesIn, channelsIn, messagesIn}
+use Rattle.fitting.specs.Fits.{every, countsAt, countsFrom, fitsAt, elementFits, variableFits, isGlobal, isLocal, fieldType, globalFits, localFits, localsFit, fieldFits, messageFits}
+use Rattle.shaping.specs.Shapes.{shaped, processesIn, channelsIn, messagesIn}
 use Rattle.standing.specs.Standing.{itemsLast, placeAt, belongs, isProcess, isChannel, processSound, channelSound, sound, sameAt, sameNumbers, isStateOf}
-use Rattle.standing.specs.Meaning.{InType, Counted, Used, Stands}
+use Rattle.standing.specs.Meaning.{InType, Counted, Used, process-unit, process-place, channel-item, channel-count, Stands}
 use Rattle.standing.proofs.Uses.{shaped-keeps}
 
 -- ---- tests
@@ -136,7 +136,7 @@ module _ (t : List ℕ) (s : List ℤ) where
   -- ---- what is shaped
   unused-shaped : (i : ℕ) → 2 ≤ i → i < stateSize → Used t s i ⊎ (cellOf (shaped t s) i ≡ pos 0)
   unused-shaped i h g =
-      shaped-keeps t s (λ x. Used t s i ⊎ (cellOf x i ≡ pos 0)) (λ a v x u q. other a v x u q (ℕ-discrete i a)) (inr (begun-free (replicate stateSize (pos 0)) (kept (processesIn s)) (kept (channelsIn s)) i h ∙ getD-replicate stateSize i (pos 0) (pos 0) g))
+      shaped-keeps t s (λ a v. Used t s a) (λ a u. u) process-unit process-place channel-item channel-count (λ x. Used t s i ⊎ (cellOf x i ≡ pos 0)) (λ a v x u q. other a v x u q (ℕ-discrete i a)) (inr (begun-free (replicate stateSize (pos 0)) (kept (processesIn s)) (kept (channelsIn s)) i h ∙ getD-replicate stateSize i (pos 0) (pos 0) g))
     where
       other : (a : ℕ) (v : ℤ) (x : List ℤ) → Used t s a → Used t s i ⊎ (cellOf x i ≡ pos 0) → Dec (i ≡ a) → Used t s i ⊎ (cellOf (set x a v) i ≡ pos 0)
       other a v x u q (yes e) = inl (subst (Used t s) (sym e) u)

@@ -1,4 +1,2 @@
-pub mod Fits
-pub mod Shapes
 pub mod Standing
 pub mod Meaning

@@ -1,6 +1,7 @@
 -- What a state of the model is, in the words of document 01: "A state of the model (refusal 9): values in their types, places that belong to the process's proctype or
 -- its end, messages in their field types, counts within ceilings, channels with the capacity and fields of some declaration, unused numbers 0".
--- `is-state-stands` (proofs/Meaning.antt) says that `isStateOf` lets through nothing else, whatever the tables are. `t` are tables, `s` the numbers.
+-- `isStateOf` lets through nothing else (`is-state-stands`, proofs/Meaning.antt) and all of it (`stands-is-state`, proofs/Exact.antt), whatever the tables are.
+-- `t` are tables, `s` the numbers.
 use Prim.Native.Nat.{ℕ, _+_, _≤_, _<_}
 use mathlib.Core.Path.{_≡_}
 use mathlib.Core.Bool.{true}
@@ -14,7 +15,7 @@ use Rattle.frames.specs.Layout.{stateSize, processesMost, channelsMost, message
 use Rattle.evaluating.specs.Variables.{typeOf, sizeOf, slotOf}
 use Rattle.starting.specs.Starting.{unitLength, scanned}
 use Rattle.executing.specs.Channels.{capacityOf, fieldsOf}
-use Rattle.standing.specs.Fits.{isGlobal, isLocal, fieldType}
+use Rattle.fitting.specs.Fits.{isGlobal, isLocal, fieldType}
 use Rattle.standing.specs.Standing.{itemsLast, placeAt}
 
 -- the number at i lies in the type ty: storing keeps it

@@ -1,6 +1,6 @@
 -- Which numbers are a state of a model: document 01, "A state of the model (refusal 9): values in their types, places that belong to the process's proctype or its end,
 -- messages in their field types, counts within ceilings, channels with the capacity and fields of some declaration, unused numbers 0".
--- Units, places and channels are some of the model's, values lie in their types (Fits.antt), and nothing stands where nothing is in use (Shapes.antt).
+-- Units, places and channels are some of the model's, values lie in their types (`fitting`), and nothing stands where nothing is in use (`shaping`).
 -- `t` are tables, `s` the numbers.
 use Prim.Native.Nat.{ℕ, _-_}
 use mathlib.Core.Bool.{Bool, true, false}
@@ -16,8 +16,8 @@ use Rattle.value.specs.Operators.{same}
 use Rattle.frames.specs.Layout.{stateSize, processesMost, channelsMost, messagesMost, processAt, channelAt, cellOf, unitOf, placeOf, declaredOf, waitingOf}
 use Rattle.executing.specs.Channels.{capacityOf}
 use Rattle.starting.specs.Starting.{scanned}
-use Rattle.standing.specs.Fits.{every, countsFrom, globalFits, localsFit, messageFits}
-use Rattle.standing.specs.Shapes.{processesIn, channelsIn, messagesIn, shaped}
+use Rattle.fitting.specs.Fits.{every, countsFrom, globalFits, localsFit, messageFits}
+use Rattle.shaping.specs.Shapes.{processesIn, channelsIn, messagesIn, shaped}
 
 -- the number of an item is one of 31 bits
 abbrev pub itemsLast : ℕ

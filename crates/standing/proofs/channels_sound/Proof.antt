@@ -2,9 +2,9 @@ use Prim.Native.Nat.{_≤_, _-_}
 use mathlib.Core.Path.{_≡_, _∙_}
 use native.Mathlib.Omega.{arith}
 use borrow.Author.Tests.{not-true, not-false}
-use Rattle.standing.specs.Fits.{every}
+use Rattle.fitting.specs.Fits.{every}
 use Rattle.standing.specs.Standing.{channelSound}
-use Rattle.standing.proofs.Laws.{every-start, every-more, every-stop, every-end}
+use Rattle.fitting.proofs.Laws.{every-start, every-more, every-stop, every-end}
 use borrow.Author.Needs.{needs}
 use Rattle.standing.proofs.channels_sound.Statement.{statement}
 use Rattle.standing.proofs.channels_sound.Tie as tie

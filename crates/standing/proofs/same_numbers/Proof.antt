@@ -2,9 +2,10 @@ use Prim.Native.Nat.{_≤_, _-_}
 use mathlib.Core.Path.{_≡_, _∙_}
 use native.Mathlib.Omega.{arith}
 use borrow.Author.Tests.{eq-eqb, ne-eqb}
-use Rattle.standing.specs.Fits.{every}
+use Rattle.fitting.specs.Fits.{every}
 use Rattle.standing.specs.Standing.{sameAt}
-use Rattle.standing.proofs.Laws.{every-start, every-more, every-stop, every-end, same-at, same-all}
+use Rattle.fitting.proofs.Laws.{every-start, every-more, every-stop, every-end}
+use Rattle.standing.proofs.Laws.{same-at, same-all}
 use borrow.Author.Needs.{needs}
 use Rattle.standing.proofs.same_numbers.Statement.{statement}
 use Rattle.standing.proofs.same_numbers.Tie as tie
