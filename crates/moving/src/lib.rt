@@ -10,6 +10,12 @@ pub enum Verdict {
     Open,
 }
 
+// An offered step: its process, its number k among the steps of that process, from 1, and its place; or how many steps are left to pass.
+pub enum Offer {
+    Step(u8, u32, u32),
+    Beyond(u32),
+}
+
 // How many processes there are.
 fn processes(s: &[i32]) -> u32
     ensures { λ r. ⌜ r ≡ moving.processes (now (s .entry)) ⌝ }
@@ -51,6 +57,29 @@ pub fn step_at(t: &[u32], s: &[i32], process: u32, k: u32) -> Walk
         return Walk::Left(0);
     }
     offering::offered(t, s, process as u8, is_late(t, s), k - 1)
+}
+
+// The n-th step, from 0, of all that are offered, by process number, then text order.
+pub fn nth(t: &[u32], s: &[i32], n: u16) -> Offer
+    ensures { λ r. ⌜ r ≡ moving.nthOf (now (t .entry)) (now (s .entry)) n ⌝ }
+{
+    let late = is_late(t, s);
+    let count = processes(s);
+    let mut left = n as u32;
+    let mut p: u32 = 0;
+    while p < count {
+        let w = offering::offered(t, s, p as u8, late, left);
+        match w {
+            Walk::Found(q) => {
+                return Offer::Step(p as u8, left + 1, q);
+            }
+            Walk::Left(m) => {
+                left = m;
+            }
+        }
+        p += 1;
+    }
+    Offer::Beyond(left)
 }
 
 // Has every process ended?

@@ -1,5 +1,5 @@
 -- The laws that the entries cite.
-use Prim.Native.Nat.{ℕ, _-_, _≤_, _<_}
+use Prim.Native.Nat.{ℕ, _+_, _-_, _≤_, _<_}
 use mathlib.Core.Path.{_≡_, refl, sym, _∙_, ap, ap₂}
 use mathlib.Core.Bool.{Bool, true, false}
 use mathlib.Core.List.{List}
@@ -11,7 +11,10 @@ use lib.Dec.{eqb, ltb}
 use Rattle.genuine.specs.Genuine.{written, genuine}
 use Rattle.starting.specs.Starting.{initialOf}
 use Rattle.standing.specs.Standing.{isStateOf}
-use Rattle.moving.specs.Moving.{processes, stepsBy, lateOf, stepAt, verdictOf}
+use Rattle.moving.specs.Moving.{processes, stepsBy, lateOf, stepAt, listOf, nthIn, nthOf, verdictOf}
+use Rattle.moving.specs.declared.Offer.{Offer}
+use Rattle.moving.specs.declared.Offer.the-variants as offer
+use Rattle.moving.proofs.Laws.{beyond-rest}
 use Rattle.moving.specs.declared.Verdict.{Verdict}
 use mathlib.Core.Logic.{_⊎_, inl, inr}
 use Rattle.machine.proofs.Never.{lt-or-ge}
@@ -24,11 +27,13 @@ use Rattle.statements.specs.declared.Taken.{Taken}
 use Rattle.statements.specs.Statements.{Result}
 use Rattle.effects.specs.Effects.{takenOf}
 use Rattle.printing.specs.Printing.{printedAt}
+use Rattle.steps.specs.declared.Listed.{Listed}
+use Rattle.steps.specs.declared.Listed.the-variants as listed
 use Rattle.steps.specs.declared.Stepped.{Stepped}
 use Rattle.steps.specs.declared.Stepped.the-variants as stepped
 use Rattle.steps.specs.declared.Standing.{Standing}
 use Rattle.steps.specs.declared.Standing.the-variants.{Refused}
-use Rattle.steps.specs.Entries.{foreignOf, refusalOf, startLeft, standingOf, verdictFor, tookBy, Outcome, refusedBy, tookAt, outcomeBy, stepRefusal, outcomeOf}
+use Rattle.steps.specs.Entries.{foreignOf, refusalOf, startLeft, standingOf, verdictFor, offerBy, offeredOf, tookBy, Outcome, refusedBy, tookAt, outcomeBy, stepRefusal, outcomeOf}
 
 module _ (ts : List ℕ) (s : List ℤ) where
   pub tables-short : length ts < 16384 → 7 ≡ foreignOf ts s
@@ -78,6 +83,20 @@ module _ (ts : List ℕ) (s : List ℤ) where
     pub verdict-is : {w : List ℕ} {v : Verdict} {r : Standing} → x ≡ 0 → w ≡ written ts → v ≡ verdictOf w s → r ≡ standingOf v → r ≡ verdictFor ts s
     unfolding verdictFor
     verdict-is z ew ev er = rw (← e, z, ← ew, ← ev) er
+
+    pub offered-refused : (n : ℕ) → (x ≡ 0 → ⊥) → listed.Refused x ≡ offeredOf ts s n
+    unfolding offeredOf
+    offered-refused n z = rw (← e, ne-eqb x 0 z)
+
+    pub offered-is : {w : List ℕ} {o : Offer} (n : ℕ) → x ≡ 0 → w ≡ written ts → o ≡ nthOf w s n → (o′ : Offer) → o ≡ o′ → offerBy o′ n ≡ offeredOf ts s n
+    unfolding offeredOf
+    offered-is n z ew eo o′ g = rw (← e, z, ← ew, ← eo, g)
+
+-- ---- the n-th step
+-- no more are left to pass than were asked for
+pub left-within : (t : List ℕ) (s : List ℤ) (n m : ℕ) {o : Offer} → o ≡ nthOf t s n → o ≡ offer.Beyond m → m ≤ n
+unfolding nthOf
+left-within t s n m e f = let h : n ≡ m + length (listOf t s) = beyond-rest n (listOf t s) m (sym e ∙ f) in omega arith
 
 -- ---- taking a step
 -- a step that was found is of a process that there is

@@ -1,6 +1,6 @@
 -- The entries of the stepper, each with one answer and one content of lent memory: document 01, "What is answered": "Stepping: 7, 8, 9, 11"; "A refusal changes no lent number or byte".
 -- `ts` are the lent tables, `s` the lent state, `out` the bytes that are lent for printed text.
-use Prim.Native.Nat.{ℕ}
+use Prim.Native.Nat.{ℕ, _-_}
 use mathlib.Core.List.{List}
 use lib.ListN.{length}
 use lib.IntN.{ℤ}
@@ -14,13 +14,18 @@ use Rattle.starting.specs.Starting.{initialOf}
 use Rattle.standing.specs.Standing.{isStateOf}
 use Rattle.offering.specs.declared.Walk.{Walk}
 use Rattle.offering.specs.declared.Walk.the-variants.{Found, Left}
-use Rattle.moving.specs.Moving.{stepAt, verdictOf}
+use Rattle.moving.specs.Moving.{stepAt, nthOf, verdictOf}
+use Rattle.moving.specs.declared.Offer.{Offer}
+use Rattle.moving.specs.declared.Offer.the-variants as offer
 use Rattle.moving.specs.declared.Verdict.{Verdict}
 use Rattle.moving.specs.declared.Verdict.the-variants as verdict
 use Rattle.statements.specs.declared.Taken.{Taken}
 use Rattle.statements.specs.declared.Taken.the-variants as taken
 use Rattle.effects.specs.Effects.{takenOf}
 use Rattle.printing.specs.Printing.{printedAt}
+use Rattle.steps.specs.declared.Listed.{Listed}
+use Rattle.steps.specs.declared.Listed.the-variants.{Step, Only}
+use Rattle.steps.specs.declared.Listed.the-variants as listed
 use Rattle.steps.specs.declared.Stepped.{Stepped}
 use Rattle.steps.specs.declared.Stepped.the-variants.{Took, Assert, Fault}
 use Rattle.steps.specs.declared.Stepped.the-variants as stepped
@@ -49,6 +54,15 @@ standingOf verdict.Open = Open
 
 unfoldable pub verdictFor : List ℕ → List ℤ → Standing
 verdictFor ts s = pick (eqb (refusalOf ts s) 0) (standingOf (verdictOf (written ts) s)) (standing.Refused (refusalOf ts s))
+
+-- ## the n-th step of all that are offered
+-- where n is past the last, the rest of n is known, and so how many there are
+abbrev pub offerBy : Offer → ℕ → Listed
+offerBy (offer.Step p k q) n = Step p k q
+offerBy (offer.Beyond left) n = Only (n - left)
+
+unfoldable pub offeredOf : List ℕ → List ℤ → ℕ → Listed
+offeredOf ts s n = pick (eqb (refusalOf ts s) 0) (offerBy (nthOf (written ts) s n) n) (listed.Refused (refusalOf ts s))
 
 -- ## taking the k-th offered step of process p
 -- what a step that was taken answers: how many bytes it printed, or that it failed; one that does nothing was none

@@ -1,6 +1,7 @@
 // The entries of the stepper.
 ghost use mathlib.Core.Path.{_≡_};
 ghost use Rattle.steps.specs.Entries as entries;
+use moving::Offer;
 use moving::Verdict;
 use offering::Walk;
 use statements::Taken;
@@ -20,6 +21,13 @@ pub enum Standing {
     Refused(u8),
 }
 
+// A step that is offered: its process, its number k among the steps of that process, from 1, and its statement's place; or how many there are in all; or the number of the refusal.
+pub enum Listed {
+    Step(u8, u32, u32),
+    Only(u32),
+    Refused(u8),
+}
+
 // A step that was taken, with the number of bytes that it printed; one that failed; or the number of the refusal.
 pub enum Stepped {
     Took(usize),
@@ -29,7 +37,7 @@ pub enum Stepped {
 }
 
 // Refusals 7 and 8, or 0.
-fn foreign(tables: &[u32], state: &[i32]) -> u8
+pub fn foreign(tables: &[u32], state: &[i32]) -> u8
     ensures { λ r. ⌜ r ≡ entries.foreignOf (now (tables .entry)) (now (state .entry)) ⌝ }
 {
     if tables.len() < TABLES_ROOM {
@@ -42,7 +50,7 @@ fn foreign(tables: &[u32], state: &[i32]) -> u8
 }
 
 // Refusals 7, 8 and 9, or 0.
-fn refusal(tables: &[u32], state: &[i32]) -> u8
+pub fn refusal(tables: &[u32], state: &[i32]) -> u8
     ensures { λ r. ⌜ r ≡ entries.refusalOf (now (tables .entry)) (now (state .entry)) ⌝ }
 {
     let x = foreign(tables, state);
@@ -88,6 +96,21 @@ pub fn verdict(tables: &[u32], state: &[i32]) -> Standing
         return Standing::Refused(x);
     }
     standing_of(moving::verdict_of(genuine::written(tables), state))
+}
+
+// The n-th step, from 0, of all that are offered, by process number, then text order; where there are no more than n, how many there are.
+pub fn offered(tables: &[u32], state: &[i32], n: u16) -> Listed
+    ensures { λ r. ⌜ r ≡ entries.offeredOf (now (tables .entry)) (now (state .entry)) n ⌝ }
+{
+    let x = refusal(tables, state);
+    if x != 0 {
+        return Listed::Refused(x);
+    }
+    let o = moving::nth(genuine::written(tables), state, n);
+    match o {
+        Offer::Step(p, k, q) => Listed::Step(p, k, q),
+        Offer::Beyond(left) => Listed::Only(n as u32 - left),
+    }
 }
 
 // The step at place q of process p.
