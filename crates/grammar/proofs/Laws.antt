@@ -8,7 +8,7 @@ use mathlib.Core.List.{List, [], _∷_, _++_, map}
 use lib.ListN.{length, getD, take, drop, set, drop-of-length-le}
 use lib.Seq.{drop-cons}
 use borrow.Author.Tests.{lt-ltb, le-ltb}
-use Rattle.productions.specs.Tables.{span, rights}
+use Rattle.productions.specs.Tables.{choices, rights, production, productionBy, span}
 use Rattle.machine.specs.Depth.{deep, brackets, selections}
 use Rattle.machine.specs.Machine.{marked, mark, symbol-of, place-of, count-of}
 use Rattle.grammar.specs.Views.{Spread}
@@ -92,5 +92,13 @@ push-end l l₀ top first n b at k h g e inv =
     let y : n - k ≡ n = omega arith in
     (rw (z, y) at inv, omega arith, e)
 
-pub cong-plus : (b x y z : ℕ) → x ≡ y → y ≡ z → x + b ≡ z + b
-cong-plus b x y z p q = rw (p, q)
+-- ---- the tables that are lent
+pub side-at : (sides : List ℕ) (i b x y : ℕ) → sides ≡ rights → x ≡ y → y ≡ getD sides i 0 → x + b ≡ getD rights i 0 + b
+side-at sides i b x y e p q = rw (← e, ← q, p)
+
+pub size-at : (sides : List ℕ) (i x y : ℕ) → sides ≡ rights → x ≡ y → y ≡ getD sides i 0 → x ≡ getD rights i 0
+size-at sides i x y e p q = rw (← e, ← q, p)
+
+pub by-choices : (rows : List ℕ) (x k r : ℕ) → rows ≡ choices → r ≡ productionBy rows x k → r ≡ production x k
+unfolding production
+by-choices rows x k r e p = p ∙ ap (λ (t : List ℕ). productionBy t x k) e
