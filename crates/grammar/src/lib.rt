@@ -4,17 +4,12 @@ ghost use mathlib.Core.List.{List, _++_};
 ghost use Prim.Native.Nat.{ℕ, _+_, _-_, _*_, _≤_, _<_, min};
 ghost use lib.ListN.{length, take, drop};
 ghost use Rattle.productions.specs.Tables.{choices, rights, span};
-ghost use Rattle.machine.specs.Depth.{brackets, selections, too-deep};
 ghost use Rattle.machine.specs.Machine.{symbol-of, place-of, count-of, clipped, column, marked, mark, write, expand, step, machine};
 ghost use Rattle.grammar.specs.Parse.{Parses};
 ghost use Rattle.grammar.specs.Views.{Stepped, Ran, Spread, conf};
 
 // Document 01, "Ceilings".
 const MOST_TOKENS: usize = 2048;
-
-const MOST_BRACKETS: usize = 32;
-
-const MOST_SELECTIONS: usize = 8;
 
 // What the tokens can ask of the loop at most: four items, 19 places of the stack and 37 turns for each.
 pub const ITEMS: usize = 8192;
@@ -99,58 +94,6 @@ fn column(kinds: &[u8], pos: usize) -> u8
     } else {
         0
     }
-}
-
-// How many brackets are open after a token, where n were open before it.
-fn brackets(k: u8, n: usize) -> usize
-    requires { ⌜ n ≤ 2048 ⌝ }
-    ensures { λ r. ⌜ r ≡ brackets k n ⌝ }
-{
-    match k {
-        tokens::OPEN_ROUND => n + 1,
-        tokens::CLOSE_ROUND => minus(n, 1),
-        tokens::OPEN_SQUARE => n + 1,
-        tokens::CLOSE_SQUARE => minus(n, 1),
-        tokens::OPEN_BRACE => n + 1,
-        tokens::CLOSE_BRACE => minus(n, 1),
-        _ => n,
-    }
-}
-
-// The same for selections.
-fn selections(k: u8, n: usize) -> usize
-    requires { ⌜ n ≤ 2048 ⌝ }
-    ensures { λ r. ⌜ r ≡ selections k n ⌝ }
-{
-    match k {
-        tokens::DO => n + 1,
-        tokens::FI => minus(n, 1),
-        tokens::IF => n + 1,
-        tokens::OD => minus(n, 1),
-        _ => n,
-    }
-}
-
-// The place of the first token that is too deep; one past the end where there is none.
-fn first_too_deep(kinds: &[u8]) -> usize
-    requires { ⌜ length (now kinds) ≤ 2048 ⌝ }
-    ensures { λ r. ⌜ r ≡ too-deep (now (kinds .entry)) ⌝ }
-{
-    let mut b: usize = 0;
-    let mut s: usize = 0;
-    let mut i: usize = 0;
-    while i < kinds.len() {
-        b = brackets(kinds[i], b);
-        s = selections(kinds[i], s);
-        if b > MOST_BRACKETS {
-            return i;
-        }
-        if s > MOST_SELECTIONS {
-            return i;
-        }
-        i += 1;
-    }
-    i + 1
 }
 
 // An item for the stack's number v and the token at, if there is room.
@@ -366,7 +309,7 @@ pub fn parse(kinds: &[u8], codes: &mut [u8], tokens: &mut [u32], sizes: &mut [u3
     if kinds.len() > MOST_TOKENS {
         return Parsed::Refused(2, MOST_TOKENS);
     }
-    let d = first_too_deep(kinds);
+    let d = depths::first_too_deep(kinds);
     let mut stack = [0usize; STACK];
     let mut work = [0usize; ITEMS];
     let a = drive(kinds, &mut stack, &mut work);

@@ -1,12 +1,12 @@
-use Rattle.grammar.proofs.Laws.{many-brackets, many-selections, none-yet, none-deep}
-use Rattle.machine.specs.Depth.{deep, too-deep}
-use denote.Ref.{now}
-use lib.ListN.{length, drop}
-use mathlib.Core.Path.{_≡_, refl}
 use Prim.Native.Nat.{_≤_, _-_}
+use mathlib.Core.Path.{_≡_, refl}
+use lib.ListN.{length, drop}
+use denote.Ref.{now}
+use Rattle.machine.specs.Depth.{deep, too-deep}
+use Rattle.depths.proofs.Laws.{many-brackets, many-selections, none-yet, none-deep}
 use borrow.Author.Needs.{needs}
-use Rattle.grammar.proofs.first_too_deep.Statement.{statement}
-use Rattle.grammar.proofs.first_too_deep.Tie as tie
+use Rattle.depths.proofs.first_too_deep.Statement.{statement}
+use Rattle.depths.proofs.first_too_deep.Tie as tie
 
 abbrev Inv-loop : tie.InvT-loop
 Inv-loop kinds b₀ s₀ i₀ b s i = (i ≤ length kinds) × (b ≤ 32) × (s ≤ 8) × (too-deep kinds ≡ deep (drop i kinds) b s i)

@@ -1,7 +1,7 @@
 use borrow.Author.Tests.{ne-eqb}
 use borrow.Author.Needs.{needs}
-use Rattle.grammar.proofs.brackets.Statement.{statement}
-use Rattle.grammar.proofs.brackets.Tie as tie
+use Rattle.depths.proofs.brackets.Statement.{statement}
+use Rattle.depths.proofs.brackets.Tie as tie
 
 returns : tie.Need-returns
 returns c = rw (c .match .keys1)
