@@ -1,12 +1,18 @@
 // Searches over the items of a model: sets of items, declarations by name and body, counts.
 ghost use mathlib.Core.Path.{_≡_};
-ghost use Prim.Native.Nat.{_+_, _-_, _≤_, _<_};
+ghost use Prim.Native.Nat.{ℕ, _+_, _-_, _≤_, _<_};
+ghost use lib.ListN.{getD};
+ghost use Rattle.sheets.specs.Walks.{first};
+ghost use Rattle.finding.specs.Blocks.{Clear};
 ghost use Rattle.finding.specs.Sets as sets;
 ghost use Rattle.finding.specs.Search as finding;
 use sheets::both;
 use sheets::either;
 use sheets::minus;
 use sheets::word_at;
+
+// How many items are looked at together.
+const BLOCK: usize = 64;
 
 pub fn within(lo: u8, hi: u8, c: u8) -> bool
     ensures { λ r. ⌜ r ≡ sets.within lo hi c ⌝ }
@@ -73,7 +79,69 @@ fn declares(
     }
 }
 
-// The first item below `to` that does so; `to` where there is none.
+// The greater of two.
+fn greater(a: u8, b: u8) -> u8
+    ensures { λ r. ⌜ (a ≤ r) × (b ≤ r) ⌝ }
+{
+    if a <= b { b } else { a }
+}
+
+// A number that none of the items is above.
+fn highest(codes: &[u8]) -> u8
+    ensures { λ r. ⌜ ((i : ℕ) → getD (now (codes .entry)) i 0 ≤ r) ⌝ }
+{
+    let mut top: u8 = 0;
+    let mut k: usize = 0;
+    while k < codes.len() {
+        top = greater(top, codes[k]);
+        k += 1;
+    }
+    top
+}
+
+// Is it plain at a glance that no item from a place to a place is of the set? Asked for declarations alone, whose numbers are the highest.
+fn is_clear(codes: &[u8], set: u8, from: usize, to: usize) -> bool
+    ensures { λ r. ⌜ Clear (now (codes .entry)) set from to r ⌝ }
+{
+    if set != 1 {
+        return false;
+    }
+    if to < from {
+        return false;
+    }
+    if codes.len() < to {
+        return false;
+    }
+    highest(&codes[from..to]) < 212
+}
+
+// The first item from a place on, below `to`, that declares the name; `to` where there is none.
+fn find_from(
+    codes: &[u8],
+    args: &[u32],
+    homes: &[u32],
+    set: u8,
+    w: usize,
+    h: usize,
+    from: usize,
+    to: usize,
+) -> usize
+    ensures { λ r. ⌜ r ≡ first (finding.declares (now (codes .entry)) (now (args .entry)) (now (homes .entry)) set w h) from (to - from) ⌝ }
+{
+    if is_clear(codes, set, from, to) {
+        return to;
+    }
+    let mut d = from;
+    while d < to {
+        if declares(codes, args, homes, set, w, h, d) {
+            return d;
+        }
+        d += 1;
+    }
+    d
+}
+
+// The first item below `to` that does so; `to` where there is none. Items are looked at in blocks, since few of them declare anything.
 pub fn find(
     codes: &[u8],
     args: &[u32],
@@ -90,10 +158,12 @@ pub fn find(
     }
     let mut d: usize = 0;
     while d < to {
-        if declares(codes, args, homes, set, w, h, d) {
-            return d;
+        let e = d + base::least(BLOCK, to - d);
+        let f = find_from(codes, args, homes, set, w, h, d, e);
+        if f < e {
+            return f;
         }
-        d += 1;
+        d = e;
     }
     d
 }

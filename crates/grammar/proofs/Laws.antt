@@ -3,35 +3,13 @@ use Prim.Native.Nat.{ℕ, zero, suc, _+_, _-_, _*_, _%_, _≤_, _<_}
 use native.Mathlib.Omega.{arith}
 use native.Mathlib.Nat.{le-of-suc-le-suc, not-suc-le-zero}
 use native.Mathlib.Numerals.{add-one}
-use mathlib.Core.Path.{_≡_, refl, sym, ap, _∙_}
+use mathlib.Core.Path.{_≡_, refl, ap, _∙_}
 use mathlib.Core.List.{List, [], _∷_, _++_, map}
-use lib.ListN.{length, getD, take, drop, set, drop-of-length-le}
-use lib.Seq.{drop-cons}
+use lib.ListN.{length, getD, take, drop, set}
 use borrow.Author.Tests.{lt-ltb, le-ltb}
-use Rattle.productions.specs.Tables.{span, rights}
-use Rattle.machine.specs.Depth.{deep, brackets, selections}
+use Rattle.productions.specs.Tables.{choices, rights, production, productionBy, span}
 use Rattle.machine.specs.Machine.{marked, mark, symbol-of, place-of, count-of}
 use Rattle.grammar.specs.Views.{Spread}
-
--- ---- depth: one turn of the loop, at place i
-module _ (ks : List ℕ) (b s i b' s' whole : ℕ) (h : i < length ks)
-    (eb : b' ≡ brackets (getD ks i 0) b) (es : s' ≡ selections (getD ks i 0) s)
-    (inv : whole ≡ deep (drop i ks) b s i) where
-  pub many-brackets : 32 < b' → i ≡ whole
-  unfolding deep
-  many-brackets l = sym (inv ∙ rw (drop-cons ks i 0 h, ← eb, lt-ltb 32 b' l))
-
-  pub many-selections : b' ≤ 32 → 8 < s' → i ≡ whole
-  unfolding deep
-  many-selections m l = sym (inv ∙ rw (drop-cons ks i 0 h, ← eb, ← es, le-ltb 32 b' m, lt-ltb 8 s' l))
-
-  pub none-yet : b' ≤ 32 → s' ≤ 8 → whole ≡ deep (drop (i + 1) ks) b' s' (i + 1)
-  unfolding deep
-  none-yet m l = inv ∙ rw (drop-cons ks i 0 h, ← eb, ← es, le-ltb 32 b' m, le-ltb 8 s' l, add-one)
-
-pub none-deep : (ks : List ℕ) (b s i whole : ℕ) → length ks ≤ i → whole ≡ deep (drop i ks) b s i → i + 1 ≡ whole
-unfolding deep
-none-deep ks b s i whole h inv = sym (inv ∙ rw (drop-of-length-le ks h))
 
 -- ---- items into an array: one turn
 spread-suc : (f : ℕ → ℕ) (s d : List ℕ) (i v : ℕ) → i < length s → i < length d → v ≡ f (getD s i 0) → set (map f (take i s) ++ drop i d) i v ≡ map f (take (suc i) s) ++ drop (suc i) d
@@ -92,5 +70,13 @@ push-end l l₀ top first n b at k h g e inv =
     let y : n - k ≡ n = omega arith in
     (rw (z, y) at inv, omega arith, e)
 
-pub cong-plus : (b x y z : ℕ) → x ≡ y → y ≡ z → x + b ≡ z + b
-cong-plus b x y z p q = rw (p, q)
+-- ---- the tables that are lent
+pub side-at : (sides : List ℕ) (i b x y : ℕ) → sides ≡ rights → x ≡ y → y ≡ getD sides i 0 → x + b ≡ getD rights i 0 + b
+side-at sides i b x y e p q = rw (← e, ← q, p)
+
+pub size-at : (sides : List ℕ) (i x y : ℕ) → sides ≡ rights → x ≡ y → y ≡ getD sides i 0 → x ≡ getD rights i 0
+size-at sides i x y e p q = rw (← e, ← q, p)
+
+pub by-choices : (rows : List ℕ) (x k r : ℕ) → rows ≡ choices → r ≡ productionBy rows x k → r ≡ production x k
+unfolding production
+by-choices rows x k r e p = p ∙ ap (λ (t : List ℕ). productionBy t x k) e

@@ -3,18 +3,13 @@ ghost use mathlib.Core.Path.{_≡_};
 ghost use mathlib.Core.List.{List, _++_};
 ghost use Prim.Native.Nat.{ℕ, _+_, _-_, _*_, _≤_, _<_, min};
 ghost use lib.ListN.{length, take, drop};
-ghost use Rattle.productions.specs.Tables.{span};
-ghost use Rattle.machine.specs.Depth.{brackets, selections, too-deep};
+ghost use Rattle.productions.specs.Tables.{choices, rights, span};
 ghost use Rattle.machine.specs.Machine.{symbol-of, place-of, count-of, clipped, column, marked, mark, write, expand, step, machine};
 ghost use Rattle.grammar.specs.Parse.{Parses};
 ghost use Rattle.grammar.specs.Views.{Stepped, Ran, Spread, conf};
 
 // Document 01, "Ceilings".
 const MOST_TOKENS: usize = 2048;
-
-const MOST_BRACKETS: usize = 32;
-
-const MOST_SELECTIONS: usize = 8;
 
 // What the tokens can ask of the loop at most: four items, 19 places of the stack and 37 turns for each.
 pub const ITEMS: usize = 8192;
@@ -101,58 +96,6 @@ fn column(kinds: &[u8], pos: usize) -> u8
     }
 }
 
-// How many brackets are open after a token, where n were open before it.
-fn brackets(k: u8, n: usize) -> usize
-    requires { ⌜ n ≤ 2048 ⌝ }
-    ensures { λ r. ⌜ r ≡ brackets k n ⌝ }
-{
-    match k {
-        tokens::OPEN_ROUND => n + 1,
-        tokens::CLOSE_ROUND => minus(n, 1),
-        tokens::OPEN_SQUARE => n + 1,
-        tokens::CLOSE_SQUARE => minus(n, 1),
-        tokens::OPEN_BRACE => n + 1,
-        tokens::CLOSE_BRACE => minus(n, 1),
-        _ => n,
-    }
-}
-
-// The same for selections.
-fn selections(k: u8, n: usize) -> usize
-    requires { ⌜ n ≤ 2048 ⌝ }
-    ensures { λ r. ⌜ r ≡ selections k n ⌝ }
-{
-    match k {
-        tokens::DO => n + 1,
-        tokens::FI => minus(n, 1),
-        tokens::IF => n + 1,
-        tokens::OD => minus(n, 1),
-        _ => n,
-    }
-}
-
-// The place of the first token that is too deep; one past the end where there is none.
-fn first_too_deep(kinds: &[u8]) -> usize
-    requires { ⌜ length (now kinds) ≤ 2048 ⌝ }
-    ensures { λ r. ⌜ r ≡ too-deep (now (kinds .entry)) ⌝ }
-{
-    let mut b: usize = 0;
-    let mut s: usize = 0;
-    let mut i: usize = 0;
-    while i < kinds.len() {
-        b = brackets(kinds[i], b);
-        s = selections(kinds[i], s);
-        if b > MOST_BRACKETS {
-            return i;
-        }
-        if s > MOST_SELECTIONS {
-            return i;
-        }
-        i += 1;
-    }
-    i + 1
-}
-
 // An item for the stack's number v and the token at, if there is room.
 fn write(out: &mut [usize], v: usize, at: usize, s: State) -> Step
     requires { ⌜ (at < 4096) × (s .sp ≤ 40960) × (s .n ≤ 8192) × (s .pos ≤ 2048) × (length (now out) ≡ 8192) ⌝ }
@@ -171,8 +114,15 @@ fn write(out: &mut [usize], v: usize, at: usize, s: State) -> Step
 }
 
 // The symbols of a row of right sides, from place first on, n of them, above the top; the new top.
-fn push(stack: &mut [usize], top: usize, first: usize, n: usize, marking: usize) -> usize
-    requires { ⌜ (n ≤ top) × (top ≤ length (now stack)) × (first < 8192) × (n < 256) × (marking ≤ 18446744073709551360) ⌝ }
+fn push(
+    sides: &[u8],
+    stack: &mut [usize],
+    top: usize,
+    first: usize,
+    n: usize,
+    marking: usize,
+) -> usize
+    requires { ⌜ (now sides ≡ rights) × (n ≤ top) × (top ≤ length (now stack)) × (first < 8192) × (n < 256) × (marking ≤ 18446744073709551360) ⌝ }
     ensures { λ r. ⌜ (drop r (now (stack .exit)) ≡ marked marking (span first n) ++ drop top (now (stack .entry))) × (r ≡ top - n) × (length (now (stack .exit)) ≡ length (now (stack .entry))) ⌝ }
 {
     let mut k = n;
@@ -180,7 +130,7 @@ fn push(stack: &mut [usize], top: usize, first: usize, n: usize, marking: usize)
     while k > 0 {
         k -= 1;
         at -= 1;
-        stack[at] = wide(productions::right_at(first + k)) + marking;
+        stack[at] = wide(base::byte_at(sides, first + k)) + marking;
     }
     at
 }
@@ -198,8 +148,8 @@ fn mark_of(v: usize, pos: usize, n: usize) -> usize
 }
 
 // The symbols of the right side p take the place of v, which is on top.
-fn expand(stack: &mut [usize], v: usize, p: usize, s: State) -> Step
-    requires { ⌜ (p < 512) × (s .sp < 40960) × (s .n ≤ 8192) × (s .pos ≤ 2048) × (length (now stack) ≡ 40960) ⌝ }
+fn expand(sides: &[u8], stack: &mut [usize], v: usize, p: usize, s: State) -> Step
+    requires { ⌜ (now sides ≡ rights) × (p < 512) × (s .sp < 40960) × (s .n ≤ 8192) × (s .pos ≤ 2048) × (length (now stack) ≡ 40960) ⌝ }
     ensures { λ r. ⌜ ((o : List ℕ) → length o ≡ 8192 → Stepped (expand v (drop (s .sp + 1) (now (stack .entry))) (s .pos) (take (s .n) o) p) r (now (stack .exit)) o) ⌝ }
 {
     let sp = s.sp;
@@ -208,11 +158,11 @@ fn expand(stack: &mut [usize], v: usize, p: usize, s: State) -> Step
     if p == 0 {
         return Step::Stop(pos);
     }
-    let size = wide(productions::right_at(p * 13));
+    let size = wide(base::byte_at(sides, p * 13));
     if size > sp + 1 {
         return Step::Spent;
     }
-    let top = push(stack, sp + 1, p * 13 + 1, size, mark_of(v, pos, n));
+    let top = push(sides, stack, sp + 1, p * 13 + 1, size, mark_of(v, pos, n));
     Step::Go(State { sp: top, pos, n })
 }
 
@@ -222,8 +172,16 @@ fn symbol_of(v: usize) -> u8
     (v % 256) as u8
 }
 
-fn step_on(kinds: &[u8], stack: &mut [usize], out: &mut [usize], s: State) -> Step
-    requires { ⌜ (s .sp ≤ 40960) × (s .n ≤ 8192) × (s .pos ≤ 2048) × (length (now kinds) ≤ 2048) × (length (now stack) ≡ 40960) × (length (now out) ≡ 8192) ⌝ }
+// One turn, by the tables that are lent.
+fn step_on(
+    rows: &[u8],
+    sides: &[u8],
+    kinds: &[u8],
+    stack: &mut [usize],
+    out: &mut [usize],
+    s: State,
+) -> Step
+    requires { ⌜ (now rows ≡ choices) × (now sides ≡ rights) × (s .sp ≤ 40960) × (s .n ≤ 8192) × (s .pos ≤ 2048) × (length (now kinds) ≤ 2048) × (length (now stack) ≡ 40960) × (length (now out) ≡ 8192) ⌝ }
     ensures { λ r. ⌜ Stepped (step (now (kinds .entry)) (conf (now (stack .entry)) (now (out .entry)) s)) r (now (stack .exit)) (now (out .exit)) ⌝ }
 {
     let sp = s.sp;
@@ -264,14 +222,14 @@ fn step_on(kinds: &[u8], stack: &mut [usize], out: &mut [usize], s: State) -> St
         );
     }
     if x < WRITTEN {
-        return expand(stack, v, productions::production(x, k), s);
+        return expand(sides, stack, v, productions::production(rows, x, k), s);
     }
     write(out, v, v / 256 % 4096, State { sp: sp + 1, pos, n })
 }
 
 // The loop.
-fn run(kinds: &[u8], stack: &mut [usize], out: &mut [usize]) -> Halt
-    requires { ⌜ (length (now kinds) ≤ 2048) × (length (now stack) ≡ 40960) × (length (now out) ≡ 8192) ⌝ }
+fn run(rows: &[u8], sides: &[u8], kinds: &[u8], stack: &mut [usize], out: &mut [usize]) -> Halt
+    requires { ⌜ (now rows ≡ choices) × (now sides ≡ rights) × (length (now kinds) ≤ 2048) × (length (now stack) ≡ 40960) × (length (now out) ≡ 8192) ⌝ }
     ensures { λ r. ⌜ Ran (machine (now (kinds .entry))) r (now (out .exit)) ⌝ }
 {
     stack[BOTTOM] = MODEL;
@@ -283,7 +241,7 @@ fn run(kinds: &[u8], stack: &mut [usize], out: &mut [usize]) -> Halt
     let mut fuel: usize = TURNS;
     while fuel > 0 {
         fuel -= 1;
-        let next = step_on(kinds, stack, out, s);
+        let next = step_on(rows, sides, kinds, stack, out, s);
         match next {
             Step::Go(t) => {
                 s = t;
@@ -300,6 +258,18 @@ fn run(kinds: &[u8], stack: &mut [usize], out: &mut [usize]) -> Halt
         }
     }
     Halt::Exhausted
+}
+
+// The loop, with its tables laid out.
+fn drive(kinds: &[u8], stack: &mut [usize], out: &mut [usize]) -> Halt
+    requires { ⌜ (length (now kinds) ≤ 2048) × (length (now stack) ≡ 40960) × (length (now out) ≡ 8192) ⌝ }
+    ensures { λ r. ⌜ Ran (machine (now (kinds .entry))) r (now (out .exit)) ⌝ }
+{
+    let mut rows = [0u8; 5476];
+    let mut sides = [0u8; 2275];
+    productions::lay_choices(&mut rows);
+    productions::lay_rights(&mut sides);
+    run(&rows, &sides, kinds, stack, out)
 }
 
 fn token_of(v: usize) -> u32
@@ -339,10 +309,10 @@ pub fn parse(kinds: &[u8], codes: &mut [u8], tokens: &mut [u32], sizes: &mut [u3
     if kinds.len() > MOST_TOKENS {
         return Parsed::Refused(2, MOST_TOKENS);
     }
-    let d = first_too_deep(kinds);
+    let d = depths::first_too_deep(kinds);
     let mut stack = [0usize; STACK];
     let mut work = [0usize; ITEMS];
-    let a = run(kinds, &mut stack, &mut work);
+    let a = drive(kinds, &mut stack, &mut work);
     match a {
         Halt::Stopped(i) => {
             if d <= i {

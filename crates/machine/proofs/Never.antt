@@ -14,7 +14,7 @@ use lib.Dec.{T, eqb, ltb, leb, leb→le, lit≤}
 use borrow.Author.Tests.{eq-eqb, ne-eqb, lt-ltb, le-ltb, eqb-false, ltb-true, ltb-false, leb-false}
 use Rattle.base.specs.Choice.{pick, either}
 use Rattle.parsing.proofs.Tests.{below-out}
-use Rattle.productions.specs.Tables.{choices, bases, rights, production, span, right}
+use Rattle.productions.specs.Tables.{choices, bases, rights, production, productionBy, span, right}
 use Rattle.productions.proofs.Tables.{each-right, at-right}
 use Rattle.machine.specs.Machine.{symbol-of, column, Config, Outcome, done, refused, spent, Next, go, written, write, eat, mark, marked, expand, step-on, next, run, start, machine, most-steps, most-stack, most-items}
 use Rattle.machine.specs.Answer.{most-tokens}
@@ -131,7 +131,7 @@ ends : ℕ → Bool
 ends j = eqb (fee 1 (leads (right (production (73 + j) 0)))) 0
 
 ends-all : (j : ℕ) → j < 74 → T (ends j)
-unfolding ends lead production choices bases right span rights
+unfolding ends lead production productionBy choices bases right span rights
 ends-all j h = below-out 74 ends tt j h
 
 fee-one : (b : Bool) → T (eqb (fee 1 b) 0) → b ≡ false

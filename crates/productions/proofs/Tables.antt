@@ -17,7 +17,7 @@ use Rattle.parsing.specs.Guide.{U}
 use Rattle.parsing.proofs.Tests.{below, below-out, Fits}
 use Rattle.parsing.proofs.Inst.{good}
 use Rattle.productions.specs.Numbering.{nonterminals, nth, nonterminal, symbol}
-use Rattle.productions.specs.Tables.{choices, bases, rights, numbered, production, span, right}
+use Rattle.productions.specs.Tables.{choices, bases, rights, numbered, production, productionBy, span, right}
 use Rattle.productions.proofs.Table.{at}
 
 -- ---- which of a list passes a test, counted from j; 0 where none does
@@ -153,7 +153,7 @@ module _ (x : ℕ) (lo : 73 ≤ x) (hi : x < 147) where
       eqb→eq _ _ (rw (q, r) at t)
 
   is-numbered : (k : ℕ) → k < 74 → production x k ≡ numbered (chosen (nonterminal x) k) (getD bases (x - 73) 0)
-  unfolding production
+  unfolding production productionBy
   is-numbered k hk = rw (entry k hk)
 
   nothing : (k : ℕ) → k < 74 → production x k ≡ 0 → chosen (nonterminal x) k ≡ 0

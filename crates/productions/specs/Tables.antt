@@ -277,12 +277,16 @@ rights =
     7 ∷ 23 ∷ 71 ∷ 24 ∷ 61 ∷ 70 ∷ 225 ∷ 140 ∷ 0 ∷ 0 ∷ 0 ∷ 0 ∷ 0 ∷
     []
 
--- the number of the right side of the symbol x at column k, 0 where there is none
+-- the number of the right side of the symbol x at column k by rows of choices, 0 where there is none
 abbrev pub numbered : ℕ → ℕ → ℕ
 numbered c b = pick (eqb c 0) 0 (b + c)
 
+unfoldable pub productionBy : List ℕ → ℕ → ℕ → ℕ
+productionBy rows x k = numbered (getD rows ((x - 73) * 74 + k) 0 - 48) (getD bases (x - 73) 0)
+
+-- by the rows above
 unfoldable pub production : ℕ → ℕ → ℕ
-production x k = numbered (getD choices ((x - 73) * 74 + k) 0 - 48) (getD bases (x - 73) 0)
+production x k = productionBy choices x k
 
 -- the numbers from place i of the rows on, n of them
 unfoldable pub span : ℕ → ℕ → List ℕ
@@ -294,6 +298,6 @@ unfoldable pub right : ℕ → List ℕ
 right p = span (p * 13 + 1) (getD rights (p * 13) 0)
 
 -- what the code's answer is, and that it is small
-pub record Numbered (x k r : ℕ) : Type 0 where
-  pub is : r ≡ production x k
+pub record Numbered (rows : List ℕ) (x k r : ℕ) : Type 0 where
+  pub is : r ≡ productionBy rows x k
   pub small : r < 512

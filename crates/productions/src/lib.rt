@@ -3,6 +3,7 @@
 ghost use mathlib.Core.Path.{_≡_};
 ghost use Prim.Native.Nat.{_-_, _<_};
 ghost use lib.ListN.{getD};
+ghost use Rattle.base.specs.Lists.{pasted};
 ghost use Rattle.productions.specs.Tables.{choices, bases, rights, Numbered};
 
 fn wide(x: u8) -> usize
@@ -19,11 +20,13 @@ fn minus(a: usize, b: usize) -> usize
     if b <= a { a - b } else { 0 }
 }
 
-// A row for each nonterminal, and in it a column for the end of the text, for each kind from 1 to 72 and for what is no kind.
-fn choice_at(i: usize) -> u8
-    ensures { λ r. ⌜ r ≡ getD choices i 0 ⌝ }
+// A row for each nonterminal, and in it a column for the end of the text, for each kind from 1 to 72 and for what is no kind. A table is laid out once and lent
+// from then on, since a fixed byte string is stored anew wherever it is named.
+pub fn lay_choices(out: &mut [u8])
+    ensures { λ _. ⌜ now (out .exit) ≡ pasted 5476 choices (now (out .entry)) ⌝ }
 {
-    base::byte_at(
+    base::copy_bytes(
+        out,
         b"\
 00000000000000010001110000000000000000000000000000001000010000000100001100\
 00000000000000010001110000000000000000000000000000001000010000000100001100\
@@ -99,8 +102,8 @@ fn choice_at(i: usize) -> u8
 66666666666666666664000000606066123500000000000000000600006000000000000000\
 00000000000000000000000000000000100000000000000000000000000000000000002000\
 00000000000000000000000200000000000000000000000000000000000001000000000000",
-        i,
-    )
+        5476,
+    );
 }
 
 // How many right sides the nonterminals before it have.
@@ -119,10 +122,11 @@ fn base_at(i: usize) -> u8
 }
 
 // The right sides, thirteen numbers for each: its length and its symbols.
-pub fn right_at(i: usize) -> u8
-    ensures { λ r. ⌜ r ≡ getD rights i 0 ⌝ }
+pub fn lay_rights(out: &mut [u8])
+    ensures { λ _. ⌜ now (out .exit) ≡ pasted 2275 rights (now (out .entry)) ⌝ }
 {
-    base::byte_at(
+    base::copy_bytes(
+        out,
         b"\
 \x00\x00\x00\x00\x00\x00\x00\x00\x00\x00\x00\x00\x00\
 \x02\x4a\x53\x00\x00\x00\x00\x00\x00\x00\x00\x00\x00\
@@ -299,15 +303,15 @@ pub fn right_at(i: usize) -> u8
 \x04\xab\xd3\x76\x78\x00\x00\x00\x00\x00\x00\x00\x00\
 \x04\x3d\x46\xe0\x8c\x00\x00\x00\x00\x00\x00\x00\x00\
 \x07\x17\x47\x18\x3d\x46\xe1\x8c\x00\x00\x00\x00\x00",
-        i,
-    )
+        2275,
+    );
 }
 
-// The number of the right side that the symbol x has at column k, 0 where it has none.
-pub fn production(x: u8, k: u8) -> usize
-    ensures { λ r. ⌜ Numbered x k r ⌝ }
+// The number of the right side that the symbol x has at column k, by the rows of choices that are lent, 0 where it has none.
+pub fn production(rows: &[u8], x: u8, k: u8) -> usize
+    ensures { λ r. ⌜ Numbered (now (rows .entry)) x k r ⌝ }
 {
     let row = minus(wide(x), 73);
-    let c = minus(wide(choice_at(row * 74 + wide(k))), 48);
+    let c = minus(wide(base::byte_at(rows, row * 74 + wide(k))), 48);
     if c == 0 { 0 } else { wide(base_at(row)) + c }
 }
