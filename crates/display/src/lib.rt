@@ -1,4 +1,6 @@
 // How answers are shown: bytes escaped where they cannot be printed, and a part of a text under its line.
+ghost use Prim.Native.Nat.{_≤_, min};
+ghost use lib.ListN.{length};
 use libc::STDOUT_FILENO;
 
 pub fn put(s: &[u8]) {
@@ -76,6 +78,20 @@ pub fn part(text: &[u8], a: usize, e: usize) -> &[u8] {
     let end = base::least(e, text.len());
     let start = base::least(a, end);
     &text[start..end]
+}
+
+// The place of the first such byte from a place on, or the end.
+pub fn seek(line: &[u8], from: usize, b: u8) -> usize
+    ensures { λ r. ⌜ (min from (length (now (line .entry))) ≤ r) × (r ≤ length (now (line .entry))) ⌝ }
+{
+    let mut k = base::least(from, line.len());
+    while k < line.len() {
+        if line[k] == b {
+            return k;
+        }
+        k += 1;
+    }
+    k
 }
 
 // Line and column of a refused part, its line, and a caret under it. The margin keeps a model's line from being taken for an answer.

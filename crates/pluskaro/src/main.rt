@@ -1,10 +1,9 @@
-// The program over model files. The last line of what it writes is always the answer.
-ghost use Prim.Native.Nat.{_≤_, min};
-ghost use lib.ListN.{length};
+// The program over model and trail files. The last line of what it writes is always the answer.
 use display::part;
 use display::put;
 use display::put_bytes;
 use display::put_number;
+use display::seek;
 use judging::Judged;
 use normal::Written;
 
@@ -12,6 +11,9 @@ use normal::Written;
 const TEXT_MOST: usize = 8192;
 
 const LIST_MOST: usize = 65536;
+
+// The steps of a run that is given no limit.
+const LIMIT: u32 = 1000000;
 
 // What a file holds, as far as there is room.
 enum Loaded {
@@ -35,18 +37,6 @@ fn refuse(text: &[u8], x: u8, place: usize, len: usize) {
     put(b"\n");
 }
 
-// `read MODEL`
-fn judge(text: &[u8]) {
-    let mut tables = [0u32; 16384];
-    let j = reader::read(text, &mut tables);
-    match j {
-        Judged::Accepted => {
-            put(b"accepted\n");
-        }
-        Judged::Refused(x, place, len) => refuse(text, x, place, len),
-    }
-}
-
 // `normal MODEL`
 fn show_normal(text: &[u8]) {
     let mut out = [0u8; 8192];
@@ -57,6 +47,45 @@ fn show_normal(text: &[u8]) {
             put(b"\n");
         }
         Written::Refused(x, place, len) => refuse(text, x, place, len),
+    }
+}
+
+// A command on the tables of an accepted model, with its trail or its limit.
+fn perform_on(command: &[u8], tables: &[u32], trail: &[u8], limit: u32) {
+    if base::same(command, b"start") {
+        commands::start(tables);
+        return;
+    }
+    if base::same(command, b"run") {
+        commands::run(tables, limit);
+        return;
+    }
+    if base::same(command, b"replay") {
+        commands::replay(tables, trail);
+        return;
+    }
+    if base::same(command, b"steps") {
+        commands::steps(tables, trail);
+        return;
+    }
+    if base::same(command, b"state") {
+        commands::state(tables, trail);
+        return;
+    }
+    put(b"accepted\n");
+}
+
+// A command with the text of its model.
+fn perform_text(command: &[u8], text: &[u8], trail: &[u8], limit: u32) {
+    if base::same(command, b"normal") {
+        show_normal(text);
+        return;
+    }
+    let mut tables = [0u32; 16384];
+    let j = reader::read(text, &mut tables);
+    match j {
+        Judged::Accepted => perform_on(command, &tables, trail, limit),
+        Judged::Refused(x, place, len) => refuse(text, x, place, len),
     }
 }
 
@@ -83,66 +112,148 @@ fn unreadable(path: &[u8]) {
     put(b"\n");
 }
 
-// A command with the text of its model.
-fn perform_on(command: &[u8], text: &[u8]) {
-    if base::same(command, b"normal") {
-        show_normal(text);
+// How many words stand behind a command, at the least and at the most: 0 for one that is unknown.
+fn words_least(command: &[u8]) -> usize {
+    if is_replay(command) {
+        return 2;
+    }
+    if base::same(command, b"run") {
+        return 1;
+    }
+    if is_plain(command) { 1 } else { 0 }
+}
+
+fn words_most(command: &[u8]) -> usize {
+    if base::same(command, b"run") {
+        2
     } else {
-        judge(text);
+        words_least(command)
     }
 }
 
-fn is_command(command: &[u8]) -> bool {
+// A command over a model alone.
+fn is_plain(command: &[u8]) -> bool {
     if base::same(command, b"read") {
-        true
-    } else {
-        base::same(command, b"normal")
+        return true;
+    }
+    if base::same(command, b"normal") {
+        return true;
+    }
+    base::same(command, b"start")
+}
+
+// A command over a model and a trail.
+fn is_replay(command: &[u8]) -> bool {
+    if base::same(command, b"replay") {
+        return true;
+    }
+    if base::same(command, b"steps") {
+        return true;
+    }
+    base::same(command, b"state")
+}
+
+// A command with its model and its trail, from their files.
+fn perform_files(command: &[u8], model: &[u8], trail: &[u8], limit: u32) {
+    let mut text = [0u8; 8193];
+    let l = load(model, &mut text);
+    match l {
+        Loaded::Failed => unreadable(model),
+        Loaded::Bytes(n) => perform_text(command, part(&text, 0, n), trail, limit),
     }
 }
 
-// The place of the first such byte from a place on, or the end.
-fn seek(line: &[u8], from: usize, b: u8) -> usize
-    ensures { λ r. ⌜ (min from (length (now (line .entry))) ≤ r) × (r ≤ length (now (line .entry))) ⌝ }
-{
-    let mut k = base::least(from, line.len());
-    while k < line.len() {
-        if line[k] == b {
-            return k;
+// A command over a model and a trail, from their files. A trail is read to one byte past its ceiling, so that none is cut.
+fn perform_replay(command: &[u8], model: &[u8], file: &[u8]) {
+    let mut trail = [0u8; 32769];
+    let l = load(file, &mut trail);
+    match l {
+        Loaded::Failed => unreadable(file),
+        Loaded::Bytes(n) => perform_files(command, model, part(&trail, 0, n), 0),
+    }
+}
+
+// Are these a number's digits, of at most 9?
+fn is_limit(word: &[u8]) -> bool {
+    if word.len() > 9 {
+        return false;
+    }
+    let mut i: usize = 0;
+    while i < word.len() {
+        if word[i] < b'0' {
+            return false;
         }
-        k += 1;
+        if b'9' < word[i] {
+            return false;
+        }
+        i += 1;
     }
-    k
+    word.len() > 0
 }
 
-// A command with one file.
-fn perform(command: &[u8], file: &[u8]) {
-    if !is_command(command) {
+// `run` with its limit.
+fn perform_run(model: &[u8], word: &[u8]) {
+    if is_limit(word) {
+        perform_files(b"run", model, b"", lexemes::value(word) as u32);
+    } else {
+        put(b"error: a limit is a number of at most 9 digits\n");
+    }
+}
+
+// A command with its words: `count` of them stand behind it.
+fn perform(command: &[u8], first: &[u8], second: &[u8], count: usize) {
+    if words_least(command) == 0 {
         put(b"error: unknown command ");
         put_bytes(command);
         put(b"\n");
         return;
     }
-    let mut text = [0u8; 8193];
-    let l = load(file, &mut text);
-    match l {
-        Loaded::Failed => unreadable(file),
-        Loaded::Bytes(n) => perform_on(command, part(&text, 0, n)),
+    if count < words_least(command) {
+        put(b"error: a word is missing\n");
+        return;
     }
+    if words_most(command) < count {
+        put(b"error: too many words\n");
+        return;
+    }
+    if is_replay(command) {
+        perform_replay(command, first, second);
+        return;
+    }
+    if count == 2 {
+        perform_run(first, second);
+        return;
+    }
+    perform_files(command, first, b"", LIMIT);
 }
 
-// A line of a list: a command, a blank and a file.
+// How many words stand behind the first of a line, parted by single blanks.
+fn words_behind(line: &[u8]) -> usize {
+    let mut n: usize = 0;
+    let mut i: usize = 0;
+    while i < line.len() {
+        if line[i] == b' ' {
+            n = base::least(n, 8) + 1;
+        }
+        i += 1;
+    }
+    n
+}
+
+// A line of a list: a command and its words, parted by single blanks.
 fn perform_line(line: &[u8]) {
     put(b"== ");
     put(line);
     put(b"\n");
     let e = seek(line, 0, b' ');
-    let command = part(line, 0, e);
-    let file = part(line, e + 1, line.len());
-    if seek(file, 0, b' ') < file.len() {
-        put(b"error: too many words\n");
-        return;
-    }
-    perform(command, file);
+    let rest = part(line, e + 1, line.len());
+    let f = seek(rest, 0, b' ');
+    perform(
+        part(line, 0, e),
+        part(rest, 0, f),
+        part(rest, f + 1, rest.len()),
+        words_behind(line),
+    );
 }
 
 // Each line of a list, and how many there were.
@@ -176,21 +287,35 @@ fn batch(path: &[u8]) {
 }
 
 fn main() {
-    if os::arg_count() != 3 {
-        put(b"error: usage: pluskaro read MODEL, pluskaro normal MODEL, or pluskaro batch LIST\n");
+    let count = os::arg_count();
+    if count < 3 {
+        put(
+            b"error: usage: pluskaro read|normal|start MODEL, run MODEL [LIMIT], replay|steps|state MODEL TRAIL, batch LIST\n",
+        );
         return;
     }
     let mut command = [0u8; 16];
-    let mut file = io::buffer();
+    let mut first = io::buffer();
+    let mut second = io::buffer();
     let c = os::arg(1, &mut command);
-    let f = os::arg(2, &mut file);
+    let f = os::arg(2, &mut first);
+    let g = os::arg(3, &mut second);
     if f == 0 {
         put(b"error: a file's name is missing or too long\n");
         return;
     }
     if base::same(part(&command, 0, c), b"batch") {
-        batch(part(&file, 0, f));
+        if count > 3 {
+            put(b"error: too many words\n");
+            return;
+        }
+        batch(part(&first, 0, f));
         return;
     }
-    perform(part(&command, 0, c), part(&file, 0, f));
+    perform(
+        part(&command, 0, c),
+        part(&first, 0, f),
+        part(&second, 0, g),
+        count - 2,
+    );
 }

@@ -40,7 +40,7 @@ fn digits(n: u32, f: usize, out: &mut [u8], w: usize) -> usize
 }
 
 // How far a value is from 0.
-fn size_of(v: i32) -> u32
+pub fn size_of(v: i32) -> u32
     ensures { λ r. ⌜ r ≡ printing.sizeOf v ⌝ }
 {
     if v < 0 {

@@ -33,7 +33,8 @@ pub fn turn(t: &[u32], s: &mut [i32]) -> Taken
     }
 }
 
-fn ending_of(v: Verdict) -> Ending
+// How a run ends that goes no further in a state that stands so.
+pub fn ending_of(v: Verdict) -> Ending
     ensures { λ r. ⌜ r ≡ runs.endingOf v ⌝ }
 {
     match v {

@@ -1,17 +1,17 @@
 use lib.ListN.{length}
-use Prim.Native.Nat.{_-_, _≤_, min}
+use Prim.Native.Nat.{_≤_}
 use borrow.Author.Needs.{needs}
-use Rattle.pluskaro.proofs.seek.Statement.{statement}
-use Rattle.pluskaro.proofs.seek.Tie as tie
+use Rattle.outline.proofs.first_token.Statement.{statement}
+use Rattle.outline.proofs.first_token.Tie as tie
 
 abbrev Inv-loop : tie.InvT-loop
-Inv-loop line from b k₀ k = (min from (length line) ≤ k) × (k ≤ length line)
+Inv-loop kinds k i₀ i = i ≤ length kinds
 
 abbrev μ-loop : tie.MeasureT-loop
-μ-loop line from b k₀ k = length line - k
+μ-loop kinds k i₀ i = i
 
-pub seek-spec : {M : Type 1} → statement M
-seek-spec =
+pub first-token-spec : {M : Type 1} → statement M
+first-token-spec =
     tie.close
     (tie.spec
     Inv-loop
@@ -19,6 +19,8 @@ seek-spec =
     (λ c κs. search needs)
     (λ c. search needs)
     (λ c. search needs)
+    (λ c. search needs)
+    (λ c κs. search needs)
     (λ c. search needs)
     (λ c. search needs)
     (λ c. search needs)

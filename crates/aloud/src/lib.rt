@@ -1,0 +1,73 @@
+// The automatic run, which writes what its steps print as it goes: the same run as that of `runs`.
+ghost use mathlib.Core.Path.{_≡_};
+ghost use Rattle.runs.specs.Runs.{turnOf, runFrom, shown};
+use display::part;
+use display::put;
+use moving::Offer;
+use runs::Ending;
+use runs::Ran;
+use statements::Taken;
+
+// After so many steps, always, a run shows that it is alive.
+const STEPS_BETWEEN: u32 = 1000000;
+
+// Writes what a step printed; line[0] keeps the last byte that was written.
+fn put_printed(printed: &[u8], n: usize, line: &mut [u8]) {
+    let text = part(printed, 0, n);
+    put(text);
+    if text.len() > 0 {
+        if line.len() > 0 {
+            line[0] = text[text.len() - 1];
+        }
+    }
+}
+
+// The first offered step is taken, and what it prints is written; idle where none is offered.
+fn turn(t: &[u32], s: &mut [i32], line: &mut [u8]) -> Taken
+    ensures { λ r. ⌜ (r, now (s .exit)) ≡ turnOf (now (t .entry)) (now (s .entry)) ⌝ }
+{
+    let o = moving::nth(t, s, 0);
+    match o {
+        Offer::Step(p, _, q) => {
+            let mut printed = [0u8; 128];
+            let n = printing::print_at(t, s, p, q, &mut printed);
+            put_printed(&printed, n, line);
+            effects::take(t, s, p, q)
+        }
+        Offer::Beyond(_) => Taken::Idle,
+    }
+}
+
+// Shows on standard error how far a long run has come.
+fn show_progress(n: u32) {
+    if n % STEPS_BETWEEN == STEPS_BETWEEN - 1 {
+        io::print_decimal(libc::STDERR_FILENO, n as u64 + 1);
+        io::write_all(libc::STDERR_FILENO, b" steps\n");
+    }
+}
+
+// The run from a state on; line[0] is the last byte that was written.
+pub fn run(t: &[u32], s: &mut [i32], limit: u32, line: &mut [u8]) -> Ran
+    ensures { λ r. ⌜ (r, now (s .exit)) ≡ shown (runFrom (now (t .entry)) limit (now (s .entry))) ⌝ }
+{
+    let mut n: u32 = 0;
+    while n < limit {
+        let r = turn(t, s, line);
+        match r {
+            Taken::Done => {
+                show_progress(n);
+                n += 1;
+            }
+            Taken::Refuted => {
+                return Ran::Ended(Ending::Assert, n + 1);
+            }
+            Taken::Faulted(f) => {
+                return Ran::Ended(Ending::Fault(f), n + 1);
+            }
+            Taken::Idle => {
+                return Ran::Ended(runs::ending_of(moving::verdict_of(t, s)), n);
+            }
+        }
+    }
+    Ran::Ended(runs::ending_of(moving::verdict_of(t, s)), n)
+}

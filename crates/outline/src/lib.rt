@@ -1,0 +1,106 @@
+// The text of one statement within a normal text, found by the token of its place. A step is a statement without others in it, and in a normal text `;` alone parts statements.
+use display::part;
+use grammar::Parsed;
+use lexis::Lexed;
+
+// The tokens of a normal text, and the token that each item came from; how many tokens there are.
+pub fn fill(
+    text: &[u8],
+    kinds: &mut [u8],
+    starts: &mut [u32],
+    ends: &mut [u32],
+    toks: &mut [u32],
+) -> usize {
+    let a = lexis::lex(text, kinds, starts, ends);
+    match a {
+        Lexed::Tokens(n) => {
+            let m = base::least(n, kinds.len());
+            let mut codes = [0u8; 8192];
+            let mut sizes = [0u32; 8192];
+            let p = grammar::parse(&kinds[..m], &mut codes, toks, &mut sizes);
+            match p {
+                Parsed::Items(_) => m,
+                Parsed::Refused(_, _) => 0,
+            }
+        }
+        Lexed::Refused(_, _, _) => 0,
+    }
+}
+
+// Does a statement begin behind it? `{` `;` `:` `::`
+fn is_front(kind: u8) -> bool {
+    match kind {
+        25 => true,
+        28..=30 => true,
+        _ => false,
+    }
+}
+
+// Does a statement end before it? `}` `;` `::` `fi` `od`
+fn is_back(kind: u8) -> bool {
+    match kind {
+        26 => true,
+        28 => true,
+        30 => true,
+        53 => true,
+        58 => true,
+        _ => false,
+    }
+}
+
+// The first token of the statement that token k is of, where none but marks and keywords stand before k in it.
+fn first_token(kinds: &[u8], k: usize) -> usize {
+    let mut i = base::least(k, kinds.len());
+    while i > 0 {
+        if is_front(kinds[i - 1]) {
+            return i;
+        }
+        i -= 1;
+    }
+    0
+}
+
+// How many selections are open behind a token, where `depth` are before it: `if` and `do`, `fi` and `od`.
+fn depth_behind(kind: u8, depth: usize) -> usize {
+    match kind {
+        49 => base::least(depth, 8) + 1,
+        55 => base::least(depth, 8) + 1,
+        53 => sheets::minus(depth, 1),
+        58 => sheets::minus(depth, 1),
+        _ => depth,
+    }
+}
+
+// The token behind the statement that token k is of.
+fn token_behind(kinds: &[u8], k: usize) -> usize {
+    let mut i = base::least(k, kinds.len());
+    let mut depth: usize = 0;
+    while i < kinds.len() {
+        let kind = kinds[i];
+        if depth == 0 {
+            if is_back(kind) {
+                return i;
+            }
+        }
+        depth = depth_behind(kind, depth);
+        i += 1;
+    }
+    i
+}
+
+// Where the statement of token k begins in the text.
+pub fn place(kinds: &[u8], starts: &[u32], k: usize) -> usize {
+    sheets::word_at(starts, first_token(kinds, k))
+}
+
+// The text of the statement of token k.
+pub fn statement<'a>(
+    text: &'a [u8],
+    kinds: &[u8],
+    starts: &[u32],
+    ends: &[u32],
+    k: usize,
+) -> &'a [u8] {
+    let last = sheets::minus(token_behind(kinds, k), 1);
+    part(text, place(kinds, starts, k), sheets::word_at(ends, last))
+}

@@ -1,0 +1,233 @@
+// How a state and a step are shown: variables by name, messages, and what a step stored, sent, received and started.
+use display::put;
+use display::put_number;
+use evaluating::Located;
+use evaluating::Reached;
+
+// The most numbers of a variable, processes, channels, waiting messages and arguments of a message.
+const SIZE_MOST: usize = 32;
+
+const PROCESSES_MOST: usize = 16;
+
+const CHANNELS_MOST: usize = 16;
+
+const MESSAGES_MOST: usize = 8;
+
+const FIELDS_MOST: usize = 4;
+
+pub fn put_value(v: i32) {
+    if v < 0 {
+        put(b"-");
+    }
+    put_number(printing::size_of(v) as usize);
+}
+
+// The name that is item j.
+fn put_name(t: &[u32], j: usize) {
+    let n = tables::name_length(t, j);
+    let mut k: usize = 0;
+    while k < n {
+        put(&[tables::name_byte(t, j, k)]);
+        k += 1;
+    }
+}
+
+// The name of the unit that item u begins: what stands before it, or `init`.
+pub fn put_proctype(t: &[u32], u: usize) {
+    if tables::code(t, u) == 226 {
+        put(b"init");
+    } else {
+        put_name(t, evaluating::minus_one(u));
+    }
+}
+
+// A variable that item j declares, with its numbers.
+fn put_variable(t: &[u32], s: &[i32], p: u8, j: usize) {
+    let l = tables::link(t, j) as u32;
+    put_name(t, evaluating::minus_one(j));
+    let n = base::least(evaluating::size_of(l) as usize, SIZE_MOST);
+    let mut k: usize = 0;
+    while k < n {
+        put(b" ");
+        put_value(frames::cell(s, evaluating::slot(l, p, k as u8)));
+        k += 1;
+    }
+    put(b"\n");
+}
+
+fn is_global(t: &[u32], j: usize) -> bool {
+    if tables::code(t, j) == 212 {
+        tables::link(t, j) / 8 % 2 == 0
+    } else {
+        false
+    }
+}
+
+fn is_local(t: &[u32], j: usize) -> bool {
+    match tables::code(t, j) {
+        212 => true,
+        222 => true,
+        _ => false,
+    }
+}
+
+pub fn put_globals(t: &[u32], s: &[i32]) {
+    let n = tables::items(t);
+    let mut j: usize = 0;
+    while j < n {
+        if is_global(t, j) {
+            put(b"global ");
+            put_variable(t, s, 0, j);
+        }
+        j += 1;
+    }
+}
+
+// The variables of process p.
+pub fn put_locals(t: &[u32], s: &[i32], p: u8) {
+    let mut j = frames::unit_of(s, p) as usize;
+    let e = tables::link(t, j);
+    while j < e {
+        if is_local(t, j) {
+            put(b"local ");
+            put_variable(t, s, p, j);
+        }
+        j += 1;
+    }
+}
+
+// Message m of channel c, from 0, with n fields.
+fn put_message(s: &[i32], c: u32, m: u32, n: u32) {
+    put(b" (");
+    let mut f: u32 = 0;
+    while f < n {
+        if f > 0 {
+            put(b",");
+        }
+        put_value(frames::field_of(s, c, m, f));
+        f += 1;
+    }
+    put(b")");
+}
+
+fn put_channel(t: &[u32], s: &[i32], c: u32) {
+    put_number(executing::capacity(t, frames::declared_of(s, c)));
+    let fields = executing::fields(t, frames::declared_of(s, c));
+    let n = base::least(frames::waiting_of(s, c) as usize, MESSAGES_MOST);
+    let mut m: usize = 0;
+    while m < n {
+        put_message(s, c, m as u32, fields);
+        m += 1;
+    }
+    put(b"\n");
+}
+
+// Channels by their numbers, from 1, with capacity and messages, the oldest first.
+pub fn put_channels(t: &[u32], s: &[i32]) {
+    let n = base::least(frames::channels(s) as usize, CHANNELS_MOST);
+    let mut c: usize = 0;
+    while c < n {
+        put(b"channel ");
+        put_number(c + 1);
+        put(b" ");
+        put_channel(t, s, c as u32);
+        c += 1;
+    }
+}
+
+// What was stored in the variable from `from` to its mark m: its name, its index, its number after the step.
+fn put_stored(t: &[u32], before: &[i32], after: &[i32], p: u8, from: usize, m: usize) {
+    let x = evaluating::locate(t, before, p, from, m);
+    match x {
+        Located::At(i) => {
+            let r = evaluating::minus_one(m);
+            let d = tables::link(t, r);
+            put(b"\tstored ");
+            put_name(t, evaluating::minus_one(d));
+            if tables::code(t, r) == 177 {
+                let l = tables::link(t, d) as u32;
+                put(b"[");
+                put_number(sheets::minus(i, evaluating::slot(l, p, 0)));
+                put(b"]");
+            }
+            put(b" ");
+            put_value(frames::cell(after, i));
+            put(b"\n");
+        }
+        Located::Astray(_) => {}
+    }
+}
+
+// What was stored by the arguments of a receive, from item a on.
+fn put_received(t: &[u32], before: &[i32], after: &[i32], p: u8, a: usize) {
+    let mut from = a;
+    let mut n: usize = 0;
+    while n < FIELDS_MOST {
+        if tables::code(t, from) == 187 {
+            return;
+        }
+        let m = tables::link(t, from);
+        if !executing::is_compared(t, m) {
+            put_stored(t, before, after, p, from, m);
+        }
+        from = m + 1;
+        n += 1;
+    }
+}
+
+// The message m of channel c behind a word.
+fn put_passed(t: &[u32], s: &[i32], c: u32, m: u32, word: &[u8]) {
+    put(b"\t");
+    put(word);
+    put(b" ");
+    put_number(c as usize + 1);
+    put_message(s, c, m, executing::fields(t, frames::declared_of(s, c)));
+    put(b"\n");
+}
+
+fn put_sent(t: &[u32], before: &[i32], after: &[i32], p: u8, q: u32, m: usize) {
+    let x = executing::reached(t, before, p, q as usize, m);
+    match x {
+        Reached::Record(c) => {
+            put_passed(t, after, c, frames::waiting_of(before, c), b"sent");
+        }
+        Reached::Unmade(_) => {}
+    }
+}
+
+fn put_taken(t: &[u32], before: &[i32], after: &[i32], p: u8, q: u32, m: u32) {
+    let x = executing::reached(t, before, p, q as usize, m as usize);
+    match x {
+        Reached::Record(c) => {
+            put_passed(t, before, c, 0, b"received");
+            put_received(t, before, after, p, m as usize + 1);
+        }
+        Reached::Unmade(_) => {}
+    }
+}
+
+// A process that the step started.
+fn put_started(t: &[u32], before: &[i32], after: &[i32]) {
+    let n = base::least(frames::processes(before) as usize, PROCESSES_MOST - 1);
+    if n < frames::processes(after) as usize {
+        put(b"\tstarted ");
+        put_number(n);
+        put(b" ");
+        put_proctype(t, frames::unit_of(after, n as u8) as usize);
+        put(b"\n");
+    }
+}
+
+// What the step of process p at place q did.
+pub fn put_effects(t: &[u32], before: &[i32], after: &[i32], p: u8, q: u32) {
+    let m = executing::mark(t, q);
+    match tables::code(t, m) {
+        190 => put_stored(t, before, after, p, q as usize, m),
+        192 => put_stored(t, before, after, p, q as usize, m),
+        193 => put_stored(t, before, after, p, q as usize, m),
+        194 => put_sent(t, before, after, p, q, m),
+        195 => put_taken(t, before, after, p, q, m as u32),
+        _ => {}
+    }
+    put_started(t, before, after);
+}
