@@ -1,16 +1,16 @@
 -- The laws of `same` and `pasted`.
 use mathlib.Core.Path.{_≡_, refl, sym, ap, ap₂, _∙_}
 use mathlib.Core.Bool.{Bool, true, false}
-use mathlib.Core.List.{List, [], _∷_, _++_}
-use Prim.Native.Nat.{ℕ, zero, suc, _+_, _≤_, _<_}
+use mathlib.Core.List.{List, [], _∷_, _++_, append-nil}
+use Prim.Native.Nat.{ℕ, zero, suc, _+_, _≤_, _<_, min}
 use native.Mathlib.Omega.{arith}
 use native.Mathlib.Numerals.{add-one}
 use borrow.Author.Tests.{eq-eqb, ne-eqb, eqb-true}
 use lib.Dec.{eqb}
 use lib.ListN.{length, getD, take, drop, set, drop-of-length-le}
-use lib.Seq.{drop-cons, take-suc, set-append-seam, append-snoc, set-at, length-take-le}
+use lib.Seq.{drop-cons, take-suc, set-append-seam, append-snoc, set-at, length-take-le, take-length}
 use Rattle.base.specs.Choice.{both}
-use Rattle.base.specs.Lists.{same}
+use Rattle.base.specs.Lists.{same, pasted}
 use Rattle.base.proofs.Tests.{both-no, both-true, true-false}
 
 pub same-stop : (x y : List ℕ) (k : ℕ) → k < length x → k < length y → (getD x k 0 ≡ getD y k 0 → ⊥) → same (drop k x) (drop k y) ≡ false
@@ -52,3 +52,9 @@ pub paste-more : (xs ys : List ℕ) (k : ℕ) → k < length xs → k < length y
     set (take k xs ++ drop k ys) k (getD xs k 0) ≡ take (k + 1) xs ++ drop (k + 1) ys
 paste-more xs ys k hx hy =
     rw (add-one, drop-cons ys k 0 hy, set-at (take k xs) (getD ys k 0) (drop (suc k) ys) (getD xs k 0) k (length-take-le k xs (omega arith)), take-suc xs k 0 hx, append-snoc)
+
+-- laid over as many as there are
+pub paste-whole : (n : ℕ) (xs ys : List ℕ) → length xs ≡ n → length ys ≡ n → pasted n xs ys ≡ xs
+paste-whole n xs ys ex ey =
+    let e : min n (min (length xs) (length ys)) ≡ length xs = omega arith in
+    rw (e, take-length xs, drop-of-length-le ys {i = length xs} (omega arith)) (append-nil xs)

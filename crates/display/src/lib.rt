@@ -1,6 +1,8 @@
 // How answers are shown: bytes escaped where they cannot be printed, and a part of a text under its line.
 ghost use Prim.Native.Nat.{_≤_, min};
+ghost use mathlib.Core.Path.{_≡_};
 ghost use lib.ListN.{length};
+ghost use Rattle.sheets.specs.Payload.{piece};
 use libc::STDOUT_FILENO;
 
 pub fn put(s: &[u8]) {
@@ -74,7 +76,9 @@ fn line_stop(text: &[u8], place: usize) -> usize {
 }
 
 // The part from a to e, as far as it lies in the text.
-pub fn part(text: &[u8], a: usize, e: usize) -> &[u8] {
+pub fn part(text: &[u8], a: usize, e: usize) -> &[u8]
+    ensures { λ r. ⌜ now r ≡ piece (now (text .entry)) a e ⌝ }
+{
     let end = base::least(e, text.len());
     let start = base::least(a, end);
     &text[start..end]

@@ -115,7 +115,7 @@ fn target(t: &[u32], s: &mut [i32], p: u8, q: usize, m: usize) -> Taken
     if tables::code(t, e) == 203 {
         set_run(t, s, p, q, m, e)
     } else {
-        statements::assign(t, s, p, q, m, e)
+        statements::assign(t, s, p, q, m as u32, e)
     }
 }
 
@@ -124,13 +124,13 @@ fn take_by(t: &[u32], s: &mut [i32], p: u8, q: usize, m: usize) -> Taken
     ensures { λ r. ⌜ (r, now (s .exit)) ≡ effects.takenBy (now (t .entry)) p q m (now (s .entry)) ⌝ }
 {
     match tables::code(t, m) {
-        72 => statements::print(t, s, p, m),
+        72 => statements::print(t, s, p, m as u32),
         189 => statements::express(t, s, p, q, m),
         190 => target(t, s, p, q, m),
         192 => statements::step_by(t, s, p, 1, q, m),
         193 => statements::step_by(t, s, p, -1, q, m),
-        194 => statements::send(t, s, p, q, m),
-        195 => statements::receive(t, s, p, q, m),
+        194 => statements::send(t, s, p, q, m as u32),
+        195 => statements::receive(t, s, p, q, m as u32),
         196 => statements::assert_that(t, s, p, q, m),
         197 => statements::pass(t, s, p, m),
         198 => statements::pass(t, s, p, m),

@@ -1,4 +1,4 @@
-// Which statements are executable, in a state, for a process. No function asks more of its caller than that an item's number has 32 bits.
+// Which statements are executable, in a state, for a process. No function that is lent asks anything of its caller.
 ghost use mathlib.Core.Path.{_≡_};
 ghost use Prim.Native.Nat.{_+_, _<_, _≤_};
 ghost use lib.Dec.{eqb};
@@ -250,11 +250,15 @@ pub fn can_receive(t: &[u32], s: &[i32], p: u8, a: usize, c: Reached) -> bool
 }
 
 // The channel of the send or receive at place q with the mark m.
-pub fn message(t: &[u32], s: &[i32], p: u8, q: usize, m: usize) -> Reached
-    requires { ⌜ m < 4294967296 ⌝ }
+pub fn message(t: &[u32], s: &[i32], p: u8, q: usize, m: u32) -> Reached
     ensures { λ r. ⌜ r ≡ executing.messageOf (now (t .entry)) (now (s .entry)) p q m ⌝ }
 {
-    addressed(t, s, reached(t, s, p, q, m), arguments(t, m + 1))
+    addressed(
+        t,
+        s,
+        reached(t, s, p, q, m as usize),
+        arguments(t, m as usize + 1),
+    )
 }
 
 fn ready_by(t: &[u32], s: &[i32], p: u8, late: bool, q: usize, m: usize) -> bool
@@ -264,8 +268,8 @@ fn ready_by(t: &[u32], s: &[i32], p: u8, late: bool, q: usize, m: usize) -> bool
     let c = tables::code(t, m);
     match c {
         189 => passes(evaluating::eval(t, s, p, q, m)),
-        194 => can_send(t, s, message(t, s, p, q, m)),
-        195 => can_receive(t, s, p, m + 1, message(t, s, p, q, m)),
+        194 => can_send(t, s, message(t, s, p, q, m as u32)),
+        195 => can_receive(t, s, p, m + 1, message(t, s, p, q, m as u32)),
         200 => late,
         202 => has_room(t, s, tables::link(t, m) as u32),
         _ => is_always(c),

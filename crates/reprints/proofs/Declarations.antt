@@ -18,7 +18,7 @@ use Rattle.syntax.specs.Tree.{num, tru, fls, Value, unset, set-number, set-minu
 use Rattle.syntax.specs.Code.{Item, i-name, i-type, i-declared, each, code-field, code-size, code-value, code-variable, code-declaration}
 use Rattle.syntax.specs.Print.{further, join, print-type, print-value, print-size, print-variable, print-declaration}
 use Rattle.entries.specs.Items.{codeOf, entryOf}
-use Rattle.writer.specs.Rules.{rows}
+use Rattle.patterns.specs.Rules.{rows}
 use Rattle.writer.specs.Turning.{cell, rowFrom, rowOf, laid, turned, isToken, after, marked}
 use Rattle.reprints.specs.Here.{Sane, tok, flagged, Here}
 use Rattle.reprints.proofs.Walk.{W, emit, go, tell, here-front, here-back, name-here, number-here, capacity-row}

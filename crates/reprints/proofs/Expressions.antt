@@ -18,7 +18,7 @@ use Rattle.syntax.specs.Grammar.{level, Is-unary, is-minus, is-not, is-flip}
 use Rattle.syntax.specs.Code.{Item, i-name, i-plain, i-index, i-len, i-unary, i-binary, i-otherwise, i-choice, code-exp}
 use Rattle.syntax.specs.Print.{wrap, print-exp}
 use Rattle.entries.specs.Items.{codeOf}
-use Rattle.writer.specs.Rules.{rows}
+use Rattle.patterns.specs.Rules.{rows}
 use Rattle.writer.specs.Turning.{cell, rowFrom, shared, rowOf, laid, operated, isBinary, turned, isToken, after, marked}
 use Rattle.reprints.specs.Here.{Sane, flagged, Here}
 use Rattle.reprints.proofs.Walk.{W, emit, go, tell, here-front, here-back, operand-row, name-here}

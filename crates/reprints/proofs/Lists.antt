@@ -15,7 +15,7 @@ use Rattle.syntax.specs.Tree.{Shape, Exp, plain, indexed, num, tru, fls, get, l
 use Rattle.syntax.specs.Code.{Item, i-argument, i-into, i-equal, i-constant, i-name, i-plain, i-index, i-len, i-unary, i-binary, i-otherwise, i-choice, each, code-exp, code-argument, code-received}
 use Rattle.syntax.specs.Print.{print-exp, print-whole, print-received, further, join}
 use Rattle.entries.specs.Items.{codeOf, entryOf}
-use Rattle.writer.specs.Rules.{rows}
+use Rattle.patterns.specs.Rules.{rows}
 use Rattle.writer.specs.Turning.{cell, rowFrom, rowOf, laid, turned, after, marked}
 use Rattle.reprints.specs.Here.{flagged, Here}
 use Rattle.reprints.proofs.Walk.{W, emit, go, tell, here-front, here-back, operand-row}

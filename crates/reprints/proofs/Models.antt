@@ -12,7 +12,7 @@ use Rattle.syntax.specs.Tree.{Name, Tree, sequence, Declaration, Group, group, 
 use Rattle.syntax.specs.Code.{Item, i-local, i-global, i-body, i-end-body, each, code-tree, code-declaration, code-parameter, code-group, code-body, code-activity, code-message, code-part, code}
 use Rattle.syntax.specs.Print.{join, further, print-tree, print-declaration, print-name, print-group, print-items, print-body, print-activity, print-part, print-model}
 use Rattle.entries.specs.Items.{codeOf}
-use Rattle.writer.specs.Rules.{rows}
+use Rattle.patterns.specs.Rules.{rows}
 use Rattle.writer.specs.Turning.{cell, rowFrom, rowOf, laid, turned, isToken, after, marked}
 use Rattle.reprints.specs.Here.{tok, flagged, Here}
 use Rattle.reprints.proofs.Walk.{W, emit, go, here-front, here-back, name-here, number-here}

@@ -12,7 +12,7 @@ use Rattle.syntax.specs.Tree.{Sort, action, statement, sequence, options, Expr,
 use Rattle.syntax.specs.Code.{Item, i-text, i-name, i-end, i-label, i-express, i-target, i-assign, i-increment, i-decrement, i-send, i-receive, i-assert, i-run, i-set-run, i-if, i-fi, i-do, i-od, i-option, i-end-option, each, code-exp, code-argument, code-received, code-tree}
 use Rattle.syntax.specs.Print.{print-exp, print-whole, print-received, further, join, before, print-tree}
 use Rattle.entries.specs.Items.{codeOf}
-use Rattle.writer.specs.Rules.{rows}
+use Rattle.patterns.specs.Rules.{rows}
 use Rattle.writer.specs.Turning.{cell, rowFrom, rowOf, laid, turned, isToken, after, marked}
 use Rattle.reprints.specs.Here.{tok, flagged, Here}
 use Rattle.reprints.proofs.Walk.{W, emit, go, tell, here-front, here-back, name-here, format-row, format-comma-row}

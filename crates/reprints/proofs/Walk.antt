@@ -11,7 +11,7 @@ use Rattle.base.specs.Choice.{pick, both, either}
 use Rattle.tokens.specs.Kinds.{Token, sym, name, number, text}
 use Rattle.syntax.specs.Code.{Item}
 use Rattle.entries.specs.Items.{codeOf, entryOf}
-use Rattle.writer.specs.Rules.{rows}
+use Rattle.patterns.specs.Rules.{rows}
 use Rattle.writer.specs.Turning.{cell, rowFrom, rowOf, laid, turned, isToken, kept, told, walk, after}
 use Rattle.reprints.specs.Here.{tok, flagged, Here}
 

@@ -79,17 +79,16 @@ pub fn step_by(t: &[u32], s: &mut [i32], p: u8, d: i32, q: usize, m: usize) -> T
     }
 }
 
-pub fn assign(t: &[u32], s: &mut [i32], p: u8, q: usize, m: usize, e: usize) -> Taken
-    requires { ⌜ m < 4294967296 ⌝ }
+pub fn assign(t: &[u32], s: &mut [i32], p: u8, q: usize, m: u32, e: usize) -> Taken
     ensures { λ r. ⌜ (r, now (s .exit)) ≡ statements.assigned (now (t .entry)) p q m e (now (s .entry)) ⌝ }
 {
-    let x = evaluating::locate(t, s, p, q, m);
+    let x = evaluating::locate(t, s, p, q, m as usize);
     match x {
         Located::At(i) => {
-            let y = evaluating::eval(t, s, p, m + 1, e);
+            let y = evaluating::eval(t, s, p, m as usize + 1, e);
             match y {
                 Answer::Value(v) => {
-                    store_at(t, s, m, i, v);
+                    store_at(t, s, m as usize, i, v);
                     move_to(s, p, tables::link(t, e));
                     Taken::Done
                 }
@@ -100,15 +99,14 @@ pub fn assign(t: &[u32], s: &mut [i32], p: u8, q: usize, m: usize, e: usize) -> 
     }
 }
 
-pub fn send(t: &[u32], s: &mut [i32], p: u8, q: usize, m: usize) -> Taken
-    requires { ⌜ m < 4294967296 ⌝ }
+pub fn send(t: &[u32], s: &mut [i32], p: u8, q: usize, m: u32) -> Taken
     ensures { λ r. ⌜ (r, now (s .exit)) ≡ statements.sent (now (t .entry)) p q m (now (s .entry)) ⌝ }
 {
     let r = executing::message(t, s, p, q, m);
     match r {
         Reached::Record(c) => {
             let mut values = [0i32; 32];
-            let g = messages::gather(t, s, p, m + 1, &mut values);
+            let g = messages::gather(t, s, p, m as usize + 1, &mut values);
             match g {
                 Gathered::Upto(e) => {
                     messages::append(t, s, c, &values);
@@ -151,16 +149,15 @@ fn receive_from(t: &[u32], s: &mut [i32], p: u8, a: usize, c: u32) -> Taken
     }
 }
 
-pub fn receive(t: &[u32], s: &mut [i32], p: u8, q: usize, m: usize) -> Taken
-    requires { ⌜ m < 4294967296 ⌝ }
+pub fn receive(t: &[u32], s: &mut [i32], p: u8, q: usize, m: u32) -> Taken
     ensures { λ r. ⌜ (r, now (s .exit)) ≡ statements.received (now (t .entry)) p q m (now (s .entry)) ⌝ }
 {
     let r = executing::message(t, s, p, q, m);
     match r {
         Reached::Record(c) => {
-            let x = executing::matches(t, s, p, c, m + 1);
+            let x = executing::matches(t, s, p, c, m as usize + 1);
             match x {
-                Answer::Value(_) => receive_from(t, s, p, m + 1, c),
+                Answer::Value(_) => receive_from(t, s, p, m as usize + 1, c),
                 Answer::Fails(f) => Taken::Faulted(f),
             }
         }
@@ -168,12 +165,11 @@ pub fn receive(t: &[u32], s: &mut [i32], p: u8, q: usize, m: usize) -> Taken
     }
 }
 
-pub fn print(t: &[u32], s: &mut [i32], p: u8, m: usize) -> Taken
-    requires { ⌜ m < 4294967296 ⌝ }
+pub fn print(t: &[u32], s: &mut [i32], p: u8, m: u32) -> Taken
     ensures { λ r. ⌜ (r, now (s .exit)) ≡ statements.printed (now (t .entry)) p m (now (s .entry)) ⌝ }
 {
     let mut values = [0i32; 32];
-    let g = messages::gather(t, s, p, m + 1, &mut values);
+    let g = messages::gather(t, s, p, m as usize + 1, &mut values);
     match g {
         Gathered::Upto(e) => {
             move_to(s, p, tables::link(t, e));

@@ -10,8 +10,8 @@ use borrow.Author.Tests.{lt-ltb, le-ltb, eq-eqb, ne-eqb}
 use Rattle.base.specs.Choice.{pick, both}
 use Rattle.quills.specs.Sheet.{flat}
 use Rattle.quills.proofs.Sheet.{wide, flat-at}
-use Rattle.writer.specs.Rules.{rows}
-use Rattle.writer.specs.Turning.{cells, cell, isRow, rowFrom, shared, rowOf}
+use Rattle.patterns.specs.Rules.{rows, cells}
+use Rattle.writer.specs.Turning.{cell, isRow, rowFrom, shared, rowOf}
 
 rows-wide : wide 10 rows ≡ true
 unfolding rows
@@ -21,9 +21,9 @@ rows-count : length rows ≡ 134
 unfolding rows
 rows-count = refl
 
-pub cell-is : (r k v w : ℕ) → k < 10 → w ≡ getD cells (10 * r + k) 0 → v ≡ w → v ≡ cell r k
+pub cell-is : (t : List ℕ) (r k v w : ℕ) → t ≡ cells → k < 10 → w ≡ getD t (10 * r + k) 0 → v ≡ w → v ≡ cell r k
 unfolding cells cell
-cell-is r k v w h e f = f ∙ e ∙ flat-at 10 rows rows-wide r k (10 * r + k) h refl
+cell-is t r k v w q h e f = f ∙ e ∙ ap (λ (l : List ℕ). getD l (10 * r + k) 0) q ∙ flat-at 10 rows rows-wide r k (10 * r + k) h refl
 
 pub is-row : (s c r a b d : ℕ) → a ≡ cell r 0 → b ≡ cell r 1 → d ≡ c → a ≡ s → eqb b d ≡ isRow s c r
 is-row s c r a b d e f g h = rw (← e, ← f, eq-eqb a s h, g)

@@ -15,7 +15,7 @@ use Rattle.tables.specs.Access.{poolByte, nameByte}
 use Rattle.tables.specs.Back.{upto}
 use Rattle.tables.specs.Trees.{tablesIn}
 use Rattle.value.specs.Operators.{levelOf}
-use Rattle.writer.specs.Rules.{rows}
+use Rattle.patterns.specs.Rules.{rows}
 use Rattle.writer.specs.Turning.{cell, rowFrom, rowOf, laid, operated, turned, kept, told, walk, marks}
 use Rattle.lettering.specs.Tokens.{heldOf, tokenBy}
 use Rattle.writer.specs.Normal.{codesIn, tokensOf, normalOf}

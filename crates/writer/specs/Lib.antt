@@ -1,4 +1,3 @@
-pub mod Rules
 pub mod Turning
 pub mod Places
 pub mod Normal

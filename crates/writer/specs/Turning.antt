@@ -1,4 +1,4 @@
--- Items turned into tokens from the back, by the rows of specs/Rules.antt. Binary operators by their levels (document 01, "Operators follow table 3.2 of 002"):
+-- Items turned into tokens from the back, by the rows of specs/Rules.antt of `patterns`. Binary operators by their levels (document 01, "Operators follow table 3.2 of 002"):
 -- parentheses exactly around what is looser than what is asked for, so a right operand of the same level keeps them.
 use mathlib.Core.Bool.{Bool, true, false}
 use mathlib.Core.List.{List, [], _∷_, _++_}
@@ -7,12 +7,7 @@ use lib.ListN.{length, getD, drop}
 use lib.Dec.{eqb, ltb}
 use Rattle.base.specs.Choice.{pick, both, either}
 use Rattle.value.specs.Operators.{levelOf}
-use Rattle.quills.specs.Sheet.{flat}
-use Rattle.writer.specs.Rules.{rows}
-
--- the rows one after the other
-unfoldable pub cells : List ℕ
-cells = flat rows
+use Rattle.patterns.specs.Rules.{rows}
 
 unfoldable pub cell : ℕ → ℕ → ℕ
 cell r k = getD (getD rows r []) k 0

@@ -1,5 +1,5 @@
-use Rattle.executing.specs.Channels.{addressedOf}
 use mathlib.Core.Path.{_∙_}
+use Rattle.executing.specs.Channels.{addressedOf}
 use borrow.Author.Needs.{needs}
 use Rattle.executing.proofs.message.Statement.{statement}
 use Rattle.executing.proofs.message.Tie as tie

@@ -1,5 +1,5 @@
-use borrow.Author.Needs.{needs}
 use Rattle.executing.proofs.Laws.{ready-express, ready-send, ready-receive, ready-timeout, ready-run, ready-other}
+use borrow.Author.Needs.{needs}
 use Rattle.executing.proofs.ready_by.Statement.{statement}
 use Rattle.executing.proofs.ready_by.Tie as tie
 
@@ -28,8 +28,10 @@ ready-by-spec =
     (λ c κs. search needs)
     (λ c κs. search needs)
     (λ c κs. search needs)
+    (λ c. search needs)
     (λ c κs. search needs)
     (λ c κs. search needs)
+    (λ c. search needs)
     (λ c. search needs)
     (λ c κs. search needs)
     (λ c κs. search needs)

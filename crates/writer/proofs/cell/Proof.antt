@@ -1,10 +1,11 @@
 use Rattle.writer.proofs.Rows as laws
+use denote.Ref.{now}
 use borrow.Author.Needs.{needs}
 use Rattle.writer.proofs.cell.Statement.{statement}
 use Rattle.writer.proofs.cell.Tie as tie
 
 returns : tie.Need-returns
-returns c = (laws.cell-is (c .before .before .args .r) (c .before .before .args .k) _ _ (c .before .before .pre .1) (c .before .cell-at .ensures) (c .wide .ensures .0), c .wide .ensures .1)
+returns c = (laws.cell-is (now (c .before .before .before .args .rows)) (c .before .before .before .args .r) (c .before .before .before .args .k) _ _ (c .before .before .before .pre .0) (c .before .before .before .pre .2) (c .before .byte-at .ensures) (c .wide .ensures .0), c .wide .ensures .1)
 
 pub cell-spec : {M : Type 1} → statement M
 cell-spec =

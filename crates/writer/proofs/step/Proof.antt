@@ -4,10 +4,10 @@ use Rattle.writer.proofs.step.Statement.{statement}
 use Rattle.writer.proofs.step.Tie as tie
 
 returns : tie.Need-returns
-returns c = laws.step-binary (c .before .before .before .before .before .before .before .before .args .stack .now) _ (c .before .before .before .before .before .before .before .before .args .sp) _ (c .before .before .before .before .before .before .before .before .args .s) (c .before .before .before .before .before .before .before .before .args .c) (c .before .before .before .before .before .before .before .before .args .i) _ _ (c .before .before .before .before .before .before .is-binary .ensures) (c .before .before .before .before .before .if1 .taken) (c .before .before .before .operator .ensures) (c .before .before .operate .ensures)
+returns c = laws.step-binary (c .before .before .before .before .before .before .before .before .before .args .stack .now) _ (c .before .before .before .before .before .before .before .before .before .args .sp) _ (c .before .before .before .before .before .before .before .before .before .args .s) (c .before .before .before .before .before .before .before .before .before .args .c) (c .before .before .before .before .before .before .before .before .before .args .i) _ _ (c .before .before .before .before .before .before .is-binary .ensures) (c .before .before .before .before .before .if1 .taken) (c .before .before .before .operator .ensures) (c .before .before .operate .ensures)
 
 returns-2 : tie.Need-returns-2
-returns-2 c = laws.step-row (c .before .before .before .before .before .before .before .before .args .stack .now) _ (c .before .before .before .before .before .before .before .before .args .sp) _ (c .before .before .before .before .before .before .before .before .args .s) (c .before .before .before .before .before .before .before .before .args .c) (c .before .before .before .before .before .before .before .before .args .i) _ _ (c .before .before .before .before .before .before .is-binary .ensures) (c .before .before .before .before .before .if1 .left) (c .before .before .before .row-of .ensures .0) (c .before .before .lay .ensures)
+returns-2 c = laws.step-row (c .before .before .before .before .before .before .before .before .before .args .stack .now) _ (c .before .before .before .before .before .before .before .before .before .args .sp) _ (c .before .before .before .before .before .before .before .before .before .args .s) (c .before .before .before .before .before .before .before .before .before .args .c) (c .before .before .before .before .before .before .before .before .before .args .i) _ _ (c .before .before .before .before .before .before .is-binary .ensures) (c .before .before .before .before .before .if1 .left) (c .before .before .before .row-of .ensures .0) (c .before .before .lay .ensures)
 
 pub step-spec : {M : Type 1} → statement M
 step-spec =

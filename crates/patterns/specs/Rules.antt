@@ -10,6 +10,7 @@
 -- A row says what a symbol becomes at an item of a code. Code 229 is an `end` (187) whose arguments stand in parentheses. No row: the symbol goes, and nothing is written.
 use mathlib.Core.List.{List, [], _∷_, _++_}
 use Prim.Native.Nat.{ℕ}
+use Rattle.quills.specs.Sheet.{flat}
 use Rattle.quills.specs.Sheet.{padded}
 
 -- a symbol, a code, and at most 8 symbols with zeros behind them; 99 stands for what the item holds
@@ -73,3 +74,7 @@ rows =
     expressions ++ (declarations ++ (variables 130 (28 ∷ []) (137 ∷ 131 ∷ []) ++ (variables 131 (28 ∷ []) (137 ∷ 131 ∷ []) ++ (variables 137 (27 ∷ []) (137 ∷ []) ++
     (variables 143 [] (137 ∷ 143 ∷ []) ++ (statements 130 [] ++ (statements 131 (28 ∷ []) ++ (arguments 132 [] ++ (arguments 133 (27 ∷ []) ++
     (heads 139 (22 ∷ []) ++ (heads 141 [] ++ units)))))))))))
+
+-- the rows one after the other
+unfoldable pub cells : List ℕ
+cells = flat rows
