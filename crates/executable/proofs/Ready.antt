@@ -300,7 +300,7 @@ module _ (t : List ℕ) (s : List ℤ) (p : ℕ) (late : Bool) (q : ℕ) where
   always-ready (jump e) = rw e
   always-ready (leave e) = rw e
 
-  fits-hold : (u : ℕ) → processesOf s < processesMost → channelsOf s + channelsIn t u ≤ channelsMost → fitsOf t s u ≡ true
+  pub fits-hold : (u : ℕ) → processesOf s < processesMost → channelsOf s + channelsIn t u ≤ channelsMost → fitsOf t s u ≡ true
   unfolding fitsOf
   fits-hold u a b = rw (lt-ltb (processesOf s) processesMost a, le-leb (channelsOf s + channelsIn t u) channelsMost b)
 
