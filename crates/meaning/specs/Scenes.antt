@@ -1,0 +1,63 @@
+-- The scene that tables and a state make, and that an expression of a tree stands in the tables: docs/TABLES.md, the rows of items and of links.
+-- `t` are tables, `s` a state, p the number of the process; `decl` has for each name the item that declares it.
+use Prim.Native.Nat.{ℕ, suc, _+_, _-_, _≤_, max}
+use mathlib.Core.Path.{_≡_}
+use mathlib.Core.List.{List}
+use lib.ListN.{length}
+use lib.IntN.{ℤ, pos}
+use lib.Dec.{eqb}
+use Rattle.base.specs.Choice.{pick}
+use Rattle.tables.specs.Access.{codeOf, linkOf, numberOf}
+use Rattle.frames.specs.Layout.{nat, kept, cellOf, waitingOf}
+use Rattle.syntax.specs.Tree.{Name, Shape, Exp, plain, indexed, num, tru, fls, get, len, unary, binary, choice}
+use Rattle.syntax.specs.Code.{code-exp, i-unary, i-binary}
+use Rattle.entries.specs.Items as items
+use Rattle.evaluating.specs.Variables.{sizeOf, slotOf, madeOf}
+use Rattle.meaning.specs.Eval.{Scene}
+
+-- a plain reference to declaration d: the number of an mtype name (220), `_pid` (its own name, 70), or a variable
+unfoldable pub numberAt : List ℕ → List ℤ → ℕ → ℕ → ℤ
+numberAt t s p d = pick (eqb (codeOf t d) 220) (kept (linkOf t d)) (pick (eqb (codeOf t d) 70) (pos p) (cellOf s (slotOf (linkOf t d) p 0)))
+
+abbrev pub sceneOf : List ℕ → List ℤ → ℕ → (Name → ℕ) → Scene
+sceneOf t s p decl =
+    record {
+      number = λ w. numberAt t s p (decl w);
+      size = λ w. sizeOf (linkOf t (decl w));
+      element = λ w i. cellOf s (slotOf (linkOf t (decl w)) p i);
+      made = λ v. madeOf s (nat v);
+      waiting = λ v. waitingOf s (nat v - 1);
+    }
+
+-- how many items an expression has
+abbrev pub sizeIn : {k : Shape} → Exp k → ℕ
+sizeIn e = length (code-exp e)
+
+-- the items of the expression stand in the tables from item i on; an operator and the two parts of a conditional link to where the phrase before them starts
+unfoldable pub Stands : List ℕ → {k : Shape} → Exp k → ℕ → Type 0
+Stands t (plain w) i = codeOf t (i + 1) ≡ 176
+Stands t (indexed w e) i = Stands t e (i + 1) × (codeOf t (i + 1 + sizeIn e) ≡ 177)
+Stands t (num n) i = (codeOf t i ≡ 71) × (numberOf t i ≡ n) × (n ≤ 2147483647)
+Stands t tru i = codeOf t i ≡ 178
+Stands t fls i = codeOf t i ≡ 179
+Stands t (get r) i = Stands t r i
+Stands t (len r) i = Stands t r i × (codeOf t (i + sizeIn r) ≡ 180)
+Stands t (unary o e) i = Stands t e i × (codeOf t (i + sizeIn e) ≡ items.codeOf (i-unary o))
+Stands t (binary o a b) i =
+    Stands t a i × Stands t b (i + sizeIn a) × (codeOf t (i + sizeIn a + sizeIn b) ≡ items.codeOf (i-binary o)) × (linkOf t (i + sizeIn a + sizeIn b) ≡ i + sizeIn a)
+Stands t (choice a b c) i =
+    Stands t a i × Stands t b (i + sizeIn a) × (linkOf t (i + sizeIn a + sizeIn b) ≡ i + sizeIn a) × Stands t c (i + sizeIn a + sizeIn b + 1)
+    × (codeOf t (i + sizeIn a + sizeIn b + 1 + sizeIn c) ≡ 182) × (linkOf t (i + sizeIn a + sizeIn b + 1 + sizeIn c) ≡ i + sizeIn a + sizeIn b + 1)
+
+-- each name in it links to what `decl` has for it
+unfoldable pub Named : List ℕ → (Name → ℕ) → {k : Shape} → Exp k → ℕ → Type 0
+Named t decl (plain w) i = linkOf t (i + 1) ≡ decl w
+Named t decl (indexed w e) i = Named t decl e (i + 1) × (linkOf t (i + 1 + sizeIn e) ≡ decl w)
+Named t decl (num n) i = Unit {0}
+Named t decl tru i = Unit {0}
+Named t decl fls i = Unit {0}
+Named t decl (get r) i = Named t decl r i
+Named t decl (len r) i = Named t decl r i
+Named t decl (unary o e) i = Named t decl e i
+Named t decl (binary o a b) i = Named t decl a i × Named t decl b (i + sizeIn a)
+Named t decl (choice a b c) i = Named t decl a i × Named t decl b (i + sizeIn a) × Named t decl c (i + sizeIn a + sizeIn b + 1)
