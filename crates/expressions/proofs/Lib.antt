@@ -1,0 +1,4 @@
+pub mod Codes
+pub mod Starts
+pub mod Items
+pub mod Main
