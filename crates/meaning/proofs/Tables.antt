@@ -4,6 +4,7 @@ use Prim.Native.Nat.{ℕ, zero, suc, _+_, _-_, _≤_, _<_, min, max}
 use mathlib.Core.Path.{_≡_, refl, sym, _∙_, ap, ap₂, subst}
 use mathlib.Core.Bool.{Bool, true, false, not}
 use mathlib.Core.List.{List, [], _∷_, _++_}
+use mathlib.Core.Logic.{_⊎_, inl, inr}
 use native.Mathlib.Omega.{arith}
 use native.Mathlib.Decide.{ℕ-discrete}
 use lib.ListN.{length, length-append}
@@ -30,7 +31,7 @@ use Rattle.evaluating.specs.declared.Node.the-variants.{Number, True, False, Pl
 use Rattle.evaluating.specs.Variables.{variableOf, sizeOf, slotOf, elementOf, loadOf, madeOf, channelOf, lengthOf}
 use Rattle.evaluating.specs.Expressions.{nodeOf, truthOf, unaryBy, bothBy, lazyBy, choiceBy, startOf, plainOf, byNode, evalT, evalOf}
 use Rattle.meaning.specs.Eval.{Scene, elementBy, lengthBy, signBy, truth, orBy, andBy, joinBy, operateBy, chooseBy, eval}
-use Rattle.meaning.specs.Scenes.{numberAt, sceneOf, sizeIn, Stands, Named}
+use Rattle.meaning.specs.Scenes.{numberAt, sceneOf, sizeIn, Stands, Meant, Named}
 
 -- ---- what an item is, by its code
 node-number : nodeOf 71 ≡ Number
@@ -117,16 +118,24 @@ unary-is o (Value v) = refl
 unary-is o (Fails f) = refl
 
 module _ (t : List ℕ) (s : List ℤ) (p : ℕ) (decl : Name → ℕ) where
-  plain-is : (w : Name) → plainOf t s p (decl w) ≡ Value (numberAt t s p (decl w))
+  number-is : (d : ℕ) → plainOf t s p d ≡ Value (numberAt t s p d)
   unfolding plainOf numberAt
-  plain-is w = go (eqb (codeOf t (decl w)) 220) (eqb (codeOf t (decl w)) 70)
+  number-is d = go (eqb (codeOf t d) 220) (eqb (codeOf t d) 70)
     where
       go : (a b : Bool)
-          → pick a (Value (kept (linkOf t (decl w)))) (pick b (Value (pos p)) (Value (cellOf s (slotOf (linkOf t (decl w)) p 0))))
-          ≡ Value (pick a (kept (linkOf t (decl w))) (pick b (pos p) (cellOf s (slotOf (linkOf t (decl w)) p 0))))
+          → pick a (Value (kept (linkOf t d))) (pick b (Value (pos p)) (Value (cellOf s (slotOf (linkOf t d) p 0))))
+          ≡ Value (pick a (kept (linkOf t d)) (pick b (pos p) (cellOf s (slotOf (linkOf t d) p 0))))
       go true b = refl
       go false true = refl
       go false false = refl
+
+  pid-is : (d : ℕ) → codeOf t d ≡ 70 → numberAt t s p d ≡ pos p
+  unfolding numberAt
+  pid-is d e = rw e
+
+  plain-is : (w : Name) (d : ℕ) → Meant t d (decl w) → plainOf t s p d ≡ Value (numberAt t s p (decl w))
+  plain-is w d (inl e) = ap (λ k. plainOf t s p k) e ∙ number-is (decl w)
+  plain-is w d (inr e) = number-is d ∙ ap Value (pid-is d (e .0) ∙ sym (pid-is (decl w) (e .1)))
 
   element-is : (w : Name) (x : Answer) → loadOf s (elementOf (linkOf t (decl w)) p x) ≡ elementBy (sceneOf t s p decl) w x
   element-is w (Value (pos i)) = go (ltb i (sizeOf (linkOf t (decl w))))
@@ -193,7 +202,7 @@ module _ (t : List ℕ) (s : List ℤ) (p : ℕ) (decl : Name → ℕ) where
   pub eval-tables : {k : Shape} (e : Exp k) (i from h : ℕ) → Proper e → Stands t e i → Named t decl e i → from ≤ i → height e ≤ h → evalT t s p h from (i + sizeIn e) ≡ eval scene e
   unfolding Stands Named eval
   eval-tables (plain w) i from h r z n f g =
-      by-last h from (i + 2) (i + 1) 176 (omega arith) (omega arith) (omega arith) z node-plain ∙ ap (λ d. plainOf t s p d) n ∙ plain-is w
+      by-last h from (i + 2) (i + 1) 176 (omega arith) (omega arith) (omega arith) z node-plain ∙ plain-is w (linkOf t (i + 1)) n
   eval-tables (indexed w e) i from h r z n f g =
       let m = sizeIn e in
       let q : length (code-exp e ++ i-index ∷ []) ≡ m + 1 = length-append (code-exp e) (i-index ∷ []) in

@@ -1,8 +1,9 @@
 -- The scene that tables and a state make, and that an expression of a tree stands in the tables: docs/TABLES.md, the rows of items and of links.
--- `t` are tables, `s` a state, p the number of the process; `decl` has for each name the item that declares it.
+-- `t` are tables, `s` a state, p the number of the process; `decl` has for each name the item that declares it, and for `_pid` any item that is a name.
 use Prim.Native.Nat.{ℕ, suc, _+_, _-_, _≤_, max}
 use mathlib.Core.Path.{_≡_}
 use mathlib.Core.List.{List}
+use mathlib.Core.Logic.{_⊎_}
 use lib.ListN.{length}
 use lib.IntN.{ℤ, pos}
 use lib.Dec.{eqb}
@@ -49,9 +50,13 @@ Stands t (choice a b c) i =
     Stands t a i × Stands t b (i + sizeIn a) × (linkOf t (i + sizeIn a + sizeIn b) ≡ i + sizeIn a) × Stands t c (i + sizeIn a + sizeIn b + 1)
     × (codeOf t (i + sizeIn a + sizeIn b + 1 + sizeIn c) ≡ 182) × (linkOf t (i + sizeIn a + sizeIn b + 1 + sizeIn c) ≡ i + sizeIn a + sizeIn b + 1)
 
+-- item d is what a name stands for, if that is item k; `_pid`, which is not declared, stands for itself wherever it is (70)
+abbrev pub Meant : List ℕ → ℕ → ℕ → Type 0
+Meant t d k = (d ≡ k) ⊎ ((codeOf t d ≡ 70) × (codeOf t k ≡ 70))
+
 -- each name in it links to what `decl` has for it
 unfoldable pub Named : List ℕ → (Name → ℕ) → {k : Shape} → Exp k → ℕ → Type 0
-Named t decl (plain w) i = linkOf t (i + 1) ≡ decl w
+Named t decl (plain w) i = Meant t (linkOf t (i + 1)) (decl w)
 Named t decl (indexed w e) i = Named t decl e (i + 1) × (linkOf t (i + 1 + sizeIn e) ≡ decl w)
 Named t decl (num n) i = Unit {0}
 Named t decl tru i = Unit {0}
