@@ -1,6 +1,6 @@
 -- THE ORDER OF STEPS: where selections and options are nested (specs/Nested.antt), the steps of a place are listed in text order, and an `else` is never offered beside a guard whose
 -- test faults.
-use Prim.Native.Nat.{ℕ, zero, suc, _+_, _<_, _≤_, min, max}
+use Prim.Native.Nat.{ℕ, zero, suc, _+_, _<_, _≤_}
 use mathlib.Core.Path.{_≡_, refl, sym, _∙_, ap, subst}
 use mathlib.Core.Bool.{Bool, true, false}
 use mathlib.Core.List.{List, [], _∷_, _++_, List·Memᴰ·head, List·Memᴰ·tail, List·Memᴰ·not-nil}
@@ -10,14 +10,14 @@ use native.Mathlib.Decide.{ℕ-discrete}
 use lib.IntN.{ℤ}
 use lib.Dec.{eqb, ltb}
 use borrow.Author.Tests.{ltb-true, ltb-false, eqb-true}
-use Rattle.base.specs.Choice.{pick, both}
-use Rattle.base.proofs.Tests.{both-true, true-false}
+use Rattle.base.specs.Choice.{pick}
+use Rattle.base.proofs.Tests.{both-true}
 use Rattle.tables.specs.Access.{codeOf, linkOf}
 use Rattle.executing.specs.Executing.{readyOf}
 use Rattle.offering.specs.Offers.{orElse, isSelection, isOption, endOf, firstOf, eachOption, elseAt, offersFrom, offersOf}
 use Rattle.executable.specs.Executable.{Faults}
 use Rattle.executable.specs.Offered.{Option, this, later, closing, OptionOf, IsElse, In}
-use Rattle.executable.specs.Nested.{Opens, selection, option, Nested, Ascends, none, more}
+use Rattle.executable.specs.Nested.{selection, option, Nested, Ascends, none, more}
 use Rattle.executable.proofs.Offers.{list-plain, list-selection, else-offers, in-offers, offers-in, else-beside-fault}
 
 -- ---- ascending, from lo to before hi

@@ -1,6 +1,6 @@
 -- A statement is ready (`readyOf`) exactly when it is executable (specs/Executable.antt), for any tables and any state.
 use Prim.Native.Nat.{ℕ, zero, suc, _+_, _<_, _≤_}
-use mathlib.Core.Path.{_≡_, refl, sym, _∙_, ap, subst}
+use mathlib.Core.Path.{_≡_, refl, sym, _∙_, ap}
 use mathlib.Core.Bool.{Bool, true, false, not}
 use mathlib.Core.List.{List}
 use mathlib.Core.Logic.{_⊎_, inl, inr}
@@ -9,12 +9,11 @@ use native.Mathlib.Decide.{ℕ-discrete}
 use lib.IntN.{ℤ, pos, negsuc}
 use lib.Dec.{eqb, ltb, leb}
 use borrow.Author.Tests.{ltb-true, leb-true, eqb-true, eqb-false, lt-ltb, le-leb, eq-eqb, ne-eqb}
-use Rattle.base.specs.Choice.{pick, both, either}
-use Rattle.base.proofs.Tests.{true-false, both-true, either-true}
+use Rattle.base.specs.Choice.{pick, either}
+use Rattle.base.proofs.Tests.{true-false, both-true}
 use Rattle.tables.specs.Access.{codeOf, linkOf}
 use Rattle.frames.specs.Layout.{processesMost, channelsMost, processesOf, channelsOf, declaredOf, waitingOf, fieldOf}
 use Rattle.value.specs.Operators.{same, isTrue, oneIf}
-use Rattle.value.specs.declared.Fault.{Fault}
 use Rattle.value.specs.declared.Fault.the-variants.{Fields}
 use Rattle.value.specs.declared.Answer.{Answer}
 use Rattle.value.specs.declared.Answer.the-variants.{Value, Fails}

@@ -4,7 +4,6 @@ use Prim.Native.Nat.{ℕ, zero, suc, _+_, _-_, _<_, _≤_}
 use mathlib.Core.Path.{_≡_, refl, sym, _∙_, ap, subst}
 use mathlib.Core.Bool.{Bool, true, false}
 use mathlib.Core.List.{List, [], _∷_, _++_, List·Memᴰ·head, List·Memᴰ·tail, List·Memᴰ·not-nil, Memᴰ·append-right}
-use mathlib.Core.Logic.{_⊎_, inl, inr}
 use native.Mathlib.Omega.{arith}
 use native.Mathlib.Decide.{ℕ-discrete}
 use lib.ListN.{length}
@@ -14,12 +13,11 @@ use borrow.Author.Tests.{ltb-true, lt-ltb, eqb-false, ne-eqb}
 use Rattle.base.specs.Choice.{pick}
 use Rattle.base.proofs.Tests.{true-false}
 use Rattle.frames.specs.Layout.{placeOf}
-use Rattle.offering.specs.Offers.{offersOf, isSome, pickAt}
-use Rattle.offering.specs.declared.Walk.{Walk}
+use Rattle.offering.specs.Offers.{isSome, pickAt}
 use Rattle.offering.specs.declared.Walk.the-variants.{Found, Left}
 use Rattle.moving.specs.Moving.{processes, stepsBy, anyFrom, lateOf, stepAt}
 use Rattle.executable.specs.Executable.{Marked}
-use Rattle.executable.specs.Offered.{step, nothing, OffersAt, Late, Offered, early, late, In, Kth}
+use Rattle.executable.specs.Offered.{Late, Offered, early, late, In, Kth}
 use Rattle.executable.proofs.Offers.{offers-executable, executable-offers, none-offers, offers-none, late-timeouts}
 
 -- ---- lists

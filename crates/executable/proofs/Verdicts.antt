@@ -16,7 +16,7 @@ use Rattle.tables.specs.Access.{codeOf}
 use Rattle.frames.specs.Layout.{placeOf}
 use Rattle.executing.specs.Executing.{isAlone, isAlways, markOf, readyBy, readyOf}
 use Rattle.offering.specs.Offers.{offersFrom}
-use Rattle.moving.specs.Moving.{processes, stepsBy, anyFrom, lateOf, endedFrom, verdictOf}
+use Rattle.moving.specs.Moving.{processes, anyFrom, lateOf, endedFrom, verdictOf}
 use Rattle.moving.specs.declared.Verdict.{Verdict}
 use Rattle.moving.specs.declared.Verdict.the-variants.{Finished, Blocked, Open}
 use Rattle.executable.specs.Offered.{Offered, In}

@@ -1,12 +1,11 @@
 -- The items of an accepted text's tree stand in its tables.
 use Prim.Native.Nat.{ℕ, zero, suc, _+_, _≤_, _<_}
 use native.Mathlib.Omega.{arith}
-use mathlib.Core.Path.{_≡_, refl, sym as inv, ap, _∙_, subst}
-use mathlib.Core.Logic.{_⊎_, inl, inr}
+use mathlib.Core.Path.{_≡_, sym as inv, ap, _∙_, subst}
+use mathlib.Core.Logic.{inl, inr}
 use mathlib.Core.List.{List, [], _∷_, _++_, map}
 use lib.ListN.{length, getD, length-map, length-append, List·getD-append}
 use lib.Seq.{getD-append-add}
-use lib.Dec.{ltb}
 use borrow.Author.Tests.{lt-ltb, le-ltb}
 use Rattle.tokens.specs.Kinds.{Token, sym, name, number, text}
 use Rattle.lexis.specs.Reading.{Placed}
@@ -54,10 +53,10 @@ sound-at (c ∷ ts) s zero h = s .0
 sound-at (c ∷ ts) s (suc k) h = sound-at ts (s .1) k (omega arith)
 
 module _ (t : List ℕ) (a : Accepts t) where
-  abbrev ts : List Token
+  abbrev pub ts : List Token
   ts = tokensIn t (a .parts)
 
-  abbrev xs : List Item
+  abbrev pub xs : List Item
   xs = code (a .tree)
 
   abbrev pub T : List ℕ
@@ -74,10 +73,10 @@ module _ (t : List ℕ) (a : Accepts t) where
       let z : items.entryOf (read ts v) .value ≡ 0 = ap (λ i. items.entryOf i .value) q ∙ ap Entry.value (mark-entry (symbol-of v) (r .0) (r .1)) in
       omega arith
 
-  items-count : length (a .numbers) ≡ length xs
+  pub items-count : length (a .numbers) ≡ length xs
   items-count = inv (length-map (a .numbers) (read ts)) ∙ ap length (a .coded)
 
-  item-read : (j : ℕ) → j < length xs → getD xs j i-plain ≡ read ts (getD (a .numbers) j 0)
+  pub item-read : (j : ℕ) → j < length xs → getD xs j i-plain ≡ read ts (getD (a .numbers) j 0)
   item-read j h = ap (λ (l : List Item). getD l j i-plain) (inv (a .coded)) ∙ get-only (read ts) (a .numbers) j 0 i-plain (omega (arith, items-count))
 
   item-most : (j : ℕ) → j < length xs → items.entryOf (getD xs j i-plain) .code ≡ 71 → items.entryOf (getD xs j i-plain) .value ≤ 2147483647
@@ -95,7 +94,7 @@ module _ (t : List ℕ) (a : Accepts t) where
     entry-is : getD (entriesIn (a .tree)) j nothing ≡ items.entryOf (getD xs j i-plain)
     entry-is = get-only items.entryOf xs j i-plain nothing h
 
-    code-held : codeOf T j ≡ items.codeOf (getD xs j i-plain)
+    pub code-held : codeOf T j ≡ items.codeOf (getD xs j i-plain)
     code-held =
         holds-code (entriesIn (a .tree)) (linksAt t a) (accepted-fair t (a .parts) (a .tree) (a .reads) (a .gram)) j inside ∙ ap Entry.code entry-is ∙ entry-code (getD xs j i-plain)
 

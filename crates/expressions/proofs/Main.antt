@@ -9,15 +9,13 @@ use lib.IntN.{ℤ}
 use Rattle.syntax.specs.Tree.{Name, Shape, Exp, plain, indexed, num, tru, fls, get, len, unary, binary, choice}
 use Rattle.syntax.specs.Code.{Item, i-index, i-len, i-unary, i-binary, i-otherwise, i-choice, code-exp, code}
 use Rattle.entries.specs.Items as items
-use Rattle.sheets.specs.Spans.{startsOf}
-use Rattle.links.specs.Links.{classOf, linksOf}
+use Rattle.links.specs.Links.{classOf}
 use Rattle.phrases.specs.Phrases.{height, Proper, At}
-use Rattle.phrases.proofs.Starts.{at-front, at-back, some-items, phrase-starts}
+use Rattle.phrases.proofs.Starts.{at-front, at-back, phrase-starts}
 use Rattle.phrases.proofs.Inside.{stands}
 use Rattle.tables.specs.Access.{codeOf, linkOf}
-use Rattle.tables.specs.Trees.{entriesIn}
-use Rattle.judging.specs.Judging.{payload, tablesText}
-use Rattle.accepting.specs.Meaning.{Accepts, linksAt}
+use Rattle.judging.specs.Judging.{tablesText}
+use Rattle.accepting.specs.Meaning.{Accepts}
 use Rattle.accepting.proofs.Tables.{text-tables}
 use Rattle.evaluating.specs.Expressions.{evalOf}
 use Rattle.meaning.specs.Eval.{eval}
@@ -29,17 +27,17 @@ use Rattle.expressions.proofs.Starts.{binary-class, otherwise-class, ch
 use Rattle.expressions.proofs.Items.{T, held-front, held-back, link-held, part-held}
 
 module _ (t : List ℕ) (a : Accepts t) where
-  abbrev C : List ℕ
+  abbrev pub C : List ℕ
   C = cs t a
 
-  abbrev U : List ℕ
+  abbrev pub U : List ℕ
   U = T t a
 
-  items-long : length C ≡ length (code (a .tree))
+  pub items-long : length C ≡ length (code (a .tree))
   items-long = codes-long t a ∙ length-map (code (a .tree)) items.entryOf
 
   -- the link of an item that is an operator, `otherwise` or `choice`, behind a phrase that starts at k
-  linked : {s : Shape} (e : Exp s) → Proper e → (i j c : ℕ) → At C i (code-exp e) → j ≡ i + length (code-exp e) → j < length C → getD C j 0 ≡ c → classOf c ≡ 4 → linkOf U j ≡ i
+  pub linked : {s : Shape} (e : Exp s) → Proper e → (i j c : ℕ) → At C i (code-exp e) → j ≡ i + length (code-exp e) → j < length C → getD C j 0 ≡ c → classOf c ≡ 4 → linkOf U j ≡ i
   linked e p i j c h q g k w =
       link-held t a j (omega (arith, items-long))
       ∙ link-starts C _ j i (codes-few t a) g (ap classOf k ∙ w)
@@ -116,7 +114,7 @@ module _ (t : List ℕ) (a : Accepts t) where
 
   -- ---- an expression of the tree
   module _ {s : Shape} (e : Exp s) (front rest : List Item) (within : code (a .tree) ≡ front ++ (code-exp e ++ rest)) (p : Proper e) where
-    stands-at : At C (length front) (code-exp e)
+    pub stands-at : At C (length front) (code-exp e)
     stands-at =
         subst (λ (l : List ℕ). At l (length front) (code-exp e)) (inv (codes-are t a ∙ ap (map items.codeOf) within ∙ map-append items.codeOf front (code-exp e ++ rest)))
         (stands (map items.codeOf front) (code-exp e) rest (length front) (inv (length-map front items.codeOf)))

@@ -1,18 +1,18 @@
 -- EXPRESSIONS MEAN WHAT THEIR TREE SAYS: where the items of an expression stand in the tables and its names link to their declarations, what is worked out over the items is what the tree
 -- means, faults and their order included.
-use Prim.Native.Nat.{ℕ, zero, suc, _+_, _-_, _≤_, _<_, min, max}
-use mathlib.Core.Path.{_≡_, refl, sym, _∙_, ap, ap₂, subst}
+use Prim.Native.Nat.{ℕ, zero, suc, _+_, _-_, _≤_, min}
+use mathlib.Core.Path.{_≡_, refl, sym, _∙_, ap, ap₂}
 use mathlib.Core.Bool.{Bool, true, false, not}
 use mathlib.Core.List.{List, [], _∷_, _++_}
-use mathlib.Core.Logic.{_⊎_, inl, inr}
+use mathlib.Core.Logic.{inl, inr}
 use native.Mathlib.Omega.{arith}
 use native.Mathlib.Decide.{ℕ-discrete}
 use lib.ListN.{length, length-append}
 use lib.IntN.{ℤ, pos, negsuc}
-use lib.Dec.{eqb, ltb, leb}
+use lib.Dec.{eqb, ltb}
 use borrow.Author.Tests.{lt-leb, ne-eqb, le-ltb}
 use Rattle.base.specs.Choice.{pick}
-use Rattle.tables.specs.Access.{codeOf, linkOf, numberOf}
+use Rattle.tables.specs.Access.{codeOf, linkOf}
 use Rattle.frames.specs.Layout.{nat, kept, cellOf, waitingOf}
 use Rattle.value.specs.Operators.{isTrue, oneIf}
 use Rattle.value.specs.declared.Fault.the-variants as fault
@@ -23,12 +23,11 @@ use Rattle.syntax.specs.Grammar.{Is-unary, is-minus, is-not, is-flip}
 use Rattle.syntax.specs.Code.{code-exp, i-index, i-len, i-unary, i-binary, i-otherwise, i-choice}
 use Rattle.entries.specs.Items as items
 use Rattle.phrases.specs.Phrases.{height, Proper}
-use Rattle.phrases.proofs.Starts.{some-items}
 use Rattle.evaluating.specs.declared.Located.the-variants.{At, Astray}
 use Rattle.evaluating.specs.declared.Reached.the-variants.{Record, Unmade}
 use Rattle.evaluating.specs.declared.Node.{Node}
-use Rattle.evaluating.specs.declared.Node.the-variants.{Number, True, False, Plain, Index, Length, Unary, Lazy, Binary, Choice, Other}
-use Rattle.evaluating.specs.Variables.{variableOf, sizeOf, slotOf, elementOf, loadOf, madeOf, channelOf, lengthOf}
+use Rattle.evaluating.specs.declared.Node.the-variants.{Number, True, False, Plain, Index, Length, Unary, Lazy, Binary, Choice}
+use Rattle.evaluating.specs.Variables.{sizeOf, slotOf, elementOf, loadOf, madeOf, channelOf, lengthOf}
 use Rattle.evaluating.specs.Expressions.{nodeOf, truthOf, unaryBy, bothBy, lazyBy, choiceBy, startOf, plainOf, byNode, evalT, evalOf}
 use Rattle.meaning.specs.Eval.{Scene, elementBy, lengthBy, signBy, truth, orBy, andBy, joinBy, operateBy, chooseBy, eval}
 use Rattle.meaning.specs.Scenes.{numberAt, sceneOf, sizeIn, Stands, Meant, Named}

@@ -1,7 +1,7 @@
 -- What the expressions of a tree mean: document 01, "How it moves", "Values are signed 32-bit .. `&&`, `||` and the conditional evaluate only what they need", "Faults: zero divisor, shift
 -- outside 0 to 31, index out of range, a channel number that was never made ..", and "Within a statement work goes left to right in the text": both operands, the left one first, then the
 -- divisor or the shift count. Nothing here knows of tables; what names stand for is a scene.
-use Prim.Native.Nat.{ℕ, _<_}
+use Prim.Native.Nat.{ℕ}
 use mathlib.Core.Bool.{Bool}
 use lib.IntN.{ℤ, pos, negsuc}
 use lib.Dec.{eqb, ltb}

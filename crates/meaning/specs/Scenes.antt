@@ -1,6 +1,6 @@
 -- The scene that tables and a state make, and that an expression of a tree stands in the tables: docs/TABLES.md, the rows of items and of links.
 -- `t` are tables, `s` a state, p the number of the process; `decl` has for each name the item that declares it, and for `_pid` any item that is a name.
-use Prim.Native.Nat.{ℕ, suc, _+_, _-_, _≤_, max}
+use Prim.Native.Nat.{ℕ, _+_, _-_, _≤_}
 use mathlib.Core.Path.{_≡_}
 use mathlib.Core.List.{List}
 use mathlib.Core.Logic.{_⊎_}

@@ -1,10 +1,9 @@
 -- THE ENTRY THAT TAKES A STEP: where nothing else is refused, 11 is its answer exactly where the step that was asked for is not offered; and unless a step was taken, the state and the
 -- bytes are left as they were lent, after a refusal, a failed assertion or a fault. For any numbers and bytes.
-use Prim.Native.Nat.{ℕ, _<_}
-use mathlib.Core.Path.{_≡_, refl, sym, _∙_, ap, subst}
+use Prim.Native.Nat.{ℕ}
+use mathlib.Core.Path.{_≡_, refl, sym, _∙_, ap}
 use mathlib.Core.Bool.{Bool, true, false}
 use mathlib.Core.List.{List, []}
-use mathlib.Core.Logic.{_↔_}
 use native.Mathlib.Omega.{arith}
 use lib.IntN.{ℤ}
 use lib.Dec.{eqb}
@@ -18,8 +17,7 @@ use Rattle.offering.specs.declared.Walk.{Walk}
 use Rattle.offering.specs.declared.Walk.the-variants.{Found, Left}
 use Rattle.moving.specs.Moving.{stepAt}
 use Rattle.effects.specs.Effects.{takenOf}
-use Rattle.steps.specs.declared.Stepped.{Stepped}
-use Rattle.steps.specs.declared.Stepped.the-variants.{Took, Assert, Fault, Refused}
+use Rattle.steps.specs.declared.Stepped.the-variants.{Took, Refused}
 use Rattle.steps.specs.Entries.{Outcome, tookBy, refusedBy, tookAt, outcomeBy, stepRefusal, outcomeOf}
 use Rattle.executable.proofs.Steps.{step-kth, kth-step}
 use Rattle.taking.proofs.Taking.{failed-keeps, failed-silent}

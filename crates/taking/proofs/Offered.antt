@@ -1,6 +1,6 @@
 -- A STEP THAT IS OFFERED IS TAKEN: it is done, refuted or at fault, never idle, so that `steps::step` refuses none of them.
-use Prim.Native.Nat.{ℕ, zero, suc, _+_, _<_, _≤_}
-use mathlib.Core.Path.{_≡_, refl, sym, _∙_, ap, subst}
+use Prim.Native.Nat.{ℕ, suc}
+use mathlib.Core.Path.{_≡_, sym, subst}
 use mathlib.Core.Bool.{Bool, true, false}
 use mathlib.Core.List.{List}
 use native.Mathlib.Omega.{arith}
@@ -8,7 +8,7 @@ use lib.IntN.{ℤ, pos, negsuc}
 use Rattle.tables.specs.Access.{codeOf, linkOf}
 use Rattle.executing.specs.Executing.{isAlone, markOf}
 use Rattle.offering.specs.Offers.{firstOf, endOf}
-use Rattle.statements.specs.declared.Taken.the-variants.{Done, Refuted, Faulted, Idle}
+use Rattle.statements.specs.declared.Taken.the-variants.{Idle}
 use Rattle.statements.specs.Statements.{Result}
 use Rattle.effects.specs.Effects.{takenAs, takenOf}
 use Rattle.offering.specs.declared.Walk.the-variants.{Found}

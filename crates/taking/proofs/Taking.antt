@@ -1,9 +1,8 @@
 -- WHAT COMES OF A STEP: at any place, of any tables and state, a step is done, or the state stays what it was; and what is not done prints nothing.
-use Prim.Native.Nat.{ℕ, zero, suc, _+_}
-use mathlib.Core.Path.{_≡_, refl, sym, _∙_, ap, subst}
+use Prim.Native.Nat.{ℕ, _+_}
+use mathlib.Core.Path.{_≡_, refl, _∙_, ap}
 use mathlib.Core.Bool.{Bool, true, false}
 use mathlib.Core.List.{List, []}
-use native.Mathlib.Omega.{arith}
 use native.Mathlib.Decide.{ℕ-discrete}
 use lib.ListN.{replicate}
 use lib.IntN.{ℤ, pos, negsuc}
@@ -24,10 +23,9 @@ use Rattle.executing.specs.Executing.{isAlone, markOf, fitsOf, messageOf}
 use Rattle.messages.specs.declared.Gathered.{Gathered}
 use Rattle.messages.specs.declared.Gathered.the-variants.{Upto, Failed}
 use Rattle.messages.specs.Messages.{onValue, onPlace, gatherEnd, gatherList, aimEnd}
-use Rattle.statements.specs.declared.Taken.{Taken}
-use Rattle.statements.specs.declared.Taken.the-variants.{Done, Refuted, Faulted, Idle}
+use Rattle.statements.specs.declared.Taken.the-variants.{Done, Idle}
 use Rattle.statements.specs.Statements.{Result, fault, moved, onEnd, onChannel, passed, expressed, asserted, stepped, assigned, sent, receivedFrom, received, printed}
-use Rattle.effects.specs.Effects.{ran, setRunAt, setRan, targeted, takenAs, takenBy, takenOf}
+use Rattle.effects.specs.Effects.{ran, setRunAt, setRan, targeted, takenAs, takenOf}
 use Rattle.printing.specs.Printing.{unlessFailed, textOf, printedAt}
 use Rattle.taking.specs.Taking.{Comes, done, refuted, faulted, Ends, taken, idle}
 
