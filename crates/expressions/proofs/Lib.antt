@@ -5,3 +5,6 @@ pub mod Main
 pub mod Lookups
 pub mod Said
 pub mod Names
+pub mod Declared
+pub mod Operators
+pub mod Whole

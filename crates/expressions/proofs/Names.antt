@@ -38,19 +38,19 @@ use Rattle.expressions.proofs.Lookups.{lookup-most, lookup-further, loo
 use Rattle.expressions.proofs.Said.{first-said, first-code, home-same}
 
 -- ---- items that lie in a list from place k on
-abbrev Lies : List Item → ℕ → List Item → Type 0
+abbrev pub Lies : List Item → ℕ → List Item → Type 0
 Lies xs k [] = Unit {0}
 Lies xs k (x ∷ l) = (getD xs k i-plain ≡ x) × Lies xs (suc k) l
 
-lies-front : (xs : List Item) (k : ℕ) (x y : List Item) → Lies xs k (x ++ y) → Lies xs k x
+pub lies-front : (xs : List Item) (k : ℕ) (x y : List Item) → Lies xs k (x ++ y) → Lies xs k x
 lies-front xs k [] y h = tt
 lies-front xs k (a ∷ x) y h = (h .0, lies-front xs (suc k) x y (h .1))
 
-lies-back : (xs x y : List Item) (k j : ℕ) → j ≡ k + length x → Lies xs k (x ++ y) → Lies xs j y
+pub lies-back : (xs x y : List Item) (k j : ℕ) → j ≡ k + length x → Lies xs k (x ++ y) → Lies xs j y
 lies-back xs [] y k j e h = let q : k ≡ j = omega arith in subst (λ n. Lies xs n y) q h
 lies-back xs (a ∷ x) y k j e h = lies-back xs x y (suc k) j (omega arith) (h .1)
 
-lies-all : (xs l : List Item) (k : ℕ) → ((j : ℕ) → j < length l → getD xs (k + j) i-plain ≡ getD l j i-plain) → Lies xs k l
+pub lies-all : (xs l : List Item) (k : ℕ) → ((j : ℕ) → j < length l → getD xs (k + j) i-plain ≡ getD l j i-plain) → Lies xs k l
 lies-all xs [] k h = tt
 lies-all xs (x ∷ l) k h =
     let z : k ≡ k + 0 = omega arith in
@@ -64,7 +64,7 @@ low-code c e = go (ltb c 183) refl
     go true q = ltb-true c 183 q
     go false q = absurd (true-false (inv e ∙ mark-outside c (ltb-false c 183 q)))
 
-low-at : (cs : List ℕ) (l : List Item) (k j : ℕ) → all-inside l → At cs k l → k ≤ j → j < k + length l → getD cs j 0 < 183
+pub low-at : (cs : List ℕ) (l : List Item) (k j : ℕ) → all-inside l → At cs k l → k ≤ j → j < k + length l → getD cs j 0 < 183
 low-at cs [] k j a h b d = absurd (omega arith)
 low-at cs (x ∷ l) k j a h b d = go (ltb k j) refl (low-at cs l (suc k) j (a .1) (h .1))
   where
@@ -86,7 +86,7 @@ module _ (t : List ℕ) (a : Accepts t) where
 
   -- an expression stands from item i to before item i + n
   module _ (i n : ℕ) (end : i + n ≤ length C) (low : (x : ℕ) → i ≤ x → x < i + n → getD C x 0 < 183) where
-    abbrev meaning : Name → ℕ → ℕ
+    abbrev pub meaning : Name → ℕ → ℕ
     meaning w k = lookup C (saidAt t a) (homesAt t a) (getD (saidAt t a) (firstName w xs) 0) (insideOf C i) k
 
     -- the link of a reference, whose name is item k and whose last item is j
@@ -111,7 +111,7 @@ module _ (t : List ℕ) (a : Accepts t) where
     means-found w k b g l =
         lookup-further C (saidAt t a) (homesAt t a) i k b (λ y u z. low y u (omega arith)) (getD (saidAt t a) (firstName w xs) 0) (insideOf C i) l ∙ inv (rw (lt-ltb (meaning w i) i l))
 
-    means-none : (w : Name) (k : ℕ) → i ≤ k → k < i + n → (meantAt t a i w < i → ⊥) → meaning w k ≡ k
+    pub means-none : (w : Name) (k : ℕ) → i ≤ k → k < i + n → (meantAt t a i w < i → ⊥) → meaning w k ≡ k
     unfolding meantAt
     means-none w k b g l = lookup-none C (saidAt t a) (homesAt t a) i k b (λ y u z. low y u (omega arith)) (getD (saidAt t a) (firstName w xs) 0) (insideOf C i) l
 
