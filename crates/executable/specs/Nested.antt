@@ -4,7 +4,7 @@ use Prim.Native.Nat.{ℕ, _+_, _<_, _≤_}
 use mathlib.Core.Path.{_≡_}
 use mathlib.Core.Bool.{true}
 use mathlib.Core.List.{List, [], _∷_}
-use Rattle.tables.specs.Access.{codeOf, linkOf}
+use Rattle.tables.specs.Access.{itemsOf, codeOf, linkOf}
 use Rattle.offering.specs.Offers.{isSelection, firstOf}
 
 -- item i opens a selection or an option, and links to what closes it
@@ -12,13 +12,15 @@ pub data Opens (t : List ℕ) (i : ℕ) : Type 0 where
   selection : isSelection t i ≡ true → Opens t i
   option : codeOf t i ≡ 208 → Opens t i
 
+-- of the items that the tables have
 pub record Nested (t : List ℕ) : Type 0 where
   -- what opens inside of something closes inside of it
-  pub inside : (i j : ℕ) → Opens t i → Opens t j → i < j → j < linkOf t i → linkOf t j < linkOf t i
+  pub inside : (i j : ℕ) → i < itemsOf t → Opens t i → Opens t j → i < j → j < linkOf t i → linkOf t j < linkOf t i
   -- an option holds its first statement
-  pub first : (o : ℕ) → codeOf t o ≡ 208 → firstOf t o < linkOf t o
-  -- a model has at most 8,192 items
-  pub few : (i : ℕ) → Opens t i → linkOf t i ≤ 8192
+  pub first : (o : ℕ) → o < itemsOf t → codeOf t o ≡ 208 → firstOf t o < linkOf t o
+  -- what opens closes
+  pub closed : (i : ℕ) → i < itemsOf t → Opens t i → linkOf t i < itemsOf t
+  pub few : itemsOf t ≤ 8192
 
 -- from `low` on, each above the one before it
 pub data Ascends : ℕ → List ℕ → Type 0 where
