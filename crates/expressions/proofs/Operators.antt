@@ -117,11 +117,11 @@ unary-is o k = go (either-true (eqb o 15) (either (eqb o 19) (eqb o 20)) (known-
     go (inr e) = last (either-true (eqb o 19) (eqb o 20) e)
 
 -- ---- expressions
-known-front : (x y : List Item) → AllKnown (x ++ y) → AllKnown x
+pub known-front : (x y : List Item) → AllKnown (x ++ y) → AllKnown x
 known-front [] y k = tt
 known-front (a ∷ x) y k = (k .0, known-front x y (k .1))
 
-known-back : (x y : List Item) → AllKnown (x ++ y) → AllKnown y
+pub known-back : (x y : List Item) → AllKnown (x ++ y) → AllKnown y
 known-back [] y k = k
 known-back (a ∷ x) y k = known-back x y (k .1)
 
