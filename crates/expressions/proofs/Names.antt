@@ -90,7 +90,7 @@ module _ (t : List ℕ) (a : Accepts t) where
     meaning w k = lookup C (saidAt t a) (homesAt t a) (getD (saidAt t a) (firstName w xs) 0) (insideOf C i) k
 
     -- the link of a reference, whose name is item k and whose last item is j
-    link-means : (w : Name) (r : Exp reference) (k j c : ℕ) → Proper r → At C k (code-exp r) → i ≤ k → j + 1 ≡ k + length (code-exp r) → j < i + n → getD xs k i-plain ≡ i-name w
+    pub link-means : (w : Name) (r : Exp reference) (k j c : ℕ) → Proper r → At C k (code-exp r) → i ≤ k → j + 1 ≡ k + length (code-exp r) → j < i + n → getD xs k i-plain ≡ i-name w
         → getD C j 0 ≡ c → classOf c ≡ 1 → linkOf (U t a) j ≡ meaning w k
     link-means w r k j c p h b q g e d one =
         let s = some-items r in
@@ -106,7 +106,7 @@ module _ (t : List ℕ) (a : Accepts t) where
         ∙ (let m = lookup-most C v o i k b (λ y u z. low y u (omega arith)) (getD v (firstName w xs) 0) (insideOf C i) k in let y : min 4294967295 (meaning w k) ≡ meaning w k = omega (arith, codes-few t a) in y)
 
     -- declared before, or not at all
-    means-found : (w : Name) (k : ℕ) → i ≤ k → k < i + n → meantAt t a i w < i → meaning w k ≡ declAt t a i w
+    pub means-found : (w : Name) (k : ℕ) → i ≤ k → k < i + n → meantAt t a i w < i → meaning w k ≡ declAt t a i w
     unfolding meantAt declAt
     means-found w k b g l =
         lookup-further C (saidAt t a) (homesAt t a) i k b (λ y u z. low y u (omega arith)) (getD (saidAt t a) (firstName w xs) 0) (insideOf C i) l ∙ inv (rw (lt-ltb (meaning w i) i l))

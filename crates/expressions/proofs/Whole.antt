@@ -65,25 +65,26 @@ module _ (t : List ℕ) (a : Accepts t) {s : Shape} (e : Exp s) (front rest : Li
         (lies-all (code (a .tree)) (code-exp e) (length front) (λ j g. ap (λ (y : List Item). getD y (length front + j) i-plain) within ∙ getD-append-add front (code-exp e ++ rest) j i-plain ∙ List·getD-append (code-exp e) rest i-plain j g))
         h (omega arith) (omega arith)
 
-module _ (t : List ℕ) (a : Accepts t) {s : Shape} (e : Exp s) (front : List Item) (x : Item) (rest : List Item) (within : code (a .tree) ≡ front ++ (code-exp e ++ x ∷ rest)) (closes : Closes x) where
+module _ (t : List ℕ) (a : Accepts t) {s : Shape} (e : Exp s) (front : List Item) (x : Item) (rest : List Item) (within : code (a .tree) ≡ front ++ (code-exp e ++ x ∷ rest)) where
   -- the mark stands behind it
-  mark-at : getD (codesAt t a) (length front + sizeIn e) 0 ≡ items.codeOf x
+  pub mark-at : getD (codesAt t a) (length front + sizeIn e) 0 ≡ items.codeOf x
   mark-at =
       code-of t a (length front + sizeIn e) (omega (arith, ap length within, length-append front (code-exp e ++ x ∷ rest), length-append (code-exp e) (x ∷ rest)))
       ∙ ap items.codeOf (ap (λ (y : List Item). getD y (length front + sizeIn e) i-plain) within ∙ getD-append-add front (code-exp e ++ x ∷ rest) (sizeIn e) i-plain ∙ getD-append-seam (code-exp e) x rest i-plain)
 
-  pub text-height : height e ≤ 32
-  text-height =
-      let C = codesAt t a in
-      let j = length front + sizeIn e in
-      let p = text-proper t a e front (x ∷ rest) within in
-      let n = long t a e front (x ∷ rest) within in
-      let some = some-items e in
-      low-enough (heightsOf C (startsOf C blank) blank) j (height e)
-      (phrase-heights C blank blank e p (length front) (j - 1) (stands-at t a e front (x ∷ rest) within p) (codes-few t a) (omega (arith, codes-few t a, length-replicate 8192 zero))
-      (omega (arith, codes-few t a, length-replicate 8192 zero)) (omega arith) (omega arith))
-      (inv (height-rule C (saidAt t a) (homesAt t a) (startsOf C blank) (heightsOf C (startsOf C blank) blank) j x mark-at closes) ∙ no-fault t a j (omega arith))
+  module _ (closes : Closes x) where
+    pub text-height : height e ≤ 32
+    text-height =
+        let C = codesAt t a in
+        let j = length front + sizeIn e in
+        let p = text-proper t a e front (x ∷ rest) within in
+        let n = long t a e front (x ∷ rest) within in
+        let some = some-items e in
+        low-enough (heightsOf C (startsOf C blank) blank) j (height e)
+        (phrase-heights C blank blank e p (length front) (j - 1) (stands-at t a e front (x ∷ rest) within p) (codes-few t a) (omega (arith, codes-few t a, length-replicate 8192 zero))
+        (omega (arith, codes-few t a, length-replicate 8192 zero)) (omega arith) (omega arith))
+        (inv (height-rule C (saidAt t a) (homesAt t a) (startsOf C blank) (heightsOf C (startsOf C blank) blank) j x mark-at closes) ∙ no-fault t a j (omega arith))
 
-  pub text-evaluates : (st : List ℤ) (pid : ℕ) → evalOf (tablesText t) st pid (length front) (length front + sizeIn e) ≡ eval (sceneOf (tablesText t) st pid (declAt t a (length front))) e
-  text-evaluates st pid =
-      text-means t a e front (x ∷ rest) within (text-proper t a e front (x ∷ rest) within) st pid (text-arrays t a e front (x ∷ rest) within) text-height
+    pub text-evaluates : (st : List ℤ) (pid : ℕ) → evalOf (tablesText t) st pid (length front) (length front + sizeIn e) ≡ eval (sceneOf (tablesText t) st pid (declAt t a (length front))) e
+    text-evaluates st pid =
+        text-means t a e front (x ∷ rest) within (text-proper t a e front (x ∷ rest) within) st pid (text-arrays t a e front (x ∷ rest) within) text-height

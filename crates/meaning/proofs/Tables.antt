@@ -18,7 +18,7 @@ use Rattle.value.specs.Operators.{isTrue, oneIf}
 use Rattle.value.specs.declared.Fault.the-variants as fault
 use Rattle.value.specs.declared.Answer.{Answer}
 use Rattle.value.specs.declared.Answer.the-variants.{Value, Fails}
-use Rattle.syntax.specs.Tree.{Name, Shape, Exp, plain, indexed, num, tru, fls, get, len, unary, binary, choice}
+use Rattle.syntax.specs.Tree.{Name, Shape, Exp, Ref, plain, indexed, num, tru, fls, get, len, unary, binary, choice}
 use Rattle.syntax.specs.Grammar.{Is-unary, is-minus, is-not, is-flip}
 use Rattle.syntax.specs.Code.{code-exp, i-index, i-len, i-unary, i-binary, i-otherwise, i-choice}
 use Rattle.entries.specs.Items as items
@@ -27,10 +27,10 @@ use Rattle.evaluating.specs.declared.Located.the-variants.{At, Astray}
 use Rattle.evaluating.specs.declared.Reached.the-variants.{Record, Unmade}
 use Rattle.evaluating.specs.declared.Node.{Node}
 use Rattle.evaluating.specs.declared.Node.the-variants.{Number, True, False, Plain, Index, Length, Unary, Lazy, Binary, Choice}
-use Rattle.evaluating.specs.Variables.{sizeOf, slotOf, elementOf, loadOf, madeOf, channelOf, lengthOf}
-use Rattle.evaluating.specs.Expressions.{nodeOf, truthOf, unaryBy, bothBy, lazyBy, choiceBy, startOf, plainOf, byNode, evalT, evalOf}
+use Rattle.evaluating.specs.Variables.{variableOf, sizeOf, slotOf, elementOf, loadOf, madeOf, channelOf, lengthOf}
+use Rattle.evaluating.specs.Expressions.{nodeOf, truthOf, unaryBy, bothBy, lazyBy, choiceBy, startOf, plainOf, byNode, evalT, evalOf, locateOf}
 use Rattle.meaning.specs.Eval.{Scene, elementBy, lengthBy, signBy, truth, orBy, andBy, joinBy, operateBy, chooseBy, eval}
-use Rattle.meaning.specs.Scenes.{numberAt, sceneOf, sizeIn, Stands, Meant, Named}
+use Rattle.meaning.specs.Scenes.{numberAt, sceneOf, sizeIn, Stands, Meant, Named, locate, Linked}
 
 -- ---- what an item is, by its code
 node-number : nodeOf 71 ≡ Number
@@ -257,3 +257,22 @@ module _ (t : List ℕ) (s : List ℤ) (p : ℕ) (decl : Name → ℕ) where
   -- "expression height 32"
   pub eval-is : {k : Shape} (e : Exp k) (i to : ℕ) → Proper e → Stands t e i → Named t decl e i → height e ≤ 32 → to ≡ i + sizeIn e → evalOf t s p i to ≡ eval scene e
   eval-is e i to r z n g q = ap (evalOf t s p i) q ∙ eval-tables e i i 32 r z n (omega arith) g
+
+  -- ---- references
+  locate-element : (from to j : ℕ) → to - 1 ≡ j → codeOf t j ≡ 177 → locateOf t s p from to ≡ elementOf (variableOf t j) p (evalOf t s p from j)
+  unfolding locateOf
+  locate-element from to j q e = rw (q, e)
+
+  locate-plain : (from to j : ℕ) → to - 1 ≡ j → codeOf t j ≡ 176 → locateOf t s p from to ≡ At (slotOf (variableOf t j) p 0)
+  unfolding locateOf
+  locate-plain from to j q e = rw (q, e)
+
+  pub locate-is : (r : Ref) (i to : ℕ) → Proper r → Stands t r i → Named t decl r i → Linked t decl r i → height r ≤ 32 → to ≡ i + sizeIn r → locateOf t s p i to ≡ locate t s p decl r
+  unfolding locate Linked Stands Named
+  locate-is (plain w) i to r z n l g q = locate-plain i to (i + 1) (omega arith) z ∙ ap (λ d. At (slotOf (linkOf t d) p 0)) l
+  locate-is (indexed w e) i to r z n l g q =
+      let m = sizeIn e in
+      let y : length (code-exp e ++ i-index ∷ []) ≡ m + 1 = length-append (code-exp e) (i-index ∷ []) in
+      let j = i + 1 + m in
+      locate-element i to j (omega arith) (z .1) ∙ ap (λ d. elementOf (linkOf t d) p (evalOf t s p i j)) l
+      ∙ ap (elementOf (linkOf t (decl w)) p) (eval-tables e (i + 1) i 32 r (z .0) (n .0) (omega arith) (omega arith))

@@ -10,11 +10,13 @@ use lib.Dec.{eqb}
 use Rattle.base.specs.Choice.{pick}
 use Rattle.tables.specs.Access.{codeOf, linkOf, numberOf}
 use Rattle.frames.specs.Layout.{nat, kept, cellOf, waitingOf}
-use Rattle.syntax.specs.Tree.{Name, Shape, Exp, plain, indexed, num, tru, fls, get, len, unary, binary, choice}
+use Rattle.syntax.specs.Tree.{Name, Shape, Exp, Ref, plain, indexed, num, tru, fls, get, len, unary, binary, choice}
 use Rattle.syntax.specs.Code.{code-exp, i-unary, i-binary}
 use Rattle.entries.specs.Items as items
-use Rattle.evaluating.specs.Variables.{sizeOf, slotOf, madeOf}
-use Rattle.meaning.specs.Eval.{Scene}
+use Rattle.evaluating.specs.declared.Located.{Located}
+use Rattle.evaluating.specs.declared.Located.the-variants.{At}
+use Rattle.evaluating.specs.Variables.{sizeOf, slotOf, madeOf, elementOf}
+use Rattle.meaning.specs.Eval.{Scene, eval}
 
 -- a plain reference to declaration d: the number of an mtype name (220), `_pid` (its own name, 70), or a variable
 unfoldable pub numberAt : List ℕ → List ℤ → ℕ → ℕ → ℤ
@@ -66,3 +68,14 @@ Named t decl (len r) i = Named t decl r i
 Named t decl (unary o e) i = Named t decl e i
 Named t decl (binary o a b) i = Named t decl a i × Named t decl b (i + sizeIn a)
 Named t decl (choice a b c) i = Named t decl a i × Named t decl b (i + sizeIn a) × Named t decl c (i + sizeIn a + sizeIn b + 1)
+
+-- ## references: targets, channel operands, received variables
+-- where a reference stands in the state: "target indices are worked out", and must be in range
+unfoldable pub locate : List ℕ → List ℤ → ℕ → (Name → ℕ) → Ref → Located
+locate t s p decl (plain w) = At (slotOf (linkOf t (decl w)) p 0)
+locate t s p decl (indexed w e) = elementOf (linkOf t (decl w)) p (eval (sceneOf t s p decl) e)
+
+-- it links to the declaration of its name
+unfoldable pub Linked : List ℕ → (Name → ℕ) → Ref → ℕ → Type 0
+Linked t decl (plain w) i = linkOf t (i + 1) ≡ decl w
+Linked t decl (indexed w e) i = linkOf t (i + 1 + sizeIn e) ≡ decl w
