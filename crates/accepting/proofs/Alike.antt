@@ -102,7 +102,7 @@ module _ (t : List ℕ) (ps : List Placed) (e : reading t ≡ tokens ps) where
     holds c b h (inl r) = (r .2, r .3 ∙ h, token-at (r .1) (r .2) (r .3) ∙ ap (λ (z : ℕ). held (tokenOf z (partOf t (getD ps (place-of v) nowhere)))) h)
     holds c b h (inr r) = absurd (omega (arith, r .0))
 
-    name-says : symbol-of v ≡ 70 → Right ps (symbol-of v) (place-of v) → spelled t ss es (place-of v) ≡ entryOf (read (tokensIn t ps) v) .bytes
+    pub name-says : symbol-of v ≡ 70 → Right ps (symbol-of v) (place-of v) → spelled t (map Placed.start ps) (map Placed.end ps) (place-of v) ≡ entryOf (read (tokensIn t ps) v) .bytes
     name-says h r = let (l, q, i) = holds 70 (omega arith) h r in spelling (place-of v) l ∙ inv (ap (λ (z : Item). entryOf z .bytes) i)
 
     number-says : symbol-of v ≡ 71 → Right ps (symbol-of v) (place-of v) → decimal (spelled t ss es (place-of v)) ≡ entryOf (read (tokensIn t ps) v) .value

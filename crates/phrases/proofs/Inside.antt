@@ -14,7 +14,7 @@ use Rattle.syntax.specs.Code.{Item, i-name, i-number, i-type, i-plain, i-index,
 use Rattle.entries.specs.Items.{codeOf}
 use Rattle.phrases.specs.Phrases.{Proper, At, inExpression}
 
-abbrev all-inside : List Item → Type 0
+abbrev pub all-inside : List Item → Type 0
 all-inside [] = Unit {0}
 all-inside (x ∷ l) = (inExpression (codeOf x) ≡ true) × all-inside l
 

@@ -1,0 +1,4 @@
+pub mod Executable
+pub mod Offered
+pub mod Nested
+pub mod Verdicts

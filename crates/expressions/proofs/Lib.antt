@@ -1,0 +1,11 @@
+pub mod Codes
+pub mod Starts
+pub mod Items
+pub mod Main
+pub mod Lookups
+pub mod Said
+pub mod Names
+pub mod Declared
+pub mod Operators
+pub mod Whole
+pub mod Targets

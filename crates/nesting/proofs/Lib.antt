@@ -1,0 +1,5 @@
+pub mod Skips
+pub mod Matches
+pub mod Begun
+pub mod Trees
+pub mod Main

@@ -1,0 +1,3 @@
+pub mod Taking
+pub mod Offered
+pub mod Aims
