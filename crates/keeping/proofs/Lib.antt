@@ -1,0 +1,9 @@
+pub mod Cells
+pub mod Parts
+pub mod Uses
+pub mod Stores
+pub mod Moves
+pub mod Fills
+pub mod Made
+pub mod Sends
+pub mod Receives
