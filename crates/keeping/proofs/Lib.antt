@@ -7,3 +7,8 @@ pub mod Fills
 pub mod Made
 pub mod Sends
 pub mod Receives
+pub mod Declared
+pub mod Begun
+pub mod Entered
+pub mod Processes
+pub mod Initial
