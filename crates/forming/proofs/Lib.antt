@@ -1,0 +1,6 @@
+pub mod Passes
+pub mod Phrases
+pub mod Statements
+pub mod Units
+pub mod Scans
+pub mod Spans
