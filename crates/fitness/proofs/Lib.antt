@@ -1,2 +1,4 @@
 pub mod Tables
 pub mod Links
+pub mod Known
+pub mod Units

@@ -7,9 +7,8 @@ use native.Mathlib.Decide.{ℕ-discrete}
 use lib.ListN.{length, getD, set, replicate, length-set, length-replicate}
 use lib.Seq.{getD-set-same, getD-set-other}
 use borrow.Author.Tests.{le-ltb}
-use Rattle.sheets.specs.Homes.{homesOf}
-use Rattle.sheets.specs.Spans.{startsOf}
 use Rattle.links.specs.Links.{classOf, linkBy, linkAt, filledBack, linksOf}
+use Rattle.fitness.specs.Facts.{homes, starts, linksIn}
 
 module _ (cs vs hs ss : List ℕ) where
   back-keeps : (n : ℕ) (l : List ℕ) (k : ℕ) → n ≤ k → getD (filledBack cs vs hs ss n l) k 0 ≡ getD l k 0
@@ -36,16 +35,6 @@ module _ (cs vs hs ss : List ℕ) where
           getD′ : List ℕ → ℕ → ℕ
           getD′ y j = getD y j 0
       go (no d) r = r (omega arith)
-
--- bodies and starts, as the links see them
-abbrev pub homes : List ℕ → List ℕ
-homes cs = homesOf cs (replicate 8192 0)
-
-abbrev pub starts : List ℕ → List ℕ
-starts cs = startsOf cs (replicate 8192 0)
-
-abbrev pub linksIn : List ℕ → List ℕ → List ℕ
-linksIn cs vs = linksOf cs vs (replicate 8192 0)
 
 pub link-is : (cs vs : List ℕ) (k : ℕ) → length cs ≤ 8192 → k < length cs
     → (m : List ℕ) × (getD (linksIn cs vs) k 0 ≡ min 4294967295 (linkBy cs vs (homes cs) (starts cs) (classOf (getD cs k 0)) m k)) × ((i : ℕ) → k < i → getD m i 0 ≡ getD (linksIn cs vs) i 0)

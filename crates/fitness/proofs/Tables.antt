@@ -59,16 +59,16 @@ few-items cs vs e = go (ltb 8192 (length cs)) refl (anyPassed cs vs (homesOf cs 
     go false h x q = ltb-false 8192 (length cs) h
 
 module _ (t : List ℕ) (a : Accepts t) where
-  abbrev ss : List ℕ
+  abbrev pub ss : List ℕ
   ss = map Placed.start (a .parts)
 
-  abbrev es : List ℕ
+  abbrev pub es : List ℕ
   es = map Placed.end (a .parts)
 
   abbrev pub codesAt : List ℕ
   codesAt = map symbol-of (a .numbers)
 
-  abbrev ks : List ℕ
+  abbrev pub ks : List ℕ
   ks = map place-of (a .numbers)
 
   abbrev pub saidAt : List ℕ
@@ -77,7 +77,7 @@ module _ (t : List ℕ) (a : Accepts t) where
   few : length codesAt ≤ 8192
   few = few-items codesAt saidAt (a .within)
 
-  entries-are : entriesOf t ss es codesAt ks ≡ entriesIn (a .tree)
+  pub entries-are : entriesOf t ss es codesAt ks ≡ entriesIn (a .tree)
   entries-are =
       rw (← no-more ss, ← no-more es, ← no-more ks) (accepted-entries t (a .parts) (a .tree) (a .reads) (a .gram) [] [] [] symbol-of place-of (a .numbers)
       (machine-right (a .parts) (a .numbers) (reading-exact t (a .parts) .0 (a .reads) .2) (parsed-done (map Placed.kind (a .parts)) (a .numbers) (a .written))) (a .coded))
@@ -89,15 +89,15 @@ module _ (t : List ℕ) (a : Accepts t) where
   unfolding tablesAt tablesFrom
   tables-are = rw (a .reads, a .written)
 
-  entries-length : length (entriesOf t ss es codesAt ks) ≡ length codesAt
+  pub entries-length : length (entriesOf t ss es codesAt ks) ≡ length codesAt
   unfolding entriesOf
   entries-length = runs-length (entryAt t ss es codesAt ks) 0 (min 8192 (length codesAt)) ∙ (let f = few in let e : min 8192 (length codesAt) ≡ length codesAt = omega arith in e)
 
-  entry-is : (i : ℕ) → i < length codesAt → getD (entriesOf t ss es codesAt ks) i nothing ≡ entryAt t ss es codesAt ks i
+  pub entry-is : (i : ℕ) → i < length codesAt → getD (entriesOf t ss es codesAt ks) i nothing ≡ entryAt t ss es codesAt ks i
   unfolding entriesOf
   entry-is i h = let f = few in runs-at (entryAt t ss es codesAt ks) 0 (min 8192 (length codesAt)) i (omega arith) ∙ ap (entryAt t ss es codesAt ks) (let e : 0 + i ≡ i = omega arith in e)
 
-  entry-code : (i : ℕ) → entryAt t ss es codesAt ks i .code ≡ getD codesAt i 0
+  pub entry-code : (i : ℕ) → entryAt t ss es codesAt ks i .code ≡ getD codesAt i 0
   unfolding entryAt
   entry-code i = refl
 
