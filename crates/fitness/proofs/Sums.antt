@@ -1,0 +1,31 @@
+-- Sums over items: of a part, and of nothing.
+use Prim.Native.Nat.{ℕ, zero, suc, _+_, _-_, _≤_, _<_}
+use mathlib.Core.Path.{_≡_, refl, sym, ap, subst, _∙_}
+use native.Mathlib.Omega.{arith}
+use native.Mathlib.Decide.{ℕ-discrete}
+use Rattle.sheets.specs.Walks.{sum}
+
+module _ (f : ℕ → ℕ) where
+  -- the last of them apart
+  pub sum-last : (n i : ℕ) → sum f i (suc n) ≡ sum f i n + f (i + n)
+  unfolding sum
+  sum-last zero i = let e : f i ≡ f (i + 0) = ap f (let z : i ≡ i + 0 = omega arith in z) in omega arith
+  sum-last (suc n) i = let e = sum-last n (i + 1) in let g : f (i + 1 + n) ≡ f (i + suc n) = ap f (let z : i + 1 + n ≡ i + suc n = omega arith in z) in omega arith
+
+  pub sum-grows : (k n i : ℕ) → sum f i n ≤ sum f i (n + k)
+  sum-grows zero n i = let e : sum f i n ≡ sum f i (n + 0) = ap (sum f i) (let z : n ≡ n + 0 = omega arith in z) in omega arith
+  sum-grows (suc k) n i =
+      let e = sum-grows k n i in
+      let g = sum-last (n + k) i in
+      let h : sum f i (n + suc k) ≡ sum f i (suc (n + k)) = ap (sum f i) (let z : n + suc k ≡ suc (n + k) = omega arith in z) in
+      omega arith
+
+  pub sum-part : (a b : ℕ) → a ≤ b → sum f 0 a ≤ sum f 0 b
+  sum-part a b h = subst (λ n. sum f 0 a ≤ sum f 0 n) (let z : a + (b - a) ≡ b = omega arith in z) (sum-grows (b - a) a 0)
+
+  pub sum-next : (d : ℕ) → sum f 0 (d + 1) ≡ sum f 0 d + f d
+  sum-next d = ap (sum f 0) (let z : d + 1 ≡ suc d = omega arith in z) ∙ sum-last d 0 ∙ ap (λ k. sum f 0 d + f k) (let z : 0 + d ≡ d = omega arith in z)
+
+  -- a sum of nothing is of nothings
+  pub sum-none : (n j : ℕ) → sum f 0 n ≤ 0 → j < n → f j ≡ 0
+  sum-none n j e h = let g = sum-next j in let k = sum-part (j + 1) n (omega arith) in omega arith
