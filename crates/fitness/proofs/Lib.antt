@@ -5,3 +5,6 @@ pub mod Units
 pub mod Homes
 pub mod Sums
 pub mod Variables
+pub mod Firsts
+pub mod Marks
+pub mod Items

@@ -4,3 +4,4 @@ pub mod Statements
 pub mod Units
 pub mod Scans
 pub mod Spans
+pub mod Nears
