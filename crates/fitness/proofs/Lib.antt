@@ -8,3 +8,4 @@ pub mod Variables
 pub mod Firsts
 pub mod Marks
 pub mod Items
+pub mod Follows
