@@ -47,7 +47,7 @@ close-class c e = go (either-true (eqb c 205) (eqb c 207) e)
     go (inl x) = rw (eqb-true c 205 x)
     go (inr x) = rw (eqb-true c 207 x)
 
-loop-class : (c : ℕ) → isClosing 1 c ≡ true → Steps c
+pub loop-class : (c : ℕ) → isClosing 1 c ≡ true → Steps c
 unfolding isClosing classOf
 loop-class c e = rw (eqb-true c 207 e)
 
@@ -67,7 +67,7 @@ unfolding isAlone
 alone-do = refl
 
 module _ (t cs vs : List ℕ) (H : Held t cs vs (linksIn cs vs)) (K : Facts cs vs) (u : ℕ) (n : Unit t u) where
-  abbrev e : ℕ
+  abbrev pub e : ℕ
   e = linkOf t u
 
   next-link : (m : List ℕ) (j : ℕ) → classOf (getD cs j 0) ≡ 7 → linkBy cs vs (homes cs) (starts cs) (classOf (getD cs j 0)) m j ≡ nextFrom cs m (j + 1)
@@ -86,7 +86,7 @@ module _ (t cs vs : List ℕ) (H : Held t cs vs (linksIn cs vs)) (K : Facts cs v
   unfolding nextFrom pastOption
   next-option m k z = rw (eq-eqb (getD cs k 0) 209 z)
 
-  closed-end : (e < length cs) × (getD cs e 0 ≡ 228)
+  pub closed-end : (e < length cs) × (getD cs e 0 ≡ 228)
   closed-end = let s = span-of t cs vs H K u n .closed in (s .1, s .2)
 
   stop-small : (k : ℕ) → Stop t u k → k ≤ e
@@ -94,10 +94,10 @@ module _ (t cs vs : List ℕ) (H : Held t cs vs (linksIn cs vs)) (K : Facts cs v
   stop-small k (inr z) = let y = z .1 in omega arith
 
   -- what the link of a closing item is, where the place behind it is one of the unit
-  unfoldable Linked : ℕ → Type 0
+  unfoldable pub Linked : ℕ → Type 0
   Linked i = (q : List ℕ) × ((getD (linksIn cs vs) i 0 ≡ min 4294967295 (linkBy cs vs (homes cs) (starts cs) (classOf (getD cs i 0)) q i)) × Stop t u (nextFrom cs q (i + 1)))
 
-  linked-stop : (i : ℕ) → Linked i → classOf (getD cs i 0) ≡ 7 → Stop t u (getD (linksIn cs vs) i 0)
+  pub linked-stop : (i : ℕ) → Linked i → classOf (getD cs i 0) ≡ 7 → Stop t u (getD (linksIn cs vs) i 0)
   unfolding Linked
   linked-stop i q c =
       let k = nextFrom cs (q .0) (i + 1) in
@@ -157,11 +157,11 @@ module _ (t cs vs : List ℕ) (H : Held t cs vs (linksIn cs vs)) (K : Facts cs v
           (past-stop (j + 1) (omega arith) (omega arith) z m (subst (Stop t u) (sym (l (closeOf cs 0 (j + 1)) (omega arith))) (linked-stop (closeOf cs 0 (j + 1)) (r (closeOf cs 0 (j + 1)) (omega arith) (c .1) (omega arith)) (c .2))))
 
   -- the place that follows an item of the unit
-  linked-at : (i : ℕ) → u < i → i < e → Linked i
+  pub linked-at : (i : ℕ) → u < i → i < e → Linked i
   unfolding Linked
   linked-at i a b = let h = unit-there t cs vs H K u i n (a, b) in let r = link-is cs vs i (K .few) h in (r .0, (r .1, follow (e - i) i a b (omega arith) (r .0) (r .2)))
 
-  next-stop : (i : ℕ) → Inside t u i → classOf (getD cs i 0) ≡ 7 → Stop t u (linkOf t i)
+  pub next-stop : (i : ℕ) → Inside t u i → classOf (getD cs i 0) ≡ 7 → Stop t u (linkOf t i)
   next-stop i h c = subst (Stop t u) (sym (H .links i (unit-there t cs vs H K u i n h))) (linked-stop i (linked-at i (h .0) (h .1)) c)
 
   -- ---- selections

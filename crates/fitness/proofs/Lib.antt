@@ -9,3 +9,4 @@ pub mod Firsts
 pub mod Marks
 pub mod Items
 pub mod Follows
+pub mod Jumps

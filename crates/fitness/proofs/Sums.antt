@@ -6,6 +6,10 @@ use native.Mathlib.Decide.{ℕ-discrete}
 use Rattle.sheets.specs.Walks.{sum}
 
 module _ (f : ℕ → ℕ) where
+  sum-nothing : sum f 0 0 ≡ 0
+  unfolding sum
+  sum-nothing = refl
+
   -- the last of them apart
   pub sum-last : (n i : ℕ) → sum f i (suc n) ≡ sum f i n + f (i + n)
   unfolding sum
@@ -29,3 +33,7 @@ module _ (f : ℕ → ℕ) where
   -- a sum of nothing is of nothings
   pub sum-none : (n j : ℕ) → sum f 0 n ≤ 0 → j < n → f j ≡ 0
   sum-none n j e h = let g = sum-next j in let k = sum-part (j + 1) n (omega arith) in omega arith
+
+  pub sum-zero : (n : ℕ) → ((j : ℕ) → j < n → f j ≡ 0) → sum f 0 n ≡ 0
+  sum-zero zero h = sum-nothing
+  sum-zero (suc n) h = let a = sum-last n 0 in let b = sum-zero n (λ j g. h j (omega arith)) in let c : f (0 + n) ≡ 0 = ap f (let z : 0 + n ≡ n = omega arith in z) ∙ h n (omega arith) in omega arith
