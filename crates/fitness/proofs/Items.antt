@@ -132,7 +132,7 @@ module _ (t cs vs : List ℕ) (H : Held t cs vs (linksIn cs vs)) (K : Facts cs v
       let g = item-there cs (globalOf cs vs (homes cs) (m - 1)) (getD cs (globalOf cs vs (homes cs) (m - 1)) 0) (omega arith) refl in
       let f = K .few in
       let z : linkOf t m ≡ globalOf cs vs (homes cs) (m - 1)
-              = H .links m h ∙ l .1 ∙ ap (min 4294967295) (run-link (l .0) m v) ∙ (let y : min 4294967295 (globalOf cs vs (homes cs) (m - 1)) ≡ globalOf cs vs (homes cs) (m - 1) = omega arith in y) in
+      = H .links m h ∙ l .1 ∙ ap (min 4294967295) (run-link (l .0) m v) ∙ (let y : min 4294967295 (globalOf cs vs (homes cs) (m - 1)) ≡ globalOf cs vs (homes cs) (m - 1) = omega arith in y) in
       let w = H .codes (globalOf cs vs (homes cs) (m - 1)) g in
       let k = H .items in
       subst (Unit t) (sym z) (omega arith, omega arith, omega arith)
@@ -214,8 +214,10 @@ module _ (t cs vs : List ℕ) (H : Held t cs vs (linksIn cs vs)) (K : Facts cs v
     where
       h : q < length cs
       h = unit-there t cs vs H K u q n i
+
       lead-end : (k : ℕ) → isLead (codeOf t k) ≡ true → codeOf t k ≡ 228 → ⊥
       lead-end k a b = true-false (sym (sym (ap isLead b) ∙ a) ∙ no-lead)
+
       go : (b : Bool) → executing.isAlone (codeOf t q) ≡ b → Inside t u (executing.markOf t q)
       go true a = subst (Inside t u) (sym (mark-own q a)) i
       go false a =
@@ -244,7 +246,7 @@ module _ (t cs vs : List ℕ) (H : Held t cs vs (linksIn cs vs)) (K : Facts cs v
       let z = s .1 in
       let f = mark-first t cs vs H K m in
       let aim : formAt cs (suc m + (markOf cs m - suc m)) .aim ≡ true
-                = aim-stays cs (K .formed) (markOf cs m - suc m) (suc m) (aim-next cs m ∙ aimed-target (getD cs m 0) (formAt cs m .aim) c) (λ j a b. parted (getD cs j 0) (part-says (getD cs j 0) (f .before j (omega arith) (omega arith)))) in
+      = aim-stays cs (K .formed) (markOf cs m - suc m) (suc m) (aim-next cs m ∙ aimed-target (getD cs m 0) (formAt cs m .aim) c) (λ j a b. parted (getD cs j 0) (part-says (getD cs j 0) (f .before j (omega arith) (omega arith)))) in
       let aim2 : formAt cs (markOf cs m) .aim ≡ true = ap (λ j. formAt cs j .aim) (let y : markOf cs m ≡ suc m + (markOf cs m - suc m) = omega arith in y) ∙ aim in
       let d = said cs (K .formed) (markOf cs m) (omega arith) .aimed (marked (getD cs (markOf cs m) 0) (f .holds (omega arith))) aim2 in
       let g = which (getD cs (markOf cs m) 0) d in
@@ -258,9 +260,11 @@ module _ (t cs vs : List ℕ) (H : Held t cs vs (linksIn cs vs)) (K : Facts cs v
           go : (eqb c 191 ≡ true) ⊎ (eqb c 203 ≡ true) → (c ≡ 191) ⊎ (c ≡ 203)
           go (inl x) = inl (eqb-true c 191 x)
           go (inr x) = inr (eqb-true c 203 x)
+
       neither : {c : ℕ} → (c ≡ 191) ⊎ (c ≡ 203) → c ≡ 228 → ⊥
       neither (inl x) y = omega arith
       neither (inr x) y = omega arith
+
       other : {a c : ℕ} → a ≡ c → (c ≡ 191) ⊎ (c ≡ 203) → (a ≡ 191) ⊎ (a ≡ 203)
       other q (inl x) = inl (q ∙ x)
       other q (inr x) = inr (q ∙ x)

@@ -83,9 +83,11 @@ goes-class c e = go (either-true (either (eqb c 187) (eqb c 189)) (either (withi
     first-two : (eqb c 187 ≡ true) ⊎ (eqb c 189 ≡ true) → Goes c
     first-two (inl x) = inl (rw (eqb-true c 187 x))
     first-two (inr x) = inl (rw (eqb-true c 189 x))
+
     ranges : (within 191 193 c ≡ true) ⊎ (within 196 201 c ≡ true) → Goes c
     ranges (inl x) = let b = both-true (leb 191 c) (leb c 193) x in let p = leb-true 191 c (b .0) in let q = leb-true c 193 (b .1) in by-codes Goes 191 3 goes-stores c p (omega arith)
     ranges (inr x) = let b = both-true (leb 196 c) (leb c 201) x in let p = leb-true 196 c (b .0) in let q = leb-true c 201 (b .1) in by-codes Goes 196 6 goes-plain c p (omega arith)
+
     go : (either (eqb c 187) (eqb c 189) ≡ true) ⊎ (either (within 191 193 c) (within 196 201 c) ≡ true) → Goes c
     go (inl x) = first-two (either-true (eqb c 187) (eqb c 189) x)
     go (inr x) = ranges (either-true (within 191 193 c) (within 196 201 c) x)
@@ -138,6 +140,7 @@ module _ (t cs vs : List ℕ) (H : Held t cs vs (linksIn cs vs)) (K : Facts cs v
     where
       b : u < length cs
       b = span-of t cs vs H K u n .before
+
       go : (a : Bool) → among set (getD cs i 0) ≡ a → (c : Bool) → eqb (getD hs i 0) (u + 1) ≡ c → pick {A = ℕ} a (pick c 1 0) 0 ≡ 0
       go false x c y = refl
       go true x false y = refl
@@ -158,8 +161,10 @@ module _ (t cs vs : List ℕ) (H : Held t cs vs (linksIn cs vs)) (K : Facts cs v
     where
       a : one cs hs 7 (u + 1) i ≡ pick (eqb (getD cs i 0) 206) 1 0
       a = one-own 7 i e
+
       b : one cs hs 8 (u + 1) i ≡ pick (eqb (getD cs i 0) 207) 1 0
       b = one-own 8 i e
+
       go : Dec (getD cs i 0 ≡ 206) → Dec (getD cs i 0 ≡ 207) → formAt cs (suc i) .loops + one cs hs 8 (u + 1) i ≡ formAt cs i .loops + one cs hs 7 (u + 1) i
       go (yes x) y =
           let w : formAt cs (suc i) .loops ≡ formAt cs i .loops + 1 = loops-next cs i ∙ rw x in

@@ -10,3 +10,4 @@ pub mod Marks
 pub mod Items
 pub mod Follows
 pub mod Jumps
+pub mod Options

@@ -56,10 +56,12 @@ leaf-class c e f = go (ℕ-discrete c 70) (ℕ-discrete c 71) (ℕ-discrete c 17
   where
     no-join : joins c ≡ true → ⊥
     no-join j = true-false (sym j ∙ f)
+
     last : (c ≡ 178 → ⊥) → (c ≡ 179 → ⊥) → (176 ≤ c) × (c ≤ 182) → Dec (c ≡ 176) → Dec (c ≡ 177) → ⊥
     last n m b (yes x) y = no-join (joined-ref c (omega arith) (omega arith))
     last n m b (no x) (yes y) = no-join (joined-ref c (omega arith) (omega arith))
     last n m b (no x) (no y) = let p = b .0 in let q = b .1 in no-join (joined-last c (omega arith) (omega arith))
+
     none : (c ≡ 70 → ⊥) → (c ≡ 71 → ⊥) → (c ≡ 178 → ⊥) → (c ≡ 179 → ⊥) → (within 70 71 c ≡ true) ⊎ (either (within 147 167 c) (within 176 182 c) ≡ true) → ⊥
     none n m o p (inl x) = let b = within-true 70 71 c x in let y = b .0 in let z = b .1 in omega arith
     none n m o p (inr x) = more (either-true (within 147 167 c) (within 176 182 c) x)
@@ -67,6 +69,7 @@ leaf-class c e f = go (ℕ-discrete c 70) (ℕ-discrete c 71) (ℕ-discrete c 17
         more : (within 147 167 c ≡ true) ⊎ (within 176 182 c ≡ true) → ⊥
         more (inl y) = let b = within-true 147 167 c y in no-join (joined-part c (b .0) (b .1))
         more (inr y) = last o p (within-true 176 182 c y) (ℕ-discrete c 176) (ℕ-discrete c 177)
+
     go : Dec (c ≡ 70) → Dec (c ≡ 71) → Dec (c ≡ 178) → Dec (c ≡ 179) → classOf c ≡ 5
     go (yes z) b g d = rw z
     go (no a) (yes z) g d = rw z
@@ -152,6 +155,7 @@ module _ (t cs vs : List ℕ) (H : Held t cs vs (linksIn cs vs)) (K : Facts cs v
     where
       h : q < length cs
       h = let a = span-of t cs vs H K u n .closed .1 in let b = i .1 in omega arith
+
       go : (a b : Bool) → isAlone (getD cs q 0) ≡ a → isPart (getD cs q 0) ≡ b → pick a true (pick b (both (isMark (getD cs (q - 1) 0)) (isLead (getD cs (markOf cs q) 0))) false) ≡ true
           → pick (isAlone (codeOf t q)) true (pick (isPart (codeOf t q)) (both (isMark (codeOf t (q - 1))) (isLead (codeOf t (linkOf t q)))) false) ≡ true
       go true b x y z = rw (H .codes q h, x)

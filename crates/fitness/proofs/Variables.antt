@@ -94,7 +94,6 @@ item-there cs j c h e = go (decLt j (length cs))
 
 -- ---- the size of an array
 module _ (cs vs : List ℕ) (K : Facts cs vs) where
-
   size-rule : (j : ℕ) → j < length cs → getD cs j 0 ≡ 213 → (0 < getD vs (j - 1) 0) × (getD vs (j - 1) 0 ≤ 32)
   unfolding ruleOf badBy badSize
   size-rule j h e = go (ltb 0 (getD vs (j - 1) 0)) (leb (getD vs (j - 1) 0) 32) refl refl (sym (ap (λ c. badBy cs vs (homes cs) (starts cs) (heights cs) (ruleOf c) j) e) ∙ K .ruled j h)

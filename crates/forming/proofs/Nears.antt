@@ -3,18 +3,64 @@ use Prim.Native.Nat.{ℕ, zero, suc, _+_, _-_, _≤_, _<_}
 use mathlib.Core.Path.{_≡_, refl, sym, ap, subst, _∙_}
 use mathlib.Core.Bool.{Bool, true, false, not}
 use mathlib.Core.List.{List}
+use mathlib.Core.Logic.{_⊎_, inl, inr}
 use native.Mathlib.Omega.{arith}
 use native.Mathlib.Decide.{ℕ-discrete}
 use lib.ListN.{length, getD}
-use lib.Dec.{eqb, ltb}
-use borrow.Author.Tests.{eqb-true, eq-eqb, ne-eqb}
+use lib.Dec.{eqb, ltb, leb}
+use borrow.Author.Tests.{eqb-true, eq-eqb, ne-eqb, leb-true}
 use Rattle.base.specs.Choice.{pick, both, either}
-use Rattle.base.proofs.Tests.{both-true, true-false}
+use Rattle.base.proofs.Tests.{both-true, either-true, true-false}
 use Rattle.finding.specs.Sets.{within}
 use Rattle.forming.specs.Forms.{Form, isPart, joins, refers, opens, fresh, step, formAt, Formed}
 use Rattle.forming.proofs.Spans.{said}
 
+-- a part opens no arguments and ends none; in a statement's first phrase it is more of it
+part-most : (c : ℕ) → isPart c ≡ true → c ≤ 182
+part-most c e = go (either-true (within 70 71 c) (either (within 147 167 c) (within 176 182 c)) e)
+  where
+    go : (within 70 71 c ≡ true) ⊎ (either (within 147 167 c) (within 176 182 c) ≡ true) → c ≤ 182
+    go (inl x) = let y = leb-true c 71 (both-true (leb 70 c) (leb c 71) x .1) in omega arith
+    go (inr x) = on (either-true (within 147 167 c) (within 176 182 c) x)
+      where
+        on : (within 147 167 c ≡ true) ⊎ (within 176 182 c ≡ true) → c ≤ 182
+        on (inl y) = let z = leb-true c 167 (both-true (leb 147 c) (leb c 167) y .1) in omega arith
+        on (inr y) = leb-true c 182 (both-true (leb 176 c) (leb c 182) y .1)
+
+part-opens : (c : ℕ) → isPart c ≡ true → opens c ≡ false
+part-opens c e = go (opens c) refl
+  where
+    other : (eqb c 72 ≡ true) ⊎ (either (within 194 195 c) (within 202 203 c) ≡ true) → ⊥
+    other (inl x) = true-false (sym e ∙ rw (eqb-true c 72 x))
+    other (inr x) = on (either-true (within 194 195 c) (within 202 203 c) x)
+      where
+        on : (within 194 195 c ≡ true) ⊎ (within 202 203 c ≡ true) → ⊥
+        on (inl y) = let z = leb-true 194 c (both-true (leb 194 c) (leb c 195) y .0) in let w = part-most c e in omega arith
+        on (inr y) = let z = leb-true 202 c (both-true (leb 202 c) (leb c 203) y .0) in let w = part-most c e in omega arith
+
+    go : (b : Bool) → opens c ≡ b → b ≡ false
+    go true x = absurd (other (either-true (eqb c 72) (either (within 194 195 c) (within 202 203 c)) x))
+    go false x = refl
+
+part-args : (c : ℕ) (a : Bool) → isPart c ≡ true → pick (opens c) true (pick (eqb c 187) false a) ≡ a
+part-args c a e = rw (part-opens c e, ne-eqb c 187 (λ z. true-false (sym e ∙ rw z)))
+
+part-stage : (c g : ℕ) → isPart c ≡ true → g ≡ 4 → pick {A = ℕ} (eqb c 208) 1 (pick (eqb c 188) 2 (pick (isPart c) (pick (eqb g 1) (pick (eqb c 70) 3 4) (pick (eqb g 0) 0 4)) 0)) ≡ 4
+part-stage c g e z = rw (ne-eqb c 208 (λ y. true-false (sym e ∙ rw y)), ne-eqb c 188 (λ y. true-false (sym e ∙ rw y)), e, z)
+
+left-holds : (a b : Bool) → a ≡ true → either a b ≡ true
+left-holds true b e = refl
+left-holds false b e = absurd (true-false (sym e))
+
+right-holds : (a b : Bool) → b ≡ true → either a b ≡ true
+right-holds true b e = refl
+right-holds false b e = e
+
 module _ (cs : List ℕ) where
+  pub stage-next : (j : ℕ) → formAt cs (suc j) .stage ≡ pick (eqb (getD cs j 0) 208) 1 (pick (eqb (getD cs j 0) 188) 2 (pick (isPart (getD cs j 0)) (pick (eqb (formAt cs j .stage) 1) (pick (eqb (getD cs j 0) 70) 3 4) (pick (eqb (formAt cs j .stage) 0) 0 4)) 0))
+  unfolding formAt step
+  stage-next j = refl
+
   pub part-next : (j : ℕ) → formAt cs (suc j) .part ≡ isPart (getD cs j 0)
   unfolding formAt step
   part-next j = refl
@@ -64,8 +110,8 @@ module _ (cs : List ℕ) where
   module _ (F : Formed cs) where
     -- an operator, `plain` or `index` stands behind a part
     pub before-part : (j : ℕ) → j < length cs → joins (getD cs j 0) ≡ true → (i : ℕ) × (j ≡ suc i) × (isPart (getD cs i 0) ≡ true)
-    before-part zero h e = absurd (true-false (sym (said cs F 0 h .joined e) ∙ first-part .0))
-    before-part (suc j) h e = (j, refl, sym (part-next j) ∙ said cs F (suc j) h .joined e)
+    before-part zero h e = absurd (true-false (sym (said cs F 0 h .joined (left-holds (joins (getD cs 0 0)) (eqb (getD cs 0 0) 188) e)) ∙ first-part .0))
+    before-part (suc j) h e = (j, refl, sym (part-next j) ∙ said cs F (suc j) h .joined (left-holds (joins (getD cs (suc j) 0)) (eqb (getD cs (suc j) 0) 188) e))
 
     -- a target, a channel of a message or what is received stands behind a reference
     pub before-ref : (j : ℕ) → j < length cs → refers (getD cs j 0) ≡ true → (i : ℕ) × (j ≡ suc i) × (within 176 177 (getD cs i 0) ≡ true)
@@ -82,3 +128,42 @@ module _ (cs : List ℕ) where
     aim-stays (suc n) j e h =
         ap (λ k. formAt cs k .aim) (let z : j + suc n ≡ suc j + n = omega arith in z)
         ∙ aim-stays n (suc j) (aim-next j ∙ rw (h j (omega arith) (omega arith)) e) (λ i a b. h i (omega arith) (omega arith))
+
+    -- a label stands behind its name
+    pub before-label : (j : ℕ) → j < length cs → getD cs j 0 ≡ 188 → formAt cs j .part ≡ true
+    before-label j h e = said cs F j h .joined (right-holds (joins (getD cs j 0)) (eqb (getD cs j 0) 188) (eq-eqb (getD cs j 0) 188 e))
+
+    -- no arguments go on before an option or a label
+    pub no-args : (j : ℕ) → j < length cs → (getD cs j 0 ≡ 208) ⊎ (getD cs j 0 ≡ 188) → formAt cs j .args ≡ false
+    no-args j h v = go (formAt cs j .args) refl
+      where
+        not-asked : (c : ℕ) (p : Bool) → (c ≡ 208) ⊎ (c ≡ 188) → pick (eqb c 187) (not p) (both (within 183 186 c) p) ≡ true → ⊥
+        not-asked c p (inl z) q = true-false (sym q ∙ rw z)
+        not-asked c p (inr z) q = true-false (sym q ∙ rw z)
+
+        mark : (c : ℕ) → (c ≡ 208) ⊎ (c ≡ 188) → isPart c ≡ false
+        mark c (inl z) = rw z
+        mark c (inr z) = rw z
+
+        go : (b : Bool) → formAt cs j .args ≡ b → b ≡ false
+        go true e = absurd (not-asked (getD cs j 0) (formAt cs j .part) v (said cs F j h .asked (mark (getD cs j 0) v) e))
+        go false e = refl
+
+    -- over parts, what goes on stays so
+    pub args-stays : (n j : ℕ) (b : Bool) → formAt cs j .args ≡ b → ((i : ℕ) → j ≤ i → i < j + n → isPart (getD cs i 0) ≡ true) → formAt cs (j + n) .args ≡ b
+    args-stays zero j b e h = ap (λ k. formAt cs k .args) (let z : j + 0 ≡ j = omega arith in z) ∙ e
+    args-stays (suc n) j b e h =
+        ap (λ k. formAt cs k .args) (let z : j + suc n ≡ suc j + n = omega arith in z)
+        ∙ args-stays n (suc j) b (args-next j ∙ part-args (getD cs j 0) (formAt cs j .args) (h j (omega arith) (omega arith)) ∙ e) (λ i p q. h i (omega arith) (omega arith))
+
+    pub aims-stays : (n j : ℕ) (b : Bool) → formAt cs j .aim ≡ b → ((i : ℕ) → j ≤ i → i < j + n → isPart (getD cs i 0) ≡ true) → formAt cs (j + n) .aim ≡ b
+    aims-stays zero j b e h = ap (λ k. formAt cs k .aim) (let z : j + 0 ≡ j = omega arith in z) ∙ e
+    aims-stays (suc n) j b e h =
+        ap (λ k. formAt cs k .aim) (let z : j + suc n ≡ suc j + n = omega arith in z)
+        ∙ aims-stays n (suc j) b (aim-next j ∙ rw (h j (omega arith) (omega arith)) e) (λ i p q. h i (omega arith) (omega arith))
+
+    pub stage-stays : (n j : ℕ) → formAt cs j .stage ≡ 4 → ((i : ℕ) → j ≤ i → i < j + n → isPart (getD cs i 0) ≡ true) → formAt cs (j + n) .stage ≡ 4
+    stage-stays zero j e h = ap (λ k. formAt cs k .stage) (let z : j + 0 ≡ j = omega arith in z) ∙ e
+    stage-stays (suc n) j e h =
+        ap (λ k. formAt cs k .stage) (let z : j + suc n ≡ suc j + n = omega arith in z)
+        ∙ stage-stays n (suc j) (stage-next j ∙ part-stage (getD cs j 0) (formAt cs j .stage) (h j (omega arith) (omega arith)) e) (λ i p q. h i (omega arith) (omega arith))

@@ -41,16 +41,21 @@ module _ (cs : List ℕ) (pair : ℕ) (D : ℕ → ℕ) (next : (k : ℕ) → D 
       where
         here : isClosing pair (getD cs k 0) ≡ true → d ≡ 1 → closeFrom cs pair k d (suc f) ≡ k
         here x y = close-go f k d ∙ rw (x, eq-eqb d 1 y)
+
         on : (b : Bool) → both (isClosing pair (getD cs k 0)) (eqb d 1) ≡ b → b ≡ false → closeFrom cs pair k d (suc f) ≡ closeFrom cs pair (k + 1) (deeper pair (getD cs k 0) d) f
         on b x y = close-go f k d ∙ rw (x, y)
+
         Res : ℕ → Type 0
         Res r = (k ≤ r) × (r < e) × (isClosing pair (getD cs r 0) ≡ true)
+
         later : closeFrom cs pair k d (suc f) ≡ closeFrom cs pair (k + 1) (deeper pair (getD cs k 0) d) f
             → (k + 1 ≤ closeFrom cs pair (k + 1) (deeper pair (getD cs k 0) d) f) × (closeFrom cs pair (k + 1) (deeper pair (getD cs k 0) d) f < e) × (isClosing pair (getD cs (closeFrom cs pair (k + 1) (deeper pair (getD cs k 0) d) f) 0) ≡ true)
             → Res (closeFrom cs pair k d (suc f))
         later x r = subst Res (sym x) (let y = r .0 in omega arith, r .1, r .2)
+
         D1 : D (k + 1) ≡ deeper pair (getD cs k 0) (D k)
         D1 = ap D (let w : k + 1 ≡ suc k = omega arith in w) ∙ next k
+
         go : Dec (k ≡ e) → (a o : Bool) → isClosing pair (getD cs k 0) ≡ a → isOpening pair (getD cs k 0) ≡ o → Dec (d ≡ 1)
             → (k + 1 ≤ e → 1 ≤ deeper pair (getD cs k 0) d → D (k + 1) ≡ b + deeper pair (getD cs k 0) d
             → (k + 1 ≤ closeFrom cs pair (k + 1) (deeper pair (getD cs k 0) d) f) × (closeFrom cs pair (k + 1) (deeper pair (getD cs k 0) d) f < e) × (isClosing pair (getD cs (closeFrom cs pair (k + 1) (deeper pair (getD cs k 0) d) f) 0) ≡ true))
@@ -161,16 +166,20 @@ module _ (cs : List ℕ) where
         where
           Res : ℕ → Type 0
           Res r = (u < r) × (r < suc k) × (isOpening 0 (getD cs r 0) ≡ true)
+
           Rec : Type 0
           Rec =
               suc u ≤ k → k ≤ length cs → 1 ≤ shallower (getD cs k 0) d → D k ≡ b + shallower (getD cs k 0) d
               → (u < openOf cs k (shallower (getD cs k 0) d)) × (openOf cs k (shallower (getD cs k 0) d) < k) × (isOpening 0 (getD cs (openOf cs k (shallower (getD cs k 0) d)) 0) ≡ true)
+
           on : (a : Bool) → both (isOpening 0 (getD cs k 0)) (eqb d 1) ≡ a → a ≡ false → openOf cs (suc k) d ≡ openOf cs k (shallower (getD cs k 0) d)
           on a x y = open-go k d ∙ rw (x, y)
+
           later : openOf cs (suc k) d ≡ openOf cs k (shallower (getD cs k 0) d)
               → (u < openOf cs k (shallower (getD cs k 0) d)) × (openOf cs k (shallower (getD cs k 0) d) < k) × (isOpening 0 (getD cs (openOf cs k (shallower (getD cs k 0) d)) 0) ≡ true)
               → Res (openOf cs (suc k) d)
           later x r = subst Res (sym x) (r .0, let y = r .1 in omega arith, r .2)
+
           go : Dec (k ≡ u) → (a o : Bool) → isClosing 0 (getD cs k 0) ≡ a → isOpening 0 (getD cs k 0) ≡ o → Dec (d ≡ 1) → Rec → Res (openOf cs (suc k) d)
           go (yes x) a o ea eo y r = absurd (let w : D (suc k) ≡ 0 = ap (λ i. D (suc i)) x ∙ start in omega arith)
           go (no x) true o ea eo y r =
@@ -205,9 +214,10 @@ module _ (cs : List ℕ) where
           go false e = refl
 
     same-counts : (j : ℕ) → isOpening 0 (getD cs j 0) ≡ false → isClosing 0 (getD cs j 0) ≡ false → (formAt cs (suc j) .depth ≡ formAt cs j .depth) × (formAt cs (suc j) .loops ≡ formAt cs j .loops)
-    same-counts j a b =
-        (depth-next j ∙ deeper-same cs 0 (λ k. formAt cs k .depth) depth-next (getD cs j 0) (formAt cs j .depth) a b,
-        loops-next j ∙ deeper-same cs 1 (λ k. formAt cs k .loops) loops-next (getD cs j 0) (formAt cs j .loops) (open-less (getD cs j 0) a) (close-less (getD cs j 0) b))
+    same-counts j a b = (
+      depth-next j ∙ deeper-same cs 0 (λ k. formAt cs k .depth) depth-next (getD cs j 0) (formAt cs j .depth) a b,
+      loops-next j ∙ deeper-same cs 1 (λ k. formAt cs k .loops) loops-next (getD cs j 0) (formAt cs j .loops) (open-less (getD cs j 0) a) (close-less (getD cs j 0) b),
+    )
 
     end-counts : (j : ℕ) → getD cs j 0 ≡ 228 → (isOpening 0 (getD cs j 0) ≡ false) × (isClosing 0 (getD cs j 0) ≡ false)
     unfolding isOpening isClosing
@@ -219,6 +229,7 @@ module _ (cs : List ℕ) where
       where
         keep : (isOpening 0 (getD cs j 0) ≡ false) → (isClosing 0 (getD cs j 0) ≡ false) → (formAt cs j .depth ≡ 0) × (formAt cs j .loops ≡ 0) → (formAt cs (suc j) .depth ≡ 0) × (formAt cs (suc j) .loops ≡ 0)
         keep a b r = let s = same-counts j a b in (s .0 ∙ r .0, s .1 ∙ r .1)
+
         go : Dec (getD cs j 0 ≡ 228) → Dec (getD cs j 0 ≡ 227) → (b : Bool) → begins (getD cs j 0) ≡ b → ((formAt cs j .zone ≡ 2 → ⊥) → (formAt cs j .depth ≡ 0) × (formAt cs j .loops ≡ 0))
             → (formAt cs (suc j) .depth ≡ 0) × (formAt cs (suc j) .loops ≡ 0)
         go (yes x) y b e r = let s = said cs F j (omega arith) .end x in let c = end-counts j x in keep (c .0) (c .1) (s .1, s .2)

@@ -29,7 +29,7 @@ pub record Says (s : Form) (c : ℕ) : Type 0 where
   pub end : c ≡ 228 → (s .zone ≡ 2) × (s .depth ≡ 0) × (s .loops ≡ 0)
   pub within : inner c ≡ true → s .zone ≡ 2
   pub parameter : c ≡ 222 → s .zone ≡ 1
-  pub joined : joins c ≡ true → s .part ≡ true
+  pub joined : either (joins c) (eqb c 188) ≡ true → s .part ≡ true
   pub referred : refers c ≡ true → s .ref ≡ true
   pub aimed : isPart c ≡ false → s .aim ≡ true → either (eqb c 191) (eqb c 203) ≡ true
   pub closing : either (eqb c 205) (either (eqb c 207) (eqb c 209)) ≡ true → 0 < s .depth
@@ -66,7 +66,7 @@ module _ (s : Form) (c : ℕ) (h : fits s c ≡ true) where
             (eqb-true (s .zone) 2 (r .0), eqb-true (s .depth) 0 (t .0), eqb-true (s .loops) 0 (t .1));
         within = λ z. eqb-true (s .zone) 2 (pick-says (inner c) (eqb (s .zone) 2) (e .0) z);
         parameter = λ z. eqb-true (s .zone) 1 (pick-says (eqb c 222) (eqb (s .zone) 1) (f .0) (eq-eqb c 222 z));
-        joined = λ z. pick-says (joins c) (s .part) (g .0) z;
+        joined = λ z. pick-says (either (joins c) (eqb c 188)) (s .part) (g .0) z;
         referred = λ z. pick-says (refers c) (s .ref) (i .0) z;
         aimed = λ z y. pick-says (s .aim) _ (pick-other (isPart c) _ (j .0) z) y;
         closing = λ z. ltb-true 0 (s .depth) (pick-says (either (eqb c 205) (either (eqb c 207) (eqb c 209))) (ltb 0 (s .depth)) (k .0) z);

@@ -83,8 +83,8 @@ fits s c =
     (both (pick (eqb c 228) (both (eqb (s .zone) 2) (both (eqb (s .depth) 0) (eqb (s .loops) 0))) true)
     (both (pick (inner c) (eqb (s .zone) 2) true)
     (both (pick (eqb c 222) (eqb (s .zone) 1) true)
-    -- phrases
-    (both (pick (joins c) (s .part) true)
+    -- phrases, and labels behind their names
+    (both (pick (either (joins c) (eqb c 188)) (s .part) true)
     (both (pick (refers c) (s .ref) true)
     -- behind a target an assignment or `v = run`
     (both (pick (isPart c) true (pick (s .aim) (either (eqb c 191) (eqb c 203)) true))
