@@ -11,3 +11,4 @@ pub mod Items
 pub mod Follows
 pub mod Jumps
 pub mod Options
+pub mod Whole
