@@ -94,12 +94,12 @@ marked c = go (forming.isPart c)
 
 module _ (t cs vs : List ℕ) (H : Held t cs vs (linksIn cs vs)) (K : Facts cs vs) where
   -- ---- runs
-  run-rule : (j : ℕ) → j < length cs → (getD cs j 0 ≡ 202) ⊎ (getD cs j 0 ≡ 203) → badRun cs vs (homes cs) j ≡ 0
+  pub run-rule : (j : ℕ) → j < length cs → (getD cs j 0 ≡ 202) ⊎ (getD cs j 0 ≡ 203) → badRun cs vs (homes cs) j ≡ 0
   unfolding ruleOf badBy
   run-rule j h (inl e) = sym (ap (λ c. badBy cs vs (homes cs) (starts cs) (heights cs) (ruleOf c) j) e) ∙ K .ruled j h
   run-rule j h (inr e) = sym (ap (λ c. badBy cs vs (homes cs) (starts cs) (heights cs) (ruleOf c) j) e) ∙ K .ruled j h
 
-  run-proctype : (j : ℕ) → badRun cs vs (homes cs) j ≡ 0 → among 13 (getD cs (globalOf cs vs (homes cs) (j - 1)) 0) ≡ true
+  pub run-proctype : (j : ℕ) → badRun cs vs (homes cs) j ≡ 0 → among 13 (getD cs (globalOf cs vs (homes cs) (j - 1)) 0) ≡ true
   unfolding badRun
   run-proctype j = go (ltb (find cs vs (homes cs) 1 (getD vs (j - 1) 0) (getD (homes cs) j 0) (j - 1)) (j - 1)) (among 13 (getD cs (globalOf cs vs (homes cs) (j - 1)) 0))
     where
@@ -108,7 +108,7 @@ module _ (t cs vs : List ℕ) (H : Held t cs vs (linksIn cs vs)) (K : Facts cs v
       go false true e = refl
       go false false e = absurd (omega arith)
 
-  proctype-code : (c : ℕ) → among 13 c ≡ true → (223 ≤ c) × (c ≤ 225)
+  pub proctype-code : (c : ℕ) → among 13 c ≡ true → (223 ≤ c) × (c ≤ 225)
   unfolding among
   proctype-code c e = let x = both-true (leb 223 c) (leb c 225) e in (leb-true 223 c (x .0), leb-true c 225 (x .1))
 

@@ -12,3 +12,4 @@ pub mod Follows
 pub mod Jumps
 pub mod Options
 pub mod Whole
+pub mod Arguments

@@ -50,7 +50,7 @@ joined-ref c h g = right-holds (within 147 167 c) _ (left-holds (within 176 177 
 joined-last : (c : ℕ) → 180 ≤ c → c ≤ 182 → joins c ≡ true
 joined-last c h g = right-holds (within 147 167 c) _ (right-holds (within 176 177 c) _ (within-holds 180 182 c h g))
 
-leaf-class : (c : ℕ) → isPart c ≡ true → joins c ≡ false → classOf c ≡ 5
+pub leaf-class : (c : ℕ) → isPart c ≡ true → joins c ≡ false → classOf c ≡ 5
 unfolding isPart classOf
 leaf-class c e f = go (ℕ-discrete c 70) (ℕ-discrete c 71) (ℕ-discrete c 178) (ℕ-discrete c 179)
   where

@@ -37,3 +37,30 @@ module _ (f : ℕ → ℕ) where
   pub sum-zero : (n : ℕ) → ((j : ℕ) → j < n → f j ≡ 0) → sum f 0 n ≡ 0
   sum-zero zero h = sum-nothing
   sum-zero (suc n) h = let a = sum-last n 0 in let b = sum-zero n (λ j g. h j (omega arith)) in let c : f (0 + n) ≡ 0 = ap f (let z : 0 + n ≡ n = omega arith in z) ∙ h n (omega arith) in omega arith
+
+  -- two parts
+  pub sum-split : (n m i : ℕ) → sum f i (n + m) ≡ sum f i n + sum f (i + n) m
+  unfolding sum
+  sum-split zero m i =
+      let a : sum f i (0 + m) ≡ sum f i m = ap (sum f i) (let z : 0 + m ≡ m = omega arith in z) in
+      let b : sum f (i + 0) m ≡ sum f i m = ap (λ k. sum f k m) (let z : i + 0 ≡ i = omega arith in z) in
+      omega arith
+  sum-split (suc n) m i =
+      let a : sum f i (suc n + m) ≡ f i + sum f (i + 1) (n + m) = ap (sum f i) (let z : suc n + m ≡ suc (n + m) = omega arith in z) in
+      let b = sum-split n m (i + 1) in
+      let c : sum f (i + 1 + n) m ≡ sum f (i + suc n) m = ap (λ k. sum f k m) (let z : i + 1 + n ≡ i + suc n = omega arith in z) in
+      omega arith
+
+  pub sum-one : (i n : ℕ) → sum f i (suc n) ≡ f i + sum f (i + 1) n
+  unfolding sum
+  sum-one i n = refl
+
+  pub sum-nones : (n i : ℕ) → ((j : ℕ) → i ≤ j → j < i + n → f j ≡ 0) → sum f i n ≡ 0
+  unfolding sum
+  sum-nones zero i h = refl
+  sum-nones (suc n) i h = let a = h i (omega arith) (omega arith) in let b = sum-nones n (i + 1) (λ j p q. h j (omega arith) (omega arith)) in omega arith
+
+pub sum-most : (f g : ℕ → ℕ) (n i : ℕ) → ((j : ℕ) → f j ≤ g j) → sum f i n ≤ sum g i n
+unfolding sum
+sum-most f g zero i h = omega arith
+sum-most f g (suc n) i h = let a = h i in let b = sum-most f g n (i + 1) h in omega arith

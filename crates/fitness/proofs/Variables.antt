@@ -41,6 +41,7 @@ module _ (cs vs hs : List ℕ) (e : anyPassed cs vs hs ≡ false) where
   pub record Within : Type 0 where
     pub globals : numbers cs vs hs 0 ≤ 64
     pub heavy : total cs vs hs 7 ≤ 0
+    pub wide : total cs vs hs 6 ≤ 0
     pub some : total cs vs hs 4 ≡ 0 → ⊥
     pub channels : total cs vs hs 5 ≤ 16
 
@@ -62,6 +63,7 @@ module _ (cs vs hs : List ℕ) (e : anyPassed cs vs hs ≡ false) where
       record {
         globals = ltb-false 64 (numbers cs vs hs 0) (c .1);
         heavy = ltb-false 0 (total cs vs hs 7) (f .0);
+        wide = ltb-false 0 (total cs vs hs 6) (f .1);
         some = λ z. true-false (sym (eq-eqb (total cs vs hs 4) 0 z) ∙ h .1);
         channels = ltb-false 16 (total cs vs hs 5) (g .1);
       }
@@ -104,7 +106,7 @@ module _ (cs vs : List ℕ) (K : Facts cs vs) where
       go false b p q z = absurd (omega arith)
 
   -- an array has the number that its declaration says, 1 to 32, and a scalar 1
-  size-is : (d : ℕ) → (1 ≤ sizeAt cs vs d) × (sizeAt cs vs d ≡ pick (isArray cs d) (getD vs (d + 1) 0) 1)
+  pub size-is : (d : ℕ) → (1 ≤ sizeAt cs vs d) × (sizeAt cs vs d ≡ pick (isArray cs d) (getD vs (d + 1) 0) 1)
   unfolding sizeAt isArray
   size-is d = go (eqb (getD cs (d + 1) 0) 71) (eqb (getD cs (d + 2) 0) 213) refl
     where

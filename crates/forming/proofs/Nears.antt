@@ -27,7 +27,7 @@ part-most c e = go (either-true (within 70 71 c) (either (within 147 167 c) (wit
         on (inl y) = let z = leb-true c 167 (both-true (leb 147 c) (leb c 167) y .1) in omega arith
         on (inr y) = leb-true c 182 (both-true (leb 176 c) (leb c 182) y .1)
 
-part-opens : (c : ℕ) → isPart c ≡ true → opens c ≡ false
+pub part-opens : (c : ℕ) → isPart c ≡ true → opens c ≡ false
 part-opens c e = go (opens c) refl
   where
     other : (eqb c 72 ≡ true) ⊎ (either (within 194 195 c) (within 202 203 c) ≡ true) → ⊥
