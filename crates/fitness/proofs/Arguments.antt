@@ -8,13 +8,13 @@ use native.Mathlib.Omega.{arith}
 use native.Mathlib.Decide.{ℕ-discrete, decLt}
 use lib.ListN.{length, getD}
 use lib.Dec.{eqb, ltb, leb}
-use borrow.Author.Tests.{eq-eqb, ne-eqb, eqb-true, ltb-false, leb-true}
+use borrow.Author.Tests.{eq-eqb, ne-eqb, eqb-true, ltb-false, lt-ltb, leb-true, le-leb}
 use Rattle.base.specs.Choice.{pick, both, either}
 use Rattle.base.proofs.Tests.{both-true, either-true, true-false}
 use Rattle.sheets.specs.Walks.{sum, after}
 use Rattle.finding.specs.Sets.{within, among}
 use Rattle.finding.specs.Search.{one, count, last, opener}
-use Rattle.rules.specs.Rules.{badCount, badEnd, ruleOf, badBy, bad}
+use Rattle.rules.specs.Rules.{isArray, globalOf, bodyOf, badRun, badPassing, badCount, badEnd, ruleOf, badBy, bad}
 use Rattle.tables.specs.Access.{codeOf, linkOf}
 use Rattle.places.specs.Places.{isPart, isMark, markOf}
 use Rattle.links.specs.Links.{classOf}
@@ -22,15 +22,16 @@ use Rattle.forming.specs.Forms.{formAt}
 use Rattle.forming.specs.Forms as forming
 use Rattle.forming.proofs.Spans.{said}
 use Rattle.forming.proofs.Nears.{part-opens, part-next, args-next, args-stays}
-use Rattle.keeping.specs.Well.{Unit, Inside, Arguments, ended, further}
+use Rattle.keeping.specs.Well.{Unit, Inside, opens, Arguments, ended, further}
 use Rattle.fitness.specs.Held.{Held}
 use Rattle.fitness.specs.Facts.{homes, starts, heights, linksIn, Facts}
 use Rattle.fitness.proofs.Units.{span-of}
 use Rattle.ceilings.specs.Ceilings.{numbersAt, numbers, wideAt, weight, total}
-use Rattle.fitness.proofs.Variables.{unit-home, unit-there, size-is, unit-numbers}
+use Rattle.fitness.proofs.Variables.{item-there, unit-home, unit-there, size-is, unit-numbers}
 use Rattle.fitness.proofs.Variables.{within as ceiling}
 use Rattle.fitness.proofs.Sums.{sum-split, sum-one, sum-nones, sum-none, sum-most}
 use Rattle.fitness.proofs.Firsts.{First}
+use Rattle.fitness.proofs.Items.{run-rule, run-proctype, proctype-code}
 use Rattle.fitness.proofs.Marks.{part-says, leaf-class, mark-first, mark-in, mark-is}
 
 same-part : (c : ℕ) → forming.isPart c ≡ isPart c
@@ -95,6 +96,64 @@ message-count : (cs vs hs : List ℕ) (o k : ℕ) → (getD cs o 0 ≡ 194) ⊎ 
 unfolding badCount
 message-count cs vs hs o k (inl z) = rw z
 message-count cs vs hs o k (inr z) = rw z
+
+run-count : (cs vs hs : List ℕ) (o k : ℕ) → (getD cs o 0 ≡ 202) ⊎ (getD cs o 0 ≡ 203) → badCount cs vs hs o k ≡ badPassing cs vs hs o k
+unfolding badCount
+run-count cs vs hs o k (inl z) = rw z
+run-count cs vs hs o k (inr z) = rw z
+
+-- as many as the proctype has parameters
+passing-says : (cs vs hs : List ℕ) (o k : ℕ) → badRun cs vs hs o ≡ 0 → badPassing cs vs hs o k ≡ 0 → k ≡ count cs hs 6 (bodyOf cs (globalOf cs vs hs (o - 1))) 0 (length cs)
+unfolding badPassing
+passing-says cs vs hs o k b e = go (eqb k (count cs hs 6 (bodyOf cs (globalOf cs vs hs (o - 1))) 0 (length cs))) refl (sym (ap (λ x. pick x (pick (eqb k (count cs hs 6 (bodyOf cs (globalOf cs vs hs (o - 1))) 0 (length cs))) 0 5) 0) (eq-eqb (badRun cs vs hs o) 0 b)) ∙ e)
+  where
+    go : (x : Bool) → eqb k (count cs hs 6 (bodyOf cs (globalOf cs vs hs (o - 1))) 0 (length cs)) ≡ x → pick {A = ℕ} x 0 5 ≡ 0 → k ≡ count cs hs 6 (bodyOf cs (globalOf cs vs hs (o - 1))) 0 (length cs)
+    go true z q = eqb-true k (count cs hs 6 (bodyOf cs (globalOf cs vs hs (o - 1))) 0 (length cs)) z
+    go false z q = absurd (omega arith)
+
+-- each parameter has a number
+parameter-number : (cs vs : List ℕ) (K : Facts cs vs) (h j : ℕ) → one cs (homes cs) 6 h j ≤ numbersAt cs vs (homes cs) h j
+unfolding one numbersAt among
+parameter-number cs vs K h j = go (ℕ-discrete (getD cs j 0) 222) (eqb (getD (homes cs) j 0) h)
+  where
+    go : Dec (getD cs j 0 ≡ 222) → (b : Bool)
+        → pick (eqb (getD cs j 0) 222) (pick b 1 0) 0 ≤ pick (either (eqb (getD cs j 0) 212) (eqb (getD cs j 0) 222)) (pick b (pick (isArray cs j) (getD vs (j + 1) 0) 1) 0) 0
+    go (no z) b = rw (ne-eqb (getD cs j 0) 222 z) (omega arith)
+    go (yes z) false = rw z (omega arith)
+    go (yes z) true = rw z (let s = size-is cs vs K j in let a = s .0 in let c = s .1 in omega arith)
+
+body-is : (cs : List ℕ) (g : ℕ) → g < length cs → bodyOf cs g ≡ g + 1
+unfolding bodyOf
+body-is cs g h = rw (lt-ltb g (length cs) h)
+
+unit-set : (c : ℕ) → 223 ≤ c → c ≤ 226 → among 15 c ≡ true
+unfolding among
+unit-set c a b = rw (le-leb 223 c a, le-leb c 226 b)
+
+parameters-few : (cs vs : List ℕ) (K : Facts cs vs) (g : ℕ) → g < length cs → 223 ≤ getD cs g 0 → getD cs g 0 ≤ 226 → count cs (homes cs) 6 (bodyOf cs g) 0 (length cs) ≤ 32
+unfolding count numbers
+parameters-few cs vs K g h a b =
+    let w = unit-numbers cs vs (homes cs) (K .ceiled) g h (unit-set (getD cs g 0) a b) in
+    let s = sum-most (one cs (homes cs) 6 (g + 1)) (numbersAt cs vs (homes cs) (g + 1)) (length cs) 0 (parameter-number cs vs K (g + 1)) in
+    let q : sum (one cs (homes cs) 6 (bodyOf cs g)) 0 (length cs - 0) ≡ sum (one cs (homes cs) 6 (g + 1)) 0 (length cs)
+            = ap (λ h. sum (one cs (homes cs) 6 h) 0 (length cs - 0)) (body-is cs g h) ∙ ap (sum (one cs (homes cs) 6 (g + 1)) 0) (let z : length cs - 0 ≡ length cs = omega arith in z) in
+    omega arith
+
+-- what begins arguments but for receive
+which : (c : ℕ) → opens c ≡ true → (c ≡ 72) ⊎ ((c ≡ 194) ⊎ ((c ≡ 202) ⊎ (c ≡ 203)))
+which c e = go (either-true (either (eqb c 72) (eqb c 194)) (within 202 203 c) e)
+  where
+    go : (either (eqb c 72) (eqb c 194) ≡ true) ⊎ (within 202 203 c ≡ true) → (c ≡ 72) ⊎ ((c ≡ 194) ⊎ ((c ≡ 202) ⊎ (c ≡ 203)))
+    go (inl x) = on (either-true (eqb c 72) (eqb c 194) x)
+      where
+        on : (eqb c 72 ≡ true) ⊎ (eqb c 194 ≡ true) → (c ≡ 72) ⊎ ((c ≡ 194) ⊎ ((c ≡ 202) ⊎ (c ≡ 203)))
+        on (inl y) = inl (eqb-true c 72 y)
+        on (inr y) = inr (inl (eqb-true c 194 y))
+    go (inr x) = on (ℕ-discrete c 202)
+      where
+        on : Dec (c ≡ 202) → (c ≡ 72) ⊎ ((c ≡ 194) ⊎ ((c ≡ 202) ⊎ (c ≡ 203)))
+        on (yes z) = inr (inr (inl z))
+        on (no z) = let b = both-true (leb 202 c) (leb c 203) x in inr (inr (inr (let p = leb-true 202 c (b .0) in let q = leb-true c 203 (b .1) in omega arith)))
 
 wide-is : (cs hs : List ℕ) (z : ℕ) → getD cs z 0 ≡ 187 → getD cs (opener cs z) 0 ≡ 72 → wideAt cs hs z ≡ pick (ltb 4 (count cs hs 5 (getD hs z 0) (opener cs z) z)) 1 0
 unfolding wideAt
@@ -338,9 +397,32 @@ module _ (t cs vs : List ℕ) (H : Held t cs vs (linksIn cs vs)) (K : Facts cs v
         go true z q = absurd (omega arith)
         go false z q = let w = ltb-false 4 (count cs hs 5 (getD hs (r .stop) 0) (opener cs (r .stop)) (r .stop)) z in let v = count-is in omega arith
 
+    run-few : (getD cs m 0 ≡ 202) ⊎ (getD cs m 0 ≡ 203) → k ≤ 32
+    run-few v =
+        let h = unit-there t cs vs H K u m n i in
+        let b = run-rule t cs vs H K m h v in
+        let p = proctype-code t cs vs H K (getD cs (globalOf cs vs hs (m - 1)) 0) (run-proctype t cs vs H K m b) in
+        let p0 = p .0 in
+        let p1 = p .1 in
+        let g = item-there cs (globalOf cs vs hs (m - 1)) (getD cs (globalOf cs vs hs (m - 1)) 0) (omega arith) refl in
+        let q = passing-says cs vs hs m k b (sym (run-count cs vs hs m k v) ∙ end-rule) in
+        let w = parameters-few cs vs K (globalOf cs vs hs (m - 1)) g p0 (omega arith) in
+        omega arith
+
   pub text-fields : (m : ℕ) → Inside t u m → codeOf t m ≡ 195 → Arguments t u 4 (m + 1)
   text-fields m i z =
       let c : getD cs m 0 ≡ 195 = sym (H .codes m (unit-there t cs vs H K u m n i)) ∙ z in
       let e : forming.opens (getD cs m 0) ≡ true = rw c in
       let r = run-of m i e in
       subst (Arguments t u 4) (let y : suc m ≡ m + 1 = omega arith in y) (more-room t u (sum marks (suc m) (r .stop - suc m)) 4 (suc m) (message-few m i e r (inr c)) (r .chain))
+
+  pub text-arguments : (m : ℕ) → Inside t u m → opens (codeOf t m) ≡ true → Arguments t u 32 (m + 1)
+  text-arguments m i z = go (which (getD cs m 0) (sym (ap opens (H .codes m (unit-there t cs vs H K u m n i))) ∙ z))
+    where
+      done : (e : forming.opens (getD cs m 0) ≡ true) → ((r : Run (suc m)) → sum marks (suc m) (r .stop - suc m) ≤ 32) → Arguments t u 32 (m + 1)
+      done e f = let r = run-of m i e in subst (Arguments t u 32) (let y : suc m ≡ m + 1 = omega arith in y) (more-room t u (sum marks (suc m) (r .stop - suc m)) 32 (suc m) (f r) (r .chain))
+      go : (getD cs m 0 ≡ 72) ⊎ ((getD cs m 0 ≡ 194) ⊎ ((getD cs m 0 ≡ 202) ⊎ (getD cs m 0 ≡ 203))) → Arguments t u 32 (m + 1)
+      go (inl c) = let e : forming.opens (getD cs m 0) ≡ true = rw c in done e (λ r. let w = print-few m i e r c in omega arith)
+      go (inr (inl c)) = let e : forming.opens (getD cs m 0) ≡ true = rw c in done e (λ r. let w = message-few m i e r (inl c) in omega arith)
+      go (inr (inr (inl c))) = let e : forming.opens (getD cs m 0) ≡ true = rw c in done e (λ r. run-few m i e r (inl c))
+      go (inr (inr (inr c))) = let e : forming.opens (getD cs m 0) ≡ true = rw c in done e (λ r. run-few m i e r (inr c))
