@@ -50,6 +50,7 @@ argument-opens c e = go (forming.opens c) refl
   where
     b : (183 ≤ c) × (c ≤ 186)
     b = let x = both-true (leb 183 c) (leb c 186) e in (leb-true 183 c (x .0), leb-true c 186 (x .1))
+
     other : (eqb c 72 ≡ true) ⊎ (either (within 194 195 c) (within 202 203 c) ≡ true) → ⊥
     other (inl x) = let y = eqb-true c 72 x in let z = b .0 in omega arith
     other (inr x) = on (either-true (within 194 195 c) (within 202 203 c) x)
@@ -57,6 +58,7 @@ argument-opens c e = go (forming.opens c) refl
         on : (within 194 195 c ≡ true) ⊎ (within 202 203 c ≡ true) → ⊥
         on (inl y) = let z = leb-true 194 c (both-true (leb 194 c) (leb c 195) y .0) in let w = b .1 in omega arith
         on (inr y) = let z = leb-true 202 c (both-true (leb 202 c) (leb c 203) y .0) in let w = b .1 in omega arith
+
     go : (b : Bool) → forming.opens c ≡ b → b ≡ false
     go true x = absurd (other (either-true (eqb c 72) (either (within 194 195 c) (within 202 203 c)) x))
     go false x = refl
@@ -72,6 +74,7 @@ part-none c e = go (within 183 186 c) refl
         on : (within 147 167 c ≡ true) ⊎ (within 176 182 c ≡ true) → c ≤ 182
         on (inl y) = let z = leb-true c 167 (both-true (leb 147 c) (leb c 167) y .1) in omega arith
         on (inr y) = leb-true c 182 (both-true (leb 176 c) (leb c 182) y .1)
+
     go : (b : Bool) → within 183 186 c ≡ b → b ≡ false
     go true x = absurd (let y = leb-true 183 c (both-true (leb 183 c) (leb c 186) x .0) in let z = most (either-true (within 70 71 c) (either (within 147 167 c) (within 176 182 c)) e) in omega arith)
     go false x = refl
@@ -136,7 +139,7 @@ parameters-few cs vs K g h a b =
     let w = unit-numbers cs vs (homes cs) (K .ceiled) g h (unit-set (getD cs g 0) a b) in
     let s = sum-most (one cs (homes cs) 6 (g + 1)) (numbersAt cs vs (homes cs) (g + 1)) (length cs) 0 (parameter-number cs vs K (g + 1)) in
     let q : sum (one cs (homes cs) 6 (bodyOf cs g)) 0 (length cs - 0) ≡ sum (one cs (homes cs) 6 (g + 1)) 0 (length cs)
-            = ap (λ h. sum (one cs (homes cs) 6 h) 0 (length cs - 0)) (body-is cs g h) ∙ ap (sum (one cs (homes cs) 6 (g + 1)) 0) (let z : length cs - 0 ≡ length cs = omega arith in z) in
+    = ap (λ h. sum (one cs (homes cs) 6 h) 0 (length cs - 0)) (body-is cs g h) ∙ ap (sum (one cs (homes cs) 6 (g + 1)) 0) (let z : length cs - 0 ≡ length cs = omega arith in z) in
     omega arith
 
 -- what begins arguments but for receive
@@ -421,6 +424,7 @@ module _ (t cs vs : List ℕ) (H : Held t cs vs (linksIn cs vs)) (K : Facts cs v
     where
       done : (e : forming.opens (getD cs m 0) ≡ true) → ((r : Run (suc m)) → sum marks (suc m) (r .stop - suc m) ≤ 32) → Arguments t u 32 (m + 1)
       done e f = let r = run-of m i e in subst (Arguments t u 32) (let y : suc m ≡ m + 1 = omega arith in y) (more-room t u (sum marks (suc m) (r .stop - suc m)) 32 (suc m) (f r) (r .chain))
+
       go : (getD cs m 0 ≡ 72) ⊎ ((getD cs m 0 ≡ 194) ⊎ ((getD cs m 0 ≡ 202) ⊎ (getD cs m 0 ≡ 203))) → Arguments t u 32 (m + 1)
       go (inl c) = let e : forming.opens (getD cs m 0) ≡ true = rw c in done e (λ r. let w = print-few m i e r c in omega arith)
       go (inr (inl c)) = let e : forming.opens (getD cs m 0) ≡ true = rw c in done e (λ r. let w = message-few m i e r (inl c) in omega arith)

@@ -13,3 +13,4 @@ pub mod Jumps
 pub mod Options
 pub mod Whole
 pub mod Arguments
+pub mod Channels

@@ -33,6 +33,8 @@ use Rattle.fitness.proofs.Items.{text-runs, text-capacities, text-bodie
 use Rattle.fitness.proofs.Follows.{text-selections}
 use Rattle.fitness.proofs.Jumps.{text-follows}
 use Rattle.fitness.proofs.Options.{text-options}
+use Rattle.fitness.proofs.Arguments.{text-arguments, text-fields}
+use Rattle.fitness.proofs.Channels.{text-made, text-made-inside}
 
 well-by : (t cs vs : List ℕ) → Held t cs vs (linksIn cs vs) → Facts cs vs → Left t → Well t
 well-by t cs vs H K l =
@@ -54,12 +56,12 @@ well-by t cs vs H K l =
       targets = text-targets t cs vs H K;
       stored = l .stored;
       received = l .received;
-      arguments = l .arguments;
-      fields = l .fields;
+      arguments = λ u m n. text-arguments t cs vs H K u n m;
+      fields = λ u m n. text-fields t cs vs H K u n m;
       runs = text-runs t cs vs H K;
       capacities = text-capacities t cs vs H K;
-      made = l .made;
-      made-inside = l .made-inside;
+      made = text-made t cs vs H K;
+      made-inside = text-made-inside t cs vs H K;
       channels-fit = l .channels-fit;
     }
 
