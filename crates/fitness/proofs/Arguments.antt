@@ -1,5 +1,5 @@
 -- Where the arguments of a statement end, and how many there are.
-use Prim.Native.Nat.{ℕ, zero, suc, _+_, _-_, _≤_, _<_, min}
+use Prim.Native.Nat.{ℕ, zero, suc, _+_, _-_, _≤_, _<_}
 use mathlib.Core.Path.{_≡_, refl, sym, ap, subst, _∙_}
 use mathlib.Core.Bool.{Bool, true, false, not}
 use mathlib.Core.List.{List}
@@ -14,10 +14,9 @@ use Rattle.base.proofs.Tests.{both-true, either-true, true-false}
 use Rattle.sheets.specs.Walks.{sum, after}
 use Rattle.finding.specs.Sets.{within, among}
 use Rattle.finding.specs.Search.{one, count, last, opener}
-use Rattle.rules.specs.Rules.{isArray, globalOf, bodyOf, badRun, badPassing, badCount, badEnd, ruleOf, badBy, bad}
+use Rattle.rules.specs.Rules.{isArray, globalOf, bodyOf, badRun, badPassing, badCount, badEnd, ruleOf, badBy}
 use Rattle.tables.specs.Access.{codeOf, linkOf}
 use Rattle.places.specs.Places.{isPart, isMark, markOf}
-use Rattle.links.specs.Links.{classOf}
 use Rattle.forming.specs.Forms.{formAt}
 use Rattle.forming.specs.Forms as forming
 use Rattle.forming.proofs.Spans.{said}

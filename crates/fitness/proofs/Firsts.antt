@@ -1,10 +1,9 @@
 -- The first item that passes a test.
-use Prim.Native.Nat.{ℕ, zero, suc, _+_, _-_, _≤_, _<_}
+use Prim.Native.Nat.{ℕ, zero, suc, _+_, _≤_, _<_}
 use mathlib.Core.Path.{_≡_, refl, sym, ap, subst, _∙_}
 use mathlib.Core.Bool.{Bool, true, false}
 use native.Mathlib.Omega.{arith}
 use native.Mathlib.Decide.{ℕ-discrete, decLt}
-use Rattle.base.specs.Choice.{pick}
 use Rattle.base.proofs.Tests.{true-false}
 use Rattle.sheets.specs.Walks.{first}
 

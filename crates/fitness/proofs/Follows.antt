@@ -1,38 +1,31 @@
 -- Where control goes on, and selections: places of the same unit.
 use Prim.Native.Nat.{ℕ, zero, suc, _+_, _-_, _≤_, _<_, min}
 use mathlib.Core.Path.{_≡_, refl, sym, ap, subst, _∙_}
-use mathlib.Core.Bool.{Bool, true, false}
+use mathlib.Core.Bool.{true}
 use mathlib.Core.List.{List}
 use mathlib.Core.Logic.{_⊎_, inl, inr}
 use native.Mathlib.Omega.{arith}
-use native.Mathlib.Decide.{ℕ-discrete, decLt}
+use native.Mathlib.Decide.{ℕ-discrete}
 use lib.ListN.{length, getD}
-use lib.Dec.{eqb, ltb, leb}
-use borrow.Author.Tests.{eq-eqb, ne-eqb, eqb-true, ltb-true, leb-true}
-use Rattle.base.specs.Choice.{pick, both, either}
-use Rattle.base.proofs.Tests.{both-true, either-true, true-false}
-use Rattle.sheets.specs.Walks.{first, sum}
-use Rattle.finding.specs.Sets.{within, among}
-use Rattle.finding.specs.Search.{declares, find, one, count}
-use Rattle.rules.specs.Rules.{badGoto, badBreak, ruleOf, badBy, bad}
-use Rattle.tables.specs.Access.{itemsOf, codeOf, linkOf}
-use Rattle.places.specs.Places.{isAlone, isOpening, isClosing, deeper, placeFrom, closeOf, openOf, pastOption, nextFrom, pastLoop}
+use lib.Dec.{eqb}
+use borrow.Author.Tests.{eq-eqb, ne-eqb, eqb-true}
+use Rattle.base.specs.Choice.{pick}
+use Rattle.base.proofs.Tests.{either-true}
+use Rattle.tables.specs.Access.{codeOf, linkOf}
+use Rattle.places.specs.Places.{isAlone, isOpening, isClosing, deeper, placeFrom, closeOf, openOf, pastOption, nextFrom}
 use Rattle.links.specs.Links.{classOf, linkBy}
 use Rattle.offering.specs.Offers.{isSelection}
 use Rattle.standing.specs.Standing.{placeAt}
 use Rattle.forming.specs.Forms.{formAt}
 use Rattle.forming.proofs.Spans.{said}
-use Rattle.forming.proofs.Nests.{depth-next, loops-next, opened, unit-start, select-closed, loop-closed}
-use Rattle.keeping.specs.Well.{Unit, Inside, Stop, goesOn}
+use Rattle.forming.proofs.Nests.{depth-next, opened, unit-start, select-closed}
+use Rattle.keeping.specs.Well.{Unit, Inside, Stop}
 use Rattle.fitness.specs.Held.{Held}
-use Rattle.fitness.specs.Facts.{homes, starts, heights, linksIn, Facts}
+use Rattle.fitness.specs.Facts.{homes, starts, linksIn, Facts}
 use Rattle.fitness.proofs.Links.{link-is}
 use Rattle.fitness.proofs.Units.{span-of}
-use Rattle.fitness.proofs.Homes.{body-inside}
-use Rattle.fitness.proofs.Variables.{item-there, unit-home, unit-there}
-use Rattle.fitness.proofs.Firsts.{First, first-is}
+use Rattle.fitness.proofs.Variables.{unit-there}
 use Rattle.fitness.proofs.Marks.{stop-of}
-use Rattle.fitness.proofs.Items.{stop-link}
 
 -- ---- codes
 -- what links to the place that follows

@@ -1,16 +1,16 @@
 -- Bodies by their units: what stands in a unit is in its body, and what is in its body stands in the unit.
 use Prim.Native.Nat.{ℕ, zero, suc, _+_, _-_, _≤_, _<_}
-use mathlib.Core.Path.{_≡_, refl, sym, ap, subst, _∙_}
+use mathlib.Core.Path.{_≡_, refl, sym, ap, _∙_}
 use mathlib.Core.Bool.{Bool, true, false}
 use mathlib.Core.List.{List}
 use native.Mathlib.Omega.{arith}
 use native.Mathlib.Decide.{ℕ-discrete}
 use lib.ListN.{length, getD, replicate, length-replicate}
 use lib.Dec.{eqb, ltb, leb}
-use borrow.Author.Tests.{eq-eqb, ne-eqb, eqb-true, ltb-true, lt-ltb, le-leb, leb-true}
+use borrow.Author.Tests.{ne-eqb, ltb-true, lt-ltb, le-leb, leb-true}
 use Rattle.base.specs.Choice.{pick, both}
 use Rattle.base.proofs.Tests.{both-true, true-false}
-use Rattle.sheets.specs.Homes.{heads, inside, insideOf, homeOf, homesOf}
+use Rattle.sheets.specs.Homes.{heads, insideOf, homeOf}
 use Rattle.sheets.proofs.Meaning.{home-at}
 use Rattle.forming.specs.Forms.{begins, Formed}
 use Rattle.forming.proofs.Spans.{Closed}

@@ -1,5 +1,5 @@
 -- Marks, bodies, targets, runs and channels of the tables.
-use Prim.Native.Nat.{ℕ, zero, suc, _+_, _-_, _≤_, _<_, min}
+use Prim.Native.Nat.{ℕ, suc, _+_, _-_, _≤_, _<_, min}
 use mathlib.Core.Path.{_≡_, refl, sym, ap, subst, _∙_}
 use mathlib.Core.Bool.{Bool, true, false}
 use mathlib.Core.List.{List}
@@ -8,17 +8,16 @@ use native.Mathlib.Omega.{arith}
 use native.Mathlib.Decide.{ℕ-discrete}
 use lib.ListN.{length, getD}
 use lib.Dec.{eqb, ltb, leb}
-use borrow.Author.Tests.{eq-eqb, ne-eqb, eqb-true, ltb-true, leb-true, le-leb}
+use borrow.Author.Tests.{eqb-true, leb-true}
 use Rattle.base.specs.Choice.{pick, both, either}
 use Rattle.base.proofs.Tests.{both-true, either-true, true-false}
 use Rattle.finding.specs.Sets.{within, among}
 use Rattle.finding.specs.Search.{find}
-use Rattle.rules.specs.Rules.{globalOf, badRun, badSize, ruleOf, badBy, bad}
-use Rattle.tables.specs.Access.{itemsOf, codeOf, linkOf, numberOf}
+use Rattle.rules.specs.Rules.{globalOf, badRun, badSize, ruleOf, badBy}
+use Rattle.tables.specs.Access.{itemsOf, codeOf, linkOf}
 use Rattle.places.specs.Places.{isPart, isMark, isAlone, isLead, markOf, placeFrom}
 use Rattle.links.specs.Links.{classOf, linkBy}
 use Rattle.frames.specs.Layout.{messagesMost}
-use Rattle.starting.specs.Values.{valueAt}
 use Rattle.executing.specs.Channels.{capacityOf}
 use Rattle.executing.specs.Executing as executing
 use Rattle.standing.specs.Standing.{placeAt}
@@ -32,7 +31,6 @@ use Rattle.fitness.specs.Facts.{homes, starts, heights, linksIn, Facts}
 use Rattle.fitness.proofs.Links.{link-is}
 use Rattle.fitness.proofs.Units.{span-of}
 use Rattle.fitness.proofs.Variables.{item-there, unit-there}
-use Rattle.fitness.proofs.Firsts.{First}
 use Rattle.fitness.proofs.Marks.{part-says, mark-first, mark-in, mark-is, begun-class, stop-of}
 
 -- ---- what is its own mark
@@ -246,7 +244,7 @@ module _ (t cs vs : List ℕ) (H : Held t cs vs (linksIn cs vs)) (K : Facts cs v
       let z = s .1 in
       let f = mark-first t cs vs H K m in
       let aim : formAt cs (suc m + (markOf cs m - suc m)) .aim ≡ true
-      = aim-stays cs (K .formed) (markOf cs m - suc m) (suc m) (aim-next cs m ∙ aimed-target (getD cs m 0) (formAt cs m .aim) c) (λ j a b. parted (getD cs j 0) (part-says (getD cs j 0) (f .before j (omega arith) (omega arith)))) in
+      = aim-stays cs (K .formed) (markOf cs m - suc m) (suc m) true (aim-next cs m ∙ aimed-target (getD cs m 0) (formAt cs m .aim) c) (λ j a b. parted (getD cs j 0) (part-says (getD cs j 0) (f .before j (omega arith) (omega arith)))) in
       let aim2 : formAt cs (markOf cs m) .aim ≡ true = ap (λ j. formAt cs j .aim) (let y : markOf cs m ≡ suc m + (markOf cs m - suc m) = omega arith in y) ∙ aim in
       let d = said cs (K .formed) (markOf cs m) (omega arith) .aimed (marked (getD cs (markOf cs m) 0) (f .holds (omega arith))) aim2 in
       let g = which (getD cs (markOf cs m) 0) d in

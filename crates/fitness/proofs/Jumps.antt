@@ -5,7 +5,7 @@ use mathlib.Core.Bool.{Bool, true, false}
 use mathlib.Core.List.{List}
 use mathlib.Core.Logic.{_⊎_, inl, inr}
 use native.Mathlib.Omega.{arith}
-use native.Mathlib.Decide.{ℕ-discrete, decLt}
+use native.Mathlib.Decide.{ℕ-discrete}
 use lib.ListN.{length, getD}
 use lib.Dec.{eqb, ltb, leb}
 use borrow.Author.Tests.{eq-eqb, ne-eqb, eqb-true, ltb-true, leb-true}
@@ -14,8 +14,8 @@ use Rattle.base.proofs.Tests.{both-true, either-true, true-false}
 use Rattle.sheets.specs.Walks.{first, sum}
 use Rattle.finding.specs.Sets.{within, among}
 use Rattle.finding.specs.Search.{declares, find, one, count}
-use Rattle.rules.specs.Rules.{badGoto, badBreak, ruleOf, badBy, bad}
-use Rattle.tables.specs.Access.{itemsOf, codeOf, linkOf}
+use Rattle.rules.specs.Rules.{badGoto, badBreak, ruleOf, badBy}
+use Rattle.tables.specs.Access.{codeOf, linkOf}
 use Rattle.places.specs.Places.{isClosing, deeper, isOpening, placeFrom, closeOf, pastLoop}
 use Rattle.links.specs.Links.{classOf, linkBy}
 use Rattle.forming.specs.Forms.{formAt}
@@ -28,8 +28,8 @@ use Rattle.fitness.proofs.Links.{link-is}
 use Rattle.fitness.proofs.Units.{span-of}
 use Rattle.fitness.proofs.Homes.{body-inside}
 use Rattle.fitness.proofs.Sums.{sum-next, sum-zero}
-use Rattle.fitness.proofs.Variables.{item-there, unit-home, unit-there}
-use Rattle.fitness.proofs.Firsts.{First, first-is}
+use Rattle.fitness.proofs.Variables.{unit-home, unit-there}
+use Rattle.fitness.proofs.Firsts.{first-is}
 use Rattle.fitness.proofs.Marks.{stop-of}
 use Rattle.fitness.proofs.Items.{stop-link}
 use Rattle.fitness.proofs.Follows.{loop-class, linked-stop, linked-at, next-stop, closed-end}

@@ -1,33 +1,27 @@
 -- What is known of the items of an accepted text, from what it means that it is accepted.
-use Prim.Native.Nat.{ℕ, zero, suc, _+_, _-_, _≤_, _<_}
-use mathlib.Core.Path.{_≡_, refl, sym, ap, subst, _∙_}
+use Prim.Native.Nat.{ℕ, zero, suc, _+_, _≤_, _<_}
+use mathlib.Core.Path.{_≡_, refl, sym, ap, _∙_}
 use mathlib.Core.Bool.{Bool, true, false}
 use mathlib.Core.List.{List, map}
 use native.Mathlib.Omega.{arith}
 use native.Mathlib.Decide.{ℕ-discrete}
-use lib.ListN.{length, getD, replicate, length-map}
+use lib.ListN.{length, getD, length-map}
 use lib.Dec.{eqb, ltb}
 use borrow.Author.Tests.{eqb-true, le-ltb}
 use Rattle.base.specs.Choice.{pick}
-use Rattle.lexis.specs.Reading.{Placed}
 use Rattle.spacing.specs.Writing.{tokensIn}
-use Rattle.machine.specs.Machine.{symbol-of, place-of}
 use Rattle.syntax.specs.Code.{code}
-use Rattle.entries.specs.Entry.{Entry, nothing}
+use Rattle.entries.specs.Entry.{nothing}
 use Rattle.entries.specs.Items.{entryOf}
-use Rattle.entries.specs.Sources.{entriesOf, entryAt}
-use Rattle.tables.specs.Trees.{entriesIn}
 use Rattle.rules.specs.Rules.{bad}
 use Rattle.faults.specs.Faults.{place, sooner, joined, leastFrom, leastOf, checked}
 use Rattle.faults.specs.declared.Fault.{Fault}
 use Rattle.faults.specs.declared.Fault.the-variants.{None, At}
 use Rattle.ceilings.specs.Ceilings.{passed, anyPassed}
-use Rattle.phrases.specs.Phrases.{At as Stand}
-use Rattle.forming.specs.Forms.{Formed}
 use Rattle.forming.proofs.Scans.{codes-stand, model-formed}
 use Rattle.accepting.specs.Meaning.{Accepts}
 use Rattle.fitness.specs.Facts.{homes, starts, heights, Facts}
-use Rattle.fitness.proofs.Tables.{few-items, ss, es, ks, codesAt, saidAt, entries-are, entries-length, entry-is, entry-code}
+use Rattle.fitness.proofs.Tables.{few-items, ss, ks, codesAt, saidAt, entries-are, entries-length, entry-is, entry-code}
 
 -- ---- no item has a fault
 isNone : Fault → ℕ

@@ -1,5 +1,5 @@
 -- Phrases of the items and their marks, and the places of statements: what the tables say of them is what the items say.
-use Prim.Native.Nat.{ℕ, zero, suc, _+_, _-_, _≤_, _<_, min}
+use Prim.Native.Nat.{ℕ, _+_, _-_, _≤_, _<_, min}
 use mathlib.Core.Path.{_≡_, refl, sym, ap, subst, _∙_}
 use mathlib.Core.Bool.{Bool, true, false}
 use mathlib.Core.List.{List}
@@ -7,13 +7,13 @@ use mathlib.Core.Logic.{_⊎_, inl, inr}
 use native.Mathlib.Omega.{arith}
 use native.Mathlib.Decide.{ℕ-discrete}
 use lib.ListN.{length, getD}
-use lib.Dec.{eqb, leb}
-use borrow.Author.Tests.{eq-eqb, ne-eqb, eqb-true, le-leb, leb-true}
+use lib.Dec.{leb}
+use borrow.Author.Tests.{eq-eqb, ne-eqb, le-leb, leb-true}
 use Rattle.base.specs.Choice.{pick, both, either}
 use Rattle.base.proofs.Tests.{both-true, either-true, true-false}
 use Rattle.sheets.specs.Walks.{first}
 use Rattle.finding.specs.Sets.{within}
-use Rattle.tables.specs.Access.{itemsOf, codeOf, linkOf}
+use Rattle.tables.specs.Access.{codeOf, linkOf}
 use Rattle.places.specs.Places.{isPart, isMark, markFrom, markOf, isAlone, isLead, isPlace, isStop, placeFrom}
 use Rattle.links.specs.Links.{classOf, linkBy}
 use Rattle.standing.specs.Standing.{placeAt}
@@ -77,14 +77,10 @@ leaf-class c e f = go (ℕ-discrete c 70) (ℕ-discrete c 71) (ℕ-discrete c 17
     go (no a) (no b) (no g) (yes z) = rw z
     go (no a) (no b) (no g) (no d) = absurd (none a b g d (either-true (within 70 71 c) (either (within 147 167 c) (within 176 182 c)) e))
 
--- an end of a body is a mark, and no lead
+-- an end of a body is a mark
 end-mark : isMark 228 ≡ true
 unfolding isPart
 end-mark = refl
-
-end-lead : isLead 228 ≡ false
-unfolding isLead
-end-lead = refl
 
 mark-says : (c : ℕ) → isMark c ≡ true → isPart c ≡ false
 mark-says c = go (isPart c)

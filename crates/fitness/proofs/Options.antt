@@ -1,5 +1,5 @@
 -- An option begins with the place of a statement.
-use Prim.Native.Nat.{ℕ, zero, suc, _+_, _-_, _≤_, _<_, min}
+use Prim.Native.Nat.{ℕ, suc, _+_, _-_, _≤_, _<_}
 use mathlib.Core.Path.{_≡_, refl, sym, ap, subst, _∙_}
 use mathlib.Core.Bool.{Bool, true, false, not}
 use mathlib.Core.List.{List}
@@ -7,10 +7,10 @@ use mathlib.Core.Logic.{_⊎_, inl, inr}
 use native.Mathlib.Omega.{arith}
 use native.Mathlib.Decide.{ℕ-discrete}
 use lib.ListN.{length, getD}
-use lib.Dec.{eqb, ltb, leb}
-use borrow.Author.Tests.{eq-eqb, ne-eqb, eqb-true, leb-true}
+use lib.Dec.{eqb, leb}
+use borrow.Author.Tests.{ne-eqb, leb-true}
 use Rattle.base.specs.Choice.{pick, both, either}
-use Rattle.base.proofs.Tests.{both-true, either-true, either-false, true-false}
+use Rattle.base.proofs.Tests.{both-true, either-true, true-false}
 use Rattle.finding.specs.Sets.{within}
 use Rattle.tables.specs.Access.{codeOf, linkOf}
 use Rattle.places.specs.Places.{isPart, isMark, isAlone, isLead, markOf, isPlace}
@@ -19,7 +19,7 @@ use Rattle.standing.specs.Standing.{placeAt}
 use Rattle.forming.specs.Forms.{formAt}
 use Rattle.forming.specs.Forms as forming
 use Rattle.forming.proofs.Spans.{said}
-use Rattle.forming.proofs.Nears.{stage-next, part-next, aim-next, args-next, no-args, args-stays, aims-stays, stage-stays}
+use Rattle.forming.proofs.Nears.{stage-next, part-next, aim-next, args-next, no-args, args-stays, aim-stays, stage-stays}
 use Rattle.keeping.specs.Well.{Unit, Inside}
 use Rattle.fitness.specs.Held.{Held}
 use Rattle.fitness.specs.Facts.{linksIn, Facts}
@@ -105,7 +105,7 @@ module _ (t cs vs : List ℕ) (H : Held t cs vs (linksIn cs vs)) (K : Facts cs v
       at-mark = let c = lies .0 in omega arith
 
       aim-k : formAt cs (markOf cs q) .aim ≡ false
-      aim-k = ap (λ j. formAt cs j .aim) (sym at-mark) ∙ aims-stays cs (K .formed) (markOf cs q - suc q) (suc q) false aim parts
+      aim-k = ap (λ j. formAt cs j .aim) (sym at-mark) ∙ aim-stays cs (K .formed) (markOf cs q - suc q) (suc q) false aim parts
 
       args-k : formAt cs (markOf cs q) .args ≡ false
       args-k = ap (λ j. formAt cs j .args) (sym at-mark) ∙ args-stays cs (K .formed) (markOf cs q - suc q) (suc q) false args parts

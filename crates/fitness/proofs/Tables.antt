@@ -1,29 +1,25 @@
 -- The tables of an accepted text hold its items, what their tokens say and their links.
-use Prim.Native.Nat.{ℕ, zero, suc, _+_, _-_, _≤_, _<_, min}
+use Prim.Native.Nat.{ℕ, zero, suc, _+_, _≤_, _<_, min}
 use mathlib.Core.Path.{_≡_, refl, sym, ap, subst, _∙_}
 use mathlib.Core.Bool.{Bool, true, false}
 use mathlib.Core.List.{List, [], _∷_, _++_, map}
 use native.Mathlib.Omega.{arith}
 use lib.ListN.{length, getD, replicate, length-replicate}
-use lib.Dec.{eqb, ltb}
-use borrow.Author.Tests.{le-ltb, eq-eqb, ltb-false, ne-eqb}
+use lib.Dec.{ltb}
+use borrow.Author.Tests.{le-ltb, ltb-false}
 use Rattle.base.specs.Choice.{pick}
 use Rattle.base.proofs.Tests.{true-false}
-use Rattle.lexemes.specs.Ceilings.{number-most}
-use Rattle.lexemes.specs.Spans.{decimal}
 use Rattle.lexis.specs.Reading.{Placed}
-use Rattle.spacing.specs.Writing.{tokensIn}
 use Rattle.spacing.proofs.Exact.{reading-exact}
 use Rattle.machine.specs.Machine.{symbol-of, place-of}
-use Rattle.sheets.specs.Walks.{filled}
 use Rattle.sheets.specs.Homes.{homesOf}
-use Rattle.sheets.specs.Payload.{spelled, wordOf, argOf, argsOf}
+use Rattle.sheets.specs.Payload.{spelled, argOf, argsOf}
 use Rattle.sheets.proofs.Meaning.{filled-at}
 use Rattle.ceilings.specs.Ceilings.{passed, anyPassed}
 use Rattle.entries.specs.Entry.{Entry, nothing, runs}
-use Rattle.entries.specs.Sources.{bytesOf, valueOf, entryAt, entriesOf}
+use Rattle.entries.specs.Sources.{valueOf, entryAt, entriesOf}
 use Rattle.tables.specs.Tables.{tablesOf}
-use Rattle.tables.specs.Trees.{entriesIn, tablesIn}
+use Rattle.tables.specs.Trees.{entriesIn}
 use Rattle.tables.specs.Access.{itemsOf, codeOf, linkOf, numberOf}
 use Rattle.tables.specs.Back.{AllFair}
 use Rattle.tables.proofs.Holds.{holds-items, holds-code, holds-link, holds-number}

@@ -1,15 +1,12 @@
 -- Units of the tables: each ends, and has a body.
 use Prim.Native.Nat.{ℕ, zero, suc, _+_, _-_, _≤_, _<_, min}
 use mathlib.Core.Path.{_≡_, refl, sym, ap, subst, _∙_}
-use mathlib.Core.Bool.{Bool, true, false}
+use mathlib.Core.Bool.{true}
 use mathlib.Core.List.{List}
 use native.Mathlib.Omega.{arith}
 use native.Mathlib.Decide.{ℕ-discrete}
 use lib.ListN.{length, getD}
-use lib.Dec.{eqb}
-use borrow.Author.Tests.{eq-eqb, ne-eqb, le-leb, leb-true}
-use Rattle.base.specs.Choice.{pick, both}
-use Rattle.base.proofs.Tests.{both-true}
+use borrow.Author.Tests.{eq-eqb, ne-eqb}
 use Rattle.tables.specs.Access.{itemsOf, codeOf, linkOf}
 use Rattle.places.specs.Places.{isOpening, isClosing, deeper, closeFrom, closeOf}
 use Rattle.links.specs.Links.{classOf, linkBy}

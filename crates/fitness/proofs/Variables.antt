@@ -5,23 +5,21 @@ use mathlib.Core.Bool.{Bool, true, false}
 use mathlib.Core.List.{List, [], _∷_}
 use mathlib.Core.Logic.{_⊎_, inl, inr}
 use native.Mathlib.Omega.{arith}
-use native.Mathlib.Decide.{ℕ-discrete, decLt}
+use native.Mathlib.Decide.{decLt}
 use lib.ListN.{length, getD}
 use lib.Dec.{eqb, ltb, leb}
 use borrow.Author.Tests.{eq-eqb, ne-eqb, eqb-true, ltb-true, ltb-false, leb-true}
 use Rattle.base.specs.Choice.{pick, both, either}
-use Rattle.base.proofs.Tests.{both-true, either-false, true-false}
+use Rattle.base.proofs.Tests.{either-false, true-false}
 use Rattle.sheets.specs.Walks.{sum}
 use Rattle.finding.specs.Sets.{among}
-use Rattle.rules.specs.Rules.{isArray, badSize, ruleOf, badBy, bad}
+use Rattle.rules.specs.Rules.{isArray, badSize, ruleOf, badBy}
 use Rattle.ceilings.specs.Ceilings.{numbersAt, numbers, heavyAt, weight, total, anyPassed}
 use Rattle.links.specs.Links.{typeAt, sizeAt, localAt, offsetAt, slotAt, classOf, linkBy}
 use Rattle.tables.specs.Access.{itemsOf, codeOf, linkOf}
 use Rattle.frames.specs.Layout.{globalsMost, numbersMost}
 use Rattle.evaluating.specs.Variables.{sizeOf}
 use Rattle.fitting.specs.Fits.{isGlobal, isLocal}
-use Rattle.forming.specs.Forms.{begins}
-use Rattle.forming.proofs.Spans.{Closed}
 use Rattle.keeping.specs.Well.{Unit, Inside}
 use Rattle.keeping.proofs.Cells.{global-is, local-is}
 use Rattle.fitness.specs.Held.{Held}

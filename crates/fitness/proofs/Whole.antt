@@ -6,12 +6,10 @@ use mathlib.Core.Bool.{Bool, true}
 use mathlib.Core.List.{List}
 use lib.ListN.{length}
 use lib.IntN.{ℤ}
-use Rattle.judging.specs.declared.Judged.the-variants.{Accepted}
-use Rattle.judging.specs.Judging.{judgeOf, tablesText}
+use Rattle.judging.specs.Judging.{tablesText}
 use Rattle.accepting.specs.Meaning.{Accepts}
 use Rattle.accepting.proofs.Main.{accepted-means}
 use Rattle.genuine.specs.Genuine.{written, genuine}
-use Rattle.signing.specs.Signing.{Owned}
 use Rattle.signing.proofs.Owners.{genuine-owned}
 use Rattle.frames.specs.Layout.{stateSize, processesOf, placeOf}
 use Rattle.starting.specs.Starting.{initialOf}

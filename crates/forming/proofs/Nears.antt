@@ -1,18 +1,17 @@
 -- What stands before an item, and which mark comes next.
-use Prim.Native.Nat.{ℕ, zero, suc, _+_, _-_, _≤_, _<_}
-use mathlib.Core.Path.{_≡_, refl, sym, ap, subst, _∙_}
+use Prim.Native.Nat.{ℕ, zero, suc, _+_, _≤_, _<_}
+use mathlib.Core.Path.{_≡_, refl, sym, ap, _∙_}
 use mathlib.Core.Bool.{Bool, true, false, not}
 use mathlib.Core.List.{List}
 use mathlib.Core.Logic.{_⊎_, inl, inr}
 use native.Mathlib.Omega.{arith}
-use native.Mathlib.Decide.{ℕ-discrete}
 use lib.ListN.{length, getD}
-use lib.Dec.{eqb, ltb, leb}
+use lib.Dec.{eqb, leb}
 use borrow.Author.Tests.{eqb-true, eq-eqb, ne-eqb, leb-true}
 use Rattle.base.specs.Choice.{pick, both, either}
 use Rattle.base.proofs.Tests.{both-true, either-true, true-false}
 use Rattle.finding.specs.Sets.{within}
-use Rattle.forming.specs.Forms.{Form, isPart, joins, refers, opens, fresh, step, formAt, Formed}
+use Rattle.forming.specs.Forms.{isPart, joins, refers, opens, step, formAt, Formed}
 use Rattle.forming.proofs.Spans.{said}
 
 -- a part opens no arguments and ends none; in a statement's first phrase it is more of it
@@ -51,10 +50,6 @@ part-stage c g e z = rw (ne-eqb c 208 (λ y. true-false (sym e ∙ rw y)), ne-eq
 left-holds : (a b : Bool) → a ≡ true → either a b ≡ true
 left-holds true b e = refl
 left-holds false b e = absurd (true-false (sym e))
-
-right-holds : (a b : Bool) → b ≡ true → either a b ≡ true
-right-holds true b e = refl
-right-holds false b e = e
 
 module _ (cs : List ℕ) where
   pub stage-next : (j : ℕ) → formAt cs (suc j) .stage ≡ pick (eqb (getD cs j 0) 208) 1 (pick (eqb (getD cs j 0) 188) 2 (pick (isPart (getD cs j 0)) (pick (eqb (formAt cs j .stage) 1) (pick (eqb (getD cs j 0) 70) 3 4) (pick (eqb (formAt cs j .stage) 0) 0 4)) 0))
@@ -122,17 +117,6 @@ module _ (cs : List ℕ) where
     pub before-channel : (j : ℕ) → j < length cs → getD cs j 0 ≡ 217 → (i : ℕ) × (j ≡ suc (suc i)) × (getD cs (suc i) 0 ≡ 71) × (getD cs i 0 ≡ 212)
     before-channel j h e = near-two j (said cs F j h .channel e)
 
-    -- behind a target, over parts, its aim stays
-    pub aim-stays : (n j : ℕ) → formAt cs j .aim ≡ true → ((i : ℕ) → j ≤ i → i < j + n → isPart (getD cs i 0) ≡ true) → formAt cs (j + n) .aim ≡ true
-    aim-stays zero j e h = ap (λ k. formAt cs k .aim) (let z : j + 0 ≡ j = omega arith in z) ∙ e
-    aim-stays (suc n) j e h =
-        ap (λ k. formAt cs k .aim) (let z : j + suc n ≡ suc j + n = omega arith in z)
-        ∙ aim-stays n (suc j) (aim-next j ∙ rw (h j (omega arith) (omega arith)) e) (λ i a b. h i (omega arith) (omega arith))
-
-    -- a label stands behind its name
-    pub before-label : (j : ℕ) → j < length cs → getD cs j 0 ≡ 188 → formAt cs j .part ≡ true
-    before-label j h e = said cs F j h .joined (right-holds (joins (getD cs j 0)) (eqb (getD cs j 0) 188) (eq-eqb (getD cs j 0) 188 e))
-
     -- no arguments go on before an option or a label
     pub no-args : (j : ℕ) → j < length cs → (getD cs j 0 ≡ 208) ⊎ (getD cs j 0 ≡ 188) → formAt cs j .args ≡ false
     no-args j h v = go (formAt cs j .args) refl
@@ -156,11 +140,11 @@ module _ (cs : List ℕ) where
         ap (λ k. formAt cs k .args) (let z : j + suc n ≡ suc j + n = omega arith in z)
         ∙ args-stays n (suc j) b (args-next j ∙ part-args (getD cs j 0) (formAt cs j .args) (h j (omega arith) (omega arith)) ∙ e) (λ i p q. h i (omega arith) (omega arith))
 
-    pub aims-stays : (n j : ℕ) (b : Bool) → formAt cs j .aim ≡ b → ((i : ℕ) → j ≤ i → i < j + n → isPart (getD cs i 0) ≡ true) → formAt cs (j + n) .aim ≡ b
-    aims-stays zero j b e h = ap (λ k. formAt cs k .aim) (let z : j + 0 ≡ j = omega arith in z) ∙ e
-    aims-stays (suc n) j b e h =
+    pub aim-stays : (n j : ℕ) (b : Bool) → formAt cs j .aim ≡ b → ((i : ℕ) → j ≤ i → i < j + n → isPart (getD cs i 0) ≡ true) → formAt cs (j + n) .aim ≡ b
+    aim-stays zero j b e h = ap (λ k. formAt cs k .aim) (let z : j + 0 ≡ j = omega arith in z) ∙ e
+    aim-stays (suc n) j b e h =
         ap (λ k. formAt cs k .aim) (let z : j + suc n ≡ suc j + n = omega arith in z)
-        ∙ aims-stays n (suc j) b (aim-next j ∙ rw (h j (omega arith) (omega arith)) e) (λ i p q. h i (omega arith) (omega arith))
+        ∙ aim-stays n (suc j) b (aim-next j ∙ rw (h j (omega arith) (omega arith)) e) (λ i p q. h i (omega arith) (omega arith))
 
     pub stage-stays : (n j : ℕ) → formAt cs j .stage ≡ 4 → ((i : ℕ) → j ≤ i → i < j + n → isPart (getD cs i 0) ≡ true) → formAt cs (j + n) .stage ≡ 4
     stage-stays zero j e h = ap (λ k. formAt cs k .stage) (let z : j + 0 ≡ j = omega arith in z) ∙ e

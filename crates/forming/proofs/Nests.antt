@@ -10,10 +10,10 @@ use lib.ListN.{length, getD}
 use lib.Dec.{eqb}
 use borrow.Author.Tests.{eqb-true, eq-eqb, ne-eqb}
 use Rattle.base.specs.Choice.{pick, both, either}
-use Rattle.base.proofs.Tests.{both-true, either-true, either-false, true-false}
+use Rattle.base.proofs.Tests.{either-true, either-false}
 use Rattle.places.specs.Places.{isOpening, isClosing, deeper, closeFrom, closeOf, shallower, openOf}
-use Rattle.forming.specs.Forms.{Form, begins, inner, step, formAt, Formed}
-use Rattle.forming.proofs.Spans.{Closed, said, zone-begun, zone-kept, zone-body}
+use Rattle.forming.specs.Forms.{begins, inner, step, formAt, Formed}
+use Rattle.forming.proofs.Spans.{said, zone-begun, zone-kept, zone-body}
 
 -- ---- forward: what is open is closed where the count comes down to nothing
 module _ (cs : List ℕ) (pair : ℕ) (D : ℕ → ℕ) (next : (k : ℕ) → D (suc k) ≡ deeper pair (getD cs k 0) (D k)) where

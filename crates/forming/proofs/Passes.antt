@@ -1,9 +1,8 @@
 -- Items that all fit where they stand, one after the other.
-use Prim.Native.Nat.{ℕ}
 use mathlib.Core.Path.{_≡_}
 use mathlib.Core.Bool.{true}
 use mathlib.Core.List.{List, [], _∷_, _++_}
-use Rattle.syntax.specs.Code.{Item, each}
+use Rattle.syntax.specs.Code.{Item}
 use Rattle.entries.specs.Items.{codeOf}
 use Rattle.forming.specs.Forms.{Form, step, fits}
 

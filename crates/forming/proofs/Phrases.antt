@@ -1,13 +1,12 @@
 -- Expressions fit wherever a phrase may stand in a body.
-use Prim.Native.Nat.{ℕ, zero, suc, _+_, _-_, _≤_, _<_}
-use mathlib.Core.Path.{_≡_, refl, sym, ap, subst}
-use mathlib.Core.Bool.{Bool, true, false, not}
-use mathlib.Core.List.{List, [], _∷_, _++_}
+use Prim.Native.Nat.{ℕ, zero, suc, _+_, _≤_}
+use mathlib.Core.Path.{_≡_, refl, sym, subst}
+use mathlib.Core.Bool.{Bool, true, false}
+use mathlib.Core.List.{[], _∷_, _++_}
 use native.Mathlib.Omega.{arith}
-use Rattle.base.specs.Choice.{pick, both, either}
-use Rattle.syntax.specs.Tree.{Name, Shape, expression, reference, Exp, plain, indexed, num, tru, fls, get, len, unary, binary, choice}
+use Rattle.syntax.specs.Tree.{Shape, expression, reference, Exp, plain, indexed, num, tru, fls, get, len, unary, binary, choice}
 use Rattle.syntax.specs.Grammar.{Is-unary, is-minus, is-not, is-flip}
-use Rattle.syntax.specs.Code.{Item, i-name, i-number, i-plain, i-index, i-true, i-false, i-len, i-unary, i-binary, i-otherwise, i-choice, code-exp}
+use Rattle.syntax.specs.Code.{Item, i-index, i-len, i-unary, i-binary, i-otherwise, i-choice, code-exp}
 use Rattle.entries.specs.Items.{codeOf}
 use Rattle.phrases.specs.Phrases.{Proper}
 use Rattle.forming.specs.Forms.{Form, form, step, fits}
@@ -17,10 +16,6 @@ use Rattle.forming.proofs.Passes.{Passes, join}
 abbrev pub Ends : Shape → Bool → Type 0
 Ends expression r = Unit {0}
 Ends reference r = r ≡ true
-
-ends-any : (s : Shape) (r : Bool) → Ends s true
-ends-any expression r = tt
-ends-any reference r = refl
 
 -- an operator's code
 abbrev Joined : ℕ → Type 0

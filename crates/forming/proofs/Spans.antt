@@ -4,9 +4,9 @@ use mathlib.Core.Path.{_≡_, refl, sym, ap, subst, _∙_}
 use mathlib.Core.Bool.{Bool, true, false, not}
 use mathlib.Core.List.{List}
 use native.Mathlib.Omega.{arith}
-use native.Mathlib.Decide.{ℕ-discrete, decLt}
+use native.Mathlib.Decide.{ℕ-discrete}
 use lib.ListN.{length, getD}
-use lib.Dec.{eqb, ltb, leb}
+use lib.Dec.{eqb, ltb}
 use borrow.Author.Tests.{eqb-true, eq-eqb, ne-eqb, ltb-true, lt-ltb}
 use Rattle.base.specs.Choice.{pick, both, either}
 use Rattle.base.proofs.Tests.{both-true, true-false}
@@ -82,9 +82,6 @@ module _ (s : Form) (c : ℕ) (h : fits s c ≡ true) where
 
 -- ---- one item more
 module _ (cs : List ℕ) (j : ℕ) where
-  abbrev C : ℕ
-  C = getD cs j 0
-
   zone-next : formAt cs (suc j) .zone ≡ pick (begins (getD cs j 0)) 1 (pick (eqb (getD cs j 0) 227) 2 (pick (eqb (getD cs j 0) 228) 0 (formAt cs j .zone)))
   unfolding formAt step
   zone-next = refl

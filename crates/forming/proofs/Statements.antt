@@ -1,15 +1,15 @@
 -- Statements fit in bodies, and leave open what was open before them.
-use Prim.Native.Nat.{ℕ, zero, suc, _+_, _-_, _≤_, _<_}
+use Prim.Native.Nat.{ℕ, _+_, _-_}
 use mathlib.Core.Path.{_≡_, refl, sym, ap, subst}
-use mathlib.Core.Bool.{Bool, true, false, not}
+use mathlib.Core.Bool.{Bool, true, false}
 use mathlib.Core.List.{List, [], _∷_, _++_}
 use native.Mathlib.Omega.{arith}
 use borrow.Author.Tests.{lt-ltb}
-use Rattle.base.specs.Choice.{pick, both, either}
+use Rattle.base.specs.Choice.{pick}
 use Rattle.tokens.specs.Kinds.{Token}
-use Rattle.syntax.specs.Tree.{Expr, Ref, Received, into, equal, exactly, exactly-true, exactly-false, Sort, action, statement, sequence, options, Tree, express, assign, increment, decrement, send, receive, assert, print, skip, goto, break, timeout, else, run, set-run, select, loop, bare, labelled, end, then, over, option, get}
-use Rattle.syntax.specs.Grammar.{Listed, one, more, Maybe-listed, no-list, a-list, Message, commas, call, E, An-expression, A-reference, A-received, r-into, r-eval, r-number, r-true, r-false, D, s-express, s-assign, s-increment, s-decrement, s-send, s-receive, s-assert, s-print-alone, s-print, s-skip, s-goto, s-break, s-timeout, s-else, s-run, s-set-run, s-if, s-do, s-bare, s-label, q-last, q-then, o-last, o-also}
-use Rattle.syntax.specs.Code.{Item, each, code-exp, code-argument, code-received, code-tree, i-name, i-text, i-number, i-true, i-false, i-argument, i-into, i-equal, i-constant, i-end, i-label, i-express, i-target, i-assign, i-increment, i-decrement, i-send, i-receive, i-assert, i-goto, i-run, i-set-run, i-if, i-fi, i-do, i-od, i-option, i-end-option}
+use Rattle.syntax.specs.Tree.{Expr, Ref, Received, into, equal, exactly, exactly-true, exactly-false, Sort, action, statement, sequence, options, Tree}
+use Rattle.syntax.specs.Grammar.{Listed, one, more, Maybe-listed, no-list, a-list, Message, commas, call, An-expression, A-received, r-into, r-eval, r-number, r-true, r-false, D, s-express, s-assign, s-increment, s-decrement, s-send, s-receive, s-assert, s-print-alone, s-print, s-skip, s-goto, s-break, s-timeout, s-else, s-run, s-set-run, s-if, s-do, s-bare, s-label, q-last, q-then, o-last, o-also}
+use Rattle.syntax.specs.Code.{Item, each, code-exp, code-argument, code-received, code-tree, i-name, i-argument, i-into, i-equal, i-end, i-label, i-express, i-target, i-assign, i-increment, i-decrement, i-send, i-receive, i-assert, i-set-run, i-fi, i-od, i-end-option}
 use Rattle.phrases.specs.Phrases.{Proper}
 use Rattle.phrases.proofs.Proper.{grammar-proper}
 use Rattle.forming.specs.Forms.{Form, form, step, fits}
@@ -93,10 +93,6 @@ module _ (o l : ℕ) where
   asked : (es : List Expr) → All Proper es → (K : Form → Type 0) → K (calm o l 0) → Passes (each code-argument es ++ i-end ∷ []) (asking o l) K
   unfolding fits step
   asked es h K k = join (each code-argument es) (i-end ∷ []) _ K (arguments es h _ (refl, k))
-
-  got : (xs : List Received) → All ProperIn xs → (K : Form → Type 0) → K (calm o l 0) → Passes (each code-received xs ++ i-end ∷ []) (asking o l) K
-  unfolding fits step
-  got xs h K k = join (each code-received xs) (i-end ∷ []) _ K (receivings xs h _ (refl, k))
 
   -- a reference and what stands behind it
   referred : (r : Ref) → Proper r → (g n : ℕ) (i : List Item) (K : Form → Type 0) → ((g n : ℕ) → Passes i (form 2 o l true true false false g n) K) → Passes (code-exp r ++ i) (calmer o l g n) K

@@ -1,16 +1,13 @@
 -- Declarations and units fit, and so does a whole model.
-use Prim.Native.Nat.{ℕ, zero, suc, _+_, _-_, _≤_, _<_}
-use mathlib.Core.Path.{_≡_, refl, sym, ap, subst}
-use mathlib.Core.Bool.{Bool, true, false, not}
-use mathlib.Core.Option.{none, some}
+use Prim.Native.Nat.{ℕ}
+use mathlib.Core.Path.{_≡_, refl, sym, subst}
+use mathlib.Core.Bool.{false}
 use mathlib.Core.List.{List, [], _∷_, _++_}
-use Rattle.base.specs.Choice.{pick, both, either}
 use Rattle.tokens.specs.Kinds.{Token}
-use Rattle.syntax.specs.Tree.{Tree, sequence, Name, Value, unset, set-number, set-minus, set-true, set-false, set-name, set-channel, Variable, variable, Declaration, declare, Group, group, Body, body, Activity, idle, once, times, Part, mtypes, global, process, init, Model}
-use Rattle.syntax.specs.Grammar.{Listed, Is-type, is-bit, is-bool, is-byte, is-mtype, is-pid, is-chan, is-short, is-int, A-name, a-name, A-type, a-type, A-value, v-number, v-minus, v-true, v-false, v-name, A-variable, x-bare, x-set, x-array, x-array-set, x-channel, A-declaration, declaration, A-group, a-group, Items, statements, declared, A-body, a-body, An-activity, not-active, active, active-times, A-unit, u-mtypes, u-global, u-process, u-init, Gram, g-last, g-more}
-use Rattle.syntax.specs.Code.{Item, each, i-name, i-number, i-type, i-declared, i-size, i-value, i-minus, i-true, i-false, i-named, i-channel, i-field, i-local, i-global, i-group, i-parameter, i-mtypes, i-message, i-proctype, i-active, i-active-many, i-init, i-body, i-end-body, code-tree, code-field, code-size, code-value, code-variable, code-declaration, code-parameter, code-group, code-body, code-activity, code-message, code-part, code}
-use Rattle.entries.specs.Items.{codeOf}
-use Rattle.forming.specs.Forms.{Form, form, step, fits, fresh}
+use Rattle.syntax.specs.Tree.{Tree, sequence, Name, Variable, Declaration, Group, Body, body, Activity, idle, once, times, Part, Model}
+use Rattle.syntax.specs.Grammar.{Is-type, is-bit, is-bool, is-byte, is-mtype, is-pid, is-chan, is-short, is-int, A-name, A-type, a-type, v-number, v-minus, v-true, v-false, v-name, A-variable, x-bare, x-set, x-array, x-array-set, x-channel, A-declaration, declaration, A-group, a-group, Items, statements, declared, A-body, a-body, A-unit, u-mtypes, u-global, u-process, u-init, Gram, g-last, g-more}
+use Rattle.syntax.specs.Code.{Item, each, i-type, i-field, i-local, i-global, i-group, i-mtypes, i-init, i-body, i-end-body, code-tree, code-field, code-variable, code-declaration, code-parameter, code-group, code-body, code-activity, code-message, code-part, code}
+use Rattle.forming.specs.Forms.{Form, form, step, fits}
 use Rattle.forming.proofs.Passes.{Passes, join}
 use Rattle.forming.proofs.Statements.{All, listed-all, maybe-all, each-passes, fine}
 

@@ -1,5 +1,5 @@
 -- One process more, with its numbers 0 and its place at its end, leaves a state.
-use Prim.Native.Nat.{ℕ, zero, suc, min, _+_, _-_, _*_, _/_, _%_, _≤_, _<_}
+use Prim.Native.Nat.{ℕ, _+_, _≤_, _<_}
 use mathlib.Core.Path.{_≡_, refl, sym, ap, subst, _∙_}
 use mathlib.Core.List.{List}
 use mathlib.Core.Logic.{_⊎_, inl, inr}
@@ -7,9 +7,9 @@ use native.Mathlib.Omega.{arith}
 use native.Mathlib.Decide.{ℕ-discrete}
 use lib.ListN.{length, set, length-set}
 use lib.IntN.{ℤ, pos}
-use Rattle.tables.specs.Access.{itemsOf, codeOf, linkOf}
+use Rattle.tables.specs.Access.{itemsOf, linkOf}
 use Rattle.frames.specs.Layout.{nat, kept, stateSize, processesMost, channelsMost, processSize, cellOf, processAt, channelAt, processesOf, channelsOf, unitOf, placeOf, declaredOf, waitingOf}
-use Rattle.evaluating.specs.Variables.{typeOf, sizeOf, slotOf}
+use Rattle.evaluating.specs.Variables.{typeOf, slotOf}
 use Rattle.standing.specs.Standing.{itemsLast}
 use Rattle.standing.specs.Meaning.{Used, process-unit, process-place, Stands}
 use Rattle.statements.specs.Statements.{moved}

@@ -1,18 +1,17 @@
 -- Numbers of a state before and after one of them is set, and where the numbers of variables stand.
-use Prim.Native.Nat.{ℕ, zero, suc, min, _+_, _-_, _*_, _/_, _%_, _≤_, _<_}
+use Prim.Native.Nat.{ℕ, min, _+_, _/_, _%_, _≤_, _<_}
 use mathlib.Core.Path.{_≡_, refl, sym, ap, subst, _∙_}
-use mathlib.Core.Bool.{Bool, true, false}
+use mathlib.Core.Bool.{true}
 use mathlib.Core.List.{List}
 use mathlib.Core.Logic.{_⊎_, inl, inr}
 use native.Mathlib.Omega.{arith}
 use lib.ListN.{length, set}
 use lib.Seq.{getD-set-same, getD-set-other}
-use lib.IntN.{ℤ, pos, negsuc}
+use lib.IntN.{ℤ, pos}
 use lib.Dec.{eqb}
 use borrow.Author.Tests.{eq-eqb, eqb-true, ne-eqb}
-use Rattle.base.specs.Choice.{pick, either}
-use Rattle.base.proofs.Tests.{both-true, either-true, true-false}
-use Rattle.tables.specs.Access.{itemsOf, codeOf, linkOf}
+use Rattle.base.proofs.Tests.{both-true, either-true}
+use Rattle.tables.specs.Access.{codeOf, linkOf}
 use Rattle.value.specs.Types.{castOf, inType, within, signedWidth}
 use Rattle.value.proofs.Laws.{at-width, cast-id}
 use Rattle.frames.specs.Layout.{nat, cellOf, countOf, kept, processAt}

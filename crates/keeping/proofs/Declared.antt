@@ -1,12 +1,12 @@
 -- A variable with its first value, or a channel of its own, leaves a state.
-use Prim.Native.Nat.{ℕ, zero, suc, _+_, _≤_, _<_}
-use mathlib.Core.Path.{_≡_, refl, sym, ap, subst, _∙_}
+use Prim.Native.Nat.{ℕ, _+_, _≤_, _<_}
+use mathlib.Core.Path.{_≡_, refl, sym, subst, _∙_}
 use mathlib.Core.Bool.{Bool, true, false}
 use mathlib.Core.List.{List}
-use mathlib.Core.Logic.{_⊎_, inl, inr}
+use mathlib.Core.Logic.{inl, inr}
 use native.Mathlib.Omega.{arith}
 use lib.ListN.{set}
-use lib.IntN.{ℤ, pos}
+use lib.IntN.{ℤ}
 use lib.Dec.{eqb}
 use borrow.Author.Tests.{eqb-true}
 use Rattle.base.specs.Choice.{pick}
@@ -14,17 +14,15 @@ use Rattle.tables.specs.Access.{itemsOf, codeOf, linkOf}
 use Rattle.value.specs.Types.{castOf}
 use Rattle.value.proofs.Laws.{cast-twice}
 use Rattle.frames.specs.Layout.{kept, processesOf, channelsOf, unitOf}
-use Rattle.frames.specs.Walks.{walk}
 use Rattle.evaluating.specs.Variables.{typeOf, sizeOf, slotOf}
 use Rattle.starting.specs.Values.{valueAt, valueOf}
 use Rattle.starting.specs.Starting.{filled, stored, channelMade, variableMade, declared}
-use Rattle.fitting.specs.Fits.{isGlobal, isLocal}
 use Rattle.standing.specs.Meaning.{Stands}
 use Rattle.standing.proofs.Uses.{walk-keeps}
 use Rattle.keeping.specs.Well.{Well}
 use Rattle.keeping.proofs.Cells.{declared-local}
 use Rattle.keeping.proofs.Stores.{Owner, After, store-stands}
-use Rattle.keeping.proofs.Made.{Makes, made-stands}
+use Rattle.keeping.proofs.Made.{made-stands}
 
 -- x is a state with the processes of s, and n channels more
 pub record Grown (t : List ℕ) (s x : List ℤ) (n : ℕ) : Type 0 where

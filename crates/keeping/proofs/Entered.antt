@@ -1,30 +1,28 @@
 -- An item of its unit entered for a process: the place that it has meanwhile does not matter to its variables.
-use Prim.Native.Nat.{ℕ, zero, suc, min, _+_, _-_, _≤_, _<_}
-use mathlib.Core.Path.{_≡_, refl, sym, ap, ap₂, subst, _∙_}
+use Prim.Native.Nat.{ℕ, zero, suc, _+_, _≤_, _<_}
+use mathlib.Core.Path.{_≡_, refl, sym, ap, _∙_}
 use mathlib.Core.Bool.{Bool, true, false}
 use mathlib.Core.List.{List}
-use mathlib.Core.Logic.{_⊎_, inl, inr}
+use mathlib.Core.Logic.{inr}
 use native.Mathlib.Omega.{arith}
 use lib.ListN.{set}
 use lib.Seq.{set-set, set-comm}
-use lib.IntN.{ℤ, pos}
+use lib.IntN.{ℤ}
 use lib.Dec.{eqb}
-use borrow.Author.Tests.{eqb-true, eq-eqb, ne-eqb}
+use borrow.Author.Tests.{eqb-true, eq-eqb}
 use Rattle.base.specs.Choice.{pick}
-use Rattle.tables.specs.Access.{itemsOf, codeOf, linkOf}
+use Rattle.tables.specs.Access.{codeOf, linkOf}
 use Rattle.value.specs.Types.{castOf}
-use Rattle.frames.specs.Layout.{nat, kept, cellOf, processAt, channelAt, processesOf, channelsOf, unitOf}
+use Rattle.frames.specs.Layout.{nat, kept, processAt, channelAt, processesOf, channelsOf, unitOf}
 use Rattle.frames.specs.Walks.{walk}
 use Rattle.evaluating.specs.Variables.{typeOf, sizeOf, slotOf}
 use Rattle.starting.specs.Values.{valueAt, valueOf}
 use Rattle.starting.specs.Starting.{filled, stored, channelMade, variableMade, declared, entered}
-use Rattle.fitting.specs.Fits.{isLocal}
 use Rattle.standing.specs.Meaning.{Stands}
 use Rattle.statements.specs.Statements.{moved}
 use Rattle.keeping.specs.Well.{Unit, Inside, Well}
 use Rattle.keeping.proofs.Cells.{set-other, declared-local}
 use Rattle.keeping.proofs.Parts.{local-frame}
-use Rattle.keeping.proofs.Stores.{Owner, After}
 use Rattle.keeping.proofs.Moves.{move-stands}
 use Rattle.keeping.proofs.Declared.{Grown, after-grown, makes, declared-stands}
 

@@ -1,11 +1,11 @@
 -- What stands in a state after numbers side by side are set one after the other, or moved up by four.
 use Prim.Native.Nat.{ℕ, zero, suc, _+_, _≤_, _<_}
-use mathlib.Core.Path.{_≡_, refl, sym, ap, subst, _∙_}
+use mathlib.Core.Path.{_≡_, refl, sym, subst, _∙_}
 use mathlib.Core.List.{List}
 use native.Mathlib.Omega.{arith}
 use native.Mathlib.Decide.{ℕ-discrete}
 use lib.ListN.{length, set, length-set}
-use lib.IntN.{ℤ, pos}
+use lib.IntN.{ℤ}
 use Rattle.frames.specs.Layout.{cellOf}
 use Rattle.frames.specs.Walks.{walk}
 use Rattle.keeping.proofs.Cells.{set-here, set-other}

@@ -1,32 +1,30 @@
 -- THE INITIAL STATE IS A STATE OF THE MODEL.
-use Prim.Native.Nat.{ℕ, zero, suc, min, _+_, _-_, _*_, _/_, _%_, _≤_, _<_}
+use Prim.Native.Nat.{ℕ, zero, suc, min, _+_, _*_, _/_, _%_, _≤_, _<_}
 use mathlib.Core.Path.{_≡_, refl, sym, ap, subst, _∙_}
 use mathlib.Core.Bool.{Bool, true, false}
-use mathlib.Core.List.{List, _++_}
-use mathlib.Core.Logic.{_⊎_, inl, inr}
+use mathlib.Core.List.{List}
+use mathlib.Core.Logic.{inl, inr}
 use native.Mathlib.Omega.{arith}
 use native.Mathlib.Nat.{suc-mul, mul-le-mul-right}
 use native.Mathlib.Decide.{ℕ-discrete, decLt}
-use lib.ListN.{length, getD, drop, replicate, length-append, length-drop, length-replicate, getD-replicate, List·getD-append}
+use lib.ListN.{length, drop, replicate, length-append, length-replicate, getD-replicate, List·getD-append}
 use lib.IntN.{ℤ, pos}
-use lib.Dec.{eqb, ltb}
-use borrow.Author.Tests.{eqb-true, eq-eqb, ne-eqb, le-ltb}
+use lib.Dec.{eqb}
+use borrow.Author.Tests.{eqb-true, ne-eqb, le-ltb}
 use Rattle.base.specs.Choice.{pick, both}
 use Rattle.sheets.specs.Walks.{sum}
 use Rattle.tables.specs.Access.{itemsOf, codeOf, linkOf}
 use Rattle.frames.specs.Layout.{nat, stateSize, processesMost, channelsMost, cellOf, cleared, processesOf, channelsOf}
 use Rattle.frames.specs.Walks.{walk}
 use Rattle.evaluating.specs.Variables.{typeOf, slotOf}
-use Rattle.starting.specs.Values.{valueAt}
 use Rattle.starting.specs.Starting.{declared, processMade, globalMade, startsOf, unitStarted, scanned, initialOf}
 use Rattle.executing.specs.Executing.{channelsIn}
-use Rattle.fitting.specs.Fits.{isGlobal}
 use Rattle.standing.specs.Meaning.{Stands}
 use Rattle.keeping.specs.Well.{Unit, Well, globalMakes, unitMakes}
 use Rattle.keeping.proofs.Cells.{counted-put, in-type-put, cast-zero}
 use Rattle.keeping.proofs.Parts.{global-frame, stands-by}
 use Rattle.keeping.proofs.Declared.{Grown, makes, declared-stands}
-use Rattle.keeping.proofs.Processes.{Processed, process-stands}
+use Rattle.keeping.proofs.Processes.{process-stands}
 
 -- ---- zeros
 module _ (t : List ℕ) (w : Well t) (s : List ℤ) (h : stateSize ≤ length s) where
@@ -56,9 +54,6 @@ module _ (t : List ℕ) (w : Well t) (s : List ℤ) (h : stateSize ≤ length s)
       let f = global-frame t w 0 j k (omega arith) g b in
       in-type-put (cleared s) (typeOf (linkOf t j)) (slotOf (linkOf t j) 0 k) (pos 0) (zero-at (slotOf (linkOf t j) 0 k) (omega arith)) (cast-zero (typeOf (linkOf t j))))
       (λ i a b. inr (zero-at i b))
-
-  cleared-processes : processesOf (cleared s) ≡ 0
-  cleared-processes = ap nat (zero-at 0 (omega arith))
 
   cleared-channels : channelsOf (cleared s) ≡ 0
   cleared-channels = ap nat (zero-at 1 (omega arith))

@@ -1,17 +1,17 @@
 -- One channel more leaves a state.
-use Prim.Native.Nat.{ℕ, zero, suc, min, _+_, _-_, _*_, _/_, _%_, _≤_, _<_}
-use mathlib.Core.Path.{_≡_, refl, sym, ap, subst, _∙_}
+use Prim.Native.Nat.{ℕ, _+_, _≤_, _<_}
+use mathlib.Core.Path.{_≡_, sym, ap, subst, _∙_}
 use mathlib.Core.List.{List}
 use mathlib.Core.Logic.{_⊎_, inl, inr}
 use native.Mathlib.Omega.{arith}
 use native.Mathlib.Decide.{ℕ-discrete}
-use lib.ListN.{length, set, length-set}
+use lib.ListN.{set, length-set}
 use lib.IntN.{ℤ, pos}
-use Rattle.tables.specs.Access.{itemsOf, codeOf, linkOf}
+use Rattle.tables.specs.Access.{itemsOf, codeOf}
 use Rattle.frames.specs.Layout.{nat, kept, stateSize, processesMost, channelsMost, messagesMost, cellOf, processAt, channelAt, processesOf, channelsOf, unitOf, placeOf, declaredOf, waitingOf}
 use Rattle.starting.specs.Starting.{channelMade}
 use Rattle.standing.specs.Standing.{itemsLast}
-use Rattle.standing.specs.Meaning.{Counted, Used, channel-item, Stands}
+use Rattle.standing.specs.Meaning.{Used, channel-item, Stands}
 use Rattle.keeping.specs.Well.{Well}
 use Rattle.keeping.proofs.Cells.{set-here, set-other, counted-same, counted-put, count-put}
 use Rattle.keeping.proofs.Parts.{process-of, channel-of, Channel, process-same, channel-same, globals-same, stands-by}

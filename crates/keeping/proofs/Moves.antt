@@ -1,17 +1,16 @@
 -- A process that goes on at a place of its unit, or at its end, leaves a state.
-use Prim.Native.Nat.{ℕ, zero, suc, min, _+_, _-_, _*_, _/_, _%_, _≤_, _<_}
-use mathlib.Core.Path.{_≡_, refl, sym, ap, subst, _∙_}
-use mathlib.Core.Bool.{Bool, true, false}
+use Prim.Native.Nat.{ℕ, _+_, _≤_, _<_}
+use mathlib.Core.Path.{_≡_, sym, ap, subst, _∙_}
 use mathlib.Core.List.{List}
 use mathlib.Core.Logic.{_⊎_, inl, inr}
 use native.Mathlib.Omega.{arith}
 use native.Mathlib.Decide.{ℕ-discrete}
-use lib.ListN.{length, set, length-set}
+use lib.ListN.{length-set}
 use lib.IntN.{ℤ, pos}
-use Rattle.tables.specs.Access.{itemsOf, codeOf, linkOf}
+use Rattle.tables.specs.Access.{itemsOf, linkOf}
 use Rattle.frames.specs.Layout.{nat, kept, stateSize, processesMost, channelsMost, cellOf, processAt, channelAt, processesOf, channelsOf, unitOf, placeOf, declaredOf, waitingOf}
-use Rattle.evaluating.specs.Variables.{typeOf, sizeOf, slotOf}
-use Rattle.standing.specs.Standing.{itemsLast, placeAt}
+use Rattle.evaluating.specs.Variables.{typeOf, slotOf}
+use Rattle.standing.specs.Standing.{itemsLast}
 use Rattle.standing.specs.Meaning.{Used, process-place, Stands}
 use Rattle.statements.specs.Statements.{moved}
 use Rattle.keeping.specs.Well.{Unit, Stop, Well}

@@ -1,5 +1,5 @@
 -- What a state of the model says of each process and of each channel, apart: so that a step need only tell of what it changes.
-use Prim.Native.Nat.{ℕ, zero, suc, min, _+_, _-_, _*_, _/_, _%_, _≤_, _<_}
+use Prim.Native.Nat.{ℕ, zero, suc, _+_, _-_, _≤_, _<_}
 use mathlib.Core.Path.{_≡_, refl, sym, ap, subst, _∙_}
 use mathlib.Core.Bool.{Bool, true, false}
 use mathlib.Core.List.{List}
@@ -10,12 +10,12 @@ use lib.IntN.{ℤ, pos}
 use lib.Dec.{eqb}
 use Rattle.base.specs.Choice.{pick}
 use Rattle.tables.specs.Access.{itemsOf, codeOf, linkOf}
-use Rattle.frames.specs.Layout.{nat, stateSize, processesMost, channelsMost, messagesMost, processSize, channelSize, cellOf, countOf, processAt, channelAt, fieldAt, processesOf, channelsOf, unitOf, placeOf, declaredOf, waitingOf}
+use Rattle.frames.specs.Layout.{nat, stateSize, processesMost, channelsMost, messagesMost, processSize, channelSize, cellOf, processAt, channelAt, fieldAt, processesOf, channelsOf, unitOf, placeOf, declaredOf, waitingOf}
 use Rattle.evaluating.specs.Variables.{typeOf, sizeOf, slotOf}
 use Rattle.starting.specs.Starting.{unitLength, scanned}
 use Rattle.executing.specs.Channels.{capacityOf, fieldsOf}
 use Rattle.fitting.specs.Fits.{isGlobal, isLocal, fieldType}
-use Rattle.standing.specs.Standing.{itemsLast, placeAt}
+use Rattle.standing.specs.Standing.{itemsLast}
 use Rattle.standing.specs.Meaning.{InType, Counted, Used, Stands}
 use Rattle.keeping.specs.Well.{Unit, Inside, Stop, Well}
 use Rattle.keeping.proofs.Cells.{counted-same, in-type-same, global-is, local-is, slot-global, slot-local}

@@ -1,18 +1,16 @@
 -- One process more, with all that its unit declares, leaves a state.
-use Prim.Native.Nat.{ℕ, zero, suc, min, _+_, _-_, _*_, _≤_, _<_}
+use Prim.Native.Nat.{ℕ, zero, suc, _+_, _-_, _≤_, _<_}
 use mathlib.Core.Path.{_≡_, refl, sym, ap, subst, _∙_}
 use mathlib.Core.Bool.{Bool, true, false}
 use mathlib.Core.List.{List}
-use mathlib.Core.Logic.{_⊎_, inl, inr}
 use native.Mathlib.Omega.{arith}
 use native.Mathlib.Decide.{ℕ-discrete, decLt}
-use lib.ListN.{set}
-use lib.IntN.{ℤ, pos}
-use lib.Dec.{eqb, ltb}
+use lib.IntN.{ℤ}
+use lib.Dec.{eqb}
 use borrow.Author.Tests.{eqb-true, eq-eqb, ne-eqb, lt-ltb}
 use Rattle.base.specs.Choice.{pick}
-use Rattle.tables.specs.Access.{itemsOf, codeOf, linkOf}
-use Rattle.frames.specs.Layout.{kept, processesMost, processAt, processesOf, channelsOf, unitOf}
+use Rattle.tables.specs.Access.{codeOf, linkOf}
+use Rattle.frames.specs.Layout.{processesOf, channelsOf, unitOf}
 use Rattle.frames.specs.Walks.{walk}
 use Rattle.starting.specs.Values.{valueAt}
 use Rattle.starting.specs.Starting.{entered, unitLength, processMade}
@@ -22,8 +20,7 @@ use Rattle.statements.specs.Statements.{moved}
 use Rattle.keeping.specs.Well.{Unit, Inside, Well}
 use Rattle.keeping.proofs.Cells.{declared-local}
 use Rattle.keeping.proofs.Parts.{in-unit}
-use Rattle.keeping.proofs.Declared.{Grown, makes}
-use Rattle.keeping.proofs.Begun.{begun, Spawned, begun-stands, begun-channels}
+use Rattle.keeping.proofs.Begun.{begun, begun-stands, begun-channels}
 use Rattle.keeping.proofs.Entered.{entersMakes, entered-moved, entered-body, entered-stands}
 
 -- ---- the channels that are still to be made

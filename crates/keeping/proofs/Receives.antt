@@ -1,26 +1,26 @@
 -- The oldest message taken out of a channel leaves a state.
-use Prim.Native.Nat.{ℕ, zero, suc, min, _+_, _-_, _*_, _/_, _%_, _≤_, _<_}
-use mathlib.Core.Path.{_≡_, refl, sym, ap, subst, _∙_}
+use Prim.Native.Nat.{ℕ, _+_, _-_, _*_, _/_, _%_, _≤_, _<_}
+use mathlib.Core.Path.{_≡_, sym, ap, subst, _∙_}
 use mathlib.Core.Bool.{true}
 use mathlib.Core.List.{List}
 use mathlib.Core.Logic.{_⊎_, inl, inr}
 use native.Mathlib.Omega.{arith}
 use native.Mathlib.Decide.{ℕ-discrete, decLt}
-use lib.ListN.{length, getD, set, length-set}
+use lib.ListN.{length, set, length-set}
 use lib.IntN.{ℤ, pos}
-use Rattle.tables.specs.Access.{itemsOf, codeOf, linkOf}
+use Rattle.tables.specs.Access.{linkOf}
 use Rattle.frames.specs.Layout.{nat, kept, stateSize, processesMost, channelsMost, messagesMost, cellOf, processAt, channelAt, fieldAt, processesOf, channelsOf, unitOf, placeOf, declaredOf, waitingOf}
 use Rattle.frames.specs.Walks.{walk}
 use Rattle.evaluating.specs.Variables.{sizeOf, slotOf}
 use Rattle.starting.specs.Starting.{unitLength}
-use Rattle.executing.specs.Channels.{capacityOf, fieldsOf}
+use Rattle.executing.specs.Channels.{fieldsOf}
 use Rattle.fitting.specs.Fits.{isLocal, fieldType}
 use Rattle.value.specs.Types.{castOf}
 use Rattle.messages.specs.Messages.{removed}
 use Rattle.standing.specs.Standing.{itemsLast}
-use Rattle.standing.specs.Meaning.{InType, Used, global-number, process-unit, process-place, local-number, channel-item, channel-count, field-number, Stands}
+use Rattle.standing.specs.Meaning.{Used, global-number, process-unit, process-place, local-number, channel-item, channel-count, field-number, Stands}
 use Rattle.keeping.specs.Well.{Well}
-use Rattle.keeping.proofs.Cells.{set-here, set-other, counted-same, counted-put, count-put, in-type-same}
+use Rattle.keeping.proofs.Cells.{set-here, set-other, counted-same, counted-put, count-put}
 use Rattle.keeping.proofs.Parts.{fields-few, process-of, channel-of, Channel, process-same, channel-same, globals-same, stands-by}
 use Rattle.keeping.proofs.Uses.{used-field}
 use Rattle.keeping.proofs.Stores.{After}

@@ -1,16 +1,16 @@
 -- A value of its type stored in a number of a variable leaves a state.
-use Prim.Native.Nat.{ℕ, zero, suc, min, _+_, _-_, _*_, _/_, _%_, _≤_, _<_}
-use mathlib.Core.Path.{_≡_, refl, sym, ap, subst, _∙_}
-use mathlib.Core.Bool.{Bool, true, false}
+use Prim.Native.Nat.{ℕ, _+_, _-_, _≤_, _<_}
+use mathlib.Core.Path.{_≡_, sym, ap, subst, _∙_}
+use mathlib.Core.Bool.{true}
 use mathlib.Core.List.{List}
 use mathlib.Core.Logic.{_⊎_, inl, inr}
 use native.Mathlib.Omega.{arith}
 use native.Mathlib.Decide.{ℕ-discrete}
-use lib.ListN.{length, set, length-set}
+use lib.ListN.{set, length-set}
 use lib.IntN.{ℤ, pos}
-use Rattle.tables.specs.Access.{itemsOf, codeOf, linkOf}
+use Rattle.tables.specs.Access.{itemsOf, linkOf}
 use Rattle.value.specs.Types.{castOf}
-use Rattle.frames.specs.Layout.{nat, stateSize, processesMost, channelsMost, processSize, channelSize, cellOf, processAt, channelAt, processesOf, channelsOf, unitOf, placeOf, declaredOf, waitingOf}
+use Rattle.frames.specs.Layout.{nat, stateSize, processesMost, channelsMost, processSize, cellOf, processAt, channelAt, processesOf, channelsOf, unitOf, placeOf, declaredOf, waitingOf}
 use Rattle.evaluating.specs.Variables.{typeOf, sizeOf, slotOf}
 use Rattle.starting.specs.Starting.{unitLength, scanned}
 use Rattle.fitting.specs.Fits.{isGlobal, isLocal}
@@ -18,7 +18,7 @@ use Rattle.standing.specs.Standing.{itemsLast}
 use Rattle.standing.specs.Meaning.{InType, Used, global-number, local-number, Stands}
 use Rattle.keeping.specs.Well.{Unit, Inside, Well}
 use Rattle.keeping.proofs.Cells.{set-here, set-other, counted-same, in-type-same, in-type-put, global-is, slot-global, slot-local}
-use Rattle.keeping.proofs.Parts.{in-unit, unit-long, local-frame, global-frame, unit-of, process-of, channel-of, Process, Channel, channel-same, stands-by}
+use Rattle.keeping.proofs.Parts.{in-unit, unit-long, local-frame, global-frame, unit-of, process-of, channel-of, Process, channel-same, stands-by}
 use Rattle.keeping.proofs.Uses.{Grows, used-grows}
 
 -- process p has the variable that item d declares: a global one, or one of its own

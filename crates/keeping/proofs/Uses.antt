@@ -1,19 +1,18 @@
 -- Which numbers of a state are in use, after a step that takes none out of use; and that frames of no process and no channel are not.
-use Prim.Native.Nat.{ℕ, zero, suc, min, _+_, _-_, _*_, _/_, _%_, _≤_, _<_}
-use mathlib.Core.Path.{_≡_, refl, sym, ap, subst, _∙_}
-use mathlib.Core.Bool.{Bool, true, false}
+use Prim.Native.Nat.{ℕ, _+_, _*_, _≤_, _<_}
+use mathlib.Core.Path.{_≡_, refl, sym, subst}
+use mathlib.Core.Bool.{true}
 use mathlib.Core.List.{List}
-use mathlib.Core.Logic.{_⊎_, inl, inr}
 use native.Mathlib.Omega.{arith}
-use lib.IntN.{ℤ, pos}
-use Rattle.tables.specs.Access.{itemsOf, codeOf, linkOf}
-use Rattle.frames.specs.Layout.{processSize, channelSize, stateSize, cellOf, processAt, channelAt, fieldAt, processesOf, channelsOf, unitOf, declaredOf, waitingOf}
+use lib.IntN.{ℤ}
+use Rattle.tables.specs.Access.{linkOf}
+use Rattle.frames.specs.Layout.{processSize, channelSize, processAt, channelAt, fieldAt, processesOf, channelsOf, unitOf, declaredOf, waitingOf}
 use Rattle.evaluating.specs.Variables.{sizeOf, slotOf}
 use Rattle.starting.specs.Starting.{unitLength, scanned}
 use Rattle.executing.specs.Channels.{fieldsOf}
 use Rattle.fitting.specs.Fits.{isGlobal, isLocal}
 use Rattle.standing.specs.Meaning.{Used, global-number, process-unit, process-place, local-number, channel-item, channel-count, field-number, Stands}
-use Rattle.keeping.specs.Well.{Unit, Well}
+use Rattle.keeping.specs.Well.{Well}
 use Rattle.keeping.proofs.Parts.{fields-few, in-unit, local-frame, global-frame, unit-of}
 
 -- x has the processes and channels of s, and as many messages or more

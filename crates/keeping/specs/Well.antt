@@ -1,6 +1,6 @@
 -- What the tables of a model are like, as far as its initial state and its steps need it: the rows of docs/TABLES.md, "Links", and the ceilings of document 01, each as
 -- one plain fact of items and links. `t` are tables, u an item that begins a unit with a body.
-use Prim.Native.Nat.{ℕ, zero, suc, _+_, _-_, _*_, _/_, _%_, _≤_, _<_}
+use Prim.Native.Nat.{ℕ, suc, _+_, _-_, _*_, _/_, _%_, _≤_, _<_}
 use mathlib.Core.Path.{_≡_}
 use mathlib.Core.Bool.{Bool, true}
 use mathlib.Core.List.{List}

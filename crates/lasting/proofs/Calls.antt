@@ -1,21 +1,20 @@
 -- A process more, with its arguments, leaves a state.
-use Prim.Native.Nat.{ℕ, zero, suc, _+_, _/_, _≤_, _<_}
-use mathlib.Core.Path.{_≡_, refl, sym, ap, subst, _∙_}
+use Prim.Native.Nat.{ℕ, _+_, _/_, _≤_, _<_}
+use mathlib.Core.Path.{_≡_, refl, sym, subst, _∙_}
 use mathlib.Core.Bool.{Bool, true, false}
 use mathlib.Core.List.{List}
-use mathlib.Core.Logic.{_⊎_, inl, inr}
+use mathlib.Core.Logic.{inr}
 use native.Mathlib.Omega.{arith}
 use lib.ListN.{getD, set}
 use lib.IntN.{ℤ, pos}
 use lib.Dec.{eqb, ltb, leb}
 use borrow.Author.Tests.{eqb-true, ltb-true, leb-true}
-use Rattle.base.specs.Choice.{pick, both}
+use Rattle.base.specs.Choice.{pick}
 use Rattle.base.proofs.Tests.{both-true}
-use Rattle.tables.specs.Access.{itemsOf, codeOf, linkOf}
+use Rattle.tables.specs.Access.{codeOf, linkOf}
 use Rattle.value.specs.Types.{castOf}
 use Rattle.value.proofs.Laws.{cast-twice}
 use Rattle.frames.specs.Layout.{processesMost, channelsMost, processesOf, channelsOf, unitOf}
-use Rattle.frames.specs.Walks.{walk}
 use Rattle.evaluating.specs.Variables.{typeOf, slotOf}
 use Rattle.starting.specs.Starting.{unitLength, processMade}
 use Rattle.executing.specs.Executing.{channelsIn, fitsOf}

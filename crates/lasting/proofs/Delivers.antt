@@ -12,14 +12,13 @@ use lib.Dec.{eqb}
 use borrow.Author.Tests.{eqb-true, eq-eqb, ne-eqb}
 use Rattle.base.specs.Choice.{pick}
 use Rattle.base.proofs.Tests.{true-false}
-use Rattle.tables.specs.Access.{itemsOf, codeOf, linkOf}
+use Rattle.tables.specs.Access.{codeOf, linkOf}
 use Rattle.value.specs.Types.{castOf}
 use Rattle.evaluating.specs.declared.Located.{Located}
 use Rattle.evaluating.specs.declared.Located.the-variants.{At, Astray}
 use Rattle.evaluating.specs.Variables.{variableOf, typeOf}
 use Rattle.evaluating.specs.Expressions.{locateOf}
 use Rattle.executing.specs.Channels.{comparedAt}
-use Rattle.messages.specs.declared.Gathered.{Gathered}
 use Rattle.messages.specs.declared.Gathered.the-variants.{Upto, Failed}
 use Rattle.messages.specs.Messages.{onPlace, aimOf, aimEnd, aimList, deliveredOne, delivered}
 use Rattle.keeping.specs.Well.{Unit, Inside, Visible, Arguments, ended, further, Well}

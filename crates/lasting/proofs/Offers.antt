@@ -1,5 +1,5 @@
 -- WHAT IS OFFERED BELONGS TO THE PROCESS'S UNIT, and a step that is offered leaves a state of the model.
-use Prim.Native.Nat.{ℕ, zero, suc, min, max, _+_, _-_, _≤_, _<_}
+use Prim.Native.Nat.{ℕ, zero, suc, min, _+_, _≤_, _<_}
 use mathlib.Core.Path.{_≡_, refl, sym, ap, subst, _∙_}
 use mathlib.Core.Bool.{Bool, true, false}
 use mathlib.Core.List.{List, [], _∷_, _++_}
@@ -7,9 +7,9 @@ use mathlib.Core.Logic.{_⊎_, inl, inr}
 use native.Mathlib.Omega.{arith}
 use lib.IntN.{ℤ}
 use lib.Dec.{eqb, ltb}
-use borrow.Author.Tests.{eqb-true, ltb-true, eq-eqb}
-use Rattle.base.specs.Choice.{pick, both, either}
-use Rattle.base.proofs.Tests.{both-true, either-true, true-false}
+use borrow.Author.Tests.{eqb-true, ltb-true}
+use Rattle.base.specs.Choice.{pick, either}
+use Rattle.base.proofs.Tests.{both-true, true-false}
 use Rattle.tables.specs.Access.{codeOf, linkOf}
 use Rattle.frames.specs.Layout.{processesOf, unitOf, placeOf}
 use Rattle.executing.specs.Executing.{isAlone, isAlways, markOf, sendable, messageOf, readyBy, readyOf}

@@ -1,21 +1,19 @@
 -- A process of a unit in a state: what it stores, and where it goes on.
-use Prim.Native.Nat.{ℕ, zero, suc, _+_, _-_, _≤_, _<_}
-use mathlib.Core.Path.{_≡_, refl, sym, ap, subst, _∙_}
-use mathlib.Core.Bool.{Bool, true, false}
+use Prim.Native.Nat.{ℕ, _-_, _≤_, _<_}
+use mathlib.Core.Path.{_≡_, refl, sym, subst, _∙_}
+use mathlib.Core.Bool.{true}
 use mathlib.Core.List.{List}
-use mathlib.Core.Logic.{_⊎_, inl, inr}
+use mathlib.Core.Logic.{inl, inr}
 use native.Mathlib.Omega.{arith}
 use lib.ListN.{set}
-use lib.IntN.{ℤ, pos}
-use Rattle.tables.specs.Access.{itemsOf, codeOf, linkOf}
+use lib.IntN.{ℤ}
+use Rattle.tables.specs.Access.{codeOf, linkOf}
 use Rattle.value.specs.Types.{castOf}
 use Rattle.value.proofs.Laws.{cast-twice}
 use Rattle.frames.specs.Layout.{processesOf, unitOf}
-use Rattle.evaluating.specs.declared.Located.{Located}
 use Rattle.evaluating.specs.declared.Located.the-variants.{At}
-use Rattle.evaluating.specs.Variables.{variableOf, typeOf, sizeOf, slotOf}
+use Rattle.evaluating.specs.Variables.{variableOf, typeOf, sizeOf}
 use Rattle.evaluating.specs.Expressions.{locateOf}
-use Rattle.fitting.specs.Fits.{isGlobal, isLocal}
 use Rattle.standing.specs.Meaning.{Stands}
 use Rattle.statements.specs.Statements.{moved}
 use Rattle.keeping.specs.Well.{Unit, Inside, Stop, Visible, goesOn, Well}

@@ -1,21 +1,19 @@
 -- What each statement does leaves a state: but for run, and for what the others share.
-use Prim.Native.Nat.{ℕ, zero, suc, _+_, _-_, _≤_, _<_}
-use mathlib.Core.Path.{_≡_, refl, sym, ap, subst, _∙_}
+use Prim.Native.Nat.{ℕ, _+_, _<_}
+use mathlib.Core.Path.{_≡_, refl, sym, subst}
 use mathlib.Core.Bool.{Bool, true, false}
 use mathlib.Core.List.{List}
-use mathlib.Core.Logic.{_⊎_, inl, inr}
 use native.Mathlib.Omega.{arith}
 use lib.ListN.{replicate, length-replicate}
 use lib.IntN.{ℤ, pos, _+ℤ_}
-use lib.Dec.{ltb}
 use borrow.Author.Tests.{ltb-true}
 use Rattle.base.specs.Choice.{pick}
-use Rattle.tables.specs.Access.{itemsOf, codeOf, linkOf}
+use Rattle.tables.specs.Access.{codeOf, linkOf}
 use Rattle.value.specs.Bits.{wrap32}
 use Rattle.value.specs.Operators.{isTrue}
 use Rattle.value.specs.declared.Answer.{Answer}
 use Rattle.value.specs.declared.Answer.the-variants.{Value, Fails}
-use Rattle.frames.specs.Layout.{cellOf, processesOf, channelsOf, unitOf, waitingOf, declaredOf}
+use Rattle.frames.specs.Layout.{cellOf, channelsOf, waitingOf, declaredOf}
 use Rattle.evaluating.specs.declared.Located.{Located}
 use Rattle.evaluating.specs.declared.Located.the-variants.{At, Astray}
 use Rattle.evaluating.specs.declared.Reached.{Reached}
@@ -33,7 +31,7 @@ use Rattle.keeping.specs.Well.{Unit, Inside, goesOn, stores, opens, Well}
 use Rattle.keeping.proofs.Sends.{append-stands}
 use Rattle.keeping.proofs.Receives.{remove-stands}
 use Rattle.lasting.proofs.Reached.{message-made}
-use Rattle.lasting.proofs.Ends.{Ended, gather-ends, aim-ends}
+use Rattle.lasting.proofs.Ends.{gather-ends, aim-ends}
 use Rattle.lasting.proofs.Runs.{Runs, runs-after, store-located, go-on, ended-on}
 use Rattle.lasting.proofs.Delivers.{delivers}
 

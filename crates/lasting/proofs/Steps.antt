@@ -1,6 +1,6 @@
 -- A STEP LEAVES A STATE OF THE MODEL.
-use Prim.Native.Nat.{ℕ, zero, suc, _+_, _-_, _≤_, _<_}
-use mathlib.Core.Path.{_≡_, refl, sym, ap, subst, _∙_}
+use Prim.Native.Nat.{ℕ, _+_, _<_}
+use mathlib.Core.Path.{_≡_, refl, sym, subst, _∙_}
 use mathlib.Core.Bool.{Bool, true, false}
 use mathlib.Core.List.{List}
 use mathlib.Core.Logic.{_⊎_, inl, inr}
@@ -10,7 +10,7 @@ use lib.Dec.{eqb}
 use borrow.Author.Tests.{eqb-true}
 use Rattle.base.specs.Choice.{pick}
 use Rattle.finding.specs.Sets.{within}
-use Rattle.tables.specs.Access.{itemsOf, codeOf, linkOf}
+use Rattle.tables.specs.Access.{codeOf, linkOf}
 use Rattle.frames.specs.Layout.{kept, processesOf, unitOf}
 use Rattle.evaluating.specs.declared.Located.{Located}
 use Rattle.evaluating.specs.declared.Located.the-variants.{At, Astray}
@@ -20,7 +20,7 @@ use Rattle.messages.specs.declared.Gathered.{Gathered}
 use Rattle.messages.specs.declared.Gathered.the-variants.{Upto, Failed}
 use Rattle.messages.specs.Messages.{onPlace, gatherEnd, gatherList}
 use Rattle.statements.specs.declared.Taken.the-variants.{Done, Idle}
-use Rattle.statements.specs.Statements.{Result, fault, moved, onEnd, blank, storedAt, passed, assigned}
+use Rattle.statements.specs.Statements.{Result, fault, moved, onEnd, blank, storedAt, assigned}
 use Rattle.effects.specs.Effects.{endFrom, called, ran, setRunAt, setRan, targeted, takenAs, takenOf}
 use Rattle.standing.specs.Standing.{placeAt}
 use Rattle.standing.specs.Meaning.{Stands}

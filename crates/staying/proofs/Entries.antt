@@ -1,5 +1,5 @@
 -- WHAT THE ENTRIES LEAVE IS A STATE OF THE MODEL: after a start, and after every step that is not refused, `is_state` says yes; so a run or a trail has to ask only once.
-use Prim.Native.Nat.{ℕ, _+_, _-_, _≤_, _<_, min}
+use Prim.Native.Nat.{ℕ, _+_, _-_, _≤_, _<_}
 use mathlib.Core.Path.{_≡_, refl, sym, ap, subst, _∙_}
 use mathlib.Core.Bool.{Bool, true, false}
 use mathlib.Core.List.{List}
@@ -14,7 +14,6 @@ use Rattle.genuine.specs.Genuine.{written, genuine}
 use Rattle.frames.specs.Layout.{stateSize, processesOf, placeOf}
 use Rattle.starting.specs.Starting.{initialOf}
 use Rattle.standing.specs.Standing.{isStateOf}
-use Rattle.standing.specs.Meaning.{Stands}
 use Rattle.standing.proofs.Meaning.{is-state-stands}
 use Rattle.standing.proofs.Exact.{stands-is-state}
 use Rattle.offering.specs.declared.Walk.{Walk}
