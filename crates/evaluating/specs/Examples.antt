@@ -3,6 +3,7 @@ use Prim.Native.Nat.{ℕ}
 use mathlib.Core.Path.{_≡_, refl}
 use mathlib.Core.List.{List, [], _∷_}
 use lib.IntN.{ℤ, pos}
+use Rattle.tables.specs.Access.{codeOf}
 use Rattle.value.specs.Operators.{applyOf, divideOf}
 use Rattle.value.specs.declared.Fault.the-variants.{Divide}
 use Rattle.value.specs.declared.Answer.the-variants.{Value, Fails}
@@ -14,7 +15,7 @@ sum = 17 ∷ 5 ∷ 3 ∷ 0 ∷ 71 ∷ 327 ∷ 583 ∷ 162 ∷ 160 ∷ 0 ∷ 0 �
 
 -- P1: `2+5*3` 17
 p1 : evalOf sum [] 0 0 5 ≡ Value (pos 17)
-unfolding evalT nodeOf applyOf
+unfolding codeOf evalT nodeOf applyOf
 p1 = refl
 
 -- 0 1 0 / &&
@@ -27,5 +28,5 @@ lost = 17 ∷ 5 ∷ 3 ∷ 0 ∷ 71 ∷ 327 ∷ 163 ∷ 583 ∷ 148 ∷ 0 ∷ 0 �
 
 -- P7: `0&&1/0` 0, `1/0&&0` fault
 p7 : (evalOf saved [] 0 0 5 ≡ Value (pos 0)) × (evalOf lost [] 0 0 5 ≡ Fails Divide)
-unfolding evalT nodeOf applyOf divideOf
+unfolding codeOf evalT nodeOf applyOf divideOf
 p7 = (refl, refl)

@@ -59,7 +59,7 @@ same-holds : (a b : ℤ) → a ≡ b → same a b ≡ true
 same-holds a b e = subst (λ c. same a c ≡ true) e (same-self a)
 
 -- ---- counts, and values in their types
-counts-hold : (s : List ℤ) (a b i : ℕ) → a ≤ itemsLast → b ≤ itemsLast → Counted s a i → Counted s b (i + 1) → countsFrom s a b i ≡ true
+counts-hold : (s : List ℤ) (a b i : ℕ) → a ≤ 2147483647 → b ≤ 2147483647 → Counted s a i → Counted s b (i + 1) → countsFrom s a b i ≡ true
 unfolding countsFrom countsAt
 counts-hold s a b i ha hb p q =
     both-hold (countsAt s a i) (countsAt s b (i + 1)) (same-holds (cellOf s i) _ (sym (counted-kept s a i ha p))) (same-holds (cellOf s (i + 1)) _ (sym (counted-kept s b (i + 1) hb q)))
@@ -99,7 +99,7 @@ module _ (t : List ℕ) (s : List ℤ) (st : Stands t s) where
   process-holds : (p : ℕ) → p < processesOf s → processSound t s p ≡ true
   unfolding processSound isProcess
   process-holds p h =
-      both-hold (countsFrom s itemsLast itemsLast (processAt p)) (isProcess t s p) (counts-hold s itemsLast itemsLast (processAt p) (omega arith) (omega arith) (st .heads p h .0) (st .heads p h .1))
+      both-hold (countsFrom s (itemsLast t) (itemsLast t) (processAt p)) (isProcess t s p) (counts-hold s (itemsLast t) (itemsLast t) (processAt p) (omega arith) (omega arith) (st .heads p h .0) (st .heads p h .1))
       (both-hold (within 223 226 (codeOf t (unitOf s p))) _
       (both-hold (leb 223 (codeOf t (unitOf s p))) (leb (codeOf t (unitOf s p)) 226) (le-leb 223 (codeOf t (unitOf s p)) (st .units p h .0)) (le-leb (codeOf t (unitOf s p)) 226 (st .units p h .1)))
       (both-hold (belongs t (unitOf s p) (placeOf s p)) (localsFit t s p (unitOf s p)) (belongs-holds (unitOf s p) (placeOf s p) (st .places p h)) (locals-hold p h)))
@@ -107,7 +107,7 @@ module _ (t : List ℕ) (s : List ℤ) (st : Stands t s) where
   channel-holds : (c : ℕ) → c < channelsOf s → channelSound t s c ≡ true
   unfolding channelSound isChannel
   channel-holds c h =
-      both-hold (countsFrom s itemsLast messagesMost (channelAt c)) (isChannel t s c) (counts-hold s itemsLast messagesMost (channelAt c) (omega arith) (omega arith) (st .records c h .0) (st .records c h .1))
+      both-hold (countsFrom s (itemsLast t) messagesMost (channelAt c)) (isChannel t s c) (counts-hold s (itemsLast t) messagesMost (channelAt c) (omega arith) (omega arith) (st .records c h .0) (st .records c h .1))
       (both-hold (both (eqb (codeOf t (declaredOf s c)) 217) (leb (waitingOf s c) (capacityOf t (declaredOf s c)))) _
       (both-hold (eqb (codeOf t (declaredOf s c)) 217) _ (eq-eqb (codeOf t (declaredOf s c)) 217 (st .declarations c h)) (le-leb (waitingOf s c) (capacityOf t (declaredOf s c)) (st .room c h)))
       (messages-hold c h))

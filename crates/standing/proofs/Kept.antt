@@ -26,11 +26,11 @@ pick-here : (Q : List ℤ → Type 0) (b : Bool) (x y : List ℤ) → b ≡ true
 pick-here Q b x y e q = subst (λ b. Q (pick b x y)) (sym e) q
 
 -- a count as it is written again
-pub counted-kept : (s : List ℤ) (most i : ℕ) → most ≤ itemsLast → Counted s most i → kept (min most (countOf s i)) ≡ cellOf s i
+pub counted-kept : (s : List ℤ) (most i : ℕ) → most ≤ 2147483647 → Counted s most i → kept (min most (countOf s i)) ≡ cellOf s i
 counted-kept s most i h q = let b = q .1 in ap pos (let e : min 2147483647 (min most (countOf s i)) ≡ countOf s i = omega arith in e) ∙ sym (q .0)
 
-item-kept : (s : List ℤ) (i : ℕ) → Counted s itemsLast i → kept (countOf s i) ≡ cellOf s i
-item-kept s i q = let b = q .1 in ap pos (let e : min 2147483647 (countOf s i) ≡ countOf s i = omega arith in e) ∙ sym (q .0)
+item-kept : (t : List ℕ) (s : List ℤ) (i : ℕ) → Counted s (itemsLast t) i → kept (countOf s i) ≡ cellOf s i
+item-kept t s i q = let b = q .1 in ap pos (let e : min 2147483647 (countOf s i) ≡ countOf s i = omega arith in e) ∙ sym (q .0)
 
 -- of the right length; and the number at i there already
 abbrev Long : List ℤ → Type 0
@@ -67,13 +67,13 @@ module _ (s : List ℤ) where
 
 module _ (t : List ℕ) (s : List ℤ) (st : Stands t s) where
   unit-is : (p : ℕ) → p < processesOf s → kept (unitOf s p) ≡ cellOf s (processAt p)
-  unit-is p h = item-kept s (processAt p) (st .heads p h .0)
+  unit-is p h = item-kept t s (processAt p) (st .heads p h .0)
 
   place-is : (p : ℕ) → p < processesOf s → kept (placeOf s p) ≡ cellOf s (processAt p + 1)
-  place-is p h = item-kept s (processAt p + 1) (st .heads p h .1)
+  place-is p h = item-kept t s (processAt p + 1) (st .heads p h .1)
 
   item-is : (c : ℕ) → c < channelsOf s → kept (declaredOf s c) ≡ cellOf s (channelAt c)
-  item-is c h = item-kept s (channelAt c) (st .records c h .0)
+  item-is c h = item-kept t s (channelAt c) (st .records c h .0)
 
   count-is : (c : ℕ) → c < channelsOf s → kept (messagesIn s c) ≡ cellOf s (channelAt c + 1)
   count-is c h = counted-kept s messagesMost (channelAt c + 1) (omega arith) (st .records c h .1)

@@ -63,13 +63,13 @@ module _ (t : List ℕ) (s : List ℤ) where
   channel-is c ed ew ek em ea en eb er =
       er ∙ (λ i. both ((ea ∙ (λ j. both (eqb ((ek ∙ ap (codeOf t) ed) j) 217) (leb (ew j) ((em ∙ ap (capacityOf t) ed) j)))) i) ((eb ∙ (λ j. every (messageFits t s c (ed j)) 0 ((en ∙ ap (min 8) ew) j))) i))
 
-  pub process-sound : (p : ℕ) {i : ℕ} {a b r : Bool} → i ≡ processAt p → a ≡ countsFrom s itemsLast itemsLast i → b ≡ isProcess t s p → r ≡ both a b → r ≡ processSound t s p
+  pub process-sound : (p : ℕ) {e i : ℕ} {a b r : Bool} → e ≡ itemsLast t → i ≡ processAt p → a ≡ countsFrom s e e i → b ≡ isProcess t s p → r ≡ both a b → r ≡ processSound t s p
   unfolding processSound
-  process-sound p ei ea eb er = er ∙ (λ j. both ((ea ∙ ap (countsFrom s itemsLast itemsLast) ei) j) (eb j))
+  process-sound p ee ei ea eb er = er ∙ (λ j. both ((ea ∙ (λ k. countsFrom s (ee k) (ee k) (ei k))) j) (eb j))
 
-  pub channel-sound : (c : ℕ) {i : ℕ} {a b r : Bool} → i ≡ channelAt c → a ≡ countsFrom s itemsLast 8 i → b ≡ isChannel t s c → r ≡ both a b → r ≡ channelSound t s c
+  pub channel-sound : (c : ℕ) {e i : ℕ} {a b r : Bool} → e ≡ itemsLast t → i ≡ channelAt c → a ≡ countsFrom s e 8 i → b ≡ isChannel t s c → r ≡ both a b → r ≡ channelSound t s c
   unfolding channelSound
-  channel-sound c ei ea eb er = er ∙ (λ j. both ((ea ∙ ap (countsFrom s itemsLast 8) ei) j) (eb j))
+  channel-sound c ee ei ea eb er = er ∙ (λ j. both ((ea ∙ (λ k. countsFrom s (ee k) 8 (ei k))) j) (eb j))
 
   pub sound-as : {i g n m : ℕ} {h f a b y z r : Bool} → h ≡ countsFrom s 16 16 0 → i ≡ itemsOf t → g ≡ min 8192 i → f ≡ every (globalFits t s) 0 g → n ≡ processesIn s
       → a ≡ every (processSound t s) 0 n → m ≡ channelsIn s → b ≡ every (channelSound t s) 0 m → z ≡ both a b → y ≡ both f z → r ≡ both h y → r ≡ sound t s

@@ -116,13 +116,13 @@ module _ (t : List ℕ) (s : List ℤ) where
       let b = both-true (eqb (codeOf t (declaredOf s c)) 217) (leb (waitingOf s c) (capacityOf t (declaredOf s c))) (a .0) in
       (eqb-true (codeOf t (declaredOf s c)) 217 (b .0), leb-true (waitingOf s c) (capacityOf t (declaredOf s c)) (b .1), a .1)
 
-  process-both : (p : ℕ) → processSound t s p ≡ true → (countsFrom s itemsLast itemsLast (processAt p) ≡ true) × (isProcess t s p ≡ true)
+  process-both : (p : ℕ) → processSound t s p ≡ true → (countsFrom s (itemsLast t) (itemsLast t) (processAt p) ≡ true) × (isProcess t s p ≡ true)
   unfolding processSound
-  process-both p e = both-true (countsFrom s itemsLast itemsLast (processAt p)) (isProcess t s p) e
+  process-both p e = both-true (countsFrom s (itemsLast t) (itemsLast t) (processAt p)) (isProcess t s p) e
 
-  channel-both : (c : ℕ) → channelSound t s c ≡ true → (countsFrom s itemsLast messagesMost (channelAt c) ≡ true) × (isChannel t s c ≡ true)
+  channel-both : (c : ℕ) → channelSound t s c ≡ true → (countsFrom s (itemsLast t) messagesMost (channelAt c) ≡ true) × (isChannel t s c ≡ true)
   unfolding channelSound
-  channel-both c e = both-true (countsFrom s itemsLast messagesMost (channelAt c)) (isChannel t s c) e
+  channel-both c e = both-true (countsFrom s (itemsLast t) messagesMost (channelAt c)) (isChannel t s c) e
 
   sound-parts : sound t s ≡ true
       → (countsFrom s processesMost channelsMost 0 ≡ true) × (every (globalFits t s) 0 (scanned t) ≡ true) × (every (processSound t s) 0 (processesIn s) ≡ true) × (every (channelSound t s) 0 (channelsIn s) ≡ true)
@@ -159,7 +159,7 @@ module _ (t : List ℕ) (s : List ℤ) where
     channel-at c h = every-at (channelSound t s) (channelsIn s) c (sound-parts sounds .3) (let w = counts-in .1 .1 in omega arith)
 
     waiting-in : (c : ℕ) → c < channelsOf s → waitingOf s c ≤ messagesMost
-    waiting-in c h = counted-from s itemsLast messagesMost (channelAt c) (channel-both c (channel-at c h) .0) .1 .1
+    waiting-in c h = counted-from s (itemsLast t) messagesMost (channelAt c) (channel-both c (channel-at c h) .0) .1 .1
 
     unused-zero : (i : ℕ) → 2 ≤ i → i < stateSize → Used t s i ⊎ (cellOf s i ≡ pos 0)
     unused-zero i h g = go (unused-shaped i h g)
@@ -173,8 +173,8 @@ module _ (t : List ℕ) (s : List ℤ) where
       long = long;
       processes = counts-in .0;
       channels = counts-in .1;
-      heads = λ p h. counted-from s itemsLast itemsLast (processAt p) (process-both p (process-at p h) .0);
-      records = λ c h. counted-from s itemsLast messagesMost (channelAt c) (channel-both c (channel-at c h) .0);
+      heads = λ p h. counted-from s (itemsLast t) (itemsLast t) (processAt p) (process-both p (process-at p h) .0);
+      records = λ c h. counted-from s (itemsLast t) messagesMost (channelAt c) (channel-both c (channel-at c h) .0);
       globals = λ j k h e g. global-in j k (every-at (globalFits t s) (scanned t) j (sound-parts sounds .1) h) e g;
       locals = λ p j k h g e w. local-in p (unitOf s p + j) k (locals-in p (unitOf s p) j (process-parts p (process-both p (process-at p h) .1) .3) g) e w;
       units = λ p h. let a = process-parts p (process-both p (process-at p h) .1) in (a .0, a .1);

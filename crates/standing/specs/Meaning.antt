@@ -39,11 +39,11 @@ pub data Used (t : List ℕ) (s : List ℤ) : ℕ → Type 0 where
 
 pub record Stands (t : List ℕ) (s : List ℤ) : Type 0 where
   pub long : stateSize ≤ length s
-  -- "counts within ceilings"
+  -- "counts within ceilings"; units, places and channels are told by items of the model
   pub processes : Counted s processesMost 0
   pub channels : Counted s channelsMost 1
-  pub heads : (p : ℕ) → p < processesOf s → (Counted s itemsLast (processAt p)) × (Counted s itemsLast (processAt p + 1))
-  pub records : (c : ℕ) → c < channelsOf s → (Counted s itemsLast (channelAt c)) × (Counted s messagesMost (channelAt c + 1))
+  pub heads : (p : ℕ) → p < processesOf s → (Counted s (itemsLast t) (processAt p)) × (Counted s (itemsLast t) (processAt p + 1))
+  pub records : (c : ℕ) → c < channelsOf s → (Counted s (itemsLast t) (channelAt c)) × (Counted s messagesMost (channelAt c + 1))
   -- "values in their types"
   pub globals : (j k : ℕ) → j < scanned t → isGlobal t j ≡ true → k < sizeOf (linkOf t j) → InType s (typeOf (linkOf t j)) (slotOf (linkOf t j) 0 k)
   pub locals : (p j k : ℕ) → p < processesOf s → j < unitLength t (unitOf s p) → isLocal t (unitOf s p + j) ≡ true → k < sizeOf (linkOf t (unitOf s p + j))

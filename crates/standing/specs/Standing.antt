@@ -2,7 +2,7 @@
 -- messages in their field types, counts within ceilings, channels with the capacity and fields of some declaration, unused numbers 0".
 -- Units, places and channels are some of the model's, values lie in their types (`fitting`), and nothing stands where nothing is in use (`shaping`).
 -- `t` are tables, `s` the numbers.
-use Prim.Native.Nat.{ℕ, _-_}
+use Prim.Native.Nat.{ℕ, _-_, min}
 use mathlib.Core.Bool.{Bool, true, false}
 use mathlib.Core.List.{List}
 use lib.ListN.{length}
@@ -11,7 +11,7 @@ use lib.Dec.{eqb, ltb, leb}
 use Rattle.base.specs.Choice.{pick, both, either}
 use Rattle.finding.specs.Sets.{within}
 use Rattle.places.specs.Places.{isPart, isMark, isAlone, isLead}
-use Rattle.tables.specs.Access.{codeOf, linkOf}
+use Rattle.tables.specs.Access.{itemsOf, codeOf, linkOf}
 use Rattle.value.specs.Operators.{same}
 use Rattle.frames.specs.Layout.{stateSize, processesMost, channelsMost, messagesMost, processAt, channelAt, cellOf, unitOf, placeOf, declaredOf, waitingOf}
 use Rattle.executing.specs.Channels.{capacityOf}
@@ -19,9 +19,9 @@ use Rattle.starting.specs.Starting.{scanned}
 use Rattle.fitting.specs.Fits.{every, countsFrom, globalFits, localsFit, messageFits}
 use Rattle.shaping.specs.Shapes.{processesIn, channelsIn, messagesIn, shaped}
 
--- the number of an item is one of 31 bits
-abbrev pub itemsLast : ℕ
-itemsLast = 2147483647
+-- the number of the model's last item, as far as 31 bits reach
+abbrev pub itemsLast : List ℕ → ℕ
+itemsLast t = min 2147483647 (itemsOf t - 1)
 
 module _ (t : List ℕ) where
   -- a statement has its place at item q: `isPlace` (crate `places`), with the mark of its phrase as the tables have it
@@ -45,10 +45,10 @@ module _ (t : List ℕ) where
 
     -- the two numbers before those of variables and messages
     unfoldable pub processSound : ℕ → Bool
-    processSound p = both (countsFrom s itemsLast itemsLast (processAt p)) (isProcess p)
+    processSound p = both (countsFrom s (itemsLast t) (itemsLast t) (processAt p)) (isProcess p)
 
     unfoldable pub channelSound : ℕ → Bool
-    channelSound c = both (countsFrom s itemsLast messagesMost (channelAt c)) (isChannel c)
+    channelSound c = both (countsFrom s (itemsLast t) messagesMost (channelAt c)) (isChannel c)
 
     unfoldable pub sound : Bool
     sound = both (countsFrom s processesMost channelsMost 0) (both (every (globalFits t s) 0 (scanned t)) (both (every processSound 0 (processesIn s)) (every channelSound 0 (channelsIn s))))

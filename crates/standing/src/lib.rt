@@ -8,8 +8,8 @@ use finding::within;
 use sheets::both;
 use sheets::either;
 
-// The last number that an item can have.
-const ITEMS_LAST: usize = 2147483647;
+// The last number that is told in 31 bits.
+const NUMBERS_LAST: usize = 2147483647;
 
 // The most items of a model.
 const ITEMS_MOST: usize = 8192;
@@ -19,6 +19,13 @@ fn counts_from(s: &[i32], a: usize, b: usize, i: usize) -> bool
     ensures { λ r. ⌜ r ≡ fits.countsFrom (now (s .entry)) a b i ⌝ }
 {
     both(fitting::counts_at(s, a, i), fitting::counts_at(s, b, i + 1))
+}
+
+// The last item of the model.
+fn items_last(t: &[u32]) -> usize
+    ensures { λ r. ⌜ r ≡ standing.itemsLast (now (t .entry)) ⌝ }
+{
+    base::least(NUMBERS_LAST, evaluating::minus_one(tables::items(t)))
 }
 
 // Does a statement have its place at item q?
@@ -66,8 +73,9 @@ fn is_process(t: &[u32], s: &[i32], p: u8) -> bool
 fn process_sound(t: &[u32], s: &[i32], p: u8) -> bool
     ensures { λ r. ⌜ r ≡ standing.processSound (now (t .entry)) (now (s .entry)) p ⌝ }
 {
+    let e = items_last(t);
     both(
-        counts_from(s, ITEMS_LAST, ITEMS_LAST, frames::process_at(p)),
+        counts_from(s, e, e, frames::process_at(p)),
         is_process(t, s, p),
     )
 }
@@ -102,8 +110,9 @@ fn is_channel(t: &[u32], s: &[i32], c: u32) -> bool
 fn channel_sound(t: &[u32], s: &[i32], c: u32) -> bool
     ensures { λ r. ⌜ r ≡ standing.channelSound (now (t .entry)) (now (s .entry)) c ⌝ }
 {
+    let e = items_last(t);
     both(
-        counts_from(s, ITEMS_LAST, 8, frames::channel_at(c)),
+        counts_from(s, e, 8, frames::channel_at(c)),
         is_channel(t, s, c),
     )
 }

@@ -155,7 +155,8 @@ module _ (es : List Entry) (ls : List ℕ) where
     word-is = items-at i h ∙ item-at es 0 0 i h ∙ rw (zero-add, zero-add)
 
     pub holds-code : codeOf T i ≡ getD es i nothing .code
-    holds-code = rw word-is (word-code _ _ _ _ (fair-at es fair i h .coded))
+    unfolding codeOf
+    holds-code = rw (lt-ltb i (itemsOf T) (rw holds-items h), word-is) (word-code _ _ _ _ (fair-at es fair i h .coded))
 
     arg-is : argOf T i ≡ argument (e .code) (length (e .bytes)) (bytesBefore es i) (numbersBefore es i)
     arg-is = rw word-is (word-argument _ _ _ _ (fair-at es fair i h .coded))

@@ -16,12 +16,13 @@ module _ (t : List ℕ) where
   abbrev pub numbersOf : ℕ
   numbersOf = getD t 2 0
 
-  -- the word of item i, and its two parts
+  -- the word of item i, which holds its code and its argument
   abbrev pub wordOf : ℕ → ℕ
   wordOf i = getD t (4 + i) 0
 
-  abbrev pub codeOf : ℕ → ℕ
-  codeOf i = wordOf i % 256
+  -- its code; 0 where there is no such item, whatever stands there
+  unfoldable pub codeOf : ℕ → ℕ
+  codeOf i = pick (ltb i itemsOf) (wordOf i % 256) 0
 
   abbrev pub argOf : ℕ → ℕ
   argOf i = wordOf i / 256

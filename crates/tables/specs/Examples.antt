@@ -19,6 +19,7 @@ unfolding tablesOf itemWords itemWord argument one linked numbers number joined 
 written = refl
 
 code : codeOf table 2 ≡ 176
+unfolding codeOf
 code = refl
 
 link : linkOf table 2 ≡ 9

@@ -228,11 +228,15 @@ pub fn items(t: &[u32]) -> usize
     pens::word_at(t, 1)
 }
 
-// The code of item i.
+// The code of item i; 0 where there is no such item.
 pub fn code(t: &[u32], i: usize) -> u8
     ensures { λ r. ⌜ r ≡ codeOf (now (t .entry)) i ⌝ }
 {
-    (pens::word_on(t, 4, i) % 256) as u8
+    if i < items(t) {
+        (pens::word_on(t, 4, i) % 256) as u8
+    } else {
+        0
+    }
 }
 
 // Its argument.

@@ -1,0 +1,16 @@
+pub mod Tables
+pub mod Links
+pub mod Known
+pub mod Units
+pub mod Homes
+pub mod Sums
+pub mod Variables
+pub mod Firsts
+pub mod Marks
+pub mod Items
+pub mod Follows
+pub mod Jumps
+pub mod Options
+pub mod Whole
+pub mod Arguments
+pub mod Channels

@@ -1,0 +1,14 @@
+pub mod Cells
+pub mod Parts
+pub mod Uses
+pub mod Stores
+pub mod Moves
+pub mod Fills
+pub mod Made
+pub mod Sends
+pub mod Receives
+pub mod Declared
+pub mod Begun
+pub mod Entered
+pub mod Processes
+pub mod Initial
