@@ -1,0 +1,1 @@
+// What runs and accepted trails are, as relations: definitions and theorems alone.

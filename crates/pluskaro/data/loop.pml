@@ -1,0 +1,1 @@
+init{int i;do::i++::i=0 od}

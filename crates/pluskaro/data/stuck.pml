@@ -1,0 +1,1 @@
+chan c=[1]of{int};active proctype a(){c!1;c!2}active proctype b(){int x,y[3];c?x;y[x]=x;c?x,y[x]}

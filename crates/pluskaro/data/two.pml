@@ -1,0 +1,1 @@
+byte n;init{n++;n=n+255}
