@@ -1,2 +1,4 @@
 pub mod Runs
 pub mod Trails
+pub mod Numbers
+pub mod Written
