@@ -20,7 +20,7 @@ values = ((refl, refl), ((refl, refl), ((refl, refl), ((refl, refl), ((refl, ref
 -- P6
 stored : All (take 4 (drop 7 sheet))
 unfolding reads moves
-stored = ((refl, (refl, refl)), ((refl, (refl, refl)), ((refl, (refl, refl)), ((refl, (refl, refl)), tt))))
+stored = ((refl, refl, refl), ((refl, refl, refl), ((refl, refl, refl), ((refl, refl, refl), tt))))
 
 -- P7, P8
 needed : All (take 3 (drop 11 sheet))
@@ -29,7 +29,7 @@ needed = ((refl, refl), ((refl, refl), ((refl, refl), tt)))
 
 -- P9, P10, P11
 texts : All (drop 14 sheet)
-unfolding reads moves writes
+unfolding reads writes
 texts = (refl, ((refl, refl), ((refl, refl), tt)))
 
 pub samples-hold : All sheet

@@ -3,12 +3,14 @@
 use mathlib.Core.List.{List, [], _∷_, _++_}
 use mathlib.Core.Path.{_≡_}
 use Prim.Native.Nat.{ℕ}
-use lib.ListN.{replicate}
+use lib.ListN.{length, replicate}
 use lib.IntN.{ℤ, pos, negℤ}
 use Rattle.tokens.specs.Kinds.{bytes}
 use Rattle.judging.specs.declared.Judged.the-variants.{Accepted, Refused}
-use Rattle.judging.specs.Judging.{judgeOf, tablesText}
-use Rattle.normal.specs.Entries.{normalText}
+use Rattle.judging.specs.Judging.{tablesText}
+use Rattle.reader.specs.Entries.{room, readOf}
+use Rattle.normal.specs.declared.Written.the-variants.{Text}
+use Rattle.normal.specs.Entries.{answerOf, leftOf}
 use Rattle.value.specs.declared.Fault.{Fault}
 use Rattle.value.specs.declared.Fault.the-variants.{Divide, Shift}
 use Rattle.value.specs.declared.Answer.{Answer}
@@ -23,23 +25,23 @@ use Rattle.effects.specs.Effects.{takenOf}
 use Rattle.moving.specs.Moving.{verdictOf}
 use Rattle.moving.specs.declared.Verdict.the-variants.{Blocked}
 
-abbrev pub Text : Type 0
-Text = List ℕ
+abbrev pub Bytes : Type 0
+Bytes = List ℕ
 
 -- what the sheet says of a text
 pub data Sample : Type 0 where
   -- an expression has this value
-  gives : Text → ℤ → Sample
+  gives : Bytes → ℤ → Sample
   -- working an expression out is this fault
-  faults : Text → Fault → Sample
+  faults : Bytes → Fault → Sample
   -- an expression's value, stored in a variable of this type, is then this number
-  stores : Text → Text → ℤ → Sample
+  stores : Bytes → Bytes → ℤ → Sample
   -- a model is blocked in its initial state
-  blocks : Text → Sample
+  blocks : Bytes → Sample
   -- a model is refused, with this number, at this byte, over this length
-  refuses : Text → ℕ → ℕ → ℕ → Sample
+  refuses : Bytes → ℕ → ℕ → ℕ → Sample
   -- a model has this normal text
-  becomes : Text → Text → Sample
+  becomes : Bytes → Bytes → Sample
 
 abbrev minus : ℕ → ℤ
 minus n = negℤ (pos n)
@@ -72,38 +74,47 @@ sheet =
     becomes (bytes "init{int a;a-(-a)}") (bytes "init{int a;a- -a}") ∷ []
 
 -- ## what each asks
+-- "tables are lent as 16,384 unsigned 32-bit numbers"
+abbrev pub lent : List ℕ
+lent = replicate room 0
+
 -- the initial state of a model, from its tables
 abbrev pub initial : List ℕ → List ℤ
 initial t = initialOf t (replicate stateSize (pos 0))
 
--- the expression at which process 0 stands
-abbrev pub valueAt : List ℕ → List ℤ → Answer
-valueAt t s = evalOf t s 0 (placeOf s 0) (markOf t (placeOf s 0))
+-- an expression's value: `init{EXPRESSION}` is accepted, and this is what the expression at which process 0 stands in the initial state is worth
+abbrev pub standing : Bytes → Bytes
+standing e = bytes "init{" ++ (e ++ bytes "}")
 
--- an expression's value: `init{EXPRESSION}` is accepted, and this is its expression in its initial state
-abbrev pub worth : Text → Text
-worth e = bytes "init{" ++ (e ++ bytes "}")
+abbrev pub valueIn : List ℕ → List ℤ → Answer
+valueIn t s = evalOf t s 0 (placeOf s 0) (markOf t (placeOf s 0))
 
-abbrev pub WorkedOut : Text → Answer → Type 0
-WorkedOut e x = (judgeOf (worth e) ≡ Accepted) × (valueAt (tablesText (worth e)) (initial (tablesText (worth e))) ≡ x)
+abbrev pub WorkedOut : Bytes → Answer → Type 0
+WorkedOut m x = (readOf m lent ≡ Accepted) × (valueIn (tablesText m) (initial (tablesText m)) ≡ x)
 
--- a store: `TYPE x;init{x=EXPRESSION}` is accepted, and the step of process 0 is done and leaves x, the first global number, so
-abbrev pub storing : Text → Text → Text
+-- a store: `TYPE x;init{x=EXPRESSION}` is accepted, and the step at which process 0 stands in the initial state is done and leaves this in x, the first global number
+abbrev pub storing : Bytes → Bytes → Bytes
 storing e w = w ++ (bytes " x;init{x=" ++ (e ++ bytes "}"))
 
 abbrev pub stepIn : List ℕ → List ℤ → Taken × List ℤ
 stepIn t s = takenOf t 0 (placeOf s 0) s
 
-abbrev pub Stored : Taken × List ℤ → ℤ → Type 0
-Stored r z = (r .0 ≡ Done) × (cellOf (r .1) (globalAt 0) ≡ z)
+abbrev pub Stored : Bytes → ℤ → Type 0
+Stored m z =
+    (readOf m lent ≡ Accepted) × (stepIn (tablesText m) (initial (tablesText m)) .0 ≡ Done)
+    × (cellOf (stepIn (tablesText m) (initial (tablesText m)) .1) (globalAt 0) ≡ z)
+
+-- normal text: where just its room is lent, it is all that is there afterwards
+abbrev pub roomFor : Bytes → List ℕ
+roomFor u = replicate (length u) 0
 
 abbrev pub Holds : Sample → Type 0
-Holds (gives e v) = WorkedOut e (Value v)
-Holds (faults e f) = WorkedOut e (Fails f)
-Holds (stores e w z) = (judgeOf (storing e w) ≡ Accepted) × Stored (stepIn (tablesText (storing e w)) (initial (tablesText (storing e w)))) z
-Holds (blocks m) = (judgeOf m ≡ Accepted) × (verdictOf (tablesText m) (initial (tablesText m)) ≡ Blocked)
-Holds (refuses m x i n) = judgeOf m ≡ Refused x i n
-Holds (becomes m u) = (judgeOf m ≡ Accepted) × (normalText m ≡ u)
+Holds (gives e v) = WorkedOut (standing e) (Value v)
+Holds (faults e f) = WorkedOut (standing e) (Fails f)
+Holds (stores e w z) = Stored (storing e w) z
+Holds (blocks m) = (readOf m lent ≡ Accepted) × (verdictOf (tablesText m) (initial (tablesText m)) ≡ Blocked)
+Holds (refuses m x i n) = readOf m lent ≡ Refused x i n
+Holds (becomes m u) = (answerOf m (roomFor u) ≡ Text (length u)) × (leftOf m (roomFor u) ≡ u)
 
 -- each of a list
 abbrev pub All : List Sample → Type 0
