@@ -107,3 +107,11 @@ module _ (cs : List ℕ) where
               before : Dec (j ≡ e) → j ≤ e → j < e
               before (yes z) m = absurd (n (ap (λ i. getD cs i 0) z ∙ c .2))
               before (no z) m = omega arith
+
+-- a channel is in the body of its declared name
+pub home-step : (cs : List ℕ) → length cs ≤ 8192 → (j : ℕ) → j + 2 < length cs → getD cs j 0 ≡ 212 → getD cs (j + 1) 0 ≡ 71 → getD cs (j + 2) 0 ≡ 217 → getD (homes cs) (j + 2) 0 ≡ getD (homes cs) j 0
+home-step cs few j h a b c =
+    at (j + 2) h ∙ home-plain cs (j + 2) (rw c) ∙ ap (insideOf cs) (let z : j + 2 ≡ suc (j + 1) = omega arith in z) ∙ inside-next cs (j + 1) ∙ rw b (ap (insideOf cs) (let z : j + 1 ≡ suc j = omega arith in z) ∙ inside-next cs j ∙ rw a (sym (at j (omega arith) ∙ home-plain cs j (rw a))))
+  where
+    at : (i : ℕ) → i < length cs → getD (homes cs) i 0 ≡ homeOf cs i
+    at i g = home-at cs (replicate 8192 0) i g few (omega (arith, length-replicate {A = ℕ} 8192 0))

@@ -14,3 +14,4 @@ pub mod Options
 pub mod Whole
 pub mod Arguments
 pub mod Channels
+pub mod Made

@@ -33,6 +33,7 @@ use Rattle.fitness.proofs.Jumps.{text-follows}
 use Rattle.fitness.proofs.Options.{text-options}
 use Rattle.fitness.proofs.Arguments.{text-arguments, text-fields}
 use Rattle.fitness.proofs.Channels.{text-made, text-made-inside}
+use Rattle.fitness.proofs.Made.{text-channels-fit}
 
 well-by : (t cs vs : List ℕ) → Held t cs vs (linksIn cs vs) → Facts cs vs → Left t → Well t
 well-by t cs vs H K l =
@@ -60,7 +61,7 @@ well-by t cs vs H K l =
       capacities = text-capacities t cs vs H K;
       made = text-made t cs vs H K;
       made-inside = text-made-inside t cs vs H K;
-      channels-fit = l .channels-fit;
+      channels-fit = text-channels-fit t cs vs H K;
     }
 
 pub text-well : (text : List ℕ) → Accepts text → Left (tablesText text) → Well (tablesText text)
