@@ -15,3 +15,4 @@ pub mod Whole
 pub mod Arguments
 pub mod Channels
 pub mod Made
+pub mod Stores

@@ -98,6 +98,9 @@ module _ (cs : List ℕ) (j : ℕ) where
   pub zone-body : getD cs j 0 ≡ 227 → formAt cs (suc j) .zone ≡ 2
   zone-body e = zone-next ∙ rw e
 
+  pub zone-ended : getD cs j 0 ≡ 228 → formAt cs (suc j) .zone ≡ 0
+  zone-ended e = zone-next ∙ rw e
+
 -- ---- from a place in a unit to its end
 module _ (cs : List ℕ) (F : Formed cs) where
   pub said : (j : ℕ) → j < length cs → Says (formAt cs j) (getD cs j 0)
