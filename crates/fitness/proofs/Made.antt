@@ -235,4 +235,6 @@ module _ (t cs vs : List ℕ) (H : Held t cs vs (linksIn cs vs)) (K : Facts cs v
       let c = all-counted cs vs hs n in
       let d = total-is cs vs hs in
       let e = within cs vs hs (K .ceiled) .channels in
-      subst (λ k. sum (globalMakes t) 0 k + sum (unitMakes t) 0 k ≤ channelsMost) (sym scanned-is) (omega arith)
+      let f : sum (globalMakes t) 0 (scanned t) ≡ sum (globalMakes t) 0 n = ap (sum (globalMakes t) 0) scanned-is in
+      let g : sum (unitMakes t) 0 (scanned t) ≡ sum (unitMakes t) 0 n = ap (sum (unitMakes t) 0) scanned-is in
+      omega arith
