@@ -1,5 +1,5 @@
 -- What is stored to is a variable that the unit has; so is what is received into, or else it is an mtype name.
-use Prim.Native.Nat.{ℕ, suc, _+_, _-_, _/_, _%_, _≤_, _<_, min}
+use Prim.Native.Nat.{ℕ, _+_, _-_, _/_, _%_, _≤_, _<_, min}
 use mathlib.Core.Path.{_≡_, refl, sym, ap, subst, _∙_}
 use mathlib.Core.Bool.{Bool, true, false}
 use mathlib.Core.List.{List}
@@ -9,21 +9,21 @@ use native.Mathlib.Decide.{ℕ-discrete, decLt}
 use lib.ListN.{length, getD, replicate, length-replicate}
 use lib.Dec.{eqb, ltb, leb}
 use borrow.Author.Tests.{eq-eqb, eqb-true, ltb-true, leb-true}
-use Rattle.base.specs.Choice.{pick, both, either}
-use Rattle.base.proofs.Tests.{both-true, either-true, true-false}
+use Rattle.base.specs.Choice.{pick, either}
+use Rattle.base.proofs.Tests.{both-true, either-true}
 use Rattle.sheets.specs.Walks.{first}
 use Rattle.finding.specs.Sets.{within, among}
 use Rattle.finding.specs.Search.{declares, find, lookup}
-use Rattle.rules.specs.Rules.{roleOf, badPlain, badVariable, badUse, badRef, ruleOf, badBy}
-use Rattle.links.specs.Links.{localAt, classOf, linkBy}
-use Rattle.tables.specs.Access.{itemsOf, codeOf, linkOf}
+use Rattle.rules.specs.Rules.{roleOf, badVariable, badUse, badRef, ruleOf, badBy}
+use Rattle.links.specs.Links.{classOf, linkBy}
+use Rattle.tables.specs.Access.{codeOf, linkOf}
 use Rattle.syntax.specs.Tree.{Ref, plain, indexed}
 use Rattle.syntax.specs.Code.{code-exp}
 use Rattle.phrases.specs.Phrases.{At}
 use Rattle.phrases.proofs.Starts.{some-items, phrase-starts}
-use Rattle.fitting.specs.Fits.{isGlobal, isLocal}
+use Rattle.fitting.specs.Fits.{isLocal}
 use Rattle.forming.specs.Forms.{refers}
-use Rattle.forming.specs.Aims.{aims, Behind}
+use Rattle.forming.specs.Aims.{aims}
 use Rattle.forming.proofs.Nears.{before-ref}
 use Rattle.keeping.specs.Well.{Unit, Inside, Visible, stores}
 use Rattle.fitness.specs.Held.{Held}

@@ -1,5 +1,5 @@
 -- WHAT STORES STANDS BEHIND A REFERENCE, in the items of every model.
-use Prim.Native.Nat.{ℕ, suc, _+_, _-_, _≤_, _<_}
+use Prim.Native.Nat.{ℕ, suc, _+_, _≤_, _<_}
 use mathlib.Core.Path.{_≡_, refl, sym, ap, subst, _∙_}
 use mathlib.Core.Bool.{Bool, true, false}
 use mathlib.Core.List.{List, [], _∷_, _++_, append-assoc}
@@ -14,7 +14,7 @@ use Rattle.base.proofs.Tests.{both-true, either-true, true-false}
 use Rattle.finding.specs.Sets.{within}
 use Rattle.tokens.specs.Kinds.{Token}
 use Rattle.syntax.specs.Tree.{Ref, Shape, Exp, Expr, Received, Sort, sequence, Tree, Name, Value, Variable, Declaration, Group, Body, body, Activity, idle, once, times, Part, Model}
-use Rattle.syntax.specs.Grammar.{Is-type, is-bit, is-bool, is-byte, is-mtype, is-pid, is-chan, is-short, is-int, Listed, Maybe-listed, Message, An-expression, A-reference, A-received, r-into, r-eval, r-number, r-true, r-false, D, s-express, s-assign, s-increment, s-decrement, s-send, s-receive, s-assert, s-print-alone, s-print, s-skip, s-goto, s-break, s-timeout, s-else, s-run, s-set-run, s-if, s-do, s-bare, s-label, q-last, q-then, o-last, o-also, A-name, A-type, a-type, A-value, v-number, v-minus, v-true, v-false, v-name, A-variable, x-bare, x-set, x-array, x-array-set, x-channel, A-declaration, declaration, A-group, a-group, Items, statements, declared, A-body, a-body, A-unit, u-mtypes, u-global, u-process, u-init, Gram, g-last, g-more}
+use Rattle.syntax.specs.Grammar.{Is-type, is-bit, is-bool, is-byte, is-mtype, is-pid, is-chan, is-short, is-int, An-expression, A-received, r-into, r-eval, r-number, r-true, r-false, D, s-express, s-assign, s-increment, s-decrement, s-send, s-receive, s-assert, s-print-alone, s-print, s-skip, s-goto, s-break, s-timeout, s-else, s-run, s-set-run, s-if, s-do, s-bare, s-label, q-last, q-then, o-last, o-also, A-name, A-type, a-type, A-value, v-number, v-minus, v-true, v-false, v-name, A-variable, x-bare, x-set, x-array, x-array-set, x-channel, A-declaration, declaration, A-group, a-group, Items, statements, declared, A-body, a-body, A-unit, u-mtypes, u-global, u-process, u-init, Gram, g-last, g-more}
 use Rattle.syntax.specs.Code.{Item, each, code-exp, code-argument, code-received, code-tree, code-field, code-value, code-variable, code-declaration, code-parameter, code-group, code-body, code-activity, code-message, code-part, code, i-name, i-number, i-text, i-type, i-true, i-false, i-argument, i-into, i-equal, i-constant, i-end, i-label, i-express, i-target, i-assign, i-increment, i-decrement, i-send, i-receive, i-assert, i-skip, i-goto, i-break, i-timeout, i-else, i-run, i-set-run, i-if, i-fi, i-do, i-od, i-option, i-end-option, i-local, i-global, i-declared, i-size, i-minus, i-named, i-channel, i-field, i-mtypes, i-message, i-group, i-parameter, i-proctype, i-active, i-active-many, i-init, i-body, i-end-body}
 use Rattle.syntax.specs.Code as items
 use Rattle.entries.specs.Items.{codeOf}

@@ -7,7 +7,7 @@ use mathlib.Core.Logic.{_⊎_, inl, inr}
 use native.Mathlib.Omega.{arith}
 use lib.ListN.{length, getD}
 use lib.Dec.{eqb, leb}
-use borrow.Author.Tests.{eqb-true, eq-eqb, ne-eqb, leb-true}
+use borrow.Author.Tests.{eqb-true, ne-eqb, leb-true}
 use Rattle.base.specs.Choice.{pick, both, either}
 use Rattle.base.proofs.Tests.{both-true, either-true, true-false}
 use Rattle.finding.specs.Sets.{within}
