@@ -19,6 +19,7 @@ use Rattle.faults.specs.declared.Fault.{Fault}
 use Rattle.faults.specs.declared.Fault.the-variants.{None, At}
 use Rattle.ceilings.specs.Ceilings.{passed, anyPassed}
 use Rattle.forming.proofs.Scans.{codes-stand, model-formed}
+use Rattle.forming.proofs.Aims.{model-aims}
 use Rattle.accepting.specs.Meaning.{Accepts}
 use Rattle.fitness.specs.Facts.{homes, starts, heights, Facts}
 use Rattle.fitness.proofs.Tables.{few-items, ss, ks, codesAt, saidAt, entries-are, entries-length, entry-is, entry-code}
@@ -80,6 +81,7 @@ module _ (t : List ℕ) (a : Accepts t) where
       record {
         few = few-items (codesAt t a) (saidAt t a) (a .within);
         formed = model-formed (tokensIn t (a .parts)) (a .tree) (a .gram) (codesAt t a) codes-length (codes-stand (code (a .tree)) (codesAt t a) 0 codes-are);
+        aimed = model-aims (tokensIn t (a .parts)) (a .tree) (a .gram) (codesAt t a) codes-length (codes-stand (code (a .tree)) (codesAt t a) 0 codes-are);
         ruled = checked-free (codesAt t a) (saidAt t a) (ks t a) (a .faultless);
         ceiled = passed-none (codesAt t a) (saidAt t a) (a .within);
       }

@@ -14,3 +14,5 @@ pub mod Options
 pub mod Whole
 pub mod Arguments
 pub mod Channels
+pub mod Made
+pub mod Stores

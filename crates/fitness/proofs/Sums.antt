@@ -1,7 +1,8 @@
 -- Sums over items: of a part, and of nothing.
 use Prim.Native.Nat.{ℕ, zero, suc, _+_, _-_, _≤_, _<_}
-use mathlib.Core.Path.{_≡_, refl, ap, subst, _∙_}
+use mathlib.Core.Path.{_≡_, refl, sym, ap, subst, _∙_}
 use native.Mathlib.Omega.{arith}
+use native.Mathlib.Decide.{ℕ-discrete}
 use Rattle.sheets.specs.Walks.{sum}
 
 module _ (f : ℕ → ℕ) where
@@ -63,3 +64,39 @@ pub sum-most : (f g : ℕ → ℕ) (n i : ℕ) → ((j : ℕ) → f j ≤ g j) �
 unfolding sum
 sum-most f g zero i h = omega arith
 sum-most f g (suc n) i h = let a = h i in let b = sum-most f g n (i + 1) h in omega arith
+
+-- of what stands two further on
+pub sum-shift : (f : ℕ → ℕ) (n i : ℕ) → sum (λ j. f (j + 2)) i n ≡ sum f (i + 2) n
+unfolding sum
+sum-shift f zero i = refl
+sum-shift f (suc n) i = ap (λ k. f (i + 2) + k) (sum-shift f n (i + 1) ∙ ap (λ k. sum f k n) (let z : i + 1 + 2 ≡ i + 2 + 1 = omega arith in z))
+
+pub sum-bound : (f g : ℕ → ℕ) (n i : ℕ) → ((j : ℕ) → i ≤ j → j < i + n → f j ≤ g j) → sum f i n ≤ sum g i n
+unfolding sum
+sum-bound f g zero i h = omega arith
+sum-bound f g (suc n) i h = let a = h i (omega arith) (omega arith) in let b = sum-bound f g n (i + 1) (λ j p q. h j (omega arith) (omega arith)) in omega arith
+
+pub sum-add : (f g : ℕ → ℕ) (n i : ℕ) → sum (λ j. f j + g j) i n ≡ sum f i n + sum g i n
+unfolding sum
+sum-add f g zero i = refl
+sum-add f g (suc n) i =
+    ap (λ k. f i + g i + k) (sum-add f g n (i + 1)) ∙ turned (f i) (g i) (sum f (i + 1) n) (sum g (i + 1) n)
+  where
+    turned : (a b c d : ℕ) → a + b + (c + d) ≡ a + c + (b + d)
+    turned a b c d = omega arith
+
+-- a sum of sums, the other way round
+pub sum-swap : (w : ℕ → ℕ → ℕ) (m n i : ℕ) → sum (λ j. sum (w j) 0 m) i n ≡ sum (λ k. sum (λ j. w j k) i n) 0 m
+unfolding sum
+sum-swap w m zero i = sym (sum-zero (λ k. 0) m (λ j h. refl))
+sum-swap w m (suc n) i = ap (λ k. sum (w i) 0 m + k) (sum-swap w m n (i + 1)) ∙ sym (sum-add (w i) (λ k. sum (λ j. w j k) (i + 1) n) m 0)
+
+-- only one of them is something
+pub sum-single : (f : ℕ → ℕ) (a n i : ℕ) → ((j : ℕ) → (j ≡ a → ⊥) → f j ≡ 0) → sum f i n ≤ f a
+unfolding sum
+sum-single f a zero i h = omega arith
+sum-single f a (suc n) i h = go (ℕ-discrete i a) (sum-single f a n (i + 1) h)
+  where
+    go : Dec (i ≡ a) → sum f (i + 1) n ≤ f a → f i + sum f (i + 1) n ≤ f a
+    go (yes z) r = let x = sum-nones f n (i + 1) (λ j p q. h j (λ y. omega arith)) in let y = ap f z in omega arith
+    go (no z) r = let x = h i z in omega arith

@@ -80,7 +80,7 @@ module _ (cs vs hs : List ℕ) (e : anyPassed cs vs hs ≡ false) where
       go false q z = ltb-false 32 (numbers cs vs hs (u + 1)) q
 
 -- ---- what is an item is there
-past-none : (cs : List ℕ) (j : ℕ) → length cs ≤ j → getD cs j 0 ≡ 0
+pub past-none : (cs : List ℕ) (j : ℕ) → length cs ≤ j → getD cs j 0 ≡ 0
 past-none [] j h = refl
 past-none (c ∷ cs) zero h = absurd (omega arith)
 past-none (c ∷ cs) (suc j) h = past-none cs j (omega arith)
@@ -239,7 +239,7 @@ module _ (t cs vs : List ℕ) (H : Held t cs vs (linksIn cs vs)) (K : Facts cs v
   text-sized d h e = let g = below d h in let s = slot-of d g (code-as d g e) .size in let r = size-is cs vs K d .0 in omega arith
 
   -- a global variable is in no body
-  global-home : (d : ℕ) → (h : d < length cs) → (v : (getD cs d 0 ≡ 212) ⊎ (getD cs d 0 ≡ 222)) → linkOf t d / 8 % 2 ≡ 0 → getD hs d 0 ≡ 0
+  pub global-home : (d : ℕ) → (h : d < length cs) → (v : (getD cs d 0 ≡ 212) ⊎ (getD cs d 0 ≡ 222)) → linkOf t d / 8 % 2 ≡ 0 → getD hs d 0 ≡ 0
   global-home d h v e = go (eqb (getD hs d 0) 0) refl (sym (slot-of d h v .flag) ∙ e)
     where
       go : (b : Bool) → eqb (getD hs d 0) 0 ≡ b → pick {A = ℕ} b 0 1 ≡ 0 → getD hs d 0 ≡ 0

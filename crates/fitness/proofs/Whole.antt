@@ -1,7 +1,6 @@
--- THE TABLES OF AN ACCEPTED TEXT ARE WELL, so far as it is proved: what is still asked is said in specs/Left.antt. So its initial state is a state, and every step that is offered
--- leaves one.
+-- THE TABLES OF AN ACCEPTED TEXT ARE WELL. So its initial state is a state, and every step that is offered leaves one.
 use Prim.Native.Nat.{ℕ, _≤_, _<_}
-use mathlib.Core.Path.{_≡_, sym, subst}
+use mathlib.Core.Path.{_≡_, subst}
 use mathlib.Core.Bool.{Bool, true}
 use mathlib.Core.List.{List}
 use lib.ListN.{length}
@@ -22,7 +21,6 @@ use Rattle.keeping.proofs.Initial.{initial-stands}
 use Rattle.lasting.proofs.Offers.{offered-stands}
 use Rattle.fitness.specs.Held.{Held}
 use Rattle.fitness.specs.Facts.{linksIn, Facts}
-use Rattle.fitness.specs.Left.{Left}
 use Rattle.fitness.proofs.Tables.{codesAt, saidAt, text-held}
 use Rattle.fitness.proofs.Known.{text-facts}
 use Rattle.fitness.proofs.Units.{text-ends, text-begins}
@@ -33,9 +31,11 @@ use Rattle.fitness.proofs.Jumps.{text-follows}
 use Rattle.fitness.proofs.Options.{text-options}
 use Rattle.fitness.proofs.Arguments.{text-arguments, text-fields}
 use Rattle.fitness.proofs.Channels.{text-made, text-made-inside}
+use Rattle.fitness.proofs.Made.{text-channels-fit}
+use Rattle.fitness.proofs.Stores.{text-stored, text-received}
 
-well-by : (t cs vs : List ℕ) → Held t cs vs (linksIn cs vs) → Facts cs vs → Left t → Well t
-well-by t cs vs H K l =
+well-by : (t cs vs : List ℕ) → Held t cs vs (linksIn cs vs) → Facts cs vs → Well t
+well-by t cs vs H K =
     record {
       few = text-few t cs vs H K;
       ends = text-ends t cs vs H K;
@@ -52,29 +52,27 @@ well-by t cs vs H K l =
       options = λ u m n. text-options t cs vs H K u n m;
       marks = text-marks t cs vs H K;
       targets = text-targets t cs vs H K;
-      stored = l .stored;
-      received = l .received;
+      stored = λ u m n. text-stored t cs vs H K u n m;
+      received = λ u m n. text-received t cs vs H K u n m;
       arguments = λ u m n. text-arguments t cs vs H K u n m;
       fields = λ u m n. text-fields t cs vs H K u n m;
       runs = text-runs t cs vs H K;
       capacities = text-capacities t cs vs H K;
       made = text-made t cs vs H K;
       made-inside = text-made-inside t cs vs H K;
-      channels-fit = l .channels-fit;
+      channels-fit = text-channels-fit t cs vs H K;
     }
 
-pub text-well : (text : List ℕ) → Accepts text → Left (tablesText text) → Well (tablesText text)
-text-well text a l = well-by (tablesText text) (codesAt text a) (saidAt text a) (text-held text a) (text-facts text a) l
+pub text-well : (text : List ℕ) → Accepts text → Well (tablesText text)
+text-well text a = well-by (tablesText text) (codesAt text a) (saidAt text a) (text-held text a) (text-facts text a)
 
-pub genuine-well : (ts : List ℕ) → genuine ts ≡ true → Left (written ts) → Well (written ts)
-genuine-well ts e l =
-    let o = genuine-owned ts e in
-    subst Well (o .own) (text-well (o .text) (accepted-means (o .text) (o .accepted)) (subst Left (sym (o .own)) l))
+pub genuine-well : (ts : List ℕ) → genuine ts ≡ true → Well (written ts)
+genuine-well ts e = let o = genuine-owned ts e in subst Well (o .own) (text-well (o .text) (accepted-means (o .text) (o .accepted)))
 
 -- ---- states
-pub start-stands : (ts : List ℕ) → genuine ts ≡ true → Left (written ts) → (s : List ℤ) → stateSize ≤ length s → Stands (written ts) (initialOf (written ts) s)
-start-stands ts e l s h = initial-stands (written ts) (genuine-well ts e l) s h
+pub start-stands : (ts : List ℕ) → genuine ts ≡ true → (s : List ℤ) → stateSize ≤ length s → Stands (written ts) (initialOf (written ts) s)
+start-stands ts e s h = initial-stands (written ts) (genuine-well ts e) s h
 
-pub steps-stand : (ts : List ℕ) → genuine ts ≡ true → Left (written ts) → (s : List ℤ) → Stands (written ts) s → (p k q : ℕ) (late : Bool) → p < processesOf s
+pub steps-stand : (ts : List ℕ) → genuine ts ≡ true → (s : List ℤ) → Stands (written ts) s → (p k q : ℕ) (late : Bool) → p < processesOf s
     → pickAt k (offersOf (written ts) s p late (placeOf s p)) ≡ Found q → Stands (written ts) (takenOf (written ts) p q s .1)
-steps-stand ts e l s st p k q late h f = offered-stands (written ts) (genuine-well ts e l) s st p h late k q f
+steps-stand ts e s st p k q late h f = offered-stands (written ts) (genuine-well ts e) s st p h late k q f

@@ -2,15 +2,16 @@
 -- their tokens say. Document 01, rows 3 to 6 of "What is answered".
 use Prim.Native.Nat.{ℕ, _≤_, _<_}
 use mathlib.Core.Path.{_≡_}
-use mathlib.Core.Bool.{false}
+use mathlib.Core.Bool.{true, false}
 use mathlib.Core.List.{List}
-use lib.ListN.{length, replicate}
+use lib.ListN.{length, getD, replicate}
 use Rattle.sheets.specs.Homes.{homesOf}
 use Rattle.sheets.specs.Spans.{startsOf, heightsOf}
 use Rattle.rules.specs.Rules.{bad}
 use Rattle.ceilings.specs.Ceilings.{anyPassed}
 use Rattle.links.specs.Links.{linksOf}
 use Rattle.forming.specs.Forms.{Formed}
+use Rattle.forming.specs.Aims.{aims, Behind}
 
 -- the arrays beside the items, each in room for 8,192
 abbrev pub homes : List ℕ → List ℕ
@@ -28,5 +29,6 @@ linksIn cs vs = linksOf cs vs (replicate 8192 0)
 pub record Facts (cs vs : List ℕ) : Type 0 where
   pub few : length cs ≤ 8192
   pub formed : Formed cs
+  pub aimed : (j : ℕ) → j < length cs → aims (getD cs j 0) ≡ true → Behind cs j
   pub ruled : (j : ℕ) → j < length cs → bad cs vs (homes cs) (starts cs) (heights cs) j ≡ 0
   pub ceiled : anyPassed cs vs (homes cs) ≡ false

@@ -6,3 +6,4 @@ pub mod Scans
 pub mod Spans
 pub mod Nears
 pub mod Nests
+pub mod Aims

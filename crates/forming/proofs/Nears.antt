@@ -72,7 +72,7 @@ module _ (cs : List ℕ) where
   unfolding formAt step
   args-next j = refl
 
-  near-next : (j : ℕ) → formAt cs (suc j) .near ≡ pick (eqb (getD cs j 0) 212) 1 (pick (both (eqb (getD cs j 0) 71) (eqb (formAt cs j .near) 1)) 2 0)
+  near-next : (j : ℕ) → formAt cs (suc j) .near ≡ pick (eqb (getD cs j 0) 212) 1 (pick (eqb (getD cs j 0) 71) (pick (eqb (formAt cs j .near) 1) 2 3) (pick (both (eqb (getD cs j 0) 70) (within 2 3 (formAt cs j .near))) 4 0))
   unfolding formAt step
   near-next j = refl
 
@@ -83,24 +83,50 @@ module _ (cs : List ℕ) where
   -- behind a declared name, and behind its number
   near-one : (j : ℕ) → formAt cs j .near ≡ 1 → (i : ℕ) × (j ≡ suc i) × (getD cs i 0 ≡ 212)
   near-one zero e = absurd (let z = first-part .2 in omega arith)
-  near-one (suc j) e = go (eqb (getD cs j 0) 212) (both (eqb (getD cs j 0) 71) (eqb (formAt cs j .near) 1)) refl (sym (near-next j) ∙ e)
+  near-one (suc j) e = go (eqb (getD cs j 0) 212) (eqb (getD cs j 0) 71) (eqb (formAt cs j .near) 1) (both (eqb (getD cs j 0) 70) (within 2 3 (formAt cs j .near))) refl (sym (near-next j) ∙ e)
     where
-      go : (a b : Bool) → eqb (getD cs j 0) 212 ≡ a → pick {A = ℕ} a 1 (pick b 2 0) ≡ 1 → (i : ℕ) × (suc j ≡ suc i) × (getD cs i 0 ≡ 212)
-      go true b q z = (j, refl, eqb-true (getD cs j 0) 212 q)
-      go false true q z = absurd (omega arith)
-      go false false q z = absurd (omega arith)
+      go : (a b c d : Bool) → eqb (getD cs j 0) 212 ≡ a → pick {A = ℕ} a 1 (pick b (pick c 2 3) (pick d 4 0)) ≡ 1 → (i : ℕ) × (suc j ≡ suc i) × (getD cs i 0 ≡ 212)
+      go true b c d q z = (j, refl, eqb-true (getD cs j 0) 212 q)
+      go false true true d q z = absurd (omega arith)
+      go false true false d q z = absurd (omega arith)
+      go false false c true q z = absurd (omega arith)
+      go false false c false q z = absurd (omega arith)
+
+  -- behind a number: 2 where a declared name stands before it
+  near-number : (j : ℕ) → 2 ≤ formAt cs j .near → formAt cs j .near ≤ 3 → (i : ℕ) × (j ≡ suc i) × (getD cs i 0 ≡ 71) × (formAt cs j .near ≡ 2 → formAt cs i .near ≡ 1)
+  near-number zero e f = absurd (let z = first-part .2 in omega arith)
+  near-number (suc j) e f =
+      go (eqb (getD cs j 0) 212) (eqb (getD cs j 0) 71) (eqb (formAt cs j .near) 1) (both (eqb (getD cs j 0) 70) (within 2 3 (formAt cs j .near))) refl refl (near-next j)
+    where
+      go : (a b c d : Bool) → eqb (getD cs j 0) 71 ≡ b → eqb (formAt cs j .near) 1 ≡ c → formAt cs (suc j) .near ≡ pick {A = ℕ} a 1 (pick b (pick c 2 3) (pick d 4 0))
+          → (i : ℕ) × (suc j ≡ suc i) × (getD cs i 0 ≡ 71) × (formAt cs (suc j) .near ≡ 2 → formAt cs i .near ≡ 1)
+      go true b c d q r z = absurd (omega arith)
+      go false true true d q r z = (j, refl, eqb-true (getD cs j 0) 71 q, λ y. eqb-true (formAt cs j .near) 1 r)
+      go false true false d q r z = (j, refl, eqb-true (getD cs j 0) 71 q, λ y. absurd (omega arith))
+      go false false c true q r z = absurd (omega arith)
+      go false false c false q r z = absurd (omega arith)
 
   near-two : (j : ℕ) → formAt cs j .near ≡ 2 → (i : ℕ) × (j ≡ suc (suc i)) × (getD cs (suc i) 0 ≡ 71) × (getD cs i 0 ≡ 212)
-  near-two zero e = absurd (let z = first-part .2 in omega arith)
-  near-two (suc j) e = go (eqb (getD cs j 0) 212) (both (eqb (getD cs j 0) 71) (eqb (formAt cs j .near) 1)) refl (sym (near-next j) ∙ e)
+  near-two j e =
+      let a = near-number j (omega arith) (omega arith) in
+      let r = near-one (a .0) (a .3 e) in
+      (r .0, a .1 ∙ ap suc (r .1), ap (λ k. getD cs k 0) (sym (r .1)) ∙ a .2, r .2)
+
+  -- behind a name that follows a number
+  near-four : (j : ℕ) → formAt cs j .near ≡ 4 → (i : ℕ) × (j ≡ suc (suc i)) × (getD cs i 0 ≡ 71)
+  near-four zero e = absurd (let z = first-part .2 in omega arith)
+  near-four (suc j) e = go (eqb (getD cs j 0) 212) (eqb (getD cs j 0) 71) (eqb (formAt cs j .near) 1) (both (eqb (getD cs j 0) 70) (within 2 3 (formAt cs j .near))) refl (sym (near-next j) ∙ e)
     where
-      go : (a b : Bool) → both (eqb (getD cs j 0) 71) (eqb (formAt cs j .near) 1) ≡ b → pick {A = ℕ} a 1 (pick b 2 0) ≡ 2 → (i : ℕ) × (suc j ≡ suc (suc i)) × (getD cs (suc i) 0 ≡ 71) × (getD cs i 0 ≡ 212)
-      go true b q z = absurd (omega arith)
-      go false false q z = absurd (omega arith)
-      go false true q z =
-          let a = both-true (eqb (getD cs j 0) 71) (eqb (formAt cs j .near) 1) q in
-          let r = near-one j (eqb-true (formAt cs j .near) 1 (a .1)) in
-          (r .0, ap suc (r .1), ap (λ k. getD cs k 0) (sym (r .1)) ∙ eqb-true (getD cs j 0) 71 (a .0), r .2)
+      go : (a b c d : Bool) → both (eqb (getD cs j 0) 70) (within 2 3 (formAt cs j .near)) ≡ d → pick {A = ℕ} a 1 (pick b (pick c 2 3) (pick d 4 0)) ≡ 4 → (i : ℕ) × (suc j ≡ suc (suc i)) × (getD cs i 0 ≡ 71)
+      go true b c d q z = absurd (omega arith)
+      go false true true d q z = absurd (omega arith)
+      go false true false d q z = absurd (omega arith)
+      go false false c false q z = absurd (omega arith)
+      go false false c true q z =
+          let n = formAt cs j .near in
+          let w = both-true (leb 2 n) (leb n 3) (both-true (eqb (getD cs j 0) 70) (within 2 3 n) q .1) in
+          let a = near-number j (leb-true 2 n (w .0)) (leb-true n 3 (w .1)) in
+          (a .0, ap suc (a .1), a .2)
 
   module _ (F : Formed cs) where
     -- an operator, `plain` or `index` stands behind a part
@@ -116,6 +142,10 @@ module _ (cs : List ℕ) where
     -- a channel stands behind its number, and that behind the declared name
     pub before-channel : (j : ℕ) → j < length cs → getD cs j 0 ≡ 217 → (i : ℕ) × (j ≡ suc (suc i)) × (getD cs (suc i) 0 ≡ 71) × (getD cs i 0 ≡ 212)
     before-channel j h e = near-two j (said cs F j h .channel e)
+
+    -- active-many stands behind its name, and that behind its number
+    pub before-many : (j : ℕ) → j < length cs → getD cs j 0 ≡ 225 → (i : ℕ) × (j ≡ suc (suc i)) × (getD cs i 0 ≡ 71)
+    before-many j h e = near-four j (said cs F j h .many e)
 
     -- no arguments go on before an option or a label
     pub no-args : (j : ℕ) → j < length cs → (getD cs j 0 ≡ 208) ⊎ (getD cs j 0 ≡ 188) → formAt cs j .args ≡ false

@@ -35,6 +35,7 @@ pub record Says (s : Form) (c : ℕ) : Type 0 where
   pub closing : either (eqb c 205) (either (eqb c 207) (eqb c 209)) ≡ true → 0 < s .depth
   pub looping : c ≡ 207 → 0 < s .loops
   pub channel : c ≡ 217 → s .near ≡ 2
+  pub many : c ≡ 225 → s .near ≡ 4
   pub option : either (alone c) (either (leaf c) (s .part)) ≡ false → not (inRange 1 2 (s .stage)) ≡ true
   pub led : either (either (isPart c) (lead c)) (either (not (s .part)) (either (s .args) (s .aim))) ≡ false → 2 < s .stage → (c ≡ 188) × (s .stage ≡ 3)
   pub asked : isPart c ≡ false → s .args ≡ true → pick (eqb c 187) (not (s .part)) (both (inRange 183 186 c) (s .part)) ≡ true
@@ -54,7 +55,8 @@ module _ (s : Form) (c : ℕ) (h : fits s c ≡ true) where
       let k = both-true _ _ (j .1) in
       let l = both-true _ _ (k .1) in
       let m = both-true _ _ (l .1) in
-      let n = both-true _ _ (m .1) in
+      let p = both-true _ _ (m .1) in
+      let n = both-true _ _ (p .1) in
       let o = both-true _ _ (n .1) in
       record {
         unit = λ z. eqb-true (s .zone) 0 (pick-says (begins c) (eqb (s .zone) 0) (a .0) z);
@@ -72,6 +74,7 @@ module _ (s : Form) (c : ℕ) (h : fits s c ≡ true) where
         closing = λ z. ltb-true 0 (s .depth) (pick-says (either (eqb c 205) (either (eqb c 207) (eqb c 209))) (ltb 0 (s .depth)) (k .0) z);
         looping = λ z. ltb-true 0 (s .loops) (pick-says (eqb c 207) (ltb 0 (s .loops)) (l .0) (eq-eqb c 207 z));
         channel = λ z. eqb-true (s .near) 2 (pick-says (eqb c 217) (eqb (s .near) 2) (m .0) (eq-eqb c 217 z));
+        many = λ z. eqb-true (s .near) 4 (pick-says (eqb c 225) (eqb (s .near) 4) (p .0) (eq-eqb c 225 z));
         option = λ z. pick-other (either (alone c) (either (leaf c) (s .part))) _ (n .0) z;
         led = λ z y.
             let q = pick-says (ltb 2 (s .stage)) (both (eqb c 188) (eqb (s .stage) 3)) (pick-other (either (either (isPart c) (lead c)) (either (not (s .part)) (either (s .args) (s .aim)))) _ (o .0) z) (lt-ltb 2 (s .stage) y) in
@@ -94,6 +97,9 @@ module _ (cs : List ℕ) (j : ℕ) where
 
   pub zone-body : getD cs j 0 ≡ 227 → formAt cs (suc j) .zone ≡ 2
   zone-body e = zone-next ∙ rw e
+
+  pub zone-ended : getD cs j 0 ≡ 228 → formAt cs (suc j) .zone ≡ 0
+  zone-ended e = zone-next ∙ rw e
 
 -- ---- from a place in a unit to its end
 module _ (cs : List ℕ) (F : Formed cs) where

@@ -29,7 +29,7 @@ pub maybe-all : {A : Type 0} (P : A → Type 0) (s : Token) (X : List Token → 
 maybe-all P s X f _ _ no-list = tt
 maybe-all P s X f ts l (a-list r) = listed-all P s X f ts l r
 
-message-all : {A : Type 0} (P : A → Type 0) (X : List Token → A → Type 0) → ((ts : List Token) (a : A) → X ts a → P a) → (ts : List Token) (l : List A) → Message X ts l → All P l
+pub message-all : {A : Type 0} (P : A → Type 0) (X : List Token → A → Type 0) → ((ts : List Token) (a : A) → X ts a → P a) → (ts : List Token) (l : List A) → Message X ts l → All P l
 message-all P X f ts l (commas r) = listed-all P _ X f ts l r
 message-all P X f _ _ (call x r) = (f _ _ x, listed-all P _ X f _ _ r)
 

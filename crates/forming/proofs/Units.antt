@@ -1,12 +1,14 @@
 -- Declarations and units fit, and so does a whole model.
 use Prim.Native.Nat.{ℕ}
 use mathlib.Core.Path.{_≡_, refl, sym, subst}
-use mathlib.Core.Bool.{false}
+use mathlib.Core.Bool.{Bool, true, false}
 use mathlib.Core.List.{List, [], _∷_, _++_}
+use lib.Dec.{eqb}
+use Rattle.base.specs.Choice.{pick}
 use Rattle.tokens.specs.Kinds.{Token}
 use Rattle.syntax.specs.Tree.{Tree, sequence, Name, Variable, Declaration, Group, Body, body, Activity, idle, once, times, Part, Model}
 use Rattle.syntax.specs.Grammar.{Is-type, is-bit, is-bool, is-byte, is-mtype, is-pid, is-chan, is-short, is-int, A-name, A-type, a-type, v-number, v-minus, v-true, v-false, v-name, A-variable, x-bare, x-set, x-array, x-array-set, x-channel, A-declaration, declaration, A-group, a-group, Items, statements, declared, A-body, a-body, A-unit, u-mtypes, u-global, u-process, u-init, Gram, g-last, g-more}
-use Rattle.syntax.specs.Code.{Item, each, i-type, i-field, i-local, i-global, i-group, i-mtypes, i-init, i-body, i-end-body, code-tree, code-field, code-variable, code-declaration, code-parameter, code-group, code-body, code-activity, code-message, code-part, code}
+use Rattle.syntax.specs.Code.{Item, each, i-name, i-active-many, i-type, i-field, i-local, i-global, i-group, i-mtypes, i-init, i-body, i-end-body, code-tree, code-field, code-variable, code-declaration, code-parameter, code-group, code-body, code-activity, code-message, code-part, code}
 use Rattle.forming.specs.Forms.{Form, form, step, fits}
 use Rattle.forming.proofs.Passes.{Passes, join}
 use Rattle.forming.proofs.Statements.{All, listed-all, maybe-all, each-passes, fine}
@@ -113,11 +115,17 @@ unfolding fits step
 group-passes _ _ (a-group {ws = ws} t x) n K h =
     type-passes t 1 n (i-group ∷ each code-parameter ws) K (refl, flats 1 (λ w. Unit {0}) code-parameter (λ w p n K h. parameter-passes w n K h) ws (listed-all _ _ A-name any-name _ ws x) 0 K h)
 
+-- the number of an active-many may stand behind a declared name
+many-passes : (w : Name) (b : Bool) (K : Form → Type 0) → K (flat 1 0) → Passes (i-name w ∷ i-active-many ∷ []) (form 0 0 0 true false false false 0 (pick b 2 3)) K
+unfolding fits step
+many-passes w true K k = (refl, (refl, k))
+many-passes w false K k = (refl, (refl, k))
+
 activity-passes : (a : Activity) (w : Name) (n : ℕ) (K : Form → Type 0) → K (flat 1 0) → Passes (code-activity a w) (flat 0 n) K
 unfolding fits step
 activity-passes idle w n K k = (refl, (refl, k))
 activity-passes once w n K k = (refl, (refl, k))
-activity-passes (times v) w n K k = (refl, (refl, (refl, k)))
+activity-passes (times v) w n K k = (refl, many-passes w (eqb n 1) K k)
 
 init-passes : (b : Body) (n : ℕ) (K : Form → Type 0) → Passes (code-body b) (flat 1 0) K → Passes (i-init ∷ code-body b) (flat 0 n) K
 unfolding fits step

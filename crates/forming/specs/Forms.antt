@@ -22,7 +22,7 @@ pub record Form : Type 0 where
   pub args : Bool
   -- 1 behind an option, 2 behind a label, 3 behind the name that an option begins with, 4 behind more of a statement's first phrase
   pub stage : ℕ
-  -- 1 behind a declared name, 2 behind the number that follows it
+  -- 1 behind a declared name, 2 behind the number that follows it, 3 behind any other number, 4 behind a name that follows a number
   pub near : ℕ
 
 abbrev pub form : ℕ → ℕ → ℕ → Bool → Bool → Bool → Bool → ℕ → ℕ → Form
@@ -72,7 +72,7 @@ step s c =
     (pick (isPart c) (s .aim) (eqb c 190))
     (pick (opens c) true (pick (eqb c 187) false (s .args)))
     (pick (eqb c 208) 1 (pick (eqb c 188) 2 (pick (isPart c) (pick (eqb (s .stage) 1) (pick (eqb c 70) 3 4) (pick (eqb (s .stage) 0) 0 4)) 0)))
-    (pick (eqb c 212) 1 (pick (both (eqb c 71) (eqb (s .near) 1)) 2 0))
+    (pick (eqb c 212) 1 (pick (eqb c 71) (pick (eqb (s .near) 1) 2 3) (pick (both (eqb c 70) (within 2 3 (s .near))) 4 0)))
 
 -- may it stand there?
 unfoldable pub fits : Form → ℕ → Bool
@@ -93,11 +93,13 @@ fits s c =
     (both (pick (eqb c 207) (ltb 0 (s .loops)) true)
     -- a channel's number stands behind the declared name
     (both (pick (eqb c 217) (eqb (s .near) 2) true)
+    -- active-many behind its number and its name
+    (both (pick (eqb c 225) (eqb (s .near) 4) true)
     -- an option begins with a statement, which may have one label
     (both (pick (either (alone c) (either (leaf c) (s .part))) true (not (within 1 2 (s .stage))))
     (both (pick (either (either (isPart c) (lead c)) (either (not (s .part)) (either (s .args) (s .aim)))) true (pick (ltb 2 (s .stage)) (both (eqb c 188) (eqb (s .stage) 3)) true))
     -- arguments, each a phrase and its mark, and then their end
-    (pick (isPart c) true (pick (s .args) (pick (eqb c 187) (not (s .part)) (both (within 183 186 c) (s .part))) true))))))))))))))
+    (pick (isPart c) true (pick (s .args) (pick (eqb c 187) (not (s .part)) (both (within 183 186 c) (s .part))) true)))))))))))))))
 
 -- before the first item
 abbrev pub fresh : Form

@@ -22,7 +22,6 @@ use Rattle.offering.specs.Offers.{offersOf, pickAt}
 use Rattle.moving.specs.Moving.{processes, stepsBy, lateOf, stepAt}
 use Rattle.effects.specs.Effects.{takenOf}
 use Rattle.steps.specs.Entries.{foreignOf, refusalOf, startLeft, refusedBy, outcomeBy, printRoom, stepRefusal, outcomeOf}
-use Rattle.fitness.specs.Left.{Left as Asked}
 use Rattle.fitness.proofs.Whole.{start-stands, steps-stand}
 
 -- ---- what no refusal says
@@ -54,12 +53,12 @@ step-says ts s out = go (ltb (length out) printRoom)
     go false q = q
 
 -- ---- start
-pub start-leaves : (ts : List ℕ) (s : List ℤ) → foreignOf ts s ≡ 0 → Asked (written ts) → isStateOf (written ts) (startLeft ts s) ≡ true
+pub start-leaves : (ts : List ℕ) (s : List ℤ) → foreignOf ts s ≡ 0 → isStateOf (written ts) (startLeft ts s) ≡ true
 unfolding startLeft
-start-leaves ts s e l =
+start-leaves ts s e =
     let f = foreign-says ts s e in
     subst (λ b. isStateOf (written ts) (pick b (initialOf (written ts) s) s) ≡ true) (sym (eq-eqb (foreignOf ts s) 0 e))
-    (stands-is-state (written ts) (initialOf (written ts) s) (start-stands ts (f .1) l s (f .0)))
+    (stands-is-state (written ts) (initialOf (written ts) s) (start-stands ts (f .1) s (f .0)))
 
 -- ---- step
 foundIn : Walk → ℕ → ℕ
@@ -80,9 +79,9 @@ found-says t s p k q = go (ltb p (processes s)) (eqb k 0) refl
     go true false e z = (let w = ltb-true p (processes s) e in omega arith, z)
     go false b e z = absurd (left-none 0 q z)
 
-pub step-leaves : (ts : List ℕ) (s : List ℤ) (p k : ℕ) (out : List ℕ) → stepRefusal ts s out ≡ 0 → Asked (written ts) → isStateOf (written ts) (outcomeOf ts s p k out .state) ≡ true
+pub step-leaves : (ts : List ℕ) (s : List ℤ) (p k : ℕ) (out : List ℕ) → stepRefusal ts s out ≡ 0 → isStateOf (written ts) (outcomeOf ts s p k out .state) ≡ true
 unfolding outcomeOf
-step-leaves ts s p k out e l =
+step-leaves ts s p k out e =
     let r = refusal-says ts s (step-says ts s out e) in
     let g = foreign-says ts s (r .0) .1 in
     subst (λ b. isStateOf (written ts) (pick b (outcomeBy (stepAt (written ts) s p k) (written ts) s p out) (refusedBy (stepRefusal ts s out) s out) .state) ≡ true) (sym (eq-eqb (stepRefusal ts s out) 0 e)) (go (stepAt (written ts) s p k) refl r g)
@@ -91,4 +90,4 @@ step-leaves ts s p k out e l =
     go (Left n) q r g = r .1
     go (Found z) q r g =
         let f = found-says (written ts) s p k z q in
-        stands-is-state (written ts) (takenOf (written ts) p z s .1) (steps-stand ts g l s (is-state-stands (written ts) s (r .1)) p (k - 1) z (lateOf (written ts) s) (f .0) (f .1))
+        stands-is-state (written ts) (takenOf (written ts) p z s .1) (steps-stand ts g s (is-state-stands (written ts) s (r .1)) p (k - 1) z (lateOf (written ts) s) (f .0) (f .1))
