@@ -1,4 +1,5 @@
 pub mod Runs
 pub mod Trails
+pub mod Refusals
 pub mod Numbers
 pub mod Written

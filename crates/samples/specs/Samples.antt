@@ -1,5 +1,7 @@
 -- The sample sheet of document 01 as one list: "Sample sheet (P: prove as one list, one result for all)". Each sample has its text, what it asks and the answer that the
--- sheet gives; that all of them hold is `samples-hold` (proofs/Sheet.antt). All is worked out from the bytes of the text, by the definitions that the entries' contracts name.
+-- sheet gives; that all of them hold is `samples-hold` (proofs/Sheet.antt). All is worked out from the bytes of the text, by the definitions that contracts name.
+-- Refusals and normal text are the entries' own answers (`readOf`, `answerOf`, `leftOf`). Values, stores and verdicts are those of `evalOf`, `takenOf` and `verdictOf`, under the stepper's
+-- entries, whose test that numbers are a state of the model takes too long to compute here.
 use mathlib.Core.List.{List, [], _∷_, _++_}
 use mathlib.Core.Path.{_≡_}
 use Prim.Native.Nat.{ℕ}
