@@ -5,3 +5,4 @@ pub mod Effect
 pub mod Offers
 pub mod Program
 pub mod Tables
+pub mod Examples

@@ -1,0 +1,4 @@
+pub mod Lists
+pub mod Phrases
+pub mod Quiet
+pub mod Places
