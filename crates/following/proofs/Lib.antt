@@ -1,2 +1,3 @@
 pub mod Insides
 pub mod Passes
+pub mod Begins
