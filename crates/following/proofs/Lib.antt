@@ -1,3 +1,4 @@
 pub mod Insides
 pub mod Passes
 pub mod Begins
+pub mod Follows
