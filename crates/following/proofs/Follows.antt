@@ -106,7 +106,7 @@ module _ (cs : List ℕ) {i : ℕ} where
       let e = h .ends in
       record { full = h .full; known = h .known .1 .1; stands = subst (λ j. At cs j (code-tree a)) (let z : suc (suc i) ≡ i + 2 = omega arith in z) (h .stands .1 .1); ends = omega arith }
 
-  here-first : {s : Tree statement} {q : Tree sequence} → Here cs sequence (then s q) i → Here cs statement s i
+  pub here-first : {s : Tree statement} {q : Tree sequence} → Here cs sequence (then s q) i → Here cs statement s i
   here-first {s} {q} h =
       let n = length-append (code-tree s) (code-tree q) in
       let e = h .ends in
@@ -193,7 +193,7 @@ module _ (cs vs : List ℕ) (few : length cs ≤ 8192) where
   move : (d e n o : ℕ) → d ≡ e → Behind d n o → Behind e n o
   move d e n o z b = subst (λ i. Behind i n o) z b
 
-  next-plain : (m : List ℕ) (k : ℕ) → (getD cs k 0 ≡ 209 → ⊥) → nextFrom cs m k ≡ placeFrom cs k
+  pub next-plain : (m : List ℕ) (k : ℕ) → (getD cs k 0 ≡ 209 → ⊥) → nextFrom cs m k ≡ placeFrom cs k
   unfolding nextFrom
   next-plain m k z = rw (ne-eqb (getD cs k 0) 209 z)
 
