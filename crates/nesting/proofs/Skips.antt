@@ -19,6 +19,7 @@ use Rattle.nesting.specs.Balanced.{Pair, if-fi, do-od, an-option, Balanc
 -- the pairs that are looked for here
 pub data Kind : ℕ → Type 0 where
   selections : Kind 0
+  loops : Kind 1
   options : Kind 2
 
 -- ---- one item
@@ -36,6 +37,8 @@ neither-closing : {p : ℕ} → Kind p → (c : ℕ) → (c < 204) ⊎ (209 < c)
 unfolding isClosing
 neither-closing selections c (inl h) = rw (ne-eqb c 205 (λ e. omega arith), ne-eqb c 207 (λ e. omega arith))
 neither-closing selections c (inr h) = rw (ne-eqb c 205 (λ e. omega arith), ne-eqb c 207 (λ e. omega arith))
+neither-closing loops c (inl h) = rw (ne-eqb c 207 (λ e. omega arith))
+neither-closing loops c (inr h) = rw (ne-eqb c 207 (λ e. omega arith))
 neither-closing options c (inl h) = rw (ne-eqb c 209 (λ e. omega arith))
 neither-closing options c (inr h) = rw (ne-eqb c 209 (λ e. omega arith))
 
@@ -43,6 +46,8 @@ neither-opening : {p : ℕ} → Kind p → (c : ℕ) → (c < 204) ⊎ (209 < c)
 unfolding isOpening
 neither-opening selections c (inl h) = rw (ne-eqb c 204 (λ e. omega arith), ne-eqb c 206 (λ e. omega arith))
 neither-opening selections c (inr h) = rw (ne-eqb c 204 (λ e. omega arith), ne-eqb c 206 (λ e. omega arith))
+neither-opening loops c (inl h) = rw (ne-eqb c 206 (λ e. omega arith))
+neither-opening loops c (inr h) = rw (ne-eqb c 206 (λ e. omega arith))
 neither-opening options c (inl h) = rw (ne-eqb c 208 (λ e. omega arith))
 neither-opening options c (inr h) = rw (ne-eqb c 208 (λ e. omega arith))
 
@@ -70,6 +75,9 @@ unfolding deeper isOpening isClosing
 around selections if-fi d h = record { between = d + 1; some = omega arith; in-step = refl; in-depth = refl; out-step = deep-not d h; out-depth = back-one d }
 around selections do-od d h = record { between = d + 1; some = omega arith; in-step = refl; in-depth = refl; out-step = deep-not d h; out-depth = back-one d }
 around selections an-option d h = record { between = d; some = h; in-step = refl; in-depth = refl; out-step = refl; out-depth = refl }
+around loops if-fi d h = record { between = d; some = h; in-step = refl; in-depth = refl; out-step = refl; out-depth = refl }
+around loops do-od d h = record { between = d + 1; some = omega arith; in-step = refl; in-depth = refl; out-step = deep-not d h; out-depth = back-one d }
+around loops an-option d h = record { between = d; some = h; in-step = refl; in-depth = refl; out-step = refl; out-depth = refl }
 around options if-fi d h = record { between = d; some = h; in-step = refl; in-depth = refl; out-step = refl; out-depth = refl }
 around options do-od d h = record { between = d; some = h; in-step = refl; in-depth = refl; out-step = refl; out-depth = refl }
 around options an-option d h = record { between = d + 1; some = omega arith; in-step = refl; in-depth = refl; out-step = deep-not d h; out-depth = back-one d }
