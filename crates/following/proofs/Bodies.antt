@@ -1,11 +1,11 @@
 -- The items of a unit that has a body, of which its head, its parameters and its body are parts, and what stands behind it.
-use Prim.Native.Nat.{ℕ, suc, _+_, _-_, _≤_, _<_}
+use Prim.Native.Nat.{ℕ, suc, _+_, _≤_}
 use native.Mathlib.Omega.{arith}
-use mathlib.Core.Path.{_≡_, refl, sym, ap, _∙_, subst}
-use mathlib.Core.List.{List, [], _∷_, _++_}
+use mathlib.Core.Path.{_≡_, refl, ap, _∙_, subst}
+use mathlib.Core.List.{List, [], _++_}
 use lib.ListN.{length, getD, length-append}
-use Rattle.syntax.specs.Tree.{Name, Group, Body, body, Activity, idle, once, times, Part, process, init, Model}
-use Rattle.syntax.specs.Code.{Item, i-local, i-body, i-end-body, each, code-tree, code-declaration, code-group, code-body, code-activity, code-part, code}
+use Rattle.syntax.specs.Tree.{Name, Body, Activity, idle, once, times, Model}
+use Rattle.syntax.specs.Code.{Item, each, code-group, code-body, code-activity, code-part, code}
 use Rattle.entries.specs.Items.{AllKnown}
 use Rattle.links.specs.Links.{classOf}
 use Rattle.phrases.specs.Phrases.{At}

@@ -1,15 +1,15 @@
 -- From each statement of a tree the links of its items lead where the tree does: behind its last item the place that follows is found, and from inside of it the place behind its loop.
 use Prim.Native.Nat.{ℕ, suc, _+_, _-_, _≤_, _<_, min}
 use native.Mathlib.Omega.{arith}
-use mathlib.Core.Path.{_≡_, refl, sym, ap, _∙_, subst}
-use mathlib.Core.Bool.{Bool, true, false}
+use mathlib.Core.Path.{_≡_, refl, ap, _∙_, subst}
+use mathlib.Core.Bool.{true, false}
 use mathlib.Core.List.{List, [], _∷_, _++_}
 use lib.ListN.{length, getD, length-append}
 use lib.Dec.{eqb}
 use borrow.Author.Tests.{eq-eqb, ne-eqb}
 use Rattle.base.specs.Choice.{pick, both}
-use Rattle.syntax.specs.Tree.{Sort, action, statement, sequence, options, Tree, express, assign, increment, decrement, send, receive, assert, print, skip, goto, break, timeout, else, run, set-run, select, loop, bare, labelled, end, then, over, option, Name}
-use Rattle.syntax.specs.Code.{Item, i-name, i-text, i-end, i-label, i-express, i-target, i-assign, i-increment, i-decrement, i-send, i-receive, i-assert, i-skip, i-goto, i-break, i-timeout, i-else, i-run, i-set-run, i-if, i-fi, i-do, i-od, i-option, i-end-option, each, code-exp, code-argument, code-received, code-tree}
+use Rattle.syntax.specs.Tree.{Sort, action, statement, sequence, options, Tree, express, assign, increment, decrement, send, receive, assert, print, skip, goto, break, timeout, else, run, set-run, select, loop, bare, labelled, end, then, option, Name}
+use Rattle.syntax.specs.Code.{Item, i-name, i-text, i-end, i-express, i-target, i-assign, i-increment, i-decrement, i-send, i-receive, i-assert, i-skip, i-goto, i-break, i-timeout, i-else, i-run, i-set-run, i-if, i-fi, i-do, i-od, i-end-option, each, code-exp, code-argument, code-received, code-tree}
 use Rattle.entries.specs.Items.{codeOf, AllKnown}
 use Rattle.places.specs.Places.{isPart, isMark, isOpening, isClosing, shallower, closeOf, openOf, placeFrom, pastOption, nextFrom}
 use Rattle.links.specs.Links.{classOf, linkBy}
@@ -282,8 +282,8 @@ module _ (cs vs : List ℕ) (few : length cs ≤ 8192) where
         let s = size in
         record {
           goes = λ m a. (
-            next-option m k ending ∙ ap (λ j. pick (eqb (getD cs j 0) 206) j (getD m (closeOf cs 0 k) 0)) back-to
-            ∙ ap (pick (eqb (getD cs (c .start) 0) 206) (c .start)) (ap (λ j. getD m j 0) close-selection ∙ a e (omega arith)) ∙ c .leads);
+              next-option m k ending ∙ ap (λ j. pick (eqb (getD cs j 0) 206) j (getD m (closeOf cs 0 k) 0)) back-to
+              ∙ ap (pick (eqb (getD cs (c .start) 0) 206) (c .start)) (ap (λ j. getD m j 0) close-selection ∙ a e (omega arith)) ∙ c .leads);
           small = c .small;
           out = ap (λ j. getD L j 0) close-loop ∙ c .out;
         }

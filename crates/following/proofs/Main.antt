@@ -5,19 +5,18 @@ use native.Mathlib.Decide.{decLt}
 use mathlib.Core.Path.{_≡_, refl, sym, ap, _∙_, subst}
 use mathlib.Core.Bool.{Bool, true, false}
 use mathlib.Core.List.{List, [], _∷_, _++_, map, append-nil}
-use lib.ListN.{length, getD, set, replicate, length-append, length-map}
-use lib.Seq.{getD-set-other}
+use lib.ListN.{length, getD, replicate, length-append, length-map}
 use lib.Dec.{eqb}
 use borrow.Author.Tests.{le-ltb}
 use Rattle.base.specs.Choice.{pick, both}
 use Rattle.sheets.proofs.Walks.{first-most}
 use Rattle.syntax.specs.Tree.{Name, action, sequence, Tree, express, assign, increment, decrement, send, receive, assert, print, skip, goto, break, timeout, else, run, set-run, select, loop, end, then, Declaration, Body, body}
-use Rattle.syntax.specs.Code.{Item, i-local, i-body, i-end-body, each, code-tree, code-declaration, code-body, code}
+use Rattle.syntax.specs.Code.{Item, i-local, i-end-body, each, code-tree, code-declaration, code-body, code}
 use Rattle.entries.specs.Items as items
 use Rattle.entries.specs.Items.{AllKnown}
 use Rattle.places.specs.Places.{isPart, isMark, isStop, isClosing, isOpening, deeper, closeFrom, closeOf, placeFrom, pastLoop}
 use Rattle.places.proofs.Walks.{close-end}
-use Rattle.links.specs.Links.{classOf, linkBy, linkAt, filledBack, linksOf}
+use Rattle.links.specs.Links.{classOf, linkBy, linksOf}
 use Rattle.phrases.specs.Phrases.{At}
 use Rattle.phrases.proofs.Inside.{stands}
 use Rattle.phrases.proofs.Starts.{at-front, at-back}
@@ -31,7 +30,7 @@ use Rattle.nesting.proofs.Begun.{full-model}
 use Rattle.nesting.proofs.Skips.{loops}
 use Rattle.fitness.specs.Facts.{homes, starts, linksIn}
 use Rattle.fitness.specs.Held.{Held}
-use Rattle.fitness.proofs.Links.{link-is}
+use Rattle.fitness.proofs.Links.{back-keeps, link-is}
 use Rattle.fitness.proofs.Tables.{codesAt, saidAt, text-held}
 use Rattle.acts.specs.Stage.{Ways}
 use Rattle.acts.specs.Program.{sizeIn, enter, Within, Holds, startIn, endIn, statementsOf, Statement}
@@ -44,12 +43,6 @@ use Rattle.following.proofs.Bodies.{Whole, unit-whole}
 use Rattle.following.proofs.Follows.{ended, last-at, Here, here-first, Behind, next-plain, link-next, follow}
 
 -- ---- the array of links
-module _ (cs vs hs ss : List ℕ) where
-  back-keeps : (n : ℕ) (l : List ℕ) (k : ℕ) → n ≤ k → getD (filledBack cs vs hs ss n l) k 0 ≡ getD l k 0
-  unfolding filledBack
-  back-keeps zero l k h = refl
-  back-keeps (suc n) l k h = back-keeps n (set l n (linkAt cs vs hs ss l n)) k (omega arith) ∙ getD-set-other l n k (linkAt cs vs hs ss l n) 0 (λ e. omega arith)
-
 zeros : (n k : ℕ) → getD (replicate n zero) k 0 ≡ 0
 zeros zero k = refl
 zeros (suc n) zero = refl
