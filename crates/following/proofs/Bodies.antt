@@ -41,7 +41,8 @@ module _ (cs : List ℕ) where
   unfolding classOf
   heads = (refl, refl, refl, refl)
 
-  activity-head : (x : Activity) (w : Name) (i u : ℕ) → suc u ≡ i + length (code-activity x w) → At cs i (code-activity x w) → (223 ≤ getD cs u 0) × (getD cs u 0 ≤ 226) × (classOf (getD cs u 0) ≡ 12)
+  activity-head : (x : Activity) (w : Name) (i u : ℕ) → suc u ≡ i + length (code-activity x w) → At cs i (code-activity x w)
+      → (223 ≤ getD cs u 0) × (getD cs u 0 ≤ 226) × (classOf (getD cs u 0) ≡ 12)
   activity-head idle w i u e h = head-by 223 u (suc i) (omega arith) (h .1 .0) (omega arith) (omega arith) (heads .0)
   activity-head once w i u e h = head-by 224 u (suc i) (omega arith) (h .1 .0) (omega arith) (omega arith) (heads .1)
   activity-head (times n) w i u e h = head-by 225 u (suc (suc i)) (omega arith) (h .1 .1 .0) (omega arith) (omega arith) (heads .2)

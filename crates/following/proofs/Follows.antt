@@ -260,14 +260,17 @@ module _ (cs vs : List ℕ) (few : length cs ≤ 8192) where
 
     -- on to the end of the selection
     on-to : (p : ℕ) → closeOf cs p k ≡ closeOf cs p (k + 1) → closeOf cs p (i + 2 + sizeIn q) ≡ closeOf cs p (i + 2 + sizeIn q + sizeIn os) → closeOf cs p k ≡ closeOf cs p e
-    on-to p x y = let s = size in x ∙ ap (closeOf cs p) (let z : k + 1 ≡ i + 2 + sizeIn q = omega arith in z) ∙ y ∙ ap (closeOf cs p) (let z : i + 2 + sizeIn q + sizeIn os ≡ e = omega arith in z)
+    on-to p x y =
+        let s = size in
+        x ∙ ap (closeOf cs p) (let z : k + 1 ≡ i + 2 + sizeIn q = omega arith in z) ∙ y ∙ ap (closeOf cs p) (let z : i + 2 + sizeIn q + sizeIn os ≡ e = omega arith in z)
 
     close-selection : closeOf cs 0 k ≡ e
     close-selection =
         let s = size in
         let f = h .ends in
         let g = others in
-        on-to 0 (close-pass cs 0 k 209 (omega arith) ending (option-codes .2) (option-codes .3)) (close-skip cs selections (tree-balanced os (g .full) (g .known)) (i + 2 + sizeIn q) (g .stands) (omega arith))
+        on-to 0 (close-pass cs 0 k 209 (omega arith) ending (option-codes .2) (option-codes .3))
+        (close-skip cs selections (tree-balanced os (g .full) (g .known)) (i + 2 + sizeIn q) (g .stands) (omega arith))
         ∙ close-stop cs 0 e (getD cs e 0) f refl (c .closed)
 
     close-loop : closeOf cs 1 k ≡ closeOf cs 1 e
@@ -275,7 +278,8 @@ module _ (cs vs : List ℕ) (few : length cs ≤ 8192) where
         let s = size in
         let f = h .ends in
         let g = others in
-        on-to 1 (close-pass cs 1 k 209 (omega arith) ending (loop-codes .3) (loop-codes .4)) (close-skip cs loops (tree-balanced os (g .full) (g .known)) (i + 2 + sizeIn q) (g .stands) (omega arith))
+        on-to 1 (close-pass cs 1 k 209 (omega arith) ending (loop-codes .3) (loop-codes .4))
+        (close-skip cs loops (tree-balanced os (g .full) (g .known)) (i + 2 + sizeIn q) (g .stands) (omega arith))
 
     in-this : Behind k n o
     in-this =
@@ -330,7 +334,8 @@ module _ (cs vs : List ℕ) (few : length cs ≤ 8192) where
   Inside options i e n o = Choices i e n o
 
   -- ---- every statement of a tree
-  pub follow : {k : Sort} {t : Tree k} {i n o : ℕ} {a : Tree action} {j m u : ℕ} → Within k t i n o a j m u → Here cs k t i → Inside k i (i + sizeIn t) n o → Behind (j + sizeIn a) m u × Here cs action a j
+  pub follow : {k : Sort} {t : Tree k} {i n o : ℕ} {a : Tree action} {j m u : ℕ} → Within k t i n o a j m u → Here cs k t i → Inside k i (i + sizeIn t) n o
+      → Behind (j + sizeIn a) m u × Here cs action a j
   follow itself h b = (b, h)
   follow (in-if p) h b = follow p (here-if cs h) (in-selection h b)
   follow (in-do p) h b = follow p (here-do cs h) (in-loop h b)

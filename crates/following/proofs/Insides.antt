@@ -185,9 +185,11 @@ inner-tree (assign r e) = inner-append (code-exp r ++ i-target ∷ code-exp e) (
 inner-tree (increment r) = inner-append (code-exp r) (i-increment ∷ []) (inner-exp r) (refl, tt)
 inner-tree (decrement r) = inner-append (code-exp r) (i-decrement ∷ []) (inner-exp r) (refl, tt)
 inner-tree (send r es) =
-    inner-append (code-exp r ++ i-send ∷ each code-argument es) (i-end ∷ []) (inner-append (code-exp r) (i-send ∷ each code-argument es) (inner-exp r) (refl, inner-each code-argument inner-argument es)) (refl, tt)
+    inner-append (code-exp r ++ i-send ∷ each code-argument es) (i-end ∷ [])
+    (inner-append (code-exp r) (i-send ∷ each code-argument es) (inner-exp r) (refl, inner-each code-argument inner-argument es)) (refl, tt)
 inner-tree (receive r xs) =
-    inner-append (code-exp r ++ i-receive ∷ each code-received xs) (i-end ∷ []) (inner-append (code-exp r) (i-receive ∷ each code-received xs) (inner-exp r) (refl, inner-each code-received inner-received xs)) (refl, tt)
+    inner-append (code-exp r ++ i-receive ∷ each code-received xs) (i-end ∷ [])
+    (inner-append (code-exp r) (i-receive ∷ each code-received xs) (inner-exp r) (refl, inner-each code-received inner-received xs)) (refl, tt)
 inner-tree (assert e) = inner-append (code-exp e) (i-assert ∷ []) (inner-exp e) (refl, tt)
 inner-tree (print w es) = (refl, inner-append (each code-argument es) (i-end ∷ []) (inner-each code-argument inner-argument es) (refl, tt))
 inner-tree skip = (refl, tt)
