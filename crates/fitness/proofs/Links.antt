@@ -11,7 +11,7 @@ use Rattle.links.specs.Links.{classOf, linkBy, linkAt, filledBack, linksOf}
 use Rattle.fitness.specs.Facts.{homes, starts, linksIn}
 
 module _ (cs vs hs ss : List ℕ) where
-  back-keeps : (n : ℕ) (l : List ℕ) (k : ℕ) → n ≤ k → getD (filledBack cs vs hs ss n l) k 0 ≡ getD l k 0
+  pub back-keeps : (n : ℕ) (l : List ℕ) (k : ℕ) → n ≤ k → getD (filledBack cs vs hs ss n l) k 0 ≡ getD l k 0
   unfolding filledBack
   back-keeps zero l k h = refl
   back-keeps (suc n) l k h = back-keeps n (set l n (linkAt cs vs hs ss l n)) k (omega arith) ∙ getD-set-other l n k (linkAt cs vs hs ss l n) 0 (λ e. omega arith)

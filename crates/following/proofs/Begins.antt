@@ -11,8 +11,8 @@ use borrow.Author.Tests.{eq-eqb}
 use Rattle.base.specs.Choice.{pick, both, either}
 use Rattle.base.proofs.Tests.{true-false, both-no}
 use Rattle.sheets.proofs.Walks.{first-stop, first-more}
-use Rattle.syntax.specs.Tree.{Name, action, statement, sequence, Tree, express, assign, increment, decrement, send, receive, assert, print, skip, goto, break, timeout, else, run, set-run, select, loop, bare, labelled, end, then, Exp, Shape, Value, unset, set-number, set-minus, set-true, set-false, set-name, set-channel, Variable, variable, Declaration, declare}
-use Rattle.syntax.specs.Code.{Item, i-name, i-number, i-text, i-type, i-true, i-false, i-end, i-label, i-express, i-target, i-assign, i-increment, i-decrement, i-send, i-receive, i-assert, i-skip, i-goto, i-break, i-timeout, i-else, i-run, i-set-run, i-if, i-fi, i-do, i-od, i-local, i-declared, i-size, i-value, i-minus, i-named, i-channel, i-field, each, code-exp, code-argument, code-received, code-tree, code-field, code-size, code-value, code-variable, code-declaration}
+use Rattle.syntax.specs.Tree.{Name, action, statement, Tree, express, assign, increment, decrement, send, receive, assert, print, skip, goto, break, timeout, else, run, set-run, select, loop, bare, labelled, Exp, Shape, Value, unset, set-number, set-minus, set-true, set-false, set-name, set-channel, Variable, variable, Declaration, declare}
+use Rattle.syntax.specs.Code.{Item, i-name, i-type, i-end, i-label, i-express, i-target, i-assign, i-increment, i-decrement, i-send, i-receive, i-assert, i-goto, i-run, i-set-run, i-local, each, code-exp, code-argument, code-received, code-tree, code-field, code-size, code-value, code-variable, code-declaration}
 use Rattle.entries.specs.Items.{codeOf, AllKnown}
 use Rattle.places.specs.Places.{isPart, isMark, markFrom, markOf, isAlone, isLead, isPlace, isStop, placeFrom}
 use Rattle.phrases.specs.Phrases.{At}
@@ -71,10 +71,11 @@ module _ (cs : List ℕ) where
   said-not k c d e a n h f m l =
       let s : k + 1 ≡ suc k = omega arith in
       let w : isLead (getD cs (markFrom cs (k + 1)) 0) ≡ false =
-          ap (λ i. isLead (getD cs (markFrom cs i) 0)) s ∙ ap (λ i. isLead (getD cs i 0)) (mark-here (suc k) h (ap isMark f ∙ m)) ∙ ap isLead f ∙ l in
+      ap (λ i. isLead (getD cs (markFrom cs i) 0)) s ∙ ap (λ i. isLead (getD cs i 0)) (mark-here (suc k) h (ap isMark f ∙ m)) ∙ ap isLead f ∙ l in
       rw (e, n, a) (go (isPart c) (both-no (isMark (getD cs (k - 1) 0)) w))
     where
-      go : (b : Bool) → both (isMark (getD cs (k - 1) 0)) (isLead (getD cs (markFrom cs (k + 1)) 0)) ≡ false → pick b (both (isMark (getD cs (k - 1) 0)) (isLead (getD cs (markFrom cs (k + 1)) 0))) false ≡ false
+      go : (b : Bool) → both (isMark (getD cs (k - 1) 0)) (isLead (getD cs (markFrom cs (k + 1)) 0)) ≡ false
+          → pick b (both (isMark (getD cs (k - 1) 0)) (isLead (getD cs (markFrom cs (k + 1)) 0))) false ≡ false
       go true x = x
       go false x = refl
 
@@ -94,8 +95,10 @@ module _ (cs : List ℕ) where
       place-on cs k (omega arith) (quiet-not cs k (codeOf x) (h .0) q) ∙ ap (placeFrom cs) (let z : k + 1 ≡ suc k = omega arith in z) ∙ dull-skip d (suc k) (h .1) (omega arith)
       ∙ ap (placeFrom cs) (let z : suc k + length l ≡ k + suc (length l) = omega arith in z)
   dull-skip (said {x} {y} {l} a n q u d) k h g =
-      place-on cs k (omega arith) (said-not cs k (codeOf x) (codeOf y) (h .0) a n (omega arith) (h .1 .0) (quiet-mark (codeOf y) q) u) ∙ ap (placeFrom cs) (let z : k + 1 ≡ suc k = omega arith in z)
-      ∙ place-on cs (suc k) (omega arith) (quiet-not cs (suc k) (codeOf y) (h .1 .0) q) ∙ ap (placeFrom cs) (let z : suc k + 1 ≡ suc (suc k) = omega arith in z) ∙ dull-skip d (suc (suc k)) (h .1 .1) (omega arith)
+      place-on cs k (omega arith) (said-not cs k (codeOf x) (codeOf y) (h .0) a n (omega arith) (h .1 .0) (quiet-mark (codeOf y) q) u)
+      ∙ ap (placeFrom cs) (let z : k + 1 ≡ suc k = omega arith in z)
+      ∙ place-on cs (suc k) (omega arith) (quiet-not cs (suc k) (codeOf y) (h .1 .0) q)
+      ∙ ap (placeFrom cs) (let z : suc k + 1 ≡ suc (suc k) = omega arith in z) ∙ dull-skip d (suc (suc k)) (h .1 .1) (omega arith)
       ∙ ap (placeFrom cs) (let z : suc (suc k) + length l ≡ k + suc (suc (length l)) = omega arith in z)
 
   -- the last of them is a mark
@@ -104,7 +107,8 @@ module _ (cs : List ℕ) where
   dull-last (mark {x} {l} q d) k m h =
       ap (λ i. isMark (getD cs i 0)) (let z : k + suc (length l) ≡ suc k + length l = omega arith in z) ∙ dull-last d (suc k) (ap isMark (h .0) ∙ quiet-mark (codeOf x) q) (h .1)
   dull-last (said {x} {y} {l} a n q u d) k m h =
-      ap (λ i. isMark (getD cs i 0)) (let z : k + suc (suc (length l)) ≡ suc (suc k) + length l = omega arith in z) ∙ dull-last d (suc (suc k)) (ap isMark (h .1 .0) ∙ quiet-mark (codeOf y) q) (h .1 .1)
+      ap (λ i. isMark (getD cs i 0)) (let z : k + suc (suc (length l)) ≡ suc (suc k) + length l = omega arith in z)
+      ∙ dull-last d (suc (suc k)) (ap isMark (h .1 .0) ∙ quiet-mark (codeOf y) q) (h .1 .1)
 
 -- ---- declarations
 dull-append : {x y : List Item} → Dull x → Dull y → Dull (x ++ y)
@@ -156,7 +160,8 @@ module _ (cs : List ℕ) where
   part-not c e = ap (λ b. pick b false true) e
 
   -- the mark behind parts of an expression
-  mark-behind : (l : List Item) → Parts l → AllKnown l → (y : Item) (rest : List Item) → isMark (codeOf y) ≡ true → (k : ℕ) → At cs k (l ++ y ∷ rest) → k + length l < length cs → markFrom cs k ≡ k + length l
+  mark-behind : (l : List Item) → Parts l → AllKnown l → (y : Item) (rest : List Item) → isMark (codeOf y) ≡ true
+      → (k : ℕ) → At cs k (l ++ y ∷ rest) → k + length l < length cs → markFrom cs k ≡ k + length l
   mark-behind [] p a y rest m k h g = mark-here cs k (omega arith) (ap isMark (h .0) ∙ m) ∙ (let z : k ≡ k + 0 = omega arith in z)
   mark-behind (x ∷ l) p a y rest m k h g =
       mark-on cs k (omega arith) (ap isMark (h .0) ∙ part-not (codeOf x) (part-known x (a .0) (p .0))) ∙ ap (markFrom cs) (let z : k + 1 ≡ suc k = omega arith in z)
@@ -177,7 +182,7 @@ module _ (cs : List ℕ) where
   led (x ∷ l) n q a y rest m u p h g b =
       let w = length-append l (y ∷ rest) in
       let k : markOf cs p ≡ suc p + length l =
-          ap (markFrom cs) (let z : p + 1 ≡ suc p = omega arith in z) ∙ mark-behind l (q .1) (a .1) y rest m (suc p) (h .1) (omega arith) in
+      ap (markFrom cs) (let z : p + 1 ≡ suc p = omega arith in z) ∙ mark-behind l (q .1) (a .1) y rest m (suc p) (h .1) (omega arith) in
       place-led p (ap isPart (h .0) ∙ part-known x (a .0) (q .0)) b (ap (λ i. isLead (getD cs i 0)) k ∙ ap isLead (at-back cs l (y ∷ rest) (suc p) (suc p + length l) refl (h .1) .0) ∙ u)
 
   led-by : {s : Shape} (e : Exp s) (y : Item) (rest : List Item) → isMark (codeOf y) ≡ true → isLead (codeOf y) ≡ true → AllKnown (code-exp e ++ y ∷ rest)
@@ -232,8 +237,8 @@ module _ (cs : List ℕ) where
       → (placeFrom cs p ≡ placeIn s p) × (getD cs p 0 ≡ 209 → ⊥)
   statement-from (bare a) k p h g b = (action-from a k p h g b, place-not-end p (action-place a k p h (omega arith) b))
   statement-from (labelled w a) k p h g b =
-      let z : suc (suc p) ≡ p + 2 = omega arith in
-      (
-        dull-skip cs (dull-label w) p (h .0, (h .1 .0, tt)) (omega arith) ∙ action-from a (k .1 .1) (p + 2) (subst (λ i. At cs i (code-tree a)) z (h .1 .1)) (omega arith) (label-mark p (h .1 .0)),
+      let z : suc (suc p) ≡ p + 2 = omega arith in (
+        dull-skip cs (dull-label w) p (h .0, (h .1 .0, tt)) (omega arith)
+            ∙ action-from a (k .1 .1) (p + 2) (subst (λ i. At cs i (code-tree a)) z (h .1 .1)) (omega arith) (label-mark p (h .1 .0)),
         λ e. (let w : getD cs p 0 ≡ 70 = h .0 in omega arith),
       )

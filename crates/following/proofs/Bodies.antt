@@ -1,11 +1,11 @@
 -- The items of a unit that has a body, of which its head, its parameters and its body are parts, and what stands behind it.
-use Prim.Native.Nat.{ℕ, suc, _+_, _-_, _≤_, _<_}
+use Prim.Native.Nat.{ℕ, suc, _+_, _≤_}
 use native.Mathlib.Omega.{arith}
-use mathlib.Core.Path.{_≡_, refl, sym, ap, _∙_, subst}
-use mathlib.Core.List.{List, [], _∷_, _++_}
+use mathlib.Core.Path.{_≡_, refl, ap, _∙_, subst}
+use mathlib.Core.List.{List, [], _++_}
 use lib.ListN.{length, getD, length-append}
-use Rattle.syntax.specs.Tree.{Name, Group, Body, body, Activity, idle, once, times, Part, process, init, Model}
-use Rattle.syntax.specs.Code.{Item, i-local, i-body, i-end-body, each, code-tree, code-declaration, code-group, code-body, code-activity, code-part, code}
+use Rattle.syntax.specs.Tree.{Name, Body, Activity, idle, once, times, Model}
+use Rattle.syntax.specs.Code.{Item, each, code-group, code-body, code-activity, code-part, code}
 use Rattle.entries.specs.Items.{AllKnown}
 use Rattle.links.specs.Links.{classOf}
 use Rattle.phrases.specs.Phrases.{At}
@@ -41,7 +41,8 @@ module _ (cs : List ℕ) where
   unfolding classOf
   heads = (refl, refl, refl, refl)
 
-  activity-head : (x : Activity) (w : Name) (i u : ℕ) → suc u ≡ i + length (code-activity x w) → At cs i (code-activity x w) → (223 ≤ getD cs u 0) × (getD cs u 0 ≤ 226) × (classOf (getD cs u 0) ≡ 12)
+  activity-head : (x : Activity) (w : Name) (i u : ℕ) → suc u ≡ i + length (code-activity x w) → At cs i (code-activity x w)
+      → (223 ≤ getD cs u 0) × (getD cs u 0 ≤ 226) × (classOf (getD cs u 0) ≡ 12)
   activity-head idle w i u e h = head-by 223 u (suc i) (omega arith) (h .1 .0) (omega arith) (omega arith) (heads .0)
   activity-head once w i u e h = head-by 224 u (suc i) (omega arith) (h .1 .0) (omega arith) (omega arith) (heads .1)
   activity-head (times n) w i u e h = head-by 225 u (suc (suc i)) (omega arith) (h .1 .1 .0) (omega arith) (omega arith) (heads .2)

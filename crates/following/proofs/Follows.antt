@@ -1,15 +1,15 @@
 -- From each statement of a tree the links of its items lead where the tree does: behind its last item the place that follows is found, and from inside of it the place behind its loop.
 use Prim.Native.Nat.{ℕ, suc, _+_, _-_, _≤_, _<_, min}
 use native.Mathlib.Omega.{arith}
-use mathlib.Core.Path.{_≡_, refl, sym, ap, _∙_, subst}
-use mathlib.Core.Bool.{Bool, true, false}
+use mathlib.Core.Path.{_≡_, refl, ap, _∙_, subst}
+use mathlib.Core.Bool.{true, false}
 use mathlib.Core.List.{List, [], _∷_, _++_}
 use lib.ListN.{length, getD, length-append}
 use lib.Dec.{eqb}
 use borrow.Author.Tests.{eq-eqb, ne-eqb}
 use Rattle.base.specs.Choice.{pick, both}
-use Rattle.syntax.specs.Tree.{Sort, action, statement, sequence, options, Tree, express, assign, increment, decrement, send, receive, assert, print, skip, goto, break, timeout, else, run, set-run, select, loop, bare, labelled, end, then, over, option, Name}
-use Rattle.syntax.specs.Code.{Item, i-name, i-text, i-end, i-label, i-express, i-target, i-assign, i-increment, i-decrement, i-send, i-receive, i-assert, i-skip, i-goto, i-break, i-timeout, i-else, i-run, i-set-run, i-if, i-fi, i-do, i-od, i-option, i-end-option, each, code-exp, code-argument, code-received, code-tree}
+use Rattle.syntax.specs.Tree.{Sort, action, statement, sequence, options, Tree, express, assign, increment, decrement, send, receive, assert, print, skip, goto, break, timeout, else, run, set-run, select, loop, bare, labelled, end, then, option, Name}
+use Rattle.syntax.specs.Code.{Item, i-name, i-text, i-end, i-express, i-target, i-assign, i-increment, i-decrement, i-send, i-receive, i-assert, i-skip, i-goto, i-break, i-timeout, i-else, i-run, i-set-run, i-if, i-fi, i-do, i-od, i-end-option, each, code-exp, code-argument, code-received, code-tree}
 use Rattle.entries.specs.Items.{codeOf, AllKnown}
 use Rattle.places.specs.Places.{isPart, isMark, isOpening, isClosing, shallower, closeOf, openOf, placeFrom, pastOption, nextFrom}
 use Rattle.links.specs.Links.{classOf, linkBy}
@@ -260,14 +260,17 @@ module _ (cs vs : List ℕ) (few : length cs ≤ 8192) where
 
     -- on to the end of the selection
     on-to : (p : ℕ) → closeOf cs p k ≡ closeOf cs p (k + 1) → closeOf cs p (i + 2 + sizeIn q) ≡ closeOf cs p (i + 2 + sizeIn q + sizeIn os) → closeOf cs p k ≡ closeOf cs p e
-    on-to p x y = let s = size in x ∙ ap (closeOf cs p) (let z : k + 1 ≡ i + 2 + sizeIn q = omega arith in z) ∙ y ∙ ap (closeOf cs p) (let z : i + 2 + sizeIn q + sizeIn os ≡ e = omega arith in z)
+    on-to p x y =
+        let s = size in
+        x ∙ ap (closeOf cs p) (let z : k + 1 ≡ i + 2 + sizeIn q = omega arith in z) ∙ y ∙ ap (closeOf cs p) (let z : i + 2 + sizeIn q + sizeIn os ≡ e = omega arith in z)
 
     close-selection : closeOf cs 0 k ≡ e
     close-selection =
         let s = size in
         let f = h .ends in
         let g = others in
-        on-to 0 (close-pass cs 0 k 209 (omega arith) ending (option-codes .2) (option-codes .3)) (close-skip cs selections (tree-balanced os (g .full) (g .known)) (i + 2 + sizeIn q) (g .stands) (omega arith))
+        on-to 0 (close-pass cs 0 k 209 (omega arith) ending (option-codes .2) (option-codes .3))
+        (close-skip cs selections (tree-balanced os (g .full) (g .known)) (i + 2 + sizeIn q) (g .stands) (omega arith))
         ∙ close-stop cs 0 e (getD cs e 0) f refl (c .closed)
 
     close-loop : closeOf cs 1 k ≡ closeOf cs 1 e
@@ -275,15 +278,16 @@ module _ (cs vs : List ℕ) (few : length cs ≤ 8192) where
         let s = size in
         let f = h .ends in
         let g = others in
-        on-to 1 (close-pass cs 1 k 209 (omega arith) ending (loop-codes .3) (loop-codes .4)) (close-skip cs loops (tree-balanced os (g .full) (g .known)) (i + 2 + sizeIn q) (g .stands) (omega arith))
+        on-to 1 (close-pass cs 1 k 209 (omega arith) ending (loop-codes .3) (loop-codes .4))
+        (close-skip cs loops (tree-balanced os (g .full) (g .known)) (i + 2 + sizeIn q) (g .stands) (omega arith))
 
     in-this : Behind k n o
     in-this =
         let s = size in
         record {
           goes = λ m a. (
-            next-option m k ending ∙ ap (λ j. pick (eqb (getD cs j 0) 206) j (getD m (closeOf cs 0 k) 0)) back-to
-            ∙ ap (pick (eqb (getD cs (c .start) 0) 206) (c .start)) (ap (λ j. getD m j 0) close-selection ∙ a e (omega arith)) ∙ c .leads);
+              next-option m k ending ∙ ap (λ j. pick (eqb (getD cs j 0) 206) j (getD m (closeOf cs 0 k) 0)) back-to
+              ∙ ap (pick (eqb (getD cs (c .start) 0) 206) (c .start)) (ap (λ j. getD m j 0) close-selection ∙ a e (omega arith)) ∙ c .leads);
           small = c .small;
           out = ap (λ j. getD L j 0) close-loop ∙ c .out;
         }
@@ -330,7 +334,8 @@ module _ (cs vs : List ℕ) (few : length cs ≤ 8192) where
   Inside options i e n o = Choices i e n o
 
   -- ---- every statement of a tree
-  pub follow : {k : Sort} {t : Tree k} {i n o : ℕ} {a : Tree action} {j m u : ℕ} → Within k t i n o a j m u → Here cs k t i → Inside k i (i + sizeIn t) n o → Behind (j + sizeIn a) m u × Here cs action a j
+  pub follow : {k : Sort} {t : Tree k} {i n o : ℕ} {a : Tree action} {j m u : ℕ} → Within k t i n o a j m u → Here cs k t i → Inside k i (i + sizeIn t) n o
+      → Behind (j + sizeIn a) m u × Here cs action a j
   follow itself h b = (b, h)
   follow (in-if p) h b = follow p (here-if cs h) (in-selection h b)
   follow (in-do p) h b = follow p (here-do cs h) (in-loop h b)

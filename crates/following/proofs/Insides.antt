@@ -12,7 +12,7 @@ use Rattle.base.proofs.Tests.{true-false, both-true, either-true}
 use Rattle.syntax.specs.Tree.{Name, Shape, Exp, plain, indexed, num, tru, fls, get, len, unary, binary, choice, Expr, Received, into, equal, exactly, exactly-true, exactly-false, Sort, Tree, express, assign, increment, decrement, send, receive, assert, print, skip, goto, break, timeout, else, run, set-run, select, loop, bare, labelled, end, then, over, option, Value, unset, set-number, set-minus, set-true, set-false, set-name, set-channel, Variable, variable, Declaration, declare, Group, group}
 use Rattle.syntax.specs.Code.{Item, i-name, i-number, i-text, i-binary, i-unary, i-type, i-plain, i-index, i-true, i-false, i-len, i-otherwise, i-choice, i-argument, i-into, i-equal, i-constant, i-end, i-label, i-express, i-target, i-assign, i-increment, i-decrement, i-send, i-receive, i-assert, i-skip, i-goto, i-break, i-timeout, i-else, i-run, i-set-run, i-if, i-fi, i-do, i-od, i-option, i-end-option, i-local, i-global, i-declared, i-size, i-value, i-minus, i-named, i-channel, i-field, i-mtypes, i-message, i-group, i-parameter, i-proctype, i-active, i-active-many, i-init, i-body, i-end-body, each, code-exp, code-argument, code-received, code-tree, code-field, code-size, code-value, code-variable, code-declaration, code-parameter, code-group}
 use Rattle.productions.specs.Numbering.{nth, items}
-use Rattle.entries.specs.Items.{codeOf, Known, is-name, is-text, is-number, is-mark, AllKnown}
+use Rattle.entries.specs.Items.{codeOf, Known, is-name, is-text, is-number, is-mark}
 use Rattle.places.specs.Places.{isPart, isAlone}
 
 -- no part of an expression, no statement that begins with its own mark, and no end of a body
@@ -185,9 +185,11 @@ inner-tree (assign r e) = inner-append (code-exp r ++ i-target ∷ code-exp e) (
 inner-tree (increment r) = inner-append (code-exp r) (i-increment ∷ []) (inner-exp r) (refl, tt)
 inner-tree (decrement r) = inner-append (code-exp r) (i-decrement ∷ []) (inner-exp r) (refl, tt)
 inner-tree (send r es) =
-    inner-append (code-exp r ++ i-send ∷ each code-argument es) (i-end ∷ []) (inner-append (code-exp r) (i-send ∷ each code-argument es) (inner-exp r) (refl, inner-each code-argument inner-argument es)) (refl, tt)
+    inner-append (code-exp r ++ i-send ∷ each code-argument es) (i-end ∷ [])
+    (inner-append (code-exp r) (i-send ∷ each code-argument es) (inner-exp r) (refl, inner-each code-argument inner-argument es)) (refl, tt)
 inner-tree (receive r xs) =
-    inner-append (code-exp r ++ i-receive ∷ each code-received xs) (i-end ∷ []) (inner-append (code-exp r) (i-receive ∷ each code-received xs) (inner-exp r) (refl, inner-each code-received inner-received xs)) (refl, tt)
+    inner-append (code-exp r ++ i-receive ∷ each code-received xs) (i-end ∷ [])
+    (inner-append (code-exp r) (i-receive ∷ each code-received xs) (inner-exp r) (refl, inner-each code-received inner-received xs)) (refl, tt)
 inner-tree (assert e) = inner-append (code-exp e) (i-assert ∷ []) (inner-exp e) (refl, tt)
 inner-tree (print w es) = (refl, inner-append (each code-argument es) (i-end ∷ []) (inner-each code-argument inner-argument es) (refl, tt))
 inner-tree skip = (refl, tt)

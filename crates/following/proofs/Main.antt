@@ -1,23 +1,23 @@
--- THE LINKS OF AN ACCEPTED TEXT LEAD WHERE ITS TREE DOES: from a unit to its end, from a body to its first statement, from each statement to the one that follows it, and from `break` behind its loop.
+-- THE LINKS OF AN ACCEPTED TEXT LEAD WHERE ITS TREE DOES: from a unit to its end, from a body to its first statement, from each statement to the one that follows it, and from `break`
+-- behind its loop.
 use Prim.Native.Nat.{ℕ, zero, suc, _+_, _-_, _≤_, _<_, min}
 use native.Mathlib.Omega.{arith}
 use native.Mathlib.Decide.{decLt}
 use mathlib.Core.Path.{_≡_, refl, sym, ap, _∙_, subst}
 use mathlib.Core.Bool.{Bool, true, false}
 use mathlib.Core.List.{List, [], _∷_, _++_, map, append-nil}
-use lib.ListN.{length, getD, set, replicate, length-append, length-map}
-use lib.Seq.{getD-set-other}
+use lib.ListN.{length, getD, replicate, length-append, length-map}
 use lib.Dec.{eqb}
 use borrow.Author.Tests.{le-ltb}
 use Rattle.base.specs.Choice.{pick, both}
 use Rattle.sheets.proofs.Walks.{first-most}
 use Rattle.syntax.specs.Tree.{Name, action, sequence, Tree, express, assign, increment, decrement, send, receive, assert, print, skip, goto, break, timeout, else, run, set-run, select, loop, end, then, Declaration, Body, body}
-use Rattle.syntax.specs.Code.{Item, i-local, i-body, i-end-body, each, code-tree, code-declaration, code-body, code}
+use Rattle.syntax.specs.Code.{Item, i-local, i-end-body, each, code-tree, code-declaration, code-body, code}
 use Rattle.entries.specs.Items as items
 use Rattle.entries.specs.Items.{AllKnown}
 use Rattle.places.specs.Places.{isPart, isMark, isStop, isClosing, isOpening, deeper, closeFrom, closeOf, placeFrom, pastLoop}
 use Rattle.places.proofs.Walks.{close-end}
-use Rattle.links.specs.Links.{classOf, linkBy, linkAt, filledBack, linksOf}
+use Rattle.links.specs.Links.{classOf, linkBy, linksOf}
 use Rattle.phrases.specs.Phrases.{At}
 use Rattle.phrases.proofs.Inside.{stands}
 use Rattle.phrases.proofs.Starts.{at-front, at-back}
@@ -31,7 +31,7 @@ use Rattle.nesting.proofs.Begun.{full-model}
 use Rattle.nesting.proofs.Skips.{loops}
 use Rattle.fitness.specs.Facts.{homes, starts, linksIn}
 use Rattle.fitness.specs.Held.{Held}
-use Rattle.fitness.proofs.Links.{link-is}
+use Rattle.fitness.proofs.Links.{back-keeps, link-is}
 use Rattle.fitness.proofs.Tables.{codesAt, saidAt, text-held}
 use Rattle.acts.specs.Stage.{Ways}
 use Rattle.acts.specs.Program.{sizeIn, enter, Within, Holds, startIn, endIn, statementsOf, Statement}
@@ -44,12 +44,6 @@ use Rattle.following.proofs.Bodies.{Whole, unit-whole}
 use Rattle.following.proofs.Follows.{ended, last-at, Here, here-first, Behind, next-plain, link-next, follow}
 
 -- ---- the array of links
-module _ (cs vs hs ss : List ℕ) where
-  back-keeps : (n : ℕ) (l : List ℕ) (k : ℕ) → n ≤ k → getD (filledBack cs vs hs ss n l) k 0 ≡ getD l k 0
-  unfolding filledBack
-  back-keeps zero l k h = refl
-  back-keeps (suc n) l k h = back-keeps n (set l n (linkAt cs vs hs ss l n)) k (omega arith) ∙ getD-set-other l n k (linkAt cs vs hs ss l n) 0 (λ e. omega arith)
-
 zeros : (n k : ℕ) → getD (replicate n zero) k 0 ≡ 0
 zeros zero k = refl
 zeros (suc n) zero = refl
@@ -173,7 +167,8 @@ module _ (cs vs : List ℕ) (few : length cs ≤ 8192) {u k : ℕ} (ds : List De
       let f = fits in
       let l = link-is cs vs k few (omega arith) in
       let m = place-most cs (k + 1) (omega arith) in
-      l .1 ∙ ap (min 4294967295) (ap (λ c. linkBy cs vs (homes cs) (starts cs) (classOf c) (l .0) k) (w .stands .0) ∙ body-link (l .0)) ∙ (let z : min 4294967295 (placeFrom cs (k + 1)) ≡ placeFrom cs (k + 1) = omega arith in z) ∙ enters
+      l .1 ∙ ap (min 4294967295) (ap (λ c. linkBy cs vs (homes cs) (starts cs) (classOf c) (l .0) k) (w .stands .0) ∙ body-link (l .0))
+      ∙ (let z : min 4294967295 (placeFrom cs (k + 1)) ≡ placeFrom cs (k + 1) = omega arith in z) ∙ enters
 
   -- behind its statements
   behind-all : Behind cs vs few e e 0
@@ -186,13 +181,16 @@ module _ (cs vs : List ℕ) (few : length cs ≤ 8192) {u k : ℕ} (ds : List De
         goes = λ m g. (next-plain cs vs few m e (λ z. let x = at-end in omega arith) ∙ end-here cs e f at-end);
         small = omega arith;
         out =
-            ap (λ i. getD (linksIn cs vs) i 0) (close-pass cs 1 e 228 f at-end (loop-codes .0) (loop-codes .1) ∙ ap (closeOf cs 1) n ∙ close-skip cs loops (w .balanced) (k + length (code-body (body ds q))) (w .behind) (omega arith) ∙ ap (closeOf cs 1) b ∙ close-last cs 1)
+            ap (λ i. getD (linksIn cs vs) i 0)
+            (close-pass cs 1 e 228 f at-end (loop-codes .0) (loop-codes .1) ∙ ap (closeOf cs 1) n
+            ∙ close-skip cs loops (w .balanced) (k + length (code-body (body ds q))) (w .behind) (omega arith) ∙ ap (closeOf cs 1) b ∙ close-last cs 1)
             ∙ links-past cs vs few (length cs) (omega arith);
       }
 
 -- ---- a statement of a unit
 module _ (cs vs : List ℕ) (few : length cs ≤ 8192) where
-  reached : (b : Body) {u k : ℕ} → Whole cs u b k → {a : Tree action} {j n o : ℕ} → Within sequence (statementsOf b) (startIn b k) (endIn b k) 0 a j n o → Behind cs vs few (j + sizeIn a) n o × Here cs action a j
+  reached : (b : Body) {u k : ℕ} → Whole cs u b k → {a : Tree action} {j n o : ℕ} → Within sequence (statementsOf b) (startIn b k) (endIn b k) 0 a j n o
+      → Behind cs vs few (j + sizeIn a) n o × Here cs action a j
   reached (body ds q) w p = follow cs vs few p (here cs vs few ds q w) (behind-all cs vs few ds q w)
 
   onward-at : (x : Tree action) (j n o : ℕ) → Onward x → Behind cs vs few (j + sizeIn x) n o → Here cs action x j → getD (linksIn cs vs) (j + sizeIn x - 1) 0 ≡ n
@@ -200,7 +198,8 @@ module _ (cs vs : List ℕ) (few : length cs ≤ 8192) where
       let r = last-at cs x j (h .stands) in
       let r0 = r .0 in
       let e = h .ends in
-      link-next cs vs few (j + sizeIn x - 1) n o (omega arith) (ap classOf (r .1) ∙ ended x .onward w) (subst (λ i. Behind cs vs few i n o) (let z : j + sizeIn x ≡ j + sizeIn x - 1 + 1 = omega arith in z) b)
+      link-next cs vs few (j + sizeIn x - 1) n o (omega arith) (ap classOf (r .1) ∙ ended x .onward w)
+      (subst (λ i. Behind cs vs few i n o) (let z : j + sizeIn x ≡ j + sizeIn x - 1 + 1 = omega arith in z) b)
 
   break-link : (m : List ℕ) (j : ℕ) → linkBy cs vs (homes cs) (starts cs) (classOf 199) m j ≡ getD m (closeOf cs 1 j) 0
   unfolding linkBy classOf pastLoop
@@ -214,7 +213,8 @@ module _ (cs vs : List ℕ) (few : length cs ≤ 8192) where
       let g = close-behind cs 1 (j + 1) in
       let y = links-small cs vs few (closeOf cs 1 (j + 1)) in
       let v : getD (linksIn cs vs) (closeOf cs 1 (j + 1)) 0 ≡ o = b .out in
-      l .1 ∙ ap (min 4294967295) (ap (λ c. linkBy cs vs (homes cs) (starts cs) (classOf c) (l .0) j) (h .stands .0) ∙ break-link (l .0) j ∙ ap (λ i. getD (l .0) i 0) c ∙ l .2 (closeOf cs 1 (j + 1)) (omega arith) ∙ v)
+      l .1 ∙ ap (min 4294967295) (ap (λ c. linkBy cs vs (homes cs) (starts cs) (classOf c) (l .0) j) (h .stands .0) ∙ break-link (l .0) j ∙ ap (λ i. getD (l .0) i 0) c
+      ∙ l .2 (closeOf cs 1 (j + 1)) (omega arith) ∙ v)
       ∙ (let z : min 4294967295 o ≡ o = omega arith in z)
 
 -- ---- accepted texts
@@ -255,7 +255,8 @@ module _ (t : List ℕ) (a : Accepts t) where
   enter-by (body ds q) {u} {k} w = let f = fits C S (H .few) ds q w in H .links k (omega arith) ∙ enters-at C S (H .few) ds q w
 
   -- the item that begins a unit links to the end of its body
-  pub text-unit : {u k : ℕ} {b : Body} → Holds (a .tree) 0 u b k → (linkOf (tablesText t) u ≡ endIn b k) × (codeOf (tablesText t) (endIn b k) ≡ 228) × (223 ≤ codeOf (tablesText t) u) × (codeOf (tablesText t) u ≤ 226)
+  pub text-unit : {u k : ℕ} {b : Body} → Holds (a .tree) 0 u b k
+      → (linkOf (tablesText t) u ≡ endIn b k) × (codeOf (tablesText t) (endIn b k) ≡ 228) × (223 ≤ codeOf (tablesText t) u) × (codeOf (tablesText t) u ≤ 226)
   text-unit {b = b} p = unit-by b (whole p)
 
   -- a body links to its first statement

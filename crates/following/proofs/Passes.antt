@@ -1,7 +1,7 @@
 -- Looking back for what opened a selection passes over balanced items, and looking for the end of a body passes over what stands inside of a unit.
 use Prim.Native.Nat.{ℕ, suc, _+_, _-_, _≤_, _<_}
 use native.Mathlib.Omega.{arith}
-use mathlib.Core.Path.{_≡_, refl, sym, ap, _∙_}
+use mathlib.Core.Path.{_≡_, refl, ap, _∙_}
 use mathlib.Core.Bool.{true, false}
 use mathlib.Core.Logic.{_⊎_, inl, inr}
 use mathlib.Core.List.{List, [], _∷_, _++_}
@@ -28,12 +28,16 @@ module _ (cs : List ℕ) where
   unfolding openOf
   back-stop k c e h = rw (e, h)
 
+neither-is : (c a : ℕ) → 204 ≤ a → a ≤ 209 → (c < 204) ⊎ (209 < c) → eqb c a ≡ false
+neither-is c a g k (inl h) = ne-eqb c a (λ e. omega arith)
+neither-is c a g k (inr h) = ne-eqb c a (λ e. omega arith)
+
 neither-back : (c d : ℕ) → (c < 204) ⊎ (209 < c) → (both (isOpening 0 c) (eqb d 1) ≡ false) × (shallower c d ≡ d)
 unfolding isOpening isClosing shallower
-neither-back c d (inl h) =
-    (rw (ne-eqb c 204 (λ e. omega arith), ne-eqb c 206 (λ e. omega arith)), rw (ne-eqb c 204 (λ e. omega arith), ne-eqb c 205 (λ e. omega arith), ne-eqb c 206 (λ e. omega arith), ne-eqb c 207 (λ e. omega arith)))
-neither-back c d (inr h) =
-    (rw (ne-eqb c 204 (λ e. omega arith), ne-eqb c 206 (λ e. omega arith)), rw (ne-eqb c 204 (λ e. omega arith), ne-eqb c 205 (λ e. omega arith), ne-eqb c 206 (λ e. omega arith), ne-eqb c 207 (λ e. omega arith)))
+neither-back c d t =
+    let i = neither-is c 204 (omega arith) (omega arith) t in
+    let j = neither-is c 206 (omega arith) (omega arith) t in
+    (rw (i, j), rw (i, neither-is c 205 (omega arith) (omega arith) t, j, neither-is c 207 (omega arith) (omega arith) t))
 
 -- what closes, and what opens, where d are open: how many are open between them
 record Around (d : ℕ) (x y : Item) : Type 0 where
