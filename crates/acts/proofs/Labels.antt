@@ -10,7 +10,7 @@ use Rattle.base.specs.Choice.{pick}
 use Rattle.base.specs.Lists.{same}
 use Rattle.base.proofs.Lists.{same-refl, same-eq}
 use Rattle.base.proofs.Tests.{true-false}
-use Rattle.syntax.specs.Tree.{Name, Sort, Tree, express, assign, increment, decrement, send, receive, assert, print, skip, goto, break, timeout, else, run, set-run, select, loop, bare, labelled, end, then, over, option}
+use Rattle.syntax.specs.Tree.{Name, Sort, action, Tree, express, assign, increment, decrement, send, receive, assert, print, skip, goto, break, timeout, else, run, set-run, select, loop, bare, labelled, end, then, over, option}
 use Rattle.syntax.specs.Code.{Item, i-if, i-fi, i-do, i-od, i-option, i-end-option, i-name, i-label, code-tree}
 use Rattle.acts.specs.Program.{sizeIn, labelIn}
 use Rattle.acts.proofs.Stands.{Lying, lying-behind, lying-before, lying-whole}
@@ -98,34 +98,43 @@ label-found w (option q os) i d =
     two-parts (Labelled w q (i + 1)) (Labelled w os (i + 2 + sizeIn q)) (labelIn w (option q os) i d) (labelIn w os (i + 2 + sizeIn q) d) d (label-found w q (i + 1) (labelIn w os (i + 2 + sizeIn q) d))
     (label-found w os (i + 2 + sizeIn q) d)
 
--- ---- the items of a label stand two before the place
-abbrev pub Behind : Name → {k : Sort} → Tree k → ℕ → ℕ → Type 0
-Behind w b i j = (x : ℕ) × (j ≡ x + 2) × Lying (code-tree b) i (i-name w ∷ i-label ∷ []) x
+-- ---- the items of a label stand two before the place of its statement
+abbrev pub marked : Name → Tree action → List Item
+marked w a = i-name w ∷ i-label ∷ code-tree a
 
-pub labelled-lies : {w : Name} {k : Sort} (b : Tree k) (i j : ℕ) → Labelled w b i j → Behind w b i j
+pub record Behind (w : Name) (l : List Item) (i j : ℕ) : Type 0 where
+  pub act : Tree action
+  pub at : ℕ
+  pub two : j ≡ at + 2
+  pub lies : Lying l i (marked w act) at
+
+-- more items before them, or behind them
+behind-more : {w : Name} (x l y : List Item) (i k j : ℕ) → k ≡ i + length x → Behind w l k j → Behind w (x ++ l ++ y) i j
+behind-more {w} x l y i k j e r =
+    record { act = r .act; at = r .at; two = r .two; lies = lying-before (x ++ l) y (marked w (r .act)) i (r .at) (lying-behind x l (marked w (r .act)) i k (r .at) e (r .lies)) }
+
+pub labelled-lies : {w : Name} {k : Sort} (b : Tree k) (i j : ℕ) → Labelled w b i j → Behind w (code-tree b) i j
 unfolding Labelled
-labelled-lies {w} (select os) i j p =
-    let r = labelled-lies os (i + 1) j p in
-    (r .0, r .1, lying-before (i-if ∷ code-tree os) (i-fi ∷ []) (i-name w ∷ i-label ∷ []) i (r .0) (lying-behind (i-if ∷ []) (code-tree os) (i-name w ∷ i-label ∷ []) i (i + 1) (r .0) refl (r .2)))
-labelled-lies {w} (loop os) i j p =
-    let r = labelled-lies os (i + 1) j p in
-    (r .0, r .1, lying-before (i-do ∷ code-tree os) (i-od ∷ []) (i-name w ∷ i-label ∷ []) i (r .0) (lying-behind (i-do ∷ []) (code-tree os) (i-name w ∷ i-label ∷ []) i (i + 1) (r .0) refl (r .2)))
+labelled-lies (select os) i j p = behind-more (i-if ∷ []) (code-tree os) (i-fi ∷ []) i (i + 1) j refl (labelled-lies os (i + 1) j p)
+labelled-lies (loop os) i j p = behind-more (i-do ∷ []) (code-tree os) (i-od ∷ []) i (i + 1) j refl (labelled-lies os (i + 1) j p)
 labelled-lies (bare a) i j p = labelled-lies a i j p
 labelled-lies {w} (labelled v a) i j (inl p) =
-    (
-      i, p .1,
-      subst (λ (u : Name). Lying (i-name u ∷ i-label ∷ code-tree a) i (i-name w ∷ i-label ∷ []) i) (sym (p .0))
-          (lying-before (i-name w ∷ i-label ∷ []) (code-tree a) (i-name w ∷ i-label ∷ []) i i (lying-whole (i-name w ∷ i-label ∷ []) i)),
-    )
+    record { act = a; at = i; two = p .1; lies = subst (λ (u : Name). Lying (marked u a) i (marked w a) i) (sym (p .0)) (lying-whole (marked w a) i) }
 labelled-lies {w} (labelled v a) i j (inr p) =
     let r = labelled-lies a (i + 2) j p in
-    (r .0, r .1, lying-behind (i-name v ∷ i-label ∷ []) (code-tree a) (i-name w ∷ i-label ∷ []) i (i + 2) (r .0) refl (r .2))
-labelled-lies {w} (then s q) i j (inl p) = let r = labelled-lies s i j p in (r .0, r .1, lying-before (code-tree s) (code-tree q) (i-name w ∷ i-label ∷ []) i (r .0) (r .2))
-labelled-lies {w} (then s q) i j (inr p) = let r = labelled-lies q (i + sizeIn s) j p in (r .0, r .1, lying-behind (code-tree s) (code-tree q) (i-name w ∷ i-label ∷ []) i (i + sizeIn s) (r .0) refl (r .2))
-labelled-lies {w} (option q os) i j (inl p) =
-    let r = labelled-lies q (i + 1) j p in
-    (r .0, r .1, lying-before (i-option ∷ code-tree q) (i-end-option ∷ code-tree os) (i-name w ∷ i-label ∷ []) i (r .0) (lying-behind (i-option ∷ []) (code-tree q) (i-name w ∷ i-label ∷ []) i (i + 1) (r .0) refl (r .2)))
+    record { act = r .act; at = r .at; two = r .two; lies = lying-behind (i-name v ∷ i-label ∷ []) (code-tree a) (marked w (r .act)) i (i + 2) (r .at) refl (r .lies) }
+labelled-lies (then s q) i j (inl p) = behind-more [] (code-tree s) (code-tree q) i i j (omega arith) (labelled-lies s i j p)
+labelled-lies {w} (then s q) i j (inr p) =
+    let r = labelled-lies q (i + sizeIn s) j p in
+    record { act = r .act; at = r .at; two = r .two; lies = lying-behind (code-tree s) (code-tree q) (marked w (r .act)) i (i + sizeIn s) (r .at) refl (r .lies) }
+labelled-lies (option q os) i j (inl p) = behind-more (i-option ∷ []) (code-tree q) (i-end-option ∷ code-tree os) i (i + 1) j refl (labelled-lies q (i + 1) j p)
 labelled-lies {w} (option q os) i j (inr p) =
     let r = labelled-lies os (i + 2 + sizeIn q) j p in
-    (r .0, r .1, lying-behind (i-option ∷ code-tree q) (i-end-option ∷ code-tree os) (i-name w ∷ i-label ∷ []) i (i + 1 + sizeIn q) (r .0) (omega arith)
-    (lying-behind (i-end-option ∷ []) (code-tree os) (i-name w ∷ i-label ∷ []) (i + 1 + sizeIn q) (i + 2 + sizeIn q) (r .0) (omega arith) (r .2)))
+    record {
+      act = r .act;
+      at = r .at;
+      two = r .two;
+      lies =
+          lying-behind (i-option ∷ code-tree q) (i-end-option ∷ code-tree os) (marked w (r .act)) i (i + 1 + sizeIn q) (r .at) (omega arith)
+          (lying-behind (i-end-option ∷ []) (code-tree os) (marked w (r .act)) (i + 1 + sizeIn q) (i + 2 + sizeIn q) (r .at) (omega arith) (r .lies));
+    }

@@ -2,3 +2,4 @@ pub mod Lists
 pub mod Phrases
 pub mod Quiet
 pub mod Places
+pub mod Labels
