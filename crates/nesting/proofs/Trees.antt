@@ -217,7 +217,7 @@ flat-message w = (refl, (refl, tt))
 no-option : (m : List Item) → _≡_ {A = ℕ} 0 2 → Begun m
 no-option m e = absurd (omega arith)
 
-tree-balanced : {k : Sort} (x : Tree k) → Full x → AllKnown (code-tree x) → Balanced (code-tree x)
+pub tree-balanced : {k : Sort} (x : Tree k) → Full x → AllKnown (code-tree x) → Balanced (code-tree x)
 unfolding bracket
 tree-balanced (express e) f k = flat-balanced _ (flat-append (code-exp e) (i-express ∷ []) (flat-exp e) (refl, tt)) k
 tree-balanced (assign r e) f k =
