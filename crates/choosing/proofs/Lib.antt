@@ -1,1 +1,2 @@
 pub mod Shallow
+pub mod Walks
