@@ -1,2 +1,3 @@
 pub mod Shallow
 pub mod Walks
+pub mod Counted
