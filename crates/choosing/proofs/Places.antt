@@ -18,7 +18,7 @@ use Rattle.expressions.specs.Held.{Held}
 use Rattle.expressions.specs.Names.{codesAt}
 use Rattle.expressions.proofs.Items.{T, part-held}
 use Rattle.expressions.proofs.Operators.{known-front, known-back, text-proper}
-use Rattle.acts.proofs.Stands.{Lying}
+use Rattle.acts.proofs.Stands.{Lying, lying-behind, lying-whole, lying-in}
 use Rattle.nesting.specs.Balanced.{Begun, Balanced}
 use Rattle.nesting.proofs.Matches.{Opener, Match}
 use Rattle.nesting.proofs.Main.{all-at, linked-to}
@@ -26,6 +26,10 @@ use Rattle.nesting.proofs.Main.{all-at, linked-to}
 -- the first of them alone
 pub lying-front : (l x y : List Item) (i j : ℕ) → Lying l i (x ++ y) j → Lying l i x j
 lying-front l x y i j p = record { front = p .front; rest = y ++ p .rest; split = p .split ∙ ap (p .front ++_) (append-assoc x y (p .rest)); place = p .place }
+
+-- those behind them
+pub lying-back : (l x y : List Item) (i j k : ℕ) → k ≡ j + length x → Lying l i (x ++ y) j → Lying l i y k
+lying-back l x y i j k e p = lying-in l (x ++ y) y i j k p (lying-behind x y y j k k e (lying-whole y k))
 
 module _ (t : List ℕ) (a : Accepts t) where
   abbrev pub xs : List Item
