@@ -1,16 +1,16 @@
 -- A SELECTION OF AN ACCEPTED TEXT HAS AT MOST 512 OPTIONS: each holds a statement, and the text has no more of these.
-use Prim.Native.Nat.{ℕ, zero, suc, _+_, _≤_}
+use Prim.Native.Nat.{ℕ, suc, _+_, _≤_}
 use native.Mathlib.Omega.{arith}
-use mathlib.Core.Path.{_≡_, refl, sym, ap, ap₂, subst, _∙_}
+use mathlib.Core.Path.{_≡_, refl, ap, ap₂, _∙_}
 use mathlib.Core.Bool.{Bool, true, false}
 use mathlib.Core.List.{List, [], _∷_, _++_}
-use lib.ListN.{length, getD, replicate}
+use lib.ListN.{length, replicate}
 use lib.Dec.{eqb, ltb}
 use borrow.Author.Tests.{ltb-false}
 use Rattle.base.specs.Choice.{pick, either}
 use Rattle.base.proofs.Tests.{true-false, either-false}
 use Rattle.syntax.specs.Tree.{action, statement, sequence, options, Tree, express, assign, increment, decrement, send, receive, assert, print, skip, goto, break, timeout, else, run, set-run, select, loop, bare, labelled, end, then, over, option}
-use Rattle.syntax.specs.Code.{Item, i-name, i-label, i-text, i-express, i-target, i-assign, i-increment, i-decrement, i-send, i-receive, i-assert, i-end, i-run, i-set-run, i-if, i-fi, i-do, i-od, i-end-option, each, code-exp, code-argument, code-received, code-tree, code}
+use Rattle.syntax.specs.Code.{Item, i-name, i-text, i-express, i-target, i-assign, i-increment, i-decrement, i-send, i-receive, i-assert, i-end, i-run, i-set-run, i-if, i-fi, i-do, i-od, i-end-option, each, code-exp, code-argument, code-received, code-tree, code}
 use Rattle.entries.specs.Items.{codeOf}
 use Rattle.sheets.specs.Walks.{sum}
 use Rattle.sheets.specs.Homes.{homesOf}

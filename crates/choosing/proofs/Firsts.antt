@@ -1,14 +1,14 @@
 -- The first items of a statement, in the tables of an accepted text: by the first a selection, and `else`, is told from any other; the second is a label only behind the name of one.
 use Prim.Native.Nat.{ℕ, suc, _+_, _≤_}
 use native.Mathlib.Omega.{arith}
-use mathlib.Core.Path.{_≡_, refl, sym as inv, ap, subst, _∙_}
-use mathlib.Core.Bool.{true, false}
-use mathlib.Core.List.{List, [], _∷_, _++_, append-assoc}
-use lib.ListN.{length, length-append}
+use mathlib.Core.Path.{_≡_, refl, sym as inv, ap, _∙_}
+use mathlib.Core.Bool.{true}
+use mathlib.Core.List.{List, [], _∷_, _++_}
+use lib.ListN.{length}
 use borrow.Author.Tests.{ne-eqb}
 use Rattle.base.proofs.Tests.{true-false}
 use Rattle.syntax.specs.Tree.{Shape, Exp, plain, indexed, num, tru, fls, get, len, unary, binary, choice, Expr, action, statement, sequence, options, Tree, express, assign, increment, decrement, send, receive, assert, print, skip, goto, break, timeout, else, run, set-run, select, loop, bare, labelled, end, then, over, option}
-use Rattle.syntax.specs.Code.{Item, i-name, i-label, i-index, i-len, i-unary, i-binary, i-otherwise, i-choice, i-argument, i-express, i-target, i-assign, i-increment, i-decrement, i-send, i-receive, i-assert, i-end, i-set-run, i-text, i-fi, i-od, i-if, i-do, i-end-option, each, code-exp, code-argument, code-received, code-tree, code}
+use Rattle.syntax.specs.Code.{Item, i-name, i-len, i-unary, i-binary, i-otherwise, i-choice, i-argument, i-express, i-target, i-assign, i-increment, i-decrement, i-send, i-receive, i-assert, i-end, i-set-run, i-fi, i-od, i-end-option, each, code-exp, code-argument, code-received, code-tree}
 use Rattle.entries.specs.Items.{codeOf as itemCode}
 use Rattle.phrases.specs.Phrases.{Proper, inExpression}
 use Rattle.phrases.proofs.Starts.{some-items}

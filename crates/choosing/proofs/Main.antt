@@ -1,27 +1,27 @@
 -- THE STEPS THAT A PLACE OFFERS ARE THOSE OF THE TREE: at each statement of an accepted text the search over its tables finds what the tree's statement offers, in every state; at the end of a
 -- body it finds nothing. So no ceiling of that search is ever met: selections of accepted texts nest at most eight deep, and have at most 512 options.
-use Prim.Native.Nat.{ℕ, zero, suc, _+_, _≤_, _<_}
+use Prim.Native.Nat.{ℕ, _+_, _≤_}
 use native.Mathlib.Omega.{arith}
-use mathlib.Core.Path.{_≡_, refl, sym as inv, ap, subst, _∙_}
-use mathlib.Core.Bool.{Bool, false}
+use mathlib.Core.Path.{_≡_, refl, sym as inv, ap₂, subst, _∙_}
+use mathlib.Core.Bool.{Bool}
 use mathlib.Core.Logic.{_⊎_, inl, inr}
 use mathlib.Core.List.{List, [], _∷_, _++_}
-use lib.ListN.{length}
+use lib.ListN.{length-append}
 use lib.IntN.{ℤ}
-use Rattle.base.specs.Choice.{pick}
 use Rattle.syntax.specs.Tree.{Sort, action, options, Tree, select, loop, Body, body, Model}
-use Rattle.syntax.specs.Code.{Item, i-local, i-body, i-end-body, i-if, i-fi, i-do, i-od, each, code-declaration, code-body, code-tree}
+use Rattle.syntax.specs.Code.{i-local, i-body, i-end-body, i-if, i-fi, i-do, i-od, each, code-declaration, code-body, code-tree}
 use Rattle.tables.specs.Access.{codeOf}
 use Rattle.judging.specs.Judging.{tablesText}
 use Rattle.accepting.specs.Meaning.{Accepts}
 use Rattle.accepting.proofs.Tables.{text-tables}
-use Rattle.executing.specs.Executing.{isAlone, isAlways, markOf, readyBy, readyOf}
-use Rattle.offering.specs.Offers.{offersFrom, offersOf}
+use Rattle.executing.specs.Executing.{readyOf}
+use Rattle.offering.specs.Offers.{offersOf}
+use Rattle.executable.proofs.Verdicts.{end-offers}
 use Rattle.expressions.proofs.Codes.{codes-few}
 use Rattle.expressions.proofs.Items.{T}
 use Rattle.expressions.proofs.Main.{items-long}
 use Rattle.acts.specs.Stage.{Ways}
-use Rattle.acts.specs.Program.{sizeIn, Within, itself, in-if, in-do, unlabelled, behind-label, in-first, in-rest, in-option, in-others, Holds, in-process, in-init, later, startIn, endIn, statementsOf, Statement, Ending}
+use Rattle.acts.specs.Program.{Within, itself, in-if, in-do, unlabelled, behind-label, in-first, in-rest, in-option, in-others, Holds, in-process, in-init, later, endIn, statementsOf, Statement, Ending}
 use Rattle.acts.specs.Offers.{offers}
 use Rattle.acts.proofs.Stands.{Lying, body-lies, statement-lies}
 use Rattle.nesting.specs.Full.{Full, FullBody, FullModel}
@@ -72,16 +72,6 @@ within-depth (in-rest w) = let h = within-depth w in omega arith
 within-depth (in-option w) = let h = within-depth w in omega arith
 within-depth (in-others w) = let h = within-depth w in omega arith
 
--- ---- the end of a body, in any tables
-module _ (t : List ℕ) (s : List ℤ) (p : ℕ) (late : Bool) where
-  end-unready : (j : ℕ) → codeOf t j ≡ 228 → readyOf t s p late j ≡ false
-  unfolding readyBy isAlways markOf isAlone
-  end-unready j e = rw (e, e)
-
-  end-offers : (j : ℕ) → codeOf t j ≡ 228 → offersOf t s p late j ≡ []
-  unfolding offersFrom
-  end-offers j e = rw (e, end-unready j e)
-
 module _ (t : List ℕ) (a : Accepts t) where
   -- ---- ceilings
   -- "open if/do 8"
@@ -117,5 +107,15 @@ module _ (t : List ℕ) (a : Accepts t) where
   text-offers {u} {j} {x} {h} st s p late =
       subst (λ (T : List ℕ). offersOf T s p late j ≡ offers (λ y i. readyOf T s p late i) x j) (inv (text-tables t a)) (offers-in-tables st s p late)
 
+  -- ---- ends of bodies
+  end-in-tables : (b : Body) (k : ℕ) → Lying (xs t a) 0 (code-body b) k → codeOf (T t a) (endIn b k) ≡ 228
+  end-in-tables (body ds q) k l =
+      let D = i-body ∷ each (code-declaration i-local) ds in
+      let n = length-append D (code-tree q) in
+      held-there t a (i-end-body ∷ []) (endIn (body ds q) k) (lying-back (xs t a) (D ++ code-tree q) (i-end-body ∷ []) 0 k (endIn (body ds q) k) (omega arith) l) .0
+
+  pub text-ends : {u j : ℕ} → Ending (a .tree) u j → codeOf (tablesText t) j ≡ 228
+  text-ends {u} {j} e = ap₂ codeOf (text-tables t a) (e .ends) ∙ end-in-tables (e .own) (e .at) (body-lies (e .held))
+
   pub text-ended : (s : List ℤ) (p : ℕ) (late : Bool) (j : ℕ) → codeOf (tablesText t) j ≡ 228 → offersOf (tablesText t) s p late j ≡ []
-  text-ended s p late j e = end-offers (tablesText t) s p late j e
+  text-ended s p late j e = end-offers (tablesText t) s p late 9 j 8192 e

@@ -1,7 +1,7 @@
 -- SELECTIONS OF AN ACCEPTED TEXT NEST AT MOST EIGHT DEEP: where the tokens of a tree pass no ceiling, its selections do not.
 use Prim.Native.Nat.{ℕ, suc, max, _+_, _-_, _≤_, _<_}
 use native.Mathlib.Omega.{arith}
-use mathlib.Core.Path.{_≡_, refl, sym, ap, subst, _∙_}
+use mathlib.Core.Path.{_≡_, refl, sym, subst, _∙_}
 use mathlib.Core.Bool.{Bool, true, false, cond}
 use mathlib.Core.Option.{Option, none, some}
 use mathlib.Core.List.{List, [], _∷_, _++_, append-assoc}
@@ -10,7 +10,7 @@ use borrow.Author.Tests.{leb-false, ne-eqb}
 use Rattle.base.proofs.Tests.{true-false}
 use Rattle.tokens.specs.Kinds.{Token, sym as mark, name}
 use Rattle.syntax.specs.Marks.{'!, '?, '=, '++, '--, '->, ':, '::, 'lpar, 'rpar, '], 'lbrace, 'rbrace, 'if, 'fi, 'do, 'od, 'run, 'init, 'proctype}
-use Rattle.syntax.specs.Tree.{Sort, Expr, Received, Tree, Value, Variable, Declaration, Group, Body, body, Activity, Name, Part, Model}
+use Rattle.syntax.specs.Tree.{Sort, Expr, Received, Tree, Value, Variable, Declaration, Group, Body, Activity, Name, Part, Model}
 use Rattle.syntax.specs.Grammar.{Listed, one, more, Maybe-listed, no-list, a-list, Message, commas, call, Semicolons, no-semi, semi, Trailing, none-trails, semi-trails, arrow-trails, Parted, by-semi, by-arrow, A-name, a-name, Is-type, is-bit, is-bool, is-byte, is-mtype, is-pid, is-chan, is-short, is-int, A-type, a-type, level, Is-unary, is-minus, is-not, is-flip, E, e-plain, e-index, e-number, e-true, e-false, e-len, e-group, e-choice, e-unary, e-binary, e-up, An-expression, A-received, r-into, r-eval, r-number, r-true, r-false, D, s-express, s-assign, s-increment, s-decrement, s-send, s-receive, s-assert, s-print-alone, s-print, s-skip, s-goto, s-break, s-timeout, s-else, s-run, s-set-run, s-if, s-do, s-bare, s-label, q-last, q-then, o-last, o-also, A-value, v-number, v-minus, v-true, v-false, v-name, A-variable, x-bare, x-set, x-array, x-array-set, x-channel, A-declaration, declaration, A-group, a-group, Items, statements, declared, A-body, a-body, An-activity, not-active, active, active-times, A-unit, u-mtypes, u-global, u-process, u-init, Gram, g-last, g-more}
 use Rattle.syntax.proofs.Levels.{operator-small}
 use Rattle.parsing.specs.Engine.{either, both}

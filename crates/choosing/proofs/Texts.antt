@@ -9,7 +9,7 @@ use borrow.Author.Tests.{eq-eqb, ne-eqb}
 use Rattle.syntax.specs.Tree.{Sort, sequence, options, Exp, Shape, Tree, express, assign, increment, decrement, send, receive, assert, print, skip, goto, break, timeout, else, run, set-run, select, loop, bare, labelled, end, then, over, option}
 use Rattle.syntax.specs.Code.{Item, i-name, i-label, i-express, i-target, i-assign, i-increment, i-decrement, i-send, i-receive, i-assert, i-end, i-set-run, i-if, i-fi, i-do, i-od, i-option, i-end-option, each, code-exp, code-argument, code-received, code-tree}
 use Rattle.places.specs.Places.{isClosing}
-use Rattle.tables.specs.Access.{codeOf, linkOf}
+use Rattle.tables.specs.Access.{codeOf}
 use Rattle.offering.specs.Offers.{firstOf}
 use Rattle.accepting.specs.Meaning.{Accepts}
 use Rattle.expressions.proofs.Items.{T}

@@ -6,20 +6,19 @@ use mathlib.Core.Bool.{Bool, true, false}
 use mathlib.Core.List.{List, [], _∷_, _++_}
 use lib.ListN.{length-append}
 use lib.IntN.{ℤ}
-use lib.Dec.{eqb}
 use borrow.Author.Tests.{lt-ltb, le-ltb, eq-eqb, ne-eqb}
 use Rattle.base.specs.Choice.{pick}
 use Rattle.tables.specs.Access.{codeOf, linkOf}
 use Rattle.syntax.specs.Tree.{Sort, action, statement, sequence, options, Tree, express, assign, increment, decrement, send, receive, assert, print, skip, goto, break, timeout, else, run, set-run, select, loop, bare, labelled, end, then, over, option}
 use Rattle.syntax.specs.Code.{i-if, i-fi, i-do, i-od, i-option, i-end-option, code-tree}
 use Rattle.executing.specs.Executing.{readyOf}
-use Rattle.offering.specs.Offers.{orElse, isSelection, isOption, endOf, firstOf, eachOption, elseAt, offersFrom}
+use Rattle.offering.specs.Offers.{orElse, isSelection, endOf, firstOf, eachOption, elseAt, offersFrom}
 use Rattle.executable.proofs.Offers.{list-plain, list-selection}
 use Rattle.acts.specs.Program.{sizeIn, placeIn, enter}
 use Rattle.acts.specs.Offers.{elseOf, offers}
 use Rattle.nesting.specs.Full.{Starts}
 use Rattle.choosing.specs.Depth.{depth, optionsIn}
-use Rattle.choosing.specs.Told.{Plain, Told}
+use Rattle.choosing.specs.Told.{Told}
 
 -- ---- sizes
 option-size : (q : Tree sequence) (os : Tree options) → sizeIn (option q os) ≡ sizeIn q + sizeIn os + 2
