@@ -71,7 +71,8 @@ module _ (U : List ℕ) where
   action-first else i h = λ e. (let z = h .0 in omega arith)
   action-first (run w es) i h = λ e. (let z = h .0 in omega arith)
   action-first (set-run r w es) i h =
-      not-label i (front-first r (i-target ∷ i-name w ∷ i-set-run ∷ each code-argument es) i (held-front U i (code-exp r ++ i-target ∷ i-name w ∷ i-set-run ∷ each code-argument es) (i-end ∷ []) h))
+      not-label i
+      (front-first r (i-target ∷ i-name w ∷ i-set-run ∷ each code-argument es) i (held-front U i (code-exp r ++ i-target ∷ i-name w ∷ i-set-run ∷ each code-argument es) (i-end ∷ []) h))
   action-first (select os) i h = λ e. (let z = h .0 in omega arith)
   action-first (loop os) i h = λ e. (let z = h .0 in omega arith)
 
@@ -102,7 +103,8 @@ module _ (U : List ℕ) where
   arguments-first : (es : List Expr) (i : ℕ) → Held U i (each code-argument es ++ i-end ∷ []) → codeOf U i ≡ 188 → ⊥
   arguments-first [] i h = λ e. (let z = h .0 in omega arith)
   arguments-first (x ∷ es) i h =
-      not-label i (front-first x (i-argument ∷ []) i (held-front U i (code-exp x ++ i-argument ∷ []) (each code-argument es) (held-front U i (code-argument x ++ each code-argument es) (i-end ∷ []) h)))
+      not-label i
+      (front-first x (i-argument ∷ []) i (held-front U i (code-exp x ++ i-argument ∷ []) (each code-argument es) (held-front U i (code-argument x ++ each code-argument es) (i-end ∷ []) h)))
 
   selection-second : (os : Tree options) (y : Item) (i : ℕ) → (itemCode y ≡ 188 → ⊥) → Held U i (code-tree os ++ (y ∷ [])) → codeOf U i ≡ 188 → ⊥
   selection-second over y i n h = λ e. n (inv (h .0) ∙ e)
@@ -126,8 +128,10 @@ module _ (t : List ℕ) (a : Accepts t) where
   action-second (assign r e) i p b = front-second r i-target (code-exp e) i (lying-front (xs t a) (code-exp r ++ i-target ∷ code-exp e) (i-assign ∷ []) 0 i p) (λ z. omega arith)
   action-second (increment r) i p b = front-second r i-increment [] i p (λ z. omega arith)
   action-second (decrement r) i p b = front-second r i-decrement [] i p (λ z. omega arith)
-  action-second (send r es) i p b = front-second r i-send (each code-argument es) i (lying-front (xs t a) (code-exp r ++ i-send ∷ each code-argument es) (i-end ∷ []) 0 i p) (λ z. omega arith)
-  action-second (receive r es) i p b = front-second r i-receive (each code-received es) i (lying-front (xs t a) (code-exp r ++ i-receive ∷ each code-received es) (i-end ∷ []) 0 i p) (λ z. omega arith)
+  action-second (send r es) i p b =
+      front-second r i-send (each code-argument es) i (lying-front (xs t a) (code-exp r ++ i-send ∷ each code-argument es) (i-end ∷ []) 0 i p) (λ z. omega arith)
+  action-second (receive r es) i p b =
+      front-second r i-receive (each code-received es) i (lying-front (xs t a) (code-exp r ++ i-receive ∷ each code-received es) (i-end ∷ []) 0 i p) (λ z. omega arith)
   action-second (assert e) i p b = front-second e i-assert [] i p (λ z. omega arith)
   action-second (print w es) i p b = arguments-first U es (suc i) (held-there t a (code-tree (print w es)) i p .2)
   action-second skip i p b = only-one i b
@@ -137,6 +141,7 @@ module _ (t : List ℕ) (a : Accepts t) where
   action-second else i p b = only-one i b
   action-second (run w es) i p b = λ e. (let z = held-there t a (code-tree (run w es)) i p .2 .0 in omega arith)
   action-second (set-run r w es) i p b =
-      front-second r i-target (i-name w ∷ i-set-run ∷ each code-argument es) i (lying-front (xs t a) (code-exp r ++ i-target ∷ i-name w ∷ i-set-run ∷ each code-argument es) (i-end ∷ []) 0 i p) (λ z. omega arith)
+      front-second r i-target (i-name w ∷ i-set-run ∷ each code-argument es) i
+      (lying-front (xs t a) (code-exp r ++ i-target ∷ i-name w ∷ i-set-run ∷ each code-argument es) (i-end ∷ []) 0 i p) (λ z. omega arith)
   action-second (select os) i p b = selection-second U os i-fi (suc i) (λ z. omega arith) (held-there t a (code-tree (select os)) i p .2)
   action-second (loop os) i p b = selection-second U os i-od (suc i) (λ z. omega arith) (held-there t a (code-tree (loop os)) i p .2)

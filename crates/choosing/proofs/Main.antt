@@ -1,8 +1,8 @@
--- THE STEPS THAT A PLACE OFFERS ARE THOSE OF THE TREE: at each statement of an accepted text the search over its tables finds what the tree's statement offers, in every state; at the end of a
--- body it finds nothing. So no ceiling of that search is ever met: selections of accepted texts nest at most eight deep, and have at most 512 options.
+-- THE STEPS THAT A PLACE OFFERS ARE THOSE OF THE TREE: at each statement of an accepted text the search over its tables finds what the tree's statement offers, in every state; at the end
+-- of a body it finds nothing. So no ceiling of that search is ever met: selections of accepted texts nest at most eight deep, and have at most 512 options.
 use Prim.Native.Nat.{ℕ, _+_, _≤_}
 use native.Mathlib.Omega.{arith}
-use mathlib.Core.Path.{_≡_, refl, sym as inv, ap₂, subst, _∙_}
+use mathlib.Core.Path.{_≡_, sym as inv, ap₂, subst, _∙_}
 use mathlib.Core.Bool.{Bool}
 use mathlib.Core.Logic.{_⊎_, inl, inr}
 use mathlib.Core.List.{List, [], _∷_, _++_}
@@ -30,7 +30,7 @@ use Rattle.choosing.specs.Depth.{depth, optionsIn, ShallowBody, ShallowM
 use Rattle.choosing.proofs.Shallow.{shallow-model}
 use Rattle.choosing.proofs.Counted.{few-options}
 use Rattle.choosing.proofs.Walks.{walked}
-use Rattle.choosing.proofs.Places.{lying-front, lying-back, xs, held-there, inside-there}
+use Rattle.choosing.proofs.Places.{lying-back, lying-between, xs, held-there, inside-there}
 use Rattle.choosing.proofs.Texts.{told}
 
 -- ---- what holds of a model holds of its bodies, and of their statements
@@ -85,12 +85,10 @@ module _ (t : List ℕ) (a : Accepts t) where
   pub text-options : {u j : ℕ} {x : Tree action} {h : Ways} → Statement (a .tree) u x j h → (os : Tree options) → (x ≡ select os) ⊎ (x ≡ loop os) → optionsIn os ≤ 512
   text-options {u} {j} {x} {h} s os (inl e) =
       few-options t a os (j + 1) (subst Full e (text-full s))
-      (lying-front (xs t a) (code-tree os) (i-fi ∷ []) 0 (j + 1)
-      (lying-back (xs t a) (i-if ∷ []) (code-tree os ++ i-fi ∷ []) 0 j (j + 1) refl (subst (λ (y : Tree action). Lying (xs t a) 0 (code-tree y) j) e (statement-lies s))))
+      (lying-between (xs t a) i-if (code-tree os) i-fi 0 j (subst (λ (y : Tree action). Lying (xs t a) 0 (code-tree y) j) e (statement-lies s)))
   text-options {u} {j} {x} {h} s os (inr e) =
       few-options t a os (j + 1) (subst Full e (text-full s))
-      (lying-front (xs t a) (code-tree os) (i-od ∷ []) 0 (j + 1)
-      (lying-back (xs t a) (i-do ∷ []) (code-tree os ++ i-od ∷ []) 0 j (j + 1) refl (subst (λ (y : Tree action). Lying (xs t a) 0 (code-tree y) j) e (statement-lies s))))
+      (lying-between (xs t a) i-do (code-tree os) i-od 0 j (subst (λ (y : Tree action). Lying (xs t a) 0 (code-tree y) j) e (statement-lies s)))
 
   -- ---- steps
   offers-in-tables : {u j : ℕ} {x : Tree action} {h : Ways} → Statement (a .tree) u x j h → (s : List ℤ) (p : ℕ) (late : Bool)
@@ -114,6 +112,7 @@ module _ (t : List ℕ) (a : Accepts t) where
       let n = length-append D (code-tree q) in
       held-there t a (i-end-body ∷ []) (endIn (body ds q) k) (lying-back (xs t a) (D ++ code-tree q) (i-end-body ∷ []) 0 k (endIn (body ds q) k) (omega arith) l) .0
 
+  -- a unit ends with `end-body` (228)
   pub text-ends : {u j : ℕ} → Ending (a .tree) u j → codeOf (tablesText t) j ≡ 228
   text-ends {u} {j} e = ap₂ codeOf (text-tables t a) (e .ends) ∙ end-in-tables (e .own) (e .at) (body-lies (e .held))
 

@@ -3,7 +3,7 @@ use Prim.Native.Nat.{ℕ, suc, _+_, _≤_, _<_}
 use native.Mathlib.Omega.{arith}
 use mathlib.Core.Path.{_≡_, refl, sym as inv, ap, subst, _∙_}
 use mathlib.Core.Bool.{true}
-use mathlib.Core.List.{List, _∷_, _++_, append-assoc}
+use mathlib.Core.List.{List, [], _∷_, _++_, append-assoc}
 use lib.ListN.{length, length-append}
 use Rattle.syntax.specs.Tree.{Shape, Exp}
 use Rattle.syntax.specs.Code.{Item, code-exp, code}
@@ -30,6 +30,10 @@ lying-front l x y i j p = record { front = p .front; rest = y ++ p .rest; split 
 -- those behind them
 pub lying-back : (l x y : List Item) (i j k : ℕ) → k ≡ j + length x → Lying l i (x ++ y) j → Lying l i y k
 lying-back l x y i j k e p = lying-in l (x ++ y) y i j k p (lying-behind x y y j k k e (lying-whole y k))
+
+-- those between two others
+pub lying-between : (l : List Item) (x : Item) (m : List Item) (y : Item) (i j : ℕ) → Lying l i (x ∷ (m ++ (y ∷ []))) j → Lying l i m (j + 1)
+lying-between l x m y i j p = lying-front l m (y ∷ []) i (j + 1) (lying-back l (x ∷ []) (m ++ (y ∷ [])) i j (j + 1) refl p)
 
 module _ (t : List ℕ) (a : Accepts t) where
   abbrev pub xs : List Item

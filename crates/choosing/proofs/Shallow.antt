@@ -133,7 +133,8 @@ quiet-exp e-false = (refl, tt)
 quiet-exp (e-len {ts = ts} x) = (refl, (refl, quiet-append ts ('rpar ∷ []) (quiet-exp x) (refl, tt)))
 quiet-exp (e-group {ts = ts} x) = (refl, quiet-append ts ('rpar ∷ []) (quiet-exp x) (refl, tt))
 quiet-exp (e-choice {xs = xs} {ys = ys} {zs = zs} x y z) =
-    (refl, quiet-append (xs ++ '-> ∷ ys ++ ': ∷ zs) ('rpar ∷ []) (quiet-append (xs ++ '-> ∷ ys) (': ∷ zs) (quiet-append xs ('-> ∷ ys) (quiet-exp x) (refl, quiet-exp y)) (refl, quiet-exp z)) (refl, tt))
+    let h = quiet-append xs ('-> ∷ ys) (quiet-exp x) (refl, quiet-exp y) in
+    (refl, quiet-append (xs ++ '-> ∷ ys ++ ': ∷ zs) ('rpar ∷ []) (quiet-append (xs ++ '-> ∷ ys) (': ∷ zs) h (refl, quiet-exp z)) (refl, tt))
 quiet-exp (e-unary u x) = (quiet-unary u, quiet-exp x)
 quiet-exp (e-binary {l = l} {o = o} {xs = xs} {ys = ys} i x y) = quiet-append xs (mark o ∷ ys) (quiet-exp x) (quiet-binary o l i, quiet-exp y)
 quiet-exp (e-up x) = quiet-exp x
@@ -161,7 +162,8 @@ quiet-variable x-bare = (refl, tt)
 quiet-variable (x-set v) = (refl, (refl, quiet-value v))
 quiet-variable x-array = (refl, (refl, (refl, (refl, tt))))
 quiet-variable (x-array-set v) = (refl, (refl, (refl, (refl, (refl, quiet-value v)))))
-quiet-variable (x-channel {ts = ts} l) = (refl, (refl, (refl, (refl, (refl, (refl, (refl, quiet-append ts ('rbrace ∷ []) (quiet-listed A-type (λ ts k x. quiet-type x) refl l) (refl, tt))))))))
+quiet-variable (x-channel {ts = ts} l) =
+    (refl, (refl, (refl, (refl, (refl, (refl, (refl, quiet-append ts ('rbrace ∷ []) (quiet-listed A-type (λ ts k x. quiet-type x) refl l) (refl, tt))))))))
 
 quiet-declaration : {ts : List Token} {d : Declaration} → A-declaration ts d → Quiet ts
 quiet-declaration (declaration {k = n} k l) = (quiet-kind k, quiet-listed (A-variable n) (λ ts v x. quiet-variable x) refl l)
@@ -219,11 +221,14 @@ nests {ts = ts} s-timeout = nests-quiet ts (refl, tt)
 nests {ts = ts} s-else = nests-quiet ts (refl, tt)
 nests {ts = ts} (s-run {ts = x} es) = nests-quiet ts (refl, (refl, (refl, quiet-append x ('rpar ∷ []) (quiet-maybe An-expression expressions refl es) (refl, tt))))
 nests {ts = ts} (s-set-run {ts = x} {us = y} {w = w} r es) =
-    nests-quiet ts (quiet-append (x ++ '= ∷ 'run ∷ name w ∷ 'lpar ∷ y) ('rpar ∷ []) (quiet-append x ('= ∷ 'run ∷ name w ∷ 'lpar ∷ y) (quiet-exp r) (refl, (refl, (refl, (refl, quiet-maybe An-expression expressions refl es))))) (refl, tt))
+    let h = quiet-append x ('= ∷ 'run ∷ name w ∷ 'lpar ∷ y) (quiet-exp r) (refl, (refl, (refl, (refl, quiet-maybe An-expression expressions refl es)))) in
+    nests-quiet ts (quiet-append (x ++ '= ∷ 'run ∷ name w ∷ 'lpar ∷ y) ('rpar ∷ []) h (refl, tt))
 nests (s-if {ts = ts} {os = os} d) = nests-in 'if 'fi ts (depth os) refl refl refl (nests d)
 nests (s-do {ts = ts} {os = os} d) = nests-in 'do 'od ts (depth os) refl refl refl (nests d)
 nests (s-bare d) = nests d
-nests (s-label {w = w} {ts = ts} {a = a} d) = nests-same (name w ∷ ': ∷ ts) (max 0 (depth a)) (depth a) (omega arith) (nests-both (name w ∷ ': ∷ []) ts 0 (depth a) (nests-quiet (name w ∷ ': ∷ []) (refl, (refl, tt))) (nests d))
+nests (s-label {w = w} {ts = ts} {a = a} d) =
+    nests-same (name w ∷ ': ∷ ts) (max 0 (depth a)) (depth a) (omega arith)
+    (nests-both (name w ∷ ': ∷ []) ts 0 (depth a) (nests-quiet (name w ∷ ': ∷ []) (refl, (refl, tt))) (nests d))
 nests (q-last {ts = ts} {us = us} {s = s} d u) = nests-both ts us (depth s) 0 (nests d) (nests-quiet us (quiet-trailing u))
 nests (q-then {ts = ts} {us = us} {vs = vs} {s = s} {q = q} d u r) =
     nests-same (ts ++ us ++ vs) (max (max (depth s) 0) (depth q)) (max (depth s) (depth q)) (omega arith)

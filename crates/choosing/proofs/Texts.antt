@@ -21,7 +21,7 @@ use Rattle.nesting.proofs.Matches.{is-if, is-do, is-option}
 use Rattle.nesting.proofs.Trees.{tree-balanced}
 use Rattle.choosing.specs.Told.{Plain, Told}
 use Rattle.choosing.proofs.Counted.{few-options}
-use Rattle.choosing.proofs.Places.{lying-front, lying-back, xs, held-there, known-there, linked-there}
+use Rattle.choosing.proofs.Places.{lying-front, lying-back, lying-between, xs, held-there, known-there, linked-there}
 use Rattle.choosing.proofs.Firsts.{exp-plain, code-plain, rest-first, action-second}
 
 closes-if : isClosing 0 205 ≡ true
@@ -96,14 +96,14 @@ module _ (t : List ℕ) (a : Accepts t) where
   told (set-run r w es) i f p =
       front-plain r (i-target ∷ i-name w ∷ i-set-run ∷ each code-argument es) i (front (code-exp r ++ i-target ∷ i-name w ∷ i-set-run ∷ each code-argument es) (i-end ∷ []) i p)
   told (select os) i f p =
-      let o = front (code-tree os) (i-fi ∷ []) (i + 1) (back (i-if ∷ []) (code-tree os ++ i-fi ∷ []) i (i + 1) refl p) in (
+      let o = lying-between (xs t a) i-if (code-tree os) i-fi 0 i p in (
         held-there t a (code-tree (select os)) i p .0,
         linked-there t a 0 i-if i-fi (code-tree os) [] i (is-if refl) closes-if (λ e. absurd (omega arith)) (tree-balanced os f (known-there t a (code-tree os) (i + 1) o)) p,
         few-options t a os (i + 1) f o,
         told os (i + 1) f o,
       )
   told (loop os) i f p =
-      let o = front (code-tree os) (i-od ∷ []) (i + 1) (back (i-do ∷ []) (code-tree os ++ i-od ∷ []) i (i + 1) refl p) in (
+      let o = lying-between (xs t a) i-do (code-tree os) i-od 0 i p in (
         held-there t a (code-tree (loop os)) i p .0,
         linked-there t a 0 i-do i-od (code-tree os) [] i (is-do refl) closes-do (λ e. absurd (omega arith)) (tree-balanced os f (known-there t a (code-tree os) (i + 1) o)) p,
         few-options t a os (i + 1) f o,
@@ -117,9 +117,11 @@ module _ (t : List ℕ) (a : Accepts t) where
   told (option q os) i f p =
       let B = back (i-option ∷ []) (code-tree q ++ (i-end-option ∷ code-tree os)) i (i + 1) refl p in
       let Q = front (code-tree q) (i-end-option ∷ code-tree os) (i + 1) B in
-      let R = back (i-end-option ∷ []) (code-tree os) (i + 1 + sizeIn q) (i + 2 + sizeIn q) (omega arith) (back (code-tree q) (i-end-option ∷ code-tree os) (i + 1) (i + 1 + sizeIn q) refl B) in (
+      let E = back (code-tree q) (i-end-option ∷ code-tree os) (i + 1) (i + 1 + sizeIn q) refl B in
+      let R = back (i-end-option ∷ []) (code-tree os) (i + 1 + sizeIn q) (i + 2 + sizeIn q) (omega arith) E in
+      let G = tree-balanced q (f .1) (known-there t a (code-tree q) (i + 1) Q) in (
         held-there t a (code-tree (option q os)) i p .0,
-        linked-there t a 2 i-option i-end-option (code-tree q) (code-tree os) i (is-option refl) closes-option (λ e. sequence-begun q (f .0)) (tree-balanced q (f .1) (known-there t a (code-tree q) (i + 1) Q)) p,
+        linked-there t a 2 i-option i-end-option (code-tree q) (code-tree os) i (is-option refl) closes-option (λ e. sequence-begun q (f .0)) G p,
         f .0,
         option-first q os i (f .0) p,
         told q (i + 1) (f .1) Q,

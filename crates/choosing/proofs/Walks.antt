@@ -87,7 +87,8 @@ module _ (t : List ℕ) where
   walk-else over i c = λ n stop h e. each-over (elseAt t) n i stop (omega arith)
   walk-else (option q os) i c = λ n stop h e. go n stop h e (walk-else q (i + 1) (c .4) (c .2)) (walk-else os (i + 2 + sizeIn q) (c .5))
     where
-      go : (n stop : ℕ) → suc (optionsIn os) ≤ n → stop ≡ i + sizeIn (option q os) → ((stop : ℕ) → elseAt t (enter q (i + 1) 0) stop ≡ elseOf q (i + 1)) → ElseOf options os (i + 2 + sizeIn q)
+      go : (n stop : ℕ) → suc (optionsIn os) ≤ n → stop ≡ i + sizeIn (option q os)
+          → ((stop : ℕ) → elseAt t (enter q (i + 1) 0) stop ≡ elseOf q (i + 1)) → ElseOf options os (i + 2 + sizeIn q)
           → eachOption t (elseAt t) n i stop ≡ elseOf q (i + 1) ++ elseOf os (i + 2 + sizeIn q)
       go zero stop h e f g = absurd (omega arith)
       go (suc n) stop h e f g =
@@ -111,7 +112,7 @@ module _ (t : List ℕ) where
     alone zero i stop h e = absurd (omega arith)
     alone (suc d) i stop h e = list-plain t s p late d i stop e
 
-    -- a selection, by its options; c is the code of its first item
+    -- a selection, by its options
     selected : (os : Tree options) (i : ℕ) → isSelection t i ≡ true → linkOf t i ≡ i + 1 + sizeIn os → optionsIn os ≤ 512 → Told t os (i + 1) → Offered options os (i + 1)
         → (d stop : ℕ) → suc (depth os) < d → i + (sizeIn os + 2) ≤ stop → offersFrom t s p late d i stop ≡ orElse (offers able os (i + 1)) (elseOf os (i + 1))
     selected os i e l m c f zero stop h g = absurd (omega arith)
@@ -163,7 +164,8 @@ module _ (t : List ℕ) where
         go d (suc n) stop h m e f g =
             let z = option-size q os in
             each-option (λ f e. offersFrom t s p late d f e) n i (sizeIn q) stop (c .0) (c .1) (omega arith)
-            ∙ ap₂ _++_ (ap (λ j. offersFrom t s p late d j (i + 1 + sizeIn q)) (c .3) ∙ f d (i + 1 + sizeIn q) (omega arith) (omega arith)) (g d n stop (omega arith) (omega arith) (omega arith))
+            ∙ ap₂ _++_ (ap (λ j. offersFrom t s p late d j (i + 1 + sizeIn q)) (c .3) ∙ f d (i + 1 + sizeIn q) (omega arith) (omega arith))
+            (g d n stop (omega arith) (omega arith) (omega arith))
 
     -- the statement x at item i
     pub walked : (x : Tree action) (i d stop : ℕ) → Told t x i → depth x < d → i + sizeIn x ≤ stop → offersFrom t s p late d i stop ≡ offers able x i
