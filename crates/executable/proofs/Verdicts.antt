@@ -29,7 +29,7 @@ module _ (t : List ℕ) (s : List ℤ) (p : ℕ) (late : Bool) where
   unfolding readyBy isAlways markOf isAlone
   end-unready q e = rw (e, e)
 
-  end-offers : (d q stop : ℕ) → codeOf t q ≡ 228 → offersFrom t s p late d q stop ≡ []
+  pub end-offers : (d q stop : ℕ) → codeOf t q ≡ 228 → offersFrom t s p late d q stop ≡ []
   unfolding offersFrom
   end-offers zero q stop e = refl
   end-offers (suc d) q stop e = rw (e, end-unready q e)

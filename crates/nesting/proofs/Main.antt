@@ -67,16 +67,16 @@ no-more [] = refl
 no-more (a ∷ l) = ap (a ∷_) (no-more l)
 
 module _ (t : List ℕ) (a : Accepts t) where
-  abbrev xs : List Item
+  abbrev pub xs : List Item
   xs = code (a .tree)
 
-  abbrev C : List ℕ
+  abbrev pub C : List ℕ
   C = codesAt t a
 
-  abbrev U : List ℕ
+  abbrev pub U : List ℕ
   U = T t a
 
-  all-at : At C 0 xs
+  pub all-at : At C 0 xs
   all-at = subst (λ (l : List ℕ). At l 0 xs) (ap (map items.codeOf) (no-more xs) ∙ inv (codes-are t a)) (stands [] xs [] 0 refl)
 
   items-of : itemsOf U ≡ length xs
@@ -95,7 +95,8 @@ module _ (t : List ℕ) (a : Accepts t) where
   whole : (i p : ℕ) → i < length xs → Opener p (getD C i 0) → Match C p i (0 + length xs)
   whole i p h o = find C (model-balanced (a .tree) (full-model (a .gram)) (accepted-known t (a .parts) (a .tree) (a .reads) (a .gram))) 0 all-at i p (omega arith) (omega arith) o
 
-  linked-to : (i p hi : ℕ) → i < length xs → Opener p (getD C i 0) → (m : Match C p i hi) → hi ≤ length xs → linkOf U i ≡ m .at
+  -- and its link
+  pub linked-to : (i p hi : ℕ) → i < length xs → Opener p (getD C i 0) → (m : Match C p i hi) → hi ≤ length xs → linkOf U i ≡ m .at
   linked-to i p hi h o m b =
       link-held t a i h ∙ link-opens C _ i (codes-few t a) (omega (arith, items-long t a)) o ∙ ap (min 4294967295) (match-found C p i hi (kind-of o) m (omega (arith, items-long t a)))
       ∙ (let z = m .before in let w : min 4294967295 (m .at) ≡ m .at = omega (arith, items-long t a, codes-few t a) in w)

@@ -1,0 +1,120 @@
+-- THE STEPS THAT A PLACE OFFERS ARE THOSE OF THE TREE: at each statement of an accepted text the search over its tables finds what the tree's statement offers, in every state; at the end
+-- of a body it finds nothing. So no ceiling of that search is ever met: selections of accepted texts nest at most eight deep, and have at most 512 options.
+use Prim.Native.Nat.{ℕ, _+_, _≤_}
+use native.Mathlib.Omega.{arith}
+use mathlib.Core.Path.{_≡_, sym as inv, ap₂, subst, _∙_}
+use mathlib.Core.Bool.{Bool}
+use mathlib.Core.Logic.{_⊎_, inl, inr}
+use mathlib.Core.List.{List, [], _∷_, _++_}
+use lib.ListN.{length-append}
+use lib.IntN.{ℤ}
+use Rattle.syntax.specs.Tree.{Sort, action, options, Tree, select, loop, Body, body, Model}
+use Rattle.syntax.specs.Code.{i-local, i-body, i-end-body, i-if, i-fi, i-do, i-od, each, code-declaration, code-body, code-tree}
+use Rattle.tables.specs.Access.{codeOf}
+use Rattle.judging.specs.Judging.{tablesText}
+use Rattle.accepting.specs.Meaning.{Accepts}
+use Rattle.accepting.proofs.Tables.{text-tables}
+use Rattle.executing.specs.Executing.{readyOf}
+use Rattle.offering.specs.Offers.{offersOf}
+use Rattle.executable.proofs.Verdicts.{end-offers}
+use Rattle.expressions.proofs.Codes.{codes-few}
+use Rattle.expressions.proofs.Items.{T}
+use Rattle.expressions.proofs.Main.{items-long}
+use Rattle.acts.specs.Stage.{Ways}
+use Rattle.acts.specs.Program.{Within, itself, in-if, in-do, unlabelled, behind-label, in-first, in-rest, in-option, in-others, Holds, in-process, in-init, later, endIn, statementsOf, Statement, Ending}
+use Rattle.acts.specs.Offers.{offers}
+use Rattle.acts.proofs.Stands.{Lying, body-lies, statement-lies}
+use Rattle.nesting.specs.Full.{Full, FullBody, FullModel}
+use Rattle.nesting.proofs.Begun.{full-model}
+use Rattle.choosing.specs.Depth.{depth, optionsIn, ShallowBody, ShallowModel}
+use Rattle.choosing.proofs.Shallow.{shallow-model}
+use Rattle.choosing.proofs.Counted.{few-options}
+use Rattle.choosing.proofs.Walks.{walked}
+use Rattle.choosing.proofs.Places.{lying-back, lying-between, xs, held-there, inside-there}
+use Rattle.choosing.proofs.Texts.{told}
+
+-- ---- what holds of a model holds of its bodies, and of their statements
+full-statements : (b : Body) → FullBody b → Full (statementsOf b)
+full-statements (body ds q) f = f
+
+shallow-statements : (b : Body) → ShallowBody b → depth (statementsOf b) ≤ 8
+shallow-statements (body ds q) f = f
+
+holds-full : {m : Model} {i u k : ℕ} {b : Body} → Holds m i u b k → FullModel m → Full (statementsOf b)
+holds-full (in-process {b = b} e g) f = full-statements b (f .0)
+holds-full (in-init {b = b} e) f = full-statements b (f .0)
+holds-full (later h) f = holds-full h (f .1)
+
+holds-shallow : {m : Model} {i u k : ℕ} {b : Body} → Holds m i u b k → ShallowModel m → depth (statementsOf b) ≤ 8
+holds-shallow (in-process {b = b} e g) f = shallow-statements b (f .0)
+holds-shallow (in-init {b = b} e) f = shallow-statements b (f .0)
+holds-shallow (later h) f = holds-shallow h (f .1)
+
+within-full : {k : Sort} {x : Tree k} {i n o : ℕ} {y : Tree action} {j m u : ℕ} → Within k x i n o y j m u → Full x → Full y
+within-full itself f = f
+within-full (in-if w) f = within-full w f
+within-full (in-do w) f = within-full w f
+within-full (unlabelled w) f = within-full w f
+within-full (behind-label w) f = within-full w f
+within-full (in-first w) f = within-full w (f .0)
+within-full (in-rest w) f = within-full w (f .1)
+within-full (in-option w) f = within-full w (f .1)
+within-full (in-others w) f = within-full w (f .2)
+
+within-depth : {k : Sort} {x : Tree k} {i n o : ℕ} {y : Tree action} {j m u : ℕ} → Within k x i n o y j m u → depth y ≤ depth x
+within-depth itself = omega arith
+within-depth (in-if w) = let h = within-depth w in omega arith
+within-depth (in-do w) = let h = within-depth w in omega arith
+within-depth (unlabelled w) = within-depth w
+within-depth (behind-label w) = within-depth w
+within-depth (in-first w) = let h = within-depth w in omega arith
+within-depth (in-rest w) = let h = within-depth w in omega arith
+within-depth (in-option w) = let h = within-depth w in omega arith
+within-depth (in-others w) = let h = within-depth w in omega arith
+
+module _ (t : List ℕ) (a : Accepts t) where
+  -- ---- ceilings
+  -- "open if/do 8"
+  pub text-shallow : {u k : ℕ} {b : Body} → Holds (a .tree) 0 u b k → depth (statementsOf b) ≤ 8
+  text-shallow h = holds-shallow h (shallow-model _ (a .tree) (a .gram) (a .shallow))
+
+  text-full : {u j : ℕ} {x : Tree action} {h : Ways} → Statement (a .tree) u x j h → Full x
+  text-full s = within-full (s .inside) (holds-full (s .held) (full-model (a .gram)))
+
+  -- "statements 512", one of which is in each option
+  pub text-options : {u j : ℕ} {x : Tree action} {h : Ways} → Statement (a .tree) u x j h → (os : Tree options) → (x ≡ select os) ⊎ (x ≡ loop os) → optionsIn os ≤ 512
+  text-options {u} {j} {x} {h} s os (inl e) =
+      few-options t a os (j + 1) (subst Full e (text-full s))
+      (lying-between (xs t a) i-if (code-tree os) i-fi 0 j (subst (λ (y : Tree action). Lying (xs t a) 0 (code-tree y) j) e (statement-lies s)))
+  text-options {u} {j} {x} {h} s os (inr e) =
+      few-options t a os (j + 1) (subst Full e (text-full s))
+      (lying-between (xs t a) i-do (code-tree os) i-od 0 j (subst (λ (y : Tree action). Lying (xs t a) 0 (code-tree y) j) e (statement-lies s)))
+
+  -- ---- steps
+  offers-in-tables : {u j : ℕ} {x : Tree action} {h : Ways} → Statement (a .tree) u x j h → (s : List ℤ) (p : ℕ) (late : Bool)
+      → offersOf (T t a) s p late j ≡ offers (λ y i. readyOf (T t a) s p late i) x j
+  offers-in-tables {u} {j} {x} {h} st s p late =
+      let l = statement-lies st in
+      let d = text-shallow (st .held) in
+      let e = within-depth (st .inside) in
+      let b = inside-there t a (code-tree x) j l in
+      walked (T t a) s p late x j 9 8192 (told t a x j (text-full st) l) (omega arith) (omega (arith, items-long t a, codes-few t a))
+
+  pub text-offers : {u j : ℕ} {x : Tree action} {h : Ways} → Statement (a .tree) u x j h → (s : List ℤ) (p : ℕ) (late : Bool)
+      → offersOf (tablesText t) s p late j ≡ offers (λ y i. readyOf (tablesText t) s p late i) x j
+  text-offers {u} {j} {x} {h} st s p late =
+      subst (λ (T : List ℕ). offersOf T s p late j ≡ offers (λ y i. readyOf T s p late i) x j) (inv (text-tables t a)) (offers-in-tables st s p late)
+
+  -- ---- ends of bodies
+  end-in-tables : (b : Body) (k : ℕ) → Lying (xs t a) 0 (code-body b) k → codeOf (T t a) (endIn b k) ≡ 228
+  end-in-tables (body ds q) k l =
+      let D = i-body ∷ each (code-declaration i-local) ds in
+      let n = length-append D (code-tree q) in
+      held-there t a (i-end-body ∷ []) (endIn (body ds q) k) (lying-back (xs t a) (D ++ code-tree q) (i-end-body ∷ []) 0 k (endIn (body ds q) k) (omega arith) l) .0
+
+  -- a unit ends with `end-body` (228)
+  pub text-ends : {u j : ℕ} → Ending (a .tree) u j → codeOf (tablesText t) j ≡ 228
+  text-ends {u} {j} e = ap₂ codeOf (text-tables t a) (e .ends) ∙ end-in-tables (e .own) (e .at) (body-lies (e .held))
+
+  pub text-ended : (s : List ℤ) (p : ℕ) (late : Bool) (j : ℕ) → codeOf (tablesText t) j ≡ 228 → offersOf (tablesText t) s p late j ≡ []
+  text-ended s p late j e = end-offers (tablesText t) s p late 9 j 8192 e
