@@ -62,13 +62,13 @@ first-is w (x ∷ l) (suc m) h e = go (isName w x) refl (first-is w l m (omega a
         record { before = omega arith; coded = ap (λ n. items.codeOf (getD (x ∷ l) n i-plain)) z ∙ r .coded; spelt = ap (λ n. items.entryOf (getD (x ∷ l) n i-plain) .bytes) z ∙ r .spelt }
 
 module _ (t : List ℕ) (a : Accepts t) where
-  abbrev ss : List ℕ
+  abbrev pub ss : List ℕ
   ss = map Placed.start (a .parts)
 
-  abbrev es : List ℕ
+  abbrev pub es : List ℕ
   es = map Placed.end (a .parts)
 
-  abbrev ks : List ℕ
+  abbrev pub ks : List ℕ
   ks = map place-of (a .numbers)
 
   abbrev xs : List Item
@@ -84,14 +84,14 @@ module _ (t : List ℕ) (a : Accepts t) where
   code-of j h = ap (λ (l : List ℕ). getD l j 0) (codes-are t a) ∙ get-only items.codeOf xs j i-plain 0 h
 
   -- what a name item says
-  said : (j : ℕ) → j < length xs → getD C j 0 ≡ 70 → getD (saidAt t a) j 0 ≡ nameArg t ss es C ks j
+  pub said : (j : ℕ) → j < length xs → getD C j 0 ≡ 70 → getD (saidAt t a) j 0 ≡ nameArg t ss es C ks j
   unfolding argsOf argOf
   said j h e =
       rw (le-ltb 8192 (length t) (reading-exact t (a .parts) .0 (a .reads) .1), le-ltb 8192 (length C) (codes-few t a))
       (filled-at (argOf t ss es C ks) 0 (length C) (replicate 8192 0) j (omega arith) (omega (arith, long)) (omega (arith, codes-few t a, length-replicate 8192 zero))
       ∙ (rw (eq-eqb (getD C j 0) 70 e)))
 
-  word-is : (j : ℕ) → j < length xs → getD C j 0 ≡ 70 → wordOf t ss es C ks j ≡ items.entryOf (getD xs j i-plain) .bytes
+  pub word-is : (j : ℕ) → j < length xs → getD C j 0 ≡ 70 → wordOf t ss es C ks j ≡ items.entryOf (getD xs j i-plain) .bytes
   word-is j h e =
       let k : j < length (a .numbers) = omega (arith, items-count t a) in
       let v = getD (a .numbers) j 0 in

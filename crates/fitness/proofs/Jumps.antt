@@ -92,7 +92,7 @@ goes-class c e = go (either-true (either (eqb c 187) (eqb c 189)) (either (withi
     go (inl x) = first-two (either-true (eqb c 187) (eqb c 189) x)
     go (inr x) = ranges (either-true (within 191 193 c) (within 196 201 c) x)
 
-label-code : (c : ℕ) → among 2 c ≡ true → c ≡ 188
+pub label-code : (c : ℕ) → among 2 c ≡ true → c ≡ 188
 unfolding among
 label-code c e = eqb-true c 188 e
 
@@ -105,7 +105,7 @@ module _ (t cs vs : List ℕ) (H : Held t cs vs (linksIn cs vs)) (K : Facts cs v
   body-in j h z q = let s = span-of t cs vs H K u n in let r = body-inside cs (K .formed) (K .few) u (linkOf t u) (s .head) (s .closed) j h z q in (r .0, r .1)
 
   -- ---- goto
-  goto-rule : (j : ℕ) → j < length cs → getD cs j 0 ≡ 198 → find cs vs hs 2 (getD vs (j - 1) 0) (getD hs j 0) (length cs) < length cs
+  pub goto-rule : (j : ℕ) → j < length cs → getD cs j 0 ≡ 198 → find cs vs hs 2 (getD vs (j - 1) 0) (getD hs j 0) (length cs) < length cs
   unfolding ruleOf badBy badGoto
   goto-rule j h c = go (ltb (find cs vs hs 2 (getD vs (j - 1) 0) (getD hs j 0) (length cs)) (length cs)) refl (sym (ap (λ c. badBy cs vs hs (starts cs) (heights cs) (ruleOf c) j) c) ∙ K .ruled j h)
     where
@@ -113,7 +113,7 @@ module _ (t cs vs : List ℕ) (H : Held t cs vs (linksIn cs vs)) (K : Facts cs v
       go true q z = ltb-true _ _ q
       go false q z = absurd (omega arith)
 
-  goto-link : (m : List ℕ) (j : ℕ) → getD cs j 0 ≡ 198 → linkBy cs vs hs (starts cs) (classOf (getD cs j 0)) m j ≡ placeFrom cs (find cs vs hs 2 (getD vs (j - 1) 0) (getD hs j 0) (length cs))
+  pub goto-link : (m : List ℕ) (j : ℕ) → getD cs j 0 ≡ 198 → linkBy cs vs hs (starts cs) (classOf (getD cs j 0)) m j ≡ placeFrom cs (find cs vs hs 2 (getD vs (j - 1) 0) (getD hs j 0) (length cs))
   unfolding linkBy classOf
   goto-link m j c = rw c
 

@@ -101,8 +101,11 @@ bare-received exactly-true = (λ k z. omega arith, (λ k z. omega arith, tt))
 bare-received exactly-false = (λ k z. omega arith, (λ k z. omega arith, tt))
 
 -- ---- declarations
+pub bare-type : (k : ℕ) → Known (i-type k) → codeOf (i-type k) ≡ 188 → ⊥
+bare-type k n z = let w = type-low k n in omega arith
+
 bare-field : (k : ℕ) → Bare (code-field k)
-bare-field k = (λ n z. (let w = type-low k n in omega arith), (λ n z. omega arith, tt))
+bare-field k = (bare-type k, (λ n z. omega arith, tt))
 
 bare-size : (s : Option ℕ) → Bare (code-size s)
 bare-size none = tt
@@ -121,7 +124,7 @@ bare-variable : (v : Variable) → Bare (code-variable v)
 bare-variable (variable w s v) = (λ k z. omega arith, (λ k z. omega arith, bare-append (code-size s) (code-value v) (bare-size s) (bare-value v)))
 
 pub bare-declaration : (d : Declaration) → Bare (code-declaration i-local d)
-bare-declaration (declare k xs) = (λ n z. (let w = type-low k n in omega arith), (λ n z. omega arith, bare-each code-variable bare-variable xs))
+bare-declaration (declare k xs) = (bare-type k, (λ n z. omega arith, bare-each code-variable bare-variable xs))
 
 -- ---- statements
 -- a label item stands here, with the name of a label of the tree before it

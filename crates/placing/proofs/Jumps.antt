@@ -1,0 +1,195 @@
+-- A GOTO LEADS TO THE STATEMENT OF ITS BODY THAT HAS THE LABEL.
+use Prim.Native.Nat.{ℕ, suc, _+_, _-_, _≤_, _<_, min}
+use native.Mathlib.Omega.{arith}
+use native.Mathlib.Decide.{decLt}
+use mathlib.Core.Path.{_≡_, refl, sym as inv, ap, _∙_, subst}
+use mathlib.Core.Bool.{Bool, true, false}
+use mathlib.Core.Logic.{_⊎_, inl, inr}
+use mathlib.Core.List.{List, [], _∷_, _++_}
+use lib.ListN.{length, getD, length-append}
+use lib.Dec.{eqb, ltb}
+use borrow.Author.Tests.{eq-eqb, eqb-true, ltb-true, ltb-false, lt-ltb}
+use Rattle.base.specs.Choice.{pick, both, either}
+use Rattle.base.proofs.Tests.{true-false, both-true}
+use Rattle.sheets.specs.Walks.{first}
+use Rattle.finding.specs.Sets.{among}
+use Rattle.finding.specs.Search.{declares, find}
+use Rattle.rules.specs.Rules.{badTwice, ruleOf, badBy}
+use Rattle.tables.specs.Access.{itemsOf, codeOf, linkOf}
+use Rattle.places.specs.Places.{isPart, isAlone, isMark, placeFrom}
+use Rattle.syntax.specs.Tree.{Name, sequence, Tree, goto, bare, Body, body}
+use Rattle.syntax.specs.Code.{Item, i-name, i-plain, i-label, i-goto, code-tree, code-body, code}
+use Rattle.entries.specs.Items as items
+use Rattle.judging.specs.Judging.{tablesText}
+use Rattle.accepting.specs.Meaning.{Accepts}
+use Rattle.expressions.specs.Names.{codesAt, saidAt, firstName}
+use Rattle.expressions.proofs.Main.{items-long}
+use Rattle.expressions.proofs.Said.{first-said}
+use Rattle.keeping.specs.Well.{Unit, Inside}
+use Rattle.fitness.specs.Held.{Held}
+use Rattle.fitness.specs.Facts.{homes, starts, heights, linksIn, Facts}
+use Rattle.fitness.proofs.Tables.{text-held}
+use Rattle.fitness.proofs.Known.{text-facts}
+use Rattle.fitness.proofs.Links.{link-is}
+use Rattle.fitness.proofs.Firsts.{first-is, first-most}
+use Rattle.fitness.proofs.Variables.{unit-home}
+use Rattle.fitness.proofs.Jumps.{find-says, declared-says, label-code, body-in, goto-rule, goto-link}
+use Rattle.following.proofs.Insides.{quiet}
+use Rattle.following.proofs.Begins.{mark, none, dull-skip, statement-from}
+use Rattle.following.proofs.Main.{text-unit}
+use Rattle.acts.specs.Stage.{Ways}
+use Rattle.acts.specs.Program.{sizeIn, Within, Holds, labelIn, startIn, endIn, statementsOf, Statement}
+use Rattle.acts.proofs.Stands.{Lying, within-lies, body-lies, statements-lie, lying-in}
+use Rattle.acts.proofs.Labels.{Labelled, Search, label-found, marked, Behind, labelled-lies}
+use Rattle.placing.proofs.Lists.{lying-front, lying-back, lying-at, lying-ends}
+use Rattle.placing.proofs.Labels.{label-there}
+use Rattle.placing.proofs.Names.{said-names}
+use Rattle.placing.proofs.Heads.{Between, holds-between, lying-known, label-late}
+
+-- ---- what a search for a label says
+module _ (cs vs hs : List ℕ) where
+  declares-name : (set w h d : ℕ) → declares cs vs hs set w h d ≡ true → getD vs (d - 1) 0 ≡ w
+  unfolding declares
+  declares-name set w h d = go (among set (getD cs d 0))
+    where
+      go : (b : Bool) → pick b (both (eqb (getD vs (d - 1) 0) w) (eqb (getD hs d 0) h)) false ≡ true → getD vs (d - 1) 0 ≡ w
+      go true q = eqb-true (getD vs (d - 1) 0) w (both-true (eqb (getD vs (d - 1) 0) w) (eqb (getD hs d 0) h) q .0)
+      go false q = absurd (true-false (inv q))
+
+  label-declares : (w h d : ℕ) → getD cs d 0 ≡ 188 → getD vs (d - 1) 0 ≡ w → getD hs d 0 ≡ h → declares cs vs hs 2 w h d ≡ true
+  unfolding declares among
+  label-declares w h d c e g = rw (c, eq-eqb (getD vs (d - 1) 0) w e, eq-eqb (getD hs d 0) h g)
+
+  -- a search that finds something is not for `_pid`, and finds the first
+  find-some : (set w h to : ℕ) → find cs vs hs set w h to < to → (w ≡ 0 → ⊥) × (find cs vs hs set w h to ≡ first (declares cs vs hs set w h) 0 to)
+  unfolding find
+  find-some set w h to = go (eqb w 0) refl
+    where
+      go : (b : Bool) → eqb w 0 ≡ b → pick b to (first (declares cs vs hs set w h) 0 to) < to
+          → (w ≡ 0 → ⊥) × (pick b to (first (declares cs vs hs set w h) 0 to) ≡ first (declares cs vs hs set w h) 0 to)
+      go true e l = absurd (omega arith)
+      go false e l = (λ z. true-false (inv (eq-eqb w 0 z) ∙ e), refl)
+
+  find-most : (set w h to d : ℕ) → (w ≡ 0 → ⊥) → d < to → declares cs vs hs set w h d ≡ true → find cs vs hs set w h to ≤ d
+  unfolding find
+  find-most set w h to d n l e = go (eqb w 0) refl
+    where
+      go : (b : Bool) → eqb w 0 ≡ b → pick b to (first (declares cs vs hs set w h) 0 to) ≤ d
+      go true q = absurd (n (eqb-true w 0 q))
+      go false q = first-most (declares cs vs hs set w h) 0 to d (omega arith) e
+
+label-rule : (cs vs hs ss ts : List ℕ) (j : ℕ) → getD cs j 0 ≡ 188 → badBy cs vs hs ss ts (ruleOf (getD cs j 0)) j ≡ badTwice cs vs hs 2 j
+unfolding badBy ruleOf
+label-rule cs vs hs ss ts j e = rw e
+
+-- no label of the same name before it
+once-only : (cs vs hs : List ℕ) (j : ℕ) → badTwice cs vs hs 2 j ≡ 0 → find cs vs hs 2 (getD vs (j - 1) 0) (getD hs j 0) j < j → ⊥
+unfolding badTwice
+once-only cs vs hs j e l = go (eqb (getD vs (j - 1) 0) 0) (ap (λ b. pick (either (eqb (getD vs (j - 1) 0) 0) b) 4 0) (inv (lt-ltb (find cs vs hs 2 (getD vs (j - 1) 0) (getD hs j 0) j) j l)) ∙ e)
+  where
+    go : (b : Bool) → pick {A = ℕ} (either b true) 4 0 ≡ 0 → ⊥
+    go true q = omega arith
+    go false q = omega arith
+
+label-quiet : quiet 188 ≡ true
+unfolding quiet isPart isAlone
+label-quiet = refl
+
+label-marks : isMark 188 ≡ true
+unfolding isPart
+label-marks = refl
+
+body-some : (b : Body) → 1 ≤ length (code-body b)
+body-some (body ds q) = omega arith
+
+end-is : (b : Body) (k : ℕ) → endIn b k ≡ startIn b k + sizeIn (statementsOf b)
+end-is (body ds q) k = refl
+
+module _ (t : List ℕ) (a : Accepts t) where
+  abbrev T : List ℕ
+  T = tablesText t
+
+  abbrev C : List ℕ
+  C = codesAt t a
+
+  abbrev S : List ℕ
+  S = saidAt t a
+
+  abbrev X : List Item
+  X = code (a .tree)
+
+  abbrev hs : List ℕ
+  hs = homes C
+
+  H : Held T C S (linksIn C S)
+  H = text-held t a
+
+  K : Facts C S
+  K = text-facts t a
+
+  -- ---- units
+  pub unit-of : {u k : ℕ} (b : Body) → Holds (a .tree) 0 u b k → Unit T u
+  unit-of {u} {k} b p =
+      let r = text-unit t a p in
+      let e = holds-between p .ends in
+      let l = lying-ends t a (code-body b) k (body-lies p) in
+      let some = body-some b in
+      (subst (u <_) (inv (H .items)) (omega arith), r .2, r .3)
+
+  module _ {u k : ℕ} (b : Body) (p : Holds (a .tree) 0 u b k) where
+    abbrev q : Tree sequence
+    q = statementsOf b
+
+    abbrev from : ℕ
+    from = startIn b k
+
+    all : Lying X 0 (code-tree q) from
+    all = lying-in X (code-body b) (code-tree q) 0 k from (body-lies p) (statements-lie b k)
+
+    ends : linkOf T u ≡ endIn b k
+    ends = text-unit t a p .0
+
+    -- ---- a label item of the unit is a label of the tree
+    label-of : (l : ℕ) → u < l → l < endIn b k → getD C l 0 ≡ 188 → (w : Name) × Labelled w q from (l + 1)
+    label-of l g h e = label-there C q from l (lying-known t a (code-tree q) from all) (lying-at t a (code-tree q) from all) (label-late t a b p l g e) (let z = end-is b k in omega arith) e
+
+    -- where its statement stands
+    module _ (w : Name) (j : ℕ) (m : Labelled w q from j) where
+      r : Behind w (code-tree q) from j
+      r = labelled-lies q from j m
+
+      lies : Lying X 0 (marked w (r .act)) (r .at)
+      lies = lying-in X (code-tree q) (marked w (r .act)) 0 from (r .at) all (r .lies)
+
+      name-there : getD X (r .at) i-plain ≡ i-name w
+      name-there =
+          let f = lies .front in
+          let z : r .at ≡ length f = let e = lies .place in omega arith in
+          ap (λ (y : List Item). getD y (r .at) i-plain) (lies .split) ∙ ap (λ n. getD (f ++ (marked w (r .act) ++ lies .rest)) n i-plain) z ∙ getD-append-seam f (i-name w) (i-label ∷ code-tree (r .act) ++ lies .rest) i-plain
+
+      label-code-there : getD C (r .at + 1) 0 ≡ 188
+      label-code-there = ap (λ n. getD C n 0) (let z : r .at + 1 ≡ suc (r .at) = omega arith in z) ∙ lying-at t a (marked w (r .act)) (r .at) lies .1 .0
+
+      inside-there : (u < r .at + 1) × (r .at + 1 < endIn b k)
+      inside-there =
+          let e = holds-between p .ends in
+          let f = r .lies .place in
+          let n = ap length (r .lies .split) in
+          let g = length-append (r .lies .front) (marked w (r .act) ++ r .lies .rest) in
+          let h = length-append (marked w (r .act)) (r .lies .rest) in
+          let z = end-is b k in
+          let o = start-late b k in
+          (omega arith, omega arith)
+
+      -- the place behind the label is that of the statement
+      place-there : placeFrom C (r .at + 1) ≡ j
+      place-there =
+          let l = r .at + 1 in
+          let back = lying-back X (i-name w ∷ []) (i-label ∷ code-tree (r .act)) 0 (r .at) l refl lies in
+          let act = lying-back X (i-label ∷ []) (code-tree (r .act)) 0 l (l + 1) refl back in
+          let n = ends-before (code-tree (r .act)) (l + 1) act in
+          let m = lying-at t a (i-label ∷ code-tree (r .act)) l back in
+          dull-skip C (mark label-quiet none) l (m .0, tt) (omega arith)
+          ∙ statement-from C (bare (r .act)) (lying-known t a (code-tree (r .act)) (l + 1) act) (l + 1) (lying-at t a (code-tree (r .act)) (l + 1) act) n
+          (ap (λ i. isMark (getD C i 0)) (let z : l + 1 - 1 ≡ l = omega arith in z) ∙ ap isMark (m .0) ∙ label-marks) .0
+          ∙ (let z = r .two in let y : l + 1 ≡ j = omega arith in y)
