@@ -1,2 +1,5 @@
 pub mod Gathers
 pub mod Receives
+pub mod Meant
+pub mod Parts
+pub mod Marks
