@@ -3,3 +3,4 @@ pub mod Receives
 pub mod Meant
 pub mod Parts
 pub mod Marks
+pub mod Phrases
