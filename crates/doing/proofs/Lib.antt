@@ -4,3 +4,5 @@ pub mod Meant
 pub mod Parts
 pub mod Marks
 pub mod Phrases
+pub mod Units
+pub mod Lists
