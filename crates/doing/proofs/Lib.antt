@@ -6,3 +6,6 @@ pub mod Marks
 pub mod Phrases
 pub mod Units
 pub mod Lists
+pub mod Channels
+pub mod Begins
+pub mod Ready

@@ -49,7 +49,7 @@ module _ (t : List ℕ) (a : Accepts t) where
   pub mark-code : {k : Shape} (e : Exp k) (x : Item) (z : List Item) (i : ℕ) → Here t a (code-exp e ++ x ∷ z) i → codeOf (tablesText t) (i + sizeIn e) ≡ items.codeOf x
   mark-code e x z i p = first-code t a x z (i + sizeIn e) (back-lies xs (code-exp e) (x ∷ z) 0 i (i + sizeIn e) refl p)
 
-  behind-there : {k : Shape} (e : Exp k) (x : Item) (z : List Item) (i : ℕ) → Here t a (code-exp e ++ x ∷ z) i → Here t a z (i + sizeIn e + 1)
+  pub behind-there : {k : Shape} (e : Exp k) (x : Item) (z : List Item) (i : ℕ) → Here t a (code-exp e ++ x ∷ z) i → Here t a z (i + sizeIn e + 1)
   behind-there e x z i p = back-lies xs (x ∷ []) z 0 (i + sizeIn e) (i + sizeIn e + 1) refl (back-lies xs (code-exp e) (x ∷ z) 0 i (i + sizeIn e) refl p)
 
   pub leaf-there : {k : Shape} (e : Exp k) (z : List Item) (i : ℕ) → Here t a (code-exp e ++ z) i → Leaf (codeOf (tablesText t) i)
