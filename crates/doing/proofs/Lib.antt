@@ -8,4 +8,5 @@ pub mod Units
 pub mod Lists
 pub mod Channels
 pub mod Begins
+pub mod Shapes
 pub mod Ready
