@@ -10,3 +10,7 @@ pub mod Channels
 pub mod Begins
 pub mod Shapes
 pub mod Ready
+pub mod Values
+pub mod Stores
+pub mod Sends
+pub mod Takes
