@@ -14,3 +14,4 @@ pub mod Values
 pub mod Stores
 pub mod Sends
 pub mod Takes
+pub mod Prints
