@@ -1,5 +1,5 @@
 -- WHERE THE MARK OF A STATEMENT STANDS: a statement begins with its own mark, or with a phrase, a name or a reference, which links to it. What a run links to is its proctype.
-use Prim.Native.Nat.{ℕ, zero, suc, _+_, _-_, _≤_, _<_, min}
+use Prim.Native.Nat.{ℕ, suc, _+_, _-_, _≤_, _<_, min}
 use native.Mathlib.Omega.{arith}
 use mathlib.Core.Path.{_≡_, refl, sym, ap, _∙_}
 use mathlib.Core.Bool.{Bool, true, false}
@@ -32,7 +32,7 @@ use Rattle.fitness.proofs.Tables.{text-held}
 use Rattle.fitness.proofs.Known.{text-facts}
 use Rattle.fitness.proofs.Links.{link-is}
 use Rattle.doing.specs.Stages.{unitAt}
-use Rattle.doing.proofs.Parts.{Here, here-codes, here-long, here-lies, first-inside, first-code, back-lies}
+use Rattle.doing.proofs.Parts.{Here, here-codes, here-long, here-lies, first-code, back-lies}
 use Rattle.doing.proofs.Marks.{all-parts, leaf-alone, link-mark}
 use Rattle.doing.proofs.Phrases.{proper, linked-there}
 use Rattle.doing.proofs.Lists.{leaf-there}
@@ -60,6 +60,16 @@ assign-mark = refl
 set-run-mark : isMark 203 ≡ true
 unfolding isPart
 set-run-mark = refl
+
+-- express, assert, goto
+pub marks : (isMark 189 ≡ true) × (isMark 196 ≡ true) × (isMark 198 ≡ true)
+unfolding isPart
+marks = (refl, refl, refl)
+
+-- skip, break, timeout, else, if, do
+pub alones : (isAlone 197 ≡ true) × (isAlone 199 ≡ true) × (isAlone 200 ≡ true) × (isAlone 201 ≡ true) × (isAlone 204 ≡ true) × (isAlone 206 ≡ true)
+unfolding isAlone
+alones = (refl, refl, refl, refl, refl, refl)
 
 module _ (t : List ℕ) (a : Accepts t) where
   abbrev xs : List Item

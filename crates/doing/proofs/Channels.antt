@@ -1,5 +1,5 @@
 -- THE CHANNEL OF A SEND OR A RECEIVE over tables is the one that its operand reaches in the tree's stage, with as many fields as there are arguments, or the same fault.
-use Prim.Native.Nat.{ℕ, suc, _+_, _-_, _≤_, min}
+use Prim.Native.Nat.{ℕ, _+_, _-_, _≤_, min}
 use native.Mathlib.Omega.{arith}
 use native.Mathlib.Decide.{ℕ-discrete}
 use mathlib.Core.Path.{_≡_, refl, sym, ap, ap₂, _∙_}
@@ -22,7 +22,7 @@ use Rattle.executing.specs.Executing.{messageOf}
 use Rattle.meaning.specs.Scenes.{sceneOf, locate}
 use Rattle.acts.specs.Stage.{Stage}
 use Rattle.acts.specs.Tables.{stageOf}
-use Rattle.acts.specs.Arguments.{nameOf, Aim, hit, miss, aim, Reach, channel, astray, reachBy, reachAt, reach}
+use Rattle.acts.specs.Arguments.{nameOf, Aim, hit, miss, aim, Reach, channel, astray, reachAt, reach}
 use Rattle.doing.proofs.Receives.{placed, locate-aim}
 
 -- the record of a channel, by its number
@@ -58,7 +58,7 @@ module _ (t : List ℕ) (decl : Name → ℕ) (s : List ℤ) (p : ℕ) (unit : N
   abbrev c : Stage
   c = stageOf t s p decl unit
 
-  addressed-is : (n : ℕ) (w : Name) (y : Aim) → addressedOf t s (channelOf s (loadOf s (placed t decl s p unit w y))) (min 5 n) ≡ recordOf (reachAt (stageOf t s p decl unit) n w y)
+  addressed-is : (n : ℕ) (w : Name) (y : Aim) → addressedOf t s (channelOf s (loadOf s (placed t decl p w y))) (min 5 n) ≡ recordOf (reachAt (stageOf t s p decl unit) n w y)
   addressed-is n w (miss f) = refl
   addressed-is n w (hit k) = go (madeOf s (nat v))
     where
@@ -78,7 +78,7 @@ module _ (t : List ℕ) (decl : Name → ℕ) (s : List ℤ) (p : ℕ) (unit : N
 
   pub message-is : (r : Ref) (q m n : ℕ) → locateOf t s p q m ≡ locate t s p decl r → argumentsOf t (m + 1) ≡ min 5 n → messageOf t s p q m ≡ recordOf (reach (stageOf t s p decl unit) r n)
   message-is r q m n e k =
-      ap₂ (λ y i. addressedOf t s (channelOf s (loadOf s y)) i) (e ∙ locate-aim t decl s p unit r) k ∙ addressed-is n (nameOf r) (aim (sceneOf t s p decl) r)
+      ap₂ (λ y i. addressedOf t s (channelOf s (loadOf s y)) i) (e ∙ locate-aim t decl s p r) k ∙ addressed-is n (nameOf r) (aim (sceneOf t s p decl) r)
 
   -- a channel that is reached has as many fields as there are arguments
   arrived-few : (n : ℕ) (w : Name) (y : Aim) → Arrived (reachAt (stageOf t s p decl unit) n w y) → n ≤ 4

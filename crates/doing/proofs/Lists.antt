@@ -1,17 +1,17 @@
 -- THE ARGUMENTS OF A STATEMENT, of a send, a run, a printf or a receive, stand in the tables one behind the other, each with its mark.
-use Prim.Native.Nat.{ℕ, zero, suc, _+_, _-_, _≤_, _<_}
+use Prim.Native.Nat.{ℕ, _+_, _≤_, _<_}
 use native.Mathlib.Omega.{arith}
 use mathlib.Core.Path.{_≡_, refl, sym, ap, subst, _∙_}
 use mathlib.Core.Bool.{true}
 use mathlib.Core.List.{List, [], _∷_, _++_, append-assoc}
 use lib.ListN.{length, getD, length-append}
 use lib.IntN.{ℤ}
-use Rattle.syntax.specs.Tree.{Name, Shape, Exp, Expr, Received, into, equal, exactly, exactly-true, exactly-false, num, tru, fls, get}
+use Rattle.syntax.specs.Tree.{Shape, Exp, Expr, Received, into, equal, exactly, exactly-true, exactly-false, num, tru, fls, get}
 use Rattle.syntax.specs.Code.{Item, i-argument, i-into, i-equal, i-constant, i-end, each, code-exp, code-argument, code-received, code}
 use Rattle.entries.specs.Items as items
 use Rattle.phrases.proofs.Starts.{at-front, some-items}
 use Rattle.places.specs.Places.{isPart, isMark}
-use Rattle.tables.specs.Access.{codeOf, linkOf}
+use Rattle.tables.specs.Access.{codeOf}
 use Rattle.judging.specs.Judging.{tablesText}
 use Rattle.accepting.specs.Meaning.{Accepts}
 use Rattle.evaluating.specs.Expressions.{evalOf}
@@ -19,9 +19,9 @@ use Rattle.meaning.specs.Eval.{eval}
 use Rattle.meaning.specs.Scenes.{sceneOf, sizeIn}
 use Rattle.expressions.specs.Names.{codesAt, declAt}
 use Rattle.fitness.proofs.Tables.{text-held}
-use Rattle.doing.specs.Walked.{Passed, Stored, Compared, Agreed, Got, no-more, one-more}
+use Rattle.doing.specs.Walked.{Passed, Compared, Agreed, Got, no-more, one-more}
 use Rattle.doing.proofs.Meant.{Quiet, quiet-join}
-use Rattle.doing.proofs.Parts.{Here, here-codes, here-long, first-inside, first-code, front-lies, back-lies}
+use Rattle.doing.proofs.Parts.{Here, here-codes, here-long, first-code, back-lies}
 use Rattle.doing.proofs.Marks.{Leaf, begins-leaf, leaf-no-end}
 use Rattle.doing.proofs.Phrases.{behind-argument, behind-equal, refers-into, quiet-there, linked-there, works, number-works, true-works, false-works, refers-linked, refers-located}
 
@@ -72,10 +72,9 @@ module _ (t : List ℕ) (a : Accepts t) where
       (arguments-there es j (b + sizeIn x + 1) z (omega arith) (quiet-phrase j b q x i-argument (Y ++ i-end ∷ []) r (omega arith)) (behind-there x i-argument (Y ++ i-end ∷ []) b r) (omega arith))
 
   -- ---- received arguments
-  module _ (j b : ℕ) (h : j ≤ b) (q : Quiet t a j b) (y : List Item) where
-    compared : (e : Expr) (x : Item) → (items.codeOf x ≡ 184 → ⊥) → Here t a (code-exp e ++ x ∷ y) b
-        → ((s : List ℤ) (p : ℕ) → evalOf T s p b (b + sizeIn e) ≡ eval (sceneOf T s p (declAt t a j)) e) → Compared T (declAt t a j) e b (b + sizeIn e)
-    compared e x n p w = record { mark = λ c. n (sym (mark-code e x y b p) ∙ c); worked = w }
+  compared : (j b : ℕ) (y : List Item) (e : Expr) (x : Item) → (items.codeOf x ≡ 184 → ⊥) → Here t a (code-exp e ++ x ∷ y) b
+      → ((s : List ℤ) (p : ℕ) → evalOf T s p b (b + sizeIn e) ≡ eval (sceneOf T s p (declAt t a j)) e) → Compared T (declAt t a j) e b (b + sizeIn e)
+  compared j b y e x n p w = record { mark = λ c. n (sym (mark-code e x y b p) ∙ c); worked = w }
 
   -- what is received, as an expression and its mark
   abbrev said : Received → Expr
@@ -115,10 +114,10 @@ module _ (t : List ℕ) (a : Accepts t) where
         worked = works t a j b h q r i-into y p (refers-into .behind);
         located = refers-located t a j b h q r i-into y p refers-into;
       }
-  agreed-there j b h q y (equal e) p = compared j b h q y e i-equal (λ c. omega arith) p (works t a j b h q e i-equal y p behind-equal)
-  agreed-there j b h q y (exactly n) p = compared j b h q y (num n) i-constant (λ c. omega arith) p (number-works t a j b h q n i-constant y p)
-  agreed-there j b h q y exactly-true p = compared j b h q y tru i-constant (λ c. omega arith) p (true-works t a j b h q i-constant y p)
-  agreed-there j b h q y exactly-false p = compared j b h q y fls i-constant (λ c. omega arith) p (false-works t a j b h q i-constant y p)
+  agreed-there j b h q y (equal e) p = compared j b y e i-equal (λ c. omega arith) p (works t a j b h q e i-equal y p behind-equal)
+  agreed-there j b h q y (exactly n) p = compared j b y (num n) i-constant (λ c. omega arith) p (number-works t a j b h q n i-constant y p)
+  agreed-there j b h q y exactly-true p = compared j b y tru i-constant (λ c. omega arith) p (true-works t a j b h q i-constant y p)
+  agreed-there j b h q y exactly-false p = compared j b y fls i-constant (λ c. omega arith) p (false-works t a j b h q i-constant y p)
 
   pub received-there : (ys : List Received) (j b z : ℕ) → j ≤ b → Quiet t a j b → Here t a (each code-received ys ++ i-end ∷ []) b → z ≡ b + length (each code-received ys)
       → Got (tablesText t) (declAt t a j) ys b z

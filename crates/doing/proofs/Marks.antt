@@ -1,5 +1,5 @@
 -- A PHRASE LINKS TO ITS MARK: the first item of an expression, a name before its mark and a target all link to the first item behind them that is no part of an expression.
-use Prim.Native.Nat.{ℕ, zero, suc, _+_, _-_, _≤_, _<_, min}
+use Prim.Native.Nat.{ℕ, suc, _+_, _-_, _≤_, _<_, min}
 use native.Mathlib.Omega.{arith}
 use native.Mathlib.Decide.{ℕ-discrete}
 use mathlib.Core.Path.{_≡_, refl, sym, ap, subst, _∙_}
@@ -7,7 +7,7 @@ use mathlib.Core.Bool.{Bool, true, false}
 use mathlib.Core.Logic.{_⊎_, inl, inr}
 use mathlib.Core.List.{List, [], _∷_, _++_}
 use lib.ListN.{length, getD}
-use lib.Dec.{eqb, ltb, leb}
+use lib.Dec.{eqb, ltb}
 use borrow.Author.Tests.{ltb-true, ltb-false, le-leb, eqb-true}
 use Rattle.base.specs.Choice.{pick, both, either}
 use Rattle.base.proofs.Tests.{both-true, either-true, true-false}
@@ -19,7 +19,7 @@ use Rattle.finding.specs.Sets.{within}
 use Rattle.places.specs.Places.{isPart, isMark, markFrom, markOf}
 use Rattle.links.specs.Links.{classOf, linkBy}
 use Rattle.phrases.specs.Phrases.{At, inExpression}
-use Rattle.phrases.proofs.Starts.{at-front, some-items}
+use Rattle.phrases.proofs.Starts.{at-front}
 use Rattle.phrases.proofs.Inside.{all-inside}
 use Rattle.tables.specs.Access.{linkOf}
 use Rattle.judging.specs.Judging.{tablesText}

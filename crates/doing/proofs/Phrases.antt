@@ -28,14 +28,13 @@ use Rattle.judging.specs.Judging.{tablesText}
 use Rattle.accepting.specs.Meaning.{Accepts}
 use Rattle.accepting.proofs.Tables.{text-tables}
 use Rattle.evaluating.specs.Expressions.{evalOf, locateOf}
-use Rattle.executing.specs.Executing.{markOf}
 use Rattle.meaning.specs.Eval.{eval}
 use Rattle.meaning.specs.Scenes.{sceneOf, sizeIn, Stands, Named, locate, Linked}
 use Rattle.meaning.proofs.Tables.{locate-is}
-use Rattle.expressions.specs.Names.{firstName, codesAt, saidAt, homesAt, meantAt, declAt, Arrays}
+use Rattle.expressions.specs.Names.{codesAt, saidAt, homesAt, meantAt, declAt, Arrays}
 use Rattle.expressions.specs.Marks.{Closes, plainly, in-parentheses}
 use Rattle.expressions.proofs.Codes.{codes-few}
-use Rattle.expressions.proofs.Main.{items-long, stands-at, text-stands}
+use Rattle.expressions.proofs.Main.{items-long, text-stands}
 use Rattle.expressions.proofs.Starts.{reference-class}
 use Rattle.expressions.proofs.Said.{first-said, home-same}
 use Rattle.expressions.proofs.Names.{low-at, link-means, means-found, means-none, text-named, text-means}
@@ -43,9 +42,8 @@ use Rattle.expressions.proofs.Declared.{no-fault}
 use Rattle.expressions.proofs.Operators.{text-proper}
 use Rattle.expressions.proofs.Whole.{text-arrays, text-height, text-evaluates}
 use Rattle.acts.specs.Arguments.{nameOf}
-use Rattle.fitness.proofs.Tables.{text-held}
 use Rattle.doing.proofs.Meant.{Quiet, decl-same}
-use Rattle.doing.proofs.Parts.{Here, here-codes, here-long, here-lies, front-lies, back-lies}
+use Rattle.doing.proofs.Parts.{Here, here-codes, here-long, here-lies, back-lies}
 use Rattle.doing.proofs.Marks.{all-parts, begins-leaf, leaf-class, link-mark}
 
 -- ---- what stands behind expressions and references

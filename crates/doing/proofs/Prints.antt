@@ -1,15 +1,12 @@
 -- WHAT A STEP PRINTS: at the place of a statement of an accepted text's tree the tables print what the tree's statement prints, in every state and for every process.
-use Prim.Native.Nat.{ℕ, zero, suc, _+_, _-_, _≤_, _<_}
+use Prim.Native.Nat.{ℕ, zero, suc, _+_, _-_, _<_}
 use native.Mathlib.Omega.{arith}
-use mathlib.Core.Path.{_≡_, refl, sym, ap, ap₂, subst, _∙_}
-use mathlib.Core.Bool.{Bool, true, false}
+use mathlib.Core.Path.{_≡_, refl, sym, ap, subst, _∙_}
 use mathlib.Core.Logic.{inr}
 use mathlib.Core.List.{List, [], _∷_, _++_, append-assoc}
 use lib.ListN.{length, getD, replicate, length-map}
 use lib.IntN.{ℤ, pos}
-use lib.Dec.{eqb}
 use borrow.Author.Tests.{ne-eqb}
-use Rattle.base.specs.Choice.{pick}
 use Rattle.tables.specs.Access.{codeOf, nameLength, nameByte}
 use Rattle.tables.specs.Trees.{entriesIn}
 use Rattle.tables.proofs.Holds.{holds-name-length, holds-name-byte}
@@ -22,7 +19,6 @@ use Rattle.holdings.proofs.Accepted.{accepted-fair, accepted-small}
 use Rattle.judging.specs.Judging.{tablesText}
 use Rattle.accepting.specs.Meaning.{Accepts, linksAt}
 use Rattle.accepting.proofs.Tables.{text-tables}
-use Rattle.messages.specs.declared.Gathered.{Gathered}
 use Rattle.messages.specs.Messages.{gatherEnd, gatherList}
 use Rattle.printing.specs.Printing.{written, opened, counted, writtenFrom, textOf, unlessFailed, printedAt}
 use Rattle.meaning.specs.Scenes.{sceneOf}

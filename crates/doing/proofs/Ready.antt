@@ -1,9 +1,8 @@
 -- WHAT IS EXECUTABLE: at the place of a statement of an accepted text's tree the tables say so exactly where the tree's statement is executable, in every state and for every process.
-use Prim.Native.Nat.{ℕ, suc, _+_, _-_, _≤_, min}
+use Prim.Native.Nat.{ℕ, _+_, _-_}
 use native.Mathlib.Omega.{arith}
 use mathlib.Core.Path.{_≡_, refl, sym, ap, subst, _∙_}
 use mathlib.Core.Bool.{Bool, true, false}
-use mathlib.Core.Logic.{inl}
 use mathlib.Core.List.{List, [], _∷_, _++_, append-assoc}
 use lib.ListN.{length}
 use lib.IntN.{ℤ}
@@ -13,13 +12,11 @@ use Rattle.tables.specs.Access.{codeOf, linkOf}
 use Rattle.value.specs.declared.Answer.{Answer}
 use Rattle.value.specs.declared.Answer.the-variants.{Value, Fails}
 use Rattle.frames.specs.Layout.{nat, waitingOf}
-use Rattle.syntax.specs.Tree.{Name, Ref, Expr, Received, action, Tree, express, assign, increment, decrement, send, receive, assert, print, skip, goto, break, timeout, else, run, set-run, select, loop}
-use Rattle.syntax.specs.Code.{Item, i-name, i-text, i-express, i-target, i-assign, i-increment, i-decrement, i-send, i-receive, i-assert, i-skip, i-goto, i-break, i-timeout, i-else, i-run, i-set-run, i-if, i-fi, i-do, i-od, i-end, each, code-exp, code-argument, code-received, code-tree, code}
+use Rattle.syntax.specs.Tree.{Ref, Expr, Received, action, Tree, express, assign, increment, decrement, send, receive, assert, print, skip, goto, break, timeout, else, run, set-run, select, loop}
+use Rattle.syntax.specs.Code.{Item, i-name, i-express, i-target, i-assign, i-increment, i-decrement, i-assert, i-skip, i-goto, i-break, i-timeout, i-else, i-if, i-fi, i-do, i-od, code-exp, code-tree, code}
 use Rattle.entries.specs.Items as items
 use Rattle.judging.specs.Judging.{tablesText}
 use Rattle.accepting.specs.Meaning.{Accepts}
-use Rattle.places.specs.Places.{isPart, isMark}
-use Rattle.evaluating.specs.declared.Reached.{Reached}
 use Rattle.evaluating.specs.Expressions.{evalOf}
 use Rattle.executing.specs.Executing.{isAlone, isAlways, markOf, fitsOf, readyBy, readyOf, messageOf}
 use Rattle.executing.specs.Executing as tables
@@ -31,16 +28,15 @@ use Rattle.acts.specs.Arguments.{Reach, channel, astray, reach, agrees}
 use Rattle.acts.specs.Ready.{passes, sendable, receivable, ready}
 use Rattle.acts.proofs.Stands.{Lying}
 use Rattle.doing.specs.Stages.{unitAt, stageAt}
-use Rattle.doing.specs.Walked.{Passed, Got}
+use Rattle.doing.specs.Walked.{Got}
 use Rattle.doing.proofs.Gathers.{count-is}
 use Rattle.doing.proofs.Receives.{got-count, matches-is}
 use Rattle.doing.proofs.Channels.{recordOf, Arrived, message-is, reach-few}
-use Rattle.doing.proofs.Meant.{Quiet}
 use Rattle.doing.proofs.Parts.{Here, first-code, back-lies}
-use Rattle.doing.proofs.Phrases.{Behind, Refers, behind-express, behind-assert, refers-target, refers-increment, refers-decrement, refers-send, refers-receive, works, refers-located}
-use Rattle.doing.proofs.Lists.{quiet-phrase, mark-code, behind-there, arguments-there, received-there}
-use Rattle.doing.proofs.Begins.{alone-mark, phrase-mark, name-mark}
-use Rattle.doing.proofs.Shapes.{Reference, reference-there, sending, receiving, printing, running, set-running}
+use Rattle.doing.proofs.Phrases.{Refers, behind-express, refers-target, refers-increment, refers-decrement, works}
+use Rattle.doing.proofs.Lists.{mark-code}
+use Rattle.doing.proofs.Begins.{marks, alones, alone-mark, phrase-mark, name-mark}
+use Rattle.doing.proofs.Shapes.{reference-there, sending, receiving, printing, running, set-running}
 
 -- ---- by the code of the mark
 module _ (t : List ℕ) (s : List ℤ) (p : ℕ) (late : Bool) (q m : ℕ) where
@@ -111,15 +107,6 @@ module _ (t : List ℕ) (s : List ℤ) (p : ℕ) (late : Bool) (q m : ℕ) where
 passes-is : (x : Answer) → tables.passes x ≡ passes x
 passes-is (Value v) = refl
 passes-is (Fails f) = refl
-
--- codes of marks
-marks : (isMark 189 ≡ true) × (isMark 196 ≡ true) × (isMark 198 ≡ true)
-unfolding isPart
-marks = (refl, refl, refl)
-
-alones : (isAlone 197 ≡ true) × (isAlone 199 ≡ true) × (isAlone 200 ≡ true) × (isAlone 201 ≡ true) × (isAlone 204 ≡ true) × (isAlone 206 ≡ true)
-unfolding isAlone
-alones = (refl, refl, refl, refl, refl, refl)
 
 module _ (t : List ℕ) (a : Accepts t) where
   abbrev T : List ℕ

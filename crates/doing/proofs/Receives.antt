@@ -10,7 +10,6 @@ use lib.Dec.{eqb, ltb}
 use borrow.Author.Tests.{eq-eqb, ne-eqb}
 use Rattle.base.specs.Choice.{pick}
 use Rattle.tables.specs.Access.{codeOf, linkOf}
-use Rattle.value.specs.Operators.{isTrue}
 use Rattle.value.specs.Types.{castOf}
 use Rattle.value.specs.declared.Fault.the-variants.{Index}
 use Rattle.value.specs.declared.Answer.{Answer}
@@ -19,20 +18,20 @@ use Rattle.frames.specs.Layout.{nat, fieldOf}
 use Rattle.syntax.specs.Tree.{Name, Ref, plain, indexed, Received, into, equal, exactly, exactly-true, exactly-false}
 use Rattle.evaluating.specs.declared.Located.{Located}
 use Rattle.evaluating.specs.declared.Located.the-variants.{At, Astray}
-use Rattle.evaluating.specs.Variables.{variableOf, typeOf, sizeOf, slotOf, elementOf}
-use Rattle.evaluating.specs.Expressions.{holds, evalOf, locateOf}
+use Rattle.evaluating.specs.Variables.{typeOf, sizeOf, slotOf, elementOf}
+use Rattle.evaluating.specs.Expressions.{holds, evalOf}
 use Rattle.executing.specs.Channels.{argumentsFrom, comparedAt, agreesOf, matchesFrom}
 use Rattle.executing.specs.Channels as tables
 use Rattle.messages.specs.declared.Gathered.{Gathered}
 use Rattle.messages.specs.declared.Gathered.the-variants.{Upto, Failed}
 use Rattle.messages.specs.Messages.{onPlace, aimOf, aimEnd, aimList, deliveredOne, delivered}
-use Rattle.meaning.specs.Eval.{Scene, eval}
+use Rattle.meaning.specs.Eval.{eval}
 use Rattle.meaning.specs.Scenes.{sceneOf, locate}
 use Rattle.acts.specs.Stage.{Stage}
 use Rattle.acts.specs.Tables.{stageOf}
 use Rattle.acts.specs.Arguments.{nameOf, Aim, hit, miss, aimBy, aim, equalBy, agree, agreeBy, agrees, Aims, hits, missed, before, aimsBy, target, targets}
 use Rattle.acts.specs.Effect.{delivery, deliveries}
-use Rattle.doing.specs.Walked.{Stored, Compared, Agreed, Got, no-more, one-more}
+use Rattle.doing.specs.Walked.{Stored, Agreed, Got, no-more, one-more}
 use Rattle.doing.proofs.Gathers.{fill}
 
 equal-is : (x : Answer) (w : ℤ) → tables.equalBy x w ≡ equalBy x w
@@ -86,6 +85,38 @@ module _ (t : List ℕ) (decl : Name → ℕ) where
   unfolding comparedAt
   other-compared m h = rw (ne-eqb (codeOf t m) 184 h)
 
+  -- ---- where a reference stands
+  abbrev pub placed : ℕ → Name → Aim → Located
+  placed p w (hit k) = At (slotOf (linkOf t (decl w)) p k)
+  placed p w (miss f) = Astray f
+
+  element-aim : (s : List ℤ) (p : ℕ) (w : Name) (x : Answer) → elementOf (linkOf t (decl w)) p x ≡ placed p w (aimBy (sceneOf t s p decl) w x)
+  element-aim s p w (Value (pos i)) = go (ltb i (sizeOf (linkOf t (decl w))))
+    where
+      go : (b : Bool) → pick b (At (slotOf (linkOf t (decl w)) p i)) (Astray Index) ≡ placed p w (pick b (hit i) (miss Index))
+      go true = refl
+      go false = refl
+  element-aim s p w (Value (negsuc i)) = refl
+  element-aim s p w (Fails f) = refl
+
+  pub locate-aim : (s : List ℤ) (p : ℕ) (r : Ref) → locate t s p decl r ≡ placed p (nameOf r) (aim (sceneOf t s p decl) r)
+  unfolding locate
+  locate-aim s p (plain w) = refl
+  locate-aim s p (indexed w e) = element-aim s p w (eval (sceneOf t s p decl) e)
+
+  -- the place of each target, 0 of one that is compared
+  abbrev spot : ℕ → Received → ℕ → ℕ
+  spot p (into r) k = pick (constant (nameOf r)) 0 (slotOf (linkOf t (decl (nameOf r))) p k)
+  spot p (equal e) k = 0
+  spot p (exactly n) k = 0
+  spot p exactly-true k = 0
+  spot p exactly-false k = 0
+
+  abbrev pub spots : ℕ → List Received → List ℕ → List ℕ
+  spots p [] ks = []
+  spots p (x ∷ xs) [] = []
+  spots p (x ∷ xs) (k ∷ ks) = spot p x k ∷ spots p xs ks
+
   module _ (s : List ℤ) (p : ℕ) (unit : Name → ℕ) where
     abbrev c : Stage
     c = stageOf t s p decl unit
@@ -118,57 +149,26 @@ module _ (t : List ℕ) (decl : Name → ℕ) where
         go (Value w) z = refl
         go (Fails w) z = refl
 
-    -- ---- where a reference stands
-    abbrev pub placed : Name → Aim → Located
-    placed w (hit k) = At (slotOf (linkOf t (decl w)) p k)
-    placed w (miss f) = Astray f
-
-    element-aim : (w : Name) (x : Answer) → elementOf (linkOf t (decl w)) p x ≡ placed w (aimBy (sceneOf t s p decl) w x)
-    element-aim w (Value (pos i)) = go (ltb i (sizeOf (linkOf t (decl w))))
-      where
-        go : (b : Bool) → pick b (At (slotOf (linkOf t (decl w)) p i)) (Astray Index) ≡ placed w (pick b (hit i) (miss Index))
-        go true = refl
-        go false = refl
-    element-aim w (Value (negsuc i)) = refl
-    element-aim w (Fails f) = refl
-
-    pub locate-aim : (r : Ref) → locate t s p decl r ≡ placed (nameOf r) (aim (sceneOf t s p decl) r)
-    unfolding locate
-    locate-aim (plain w) = refl
-    locate-aim (indexed w e) = element-aim w (eval (sceneOf t s p decl) e)
-
-    -- ---- targets: the place of each, 0 of one that is compared
-    abbrev spot : Received → ℕ → ℕ
-    spot (into r) k = pick (constant (nameOf r)) 0 (slotOf (linkOf t (decl (nameOf r))) p k)
-    spot (equal e) k = 0
-    spot (exactly n) k = 0
-    spot exactly-true k = 0
-    spot exactly-false k = 0
-
-    abbrev pub spots : List Received → List ℕ → List ℕ
-    spots [] ks = []
-    spots (x ∷ xs) [] = []
-    spots (x ∷ xs) (k ∷ ks) = spot x k ∷ spots xs ks
-
+    -- ---- targets
     abbrev spotBy : Received → Aim → Located
-    spotBy x (hit k) = At (spot x k)
+    spotBy x (hit k) = At (spot p x k)
     spotBy x (miss f) = Astray f
 
-    aim-other : (x : Received) (a m : ℕ) → (codeOf t m ≡ 184 → ⊥) → aimOf t s p a m ≡ At 0
-    aim-other x a m n = rw (other-compared m n)
+    aim-other : (a m : ℕ) → (codeOf t m ≡ 184 → ⊥) → aimOf t s p a m ≡ At 0
+    aim-other a m n = rw (other-compared m n)
 
     aim-is : (x : Received) (a m : ℕ) → Agreed t decl x a m → aimOf t s p a m ≡ spotBy x (target (stageOf t s p decl unit) x)
     aim-is (into r) a m g =
-        rw (stored-compared r a m g) (ap (λ y. pick (constant (nameOf r)) (At 0) y) (g .located s p ∙ locate-aim r) ∙ go (constant (nameOf r)) refl (aim (c .scene) r))
+        rw (stored-compared r a m g) (ap (λ y. pick (constant (nameOf r)) (At 0) y) (g .located s p ∙ locate-aim s p r) ∙ go (constant (nameOf r)) refl (aim (c .scene) r))
       where
-        go : (b : Bool) → constant (nameOf r) ≡ b → (y : Aim) → pick b (At 0) (placed (nameOf r) y) ≡ spotBy (into r) (pick b (hit 0) y)
+        go : (b : Bool) → constant (nameOf r) ≡ b → (y : Aim) → pick b (At 0) (placed p (nameOf r) y) ≡ spotBy (into r) (pick b (hit 0) y)
         go true e y = rw e
         go false e (hit k) = rw e
         go false e (miss f) = refl
-    aim-is (equal e) a m g = aim-other (equal e) a m (g .mark)
-    aim-is (exactly n) a m g = aim-other (exactly n) a m (g .mark)
-    aim-is exactly-true a m g = aim-other exactly-true a m (g .mark)
-    aim-is exactly-false a m g = aim-other exactly-false a m (g .mark)
+    aim-is (equal e) a m g = aim-other a m (g .mark)
+    aim-is (exactly n) a m g = aim-other a m (g .mark)
+    aim-is exactly-true a m g = aim-other a m (g .mark)
+    aim-is exactly-false a m g = aim-other a m (g .mark)
 
     pub aim-ends : {xs : List Received} {a z : ℕ} → Got t decl xs a z → (n : ℕ) → length xs ≤ n → aimEnd t s p n a ≡ endAims z (targets (stageOf t s p decl unit) xs)
     unfolding aimEnd targets
@@ -184,7 +184,7 @@ module _ (t : List ℕ) (decl : Name → ℕ) where
         go (miss f) q below = refl
 
     pub aim-fills : {xs : List Received} {a z : ℕ} → Got t decl xs a z → (n : ℕ) → length xs ≤ n → (k : ℕ) (l : List ℕ) → Sure (targets (stageOf t s p decl unit) xs)
-        → aimList t s p n a k l ≡ fill l k (spots xs (aimed (targets (stageOf t s p decl unit) xs)))
+        → aimList t s p n a k l ≡ fill l k (spots p xs (aimed (targets (stageOf t s p decl unit) xs)))
     unfolding aimList targets
     aim-fills (no-more e) zero h k l w = refl
     aim-fills (no-more {a = a} e) (suc n) h k l w = rw (eq-eqb (codeOf t a) 187 e)
@@ -193,14 +193,14 @@ module _ (t : List ℕ) (decl : Name → ℕ) where
         rw (ne-eqb (codeOf t a) 187 d) (ap (λ i. onPlace (aimOf t s p a i) (λ u. aimList t s p n (i + 1) (k + 1) (set l k u)) (λ f. l)) e
         ∙ ap (λ y. onPlace y (λ u. aimList t s p n (m + 1) (k + 1) (set l k u)) (λ f. l)) (aim-is x a m g) ∙ go (target c x) (targets c xs) w (λ u. aim-fills r n (omega arith) (k + 1) (set l k u)))
       where
-        go : (y : Aim) (q : Aims) → Sure (aimsBy y q) → ((u : ℕ) → Sure q → aimList t s p n (m + 1) (k + 1) (set l k u) ≡ fill (set l k u) (k + 1) (spots xs (aimed q)))
-            → onPlace (spotBy x y) (λ u. aimList t s p n (m + 1) (k + 1) (set l k u)) (λ f. l) ≡ fill l k (spots (x ∷ xs) (aimed (aimsBy y q)))
-        go (hit i) (hits ks) w below = below (spot x i) tt
+        go : (y : Aim) (q : Aims) → Sure (aimsBy y q) → ((u : ℕ) → Sure q → aimList t s p n (m + 1) (k + 1) (set l k u) ≡ fill (set l k u) (k + 1) (spots p xs (aimed q)))
+            → onPlace (spotBy x y) (λ u. aimList t s p n (m + 1) (k + 1) (set l k u)) (λ f. l) ≡ fill l k (spots p (x ∷ xs) (aimed (aimsBy y q)))
+        go (hit i) (hits ks) w below = below (spot p x i) tt
         go (hit i) (missed f) w below = absurd w
         go (miss f) q w below = absurd w
 
     -- ---- stores
-    stored-there : (r : Ref) (a m : ℕ) → Stored t decl r a m → (v : ℤ) (f k : ℕ) (ps : List ℕ) (l : List ℤ) → getD ps f 0 ≡ spot (into r) k → getD l f (pos 0) ≡ fieldOf s (nat v - 1) 0 f
+    stored-there : (r : Ref) (a m : ℕ) → Stored t decl r a m → (v : ℤ) (f k : ℕ) (ps : List ℕ) (l : List ℤ) → getD ps f 0 ≡ spot p (into r) k → getD l f (pos 0) ≡ fieldOf s (nat v - 1) 0 f
         → (x : List ℤ) → deliveredOne t m f ps l x ≡ delivery (stageOf t s p decl unit) v f (into r) k x
     stored-there r a m g v f k ps l e d x =
         rw (stored-compared r a m g) (ap (λ i. pick (constant w) x (set x (getD ps f 0) (castOf (typeOf (linkOf t i)) (getD l f (pos 0))))) (g .declared)
@@ -217,7 +217,7 @@ module _ (t : List ℕ) (decl : Name → ℕ) where
     other-there : (m f : ℕ) (ps : List ℕ) (l x : List ℤ) → (codeOf t m ≡ 184 → ⊥) → deliveredOne t m f ps l x ≡ x
     other-there m f ps l x n = rw (other-compared m n)
 
-    one-delivered : (y : Received) (a m : ℕ) → Agreed t decl y a m → (v : ℤ) (f k : ℕ) (ps : List ℕ) (l : List ℤ) → getD ps f 0 ≡ spot y k → getD l f (pos 0) ≡ fieldOf s (nat v - 1) 0 f
+    one-delivered : (y : Received) (a m : ℕ) → Agreed t decl y a m → (v : ℤ) (f k : ℕ) (ps : List ℕ) (l : List ℤ) → getD ps f 0 ≡ spot p y k → getD l f (pos 0) ≡ fieldOf s (nat v - 1) 0 f
         → (x : List ℤ) → deliveredOne t m f ps l x ≡ delivery (stageOf t s p decl unit) v f y k x
     one-delivered (into r) a m g v f k ps l e d x = stored-there r a m g v f k ps l e d x
     one-delivered (equal y) a m g v f k ps l e d x = other-there m f ps l x (g .mark)
@@ -226,7 +226,7 @@ module _ (t : List ℕ) (decl : Name → ℕ) where
     one-delivered exactly-false a m g v f k ps l e d x = other-there m f ps l x (g .mark)
 
     pub delivered-is : {xs : List Received} {a z : ℕ} → Got t decl xs a z → (n : ℕ) → length xs ≤ n → (v : ℤ) (f : ℕ) (ps : List ℕ) (l : List ℤ) (ks : List ℕ) → length ks ≡ length xs
-        → ((i : ℕ) → i < length xs → getD ps (f + i) 0 ≡ getD (spots xs ks) i 0) → ((i : ℕ) → i < length xs → getD l (f + i) (pos 0) ≡ fieldOf s (nat v - 1) 0 (f + i))
+        → ((i : ℕ) → i < length xs → getD ps (f + i) 0 ≡ getD (spots p xs ks) i 0) → ((i : ℕ) → i < length xs → getD l (f + i) (pos 0) ≡ fieldOf s (nat v - 1) 0 (f + i))
         → (x : List ℤ) → delivered t n a f ps l x ≡ deliveries (stageOf t s p decl unit) v f xs ks x
     unfolding delivered deliveries
     delivered-is (no-more e) zero h v f ps l ks q gp gl x = refl

@@ -12,7 +12,7 @@ use Rattle.frames.specs.Layout.{nat, fieldOf}
 use Rattle.syntax.specs.Tree.{Name, Ref, Expr, Received}
 use Rattle.evaluating.specs.Expressions.{locateOf}
 use Rattle.executing.specs.Channels.{matchesOf}
-use Rattle.messages.specs.Messages.{onValue, gatherEnd, gatherList, aimEnd, aimList, appended, removed, delivered}
+use Rattle.messages.specs.Messages.{onValue, gatherEnd, gatherList, aimList, appended, removed, delivered}
 use Rattle.statements.specs.declared.Taken.the-variants.{Done}
 use Rattle.statements.specs.Statements.{fault, moved, onEnd, onChannel, blank, oldest, sent, receivedFrom, received}
 use Rattle.meaning.specs.Scenes.{sceneOf, locate}
@@ -63,7 +63,7 @@ module _ (t : List ℕ) (decl : Name → ℕ) (s : List ℤ) (p : ℕ) (unit : N
       go (astray g) e = refl
 
   -- ---- receives
-  spots-most : (xs : List Received) (ks : List ℕ) → length (spots t decl s p unit xs ks) ≤ length xs
+  spots-most : (xs : List Received) (ks : List ℕ) → length (spots t decl p xs ks) ≤ length xs
   spots-most [] ks = omega arith
   spots-most (x ∷ xs) [] = omega arith
   spots-most (x ∷ xs) (k ∷ ks) = let h = spots-most xs ks in omega arith
@@ -84,8 +84,8 @@ module _ (t : List ℕ) (decl : Name → ℕ) (s : List ℤ) (p : ℕ) (unit : N
           ap₂ (λ k x. (Done, moved p k x)) l
           (delivered-is t decl s p unit g 4 few v 0 (aimList t s p 4 b 0 (replicate 4 0)) (oldest s (nat v - 1) (replicate 4 (pos 0))) ks (ap length (sym d) ∙ targets-count c ys w)
           (λ i h. let y : 0 + i ≡ i = omega arith in
-          ap (λ (x : List ℕ). getD x (0 + i) 0) (aim-fills t decl s p unit g 4 few 0 (replicate 4 0) w ∙ ap (λ x. fill (replicate 4 0) 0 (spots t decl s p unit ys x)) d)
-          ∙ ap (λ k. getD (fill (replicate 4 0) 0 (spots t decl s p unit ys ks)) k 0) y ∙ fill-blank 0 4 (spots t decl s p unit ys ks) (let u = spots-most ys ks in omega arith) i)
+          ap (λ (x : List ℕ). getD x (0 + i) 0) (aim-fills t decl s p unit g 4 few 0 (replicate 4 0) w ∙ ap (λ x. fill (replicate 4 0) 0 (spots t decl p ys x)) d)
+          ∙ ap (λ k. getD (fill (replicate 4 0) 0 (spots t decl p ys ks)) k 0) y ∙ fill-blank 0 4 (spots t decl p ys ks) (let u = spots-most ys ks in omega arith) i)
           (λ i h. let y : 0 + i ≡ i = omega arith in
           ap (λ k. getD (oldest s (nat v - 1) (replicate 4 (pos 0))) k (pos 0)) y ∙ oldest-at s (nat v - 1) i (omega arith) ∙ ap (λ k. fieldOf s (nat v - 1) 0 k) (sym y))
           (removed (nat v - 1) s))

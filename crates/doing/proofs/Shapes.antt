@@ -1,11 +1,11 @@
 -- STATEMENTS WITH ARGUMENTS as they stand in the tables of an accepted text: their marks, what they refer to, and the arguments behind them.
-use Prim.Native.Nat.{ℕ, zero, suc, _+_, _-_, _≤_, _<_}
+use Prim.Native.Nat.{ℕ, _+_, _-_, _≤_}
 use native.Mathlib.Omega.{arith}
 use mathlib.Core.Path.{_≡_, refl, sym, ap, subst, _∙_}
 use mathlib.Core.Bool.{true}
 use mathlib.Core.Logic.{inl, inr}
 use mathlib.Core.List.{List, [], _∷_, _++_, append-assoc}
-use lib.ListN.{length, getD, length-append}
+use lib.ListN.{length, length-append}
 use lib.IntN.{ℤ}
 use Rattle.tables.specs.Access.{codeOf, linkOf}
 use Rattle.syntax.specs.Tree.{Name, Ref, Expr, Received, send, receive, print, run, set-run}
@@ -19,7 +19,7 @@ use Rattle.keeping.specs.Well.{opens}
 use Rattle.evaluating.specs.Expressions.{locateOf}
 use Rattle.executing.specs.Executing.{isAlone, markOf}
 use Rattle.meaning.specs.Scenes.{sizeIn, locate}
-use Rattle.expressions.specs.Names.{codesAt, declAt}
+use Rattle.expressions.specs.Names.{declAt}
 use Rattle.acts.specs.Arguments.{nameOf}
 use Rattle.acts.specs.Program as tree
 use Rattle.doing.specs.Stages.{unitAt}

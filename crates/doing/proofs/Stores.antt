@@ -1,14 +1,12 @@
 -- STATEMENTS OVER TABLES, each against the tree's stage: one by one what an expression, an assertion, `++`, `--`, an assignment, a printf, a run and a `v = run` do. Here nothing is known of
 -- a text: that the statement stands so in the tables is taken.
 use Prim.Native.Nat.{ℕ, _+_, _-_, _≤_}
-use mathlib.Core.Path.{_≡_, refl, sym, ap, ap₂, _∙_}
-use mathlib.Core.Bool.{Bool, true, false}
+use mathlib.Core.Path.{_≡_, refl, ap, ap₂, _∙_}
 use mathlib.Core.List.{List}
-use lib.ListN.{length, set, replicate}
+use lib.ListN.{length, set}
 use lib.IntN.{ℤ, pos, _+ℤ_}
-use lib.Dec.{eqb}
 use Rattle.base.specs.Choice.{pick}
-use Rattle.tables.specs.Access.{codeOf, linkOf}
+use Rattle.tables.specs.Access.{linkOf}
 use Rattle.value.specs.Bits.{wrap32}
 use Rattle.value.specs.Operators.{isTrue}
 use Rattle.value.specs.declared.Fault.{Fault}
@@ -17,20 +15,19 @@ use Rattle.value.specs.declared.Answer.{Answer}
 use Rattle.value.specs.declared.Answer.the-variants.{Value, Fails}
 use Rattle.frames.specs.Layout.{kept, cellOf, processesOf}
 use Rattle.syntax.specs.Tree.{Name, Ref, Expr}
-use Rattle.evaluating.specs.declared.Located.{Located}
 use Rattle.evaluating.specs.Variables.{typeOf, slotOf}
 use Rattle.evaluating.specs.Expressions.{evalOf, locateOf}
 use Rattle.executing.specs.Executing.{fitsOf}
 use Rattle.messages.specs.Messages.{onValue, onPlace, gatherEnd, gatherList}
 use Rattle.statements.specs.declared.Taken.the-variants.{Done, Refuted, Idle}
-use Rattle.statements.specs.Statements.{Result, fault, moved, onEnd, blank, expressed, asserted, stepped, assigned, printed}
-use Rattle.effects.specs.Effects.{called, endFrom, ran, setRunAt, setRan}
+use Rattle.statements.specs.Statements.{fault, moved, onEnd, blank, expressed, asserted, stepped, assigned, printed}
+use Rattle.effects.specs.Effects.{called, ran, setRunAt, setRan}
 use Rattle.meaning.specs.Eval.{eval}
 use Rattle.meaning.specs.Scenes.{sceneOf, locate}
 use Rattle.acts.specs.Stage.{Stage}
 use Rattle.acts.specs.Tables.{stageOf}
 use Rattle.acts.specs.Arguments.{nameOf, Aim, hit, miss, aim, Values, all, stopped, values}
-use Rattle.acts.specs.Effect.{expressedBy, assertedBy, storedBy, assignedBy, steppedBy, printedBy, ranBy, setBy, setRunBy}
+use Rattle.acts.specs.Effect.{expressedBy, assertedBy, assignedBy, steppedBy, printedBy, ranBy, setBy, setRunBy}
 use Rattle.doing.specs.Walked.{Passed}
 use Rattle.doing.proofs.Gathers.{endBy, end-is, gather-ends}
 use Rattle.doing.proofs.Receives.{placed, locate-aim}
@@ -63,16 +60,16 @@ module _ (t : List ℕ) (decl : Name → ℕ) (s : List ℤ) (p : ℕ) (unit : N
     w = nameOf r
 
     -- what is done where it stands
-    placed-is : {A : Type 0} (g : ℕ → ℕ → A) (h : Fault → A) → onPlace (locateOf t s p q m) (λ i. g i (linkOf t (linkOf t (m - 1)))) h ≡ onPlace (placed t decl s p unit (nameOf r) (aim (sceneOf t s p decl) r)) (λ i. g i (linkOf t (decl (nameOf r)))) h
-    placed-is g h = ap₂ (λ y d. onPlace y (λ i. g i (linkOf t d)) h) (found ∙ locate-aim t decl s p unit r) declared
+    placed-is : {A : Type 0} (g : ℕ → ℕ → A) (h : Fault → A) → onPlace (locateOf t s p q m) (λ i. g i (linkOf t (linkOf t (m - 1)))) h ≡ onPlace (placed t decl p (nameOf r) (aim (sceneOf t s p decl) r)) (λ i. g i (linkOf t (decl (nameOf r)))) h
+    placed-is g h = ap₂ (λ y d. onPlace y (λ i. g i (linkOf t d)) h) (found ∙ locate-aim t decl s p r) declared
 
     pub stepped-is : (d : ℤ) (n : ℕ) → linkOf t m ≡ n → stepped t p d q m s ≡ steppedBy (stageOf t s p decl unit) n s (nameOf r) d (aim (sceneOf t s p decl) r)
     unfolding stepped
     stepped-is d n l =
         placed-is (λ i k. (Done, moved p (linkOf t m) (set s i (castOf (typeOf k) (wrap32 (cellOf s i +ℤ d)))))) (fault s)
-        ∙ ap (λ k. onPlace (placed t decl s p unit w (aim (c .scene) r)) (λ i. (Done, moved p k (set s i (castOf (typeOf (linkOf t (decl w))) (wrap32 (cellOf s i +ℤ d)))))) (fault s)) l ∙ go (aim (c .scene) r)
+        ∙ ap (λ k. onPlace (placed t decl p w (aim (c .scene) r)) (λ i. (Done, moved p k (set s i (castOf (typeOf (linkOf t (decl w))) (wrap32 (cellOf s i +ℤ d)))))) (fault s)) l ∙ go (aim (c .scene) r)
       where
-        go : (y : Aim) → onPlace (placed t decl s p unit (nameOf r) y) (λ i. (Done, moved p n (set s i (castOf (typeOf (linkOf t (decl (nameOf r)))) (wrap32 (cellOf s i +ℤ d)))))) (fault s)
+        go : (y : Aim) → onPlace (placed t decl p (nameOf r) y) (λ i. (Done, moved p n (set s i (castOf (typeOf (linkOf t (decl (nameOf r)))) (wrap32 (cellOf s i +ℤ d)))))) (fault s)
             ≡ steppedBy (stageOf t s p decl unit) n s (nameOf r) d y
         go (hit k) = refl
         go (miss f) = refl
@@ -82,10 +79,10 @@ module _ (t : List ℕ) (decl : Name → ℕ) (s : List ℤ) (p : ℕ) (unit : N
     unfolding assigned
     assigned-is e z n x l =
         placed-is (λ i k. onValue (evalOf t s p (m + 1) z) (λ v. (Done, moved p (linkOf t z) (set s i (castOf (typeOf k) v)))) (fault s)) (fault s)
-        ∙ ap₂ (λ y k. onPlace (placed t decl s p unit w (aim (c .scene) r)) (λ i. onValue y (λ v. (Done, moved p k (set s i (castOf (typeOf (linkOf t (decl w))) v)))) (fault s)) (fault s)) x l
+        ∙ ap₂ (λ y k. onPlace (placed t decl p w (aim (c .scene) r)) (λ i. onValue y (λ v. (Done, moved p k (set s i (castOf (typeOf (linkOf t (decl w))) v)))) (fault s)) (fault s)) x l
         ∙ go (aim (c .scene) r) (eval (c .scene) e)
       where
-        go : (y : Aim) (v : Answer) → onPlace (placed t decl s p unit (nameOf r) y) (λ i. onValue v (λ v. (Done, moved p n (set s i (castOf (typeOf (linkOf t (decl (nameOf r)))) v)))) (fault s)) (fault s)
+        go : (y : Aim) (v : Answer) → onPlace (placed t decl p (nameOf r) y) (λ i. onValue v (λ v. (Done, moved p n (set s i (castOf (typeOf (linkOf t (decl (nameOf r)))) v)))) (fault s)) (fault s)
             ≡ assignedBy (stageOf t s p decl unit) n s (nameOf r) v y
         go (hit k) (Value v) = refl
         go (hit k) (Fails f) = refl
@@ -142,11 +139,11 @@ module _ (t : List ℕ) (decl : Name → ℕ) (s : List ℤ) (p : ℕ) (unit : N
       → length es ≤ 32 → linkOf t z ≡ n → setRan t p q m e s ≡ setRunBy (stageOf t s p decl unit) n s (nameOf x) w (values (sceneOf t s p decl) es) (aim (sceneOf t s p decl) x)
   unfolding setRan setRunAt
   set-ran-is x w es q m e z n f d u r few l =
-      (λ i. onPlace ((f ∙ locate-aim t decl s p unit x) i) (λ k. pick (fitsOf t s (u i))
+      (λ i. onPlace ((f ∙ locate-aim t decl s p x) i) (λ k. pick (fitsOf t s (u i))
       (onEnd (gatherEnd t s p 32 (e + 1)) (λ y. (Done, moved p (linkOf t y) (set (called t (u i) (gatherList t s p 32 (e + 1) 0 blank) s) k (castOf (typeOf (linkOf t (d i))) (kept (processesOf s)))))) (fault s))
       (Done, moved p ((ap (linkOf t) (end-is t decl r 32 few) ∙ l) i) (set s k (castOf (typeOf (linkOf t (d i))) (pos 0))))) (fault s)) ∙ go (aim (c .scene) x)
     where
-      go : (y : Aim) → onPlace (placed t decl s p unit (nameOf x) y) (λ k. pick (fitsOf t s (unit w))
+      go : (y : Aim) → onPlace (placed t decl p (nameOf x) y) (λ k. pick (fitsOf t s (unit w))
           (onEnd (gatherEnd t s p 32 (e + 1)) (λ y. (Done, moved p (linkOf t y) (set (called t (unit w) (gatherList t s p 32 (e + 1) 0 blank) s) k (castOf (typeOf (linkOf t (decl (nameOf x)))) (kept (processesOf s)))))) (fault s))
           (Done, moved p n (set s k (castOf (typeOf (linkOf t (decl (nameOf x)))) (pos 0))))) (fault s)
           ≡ setRunBy (stageOf t s p decl unit) n s (nameOf x) w (values (sceneOf t s p decl) es) y

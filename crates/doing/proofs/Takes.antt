@@ -7,22 +7,19 @@ use mathlib.Core.Bool.{true}
 use mathlib.Core.List.{List, [], _∷_, _++_, append-assoc}
 use lib.ListN.{length, length-append}
 use lib.IntN.{ℤ, pos, negsuc}
-use lib.Dec.{eqb}
-use Rattle.base.specs.Choice.{pick}
 use Rattle.tables.specs.Access.{codeOf, linkOf}
-use Rattle.syntax.specs.Tree.{Ref, Expr, action, Tree, express, assign, increment, decrement, send, receive, assert, print, skip, goto, break, timeout, else, run, set-run, select, loop}
+use Rattle.syntax.specs.Tree.{action, Tree, express, assign, increment, decrement, send, receive, assert, print, skip, goto, break, timeout, else, run, set-run, select, loop}
 use Rattle.syntax.specs.Code.{Item, i-name, i-express, i-target, i-assign, i-increment, i-decrement, i-assert, i-skip, i-goto, i-break, i-timeout, i-else, i-if, i-fi, i-do, i-od, code-exp, code-tree, code}
 use Rattle.entries.specs.Items as items
 use Rattle.judging.specs.Judging.{tablesText}
 use Rattle.accepting.specs.Meaning.{Accepts}
-use Rattle.places.specs.Places.{isPart, isMark}
 use Rattle.executing.specs.Executing.{isAlone, markOf}
 use Rattle.statements.specs.declared.Taken.the-variants.{Idle}
-use Rattle.statements.specs.Statements.{Result, passed, expressed, asserted, stepped, assigned, sent, received, printed}
+use Rattle.statements.specs.Statements.{passed, expressed, asserted, stepped, assigned, sent, received, printed}
 use Rattle.effects.specs.Effects.{ran, setRan, targeted, takenAs, takenBy, takenOf}
 use Rattle.meaning.specs.Scenes.{sizeIn}
 use Rattle.expressions.specs.Names.{declAt}
-use Rattle.acts.specs.Stage.{Stage, Ways}
+use Rattle.acts.specs.Stage.{Ways}
 use Rattle.acts.specs.Tables.{Leads}
 use Rattle.acts.specs.Effect.{goOn, effect}
 use Rattle.acts.proofs.Stands.{Lying}
@@ -31,7 +28,7 @@ use Rattle.doing.proofs.Meant.{Quiet}
 use Rattle.doing.proofs.Parts.{Here, first-code, back-lies}
 use Rattle.doing.proofs.Phrases.{behind-express, behind-assign, behind-assert, refers-target, refers-increment, refers-decrement, works}
 use Rattle.doing.proofs.Lists.{quiet-phrase, mark-code, behind-there}
-use Rattle.doing.proofs.Begins.{alone-mark, phrase-mark, name-mark, target-assign}
+use Rattle.doing.proofs.Begins.{marks, alones, alone-mark, phrase-mark, name-mark, target-assign}
 use Rattle.doing.proofs.Shapes.{reference-there, sending, receiving, printing, running, set-running}
 use Rattle.doing.proofs.Stores.{expressed-is, asserted-is, stepped-is, assigned-is, printed-is, ran-is, set-ran-is}
 use Rattle.doing.proofs.Sends.{sent-is, received-is}
@@ -105,15 +102,6 @@ module _ (t : List ℕ) (p q m : ℕ) (s : List ℤ) where
   by-do : codeOf t m ≡ 206 → takenBy t p q m s ≡ (Idle, s)
   unfolding takenAs
   by-do e = rw e
-
--- codes of marks
-marks : (isMark 189 ≡ true) × (isMark 196 ≡ true) × (isMark 198 ≡ true)
-unfolding isPart
-marks = (refl, refl, refl)
-
-alones : (isAlone 197 ≡ true) × (isAlone 199 ≡ true) × (isAlone 200 ≡ true) × (isAlone 201 ≡ true) × (isAlone 204 ≡ true) × (isAlone 206 ≡ true)
-unfolding isAlone
-alones = (refl, refl, refl, refl, refl, refl)
 
 module _ (t : List ℕ) (a : Accepts t) where
   abbrev T : List ℕ

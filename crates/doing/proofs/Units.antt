@@ -4,18 +4,18 @@ use native.Mathlib.Omega.{arith}
 use native.Mathlib.Decide.{ℕ-discrete}
 use mathlib.Core.Path.{_≡_, refl, sym, ap, subst, _∙_}
 use mathlib.Core.Bool.{Bool, true, false}
-use mathlib.Core.List.{List, [], _∷_}
+use mathlib.Core.List.{List}
 use lib.ListN.{length, getD}
 use lib.Dec.{ltb, leb}
 use borrow.Author.Tests.{ltb-true, ltb-false, leb-true}
 use Rattle.base.proofs.Tests.{both-true}
 use Rattle.syntax.specs.Tree.{Name, Expr}
-use Rattle.tables.specs.Access.{itemsOf, codeOf, linkOf}
+use Rattle.tables.specs.Access.{codeOf, linkOf}
 use Rattle.judging.specs.Judging.{tablesText}
 use Rattle.accepting.specs.Meaning.{Accepts}
 use Rattle.forming.specs.Forms.{begins, inner, formAt, Formed}
-use Rattle.forming.proofs.Spans.{said, zone-body, zone-kept, zone-ended}
-use Rattle.keeping.specs.Well.{Unit, Inside, opens, Arguments, ended, further}
+use Rattle.forming.proofs.Spans.{said, zone-kept, zone-ended}
+use Rattle.keeping.specs.Well.{Unit, opens, Arguments, ended, further}
 use Rattle.expressions.specs.Names.{codesAt, saidAt}
 use Rattle.fitness.proofs.Tables.{text-held}
 use Rattle.fitness.proofs.Known.{text-facts}

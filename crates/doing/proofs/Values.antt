@@ -19,9 +19,9 @@ use Rattle.statements.specs.Statements.{blank}
 use Rattle.effects.specs.Effects.{parameterSet, called}
 use Rattle.printing.specs.Printing.{decimal, escaped, written, opened, counted, writtenFrom}
 use Rattle.meaning.specs.Scenes.{sceneOf}
-use Rattle.acts.specs.Arguments.{Values, all, stopped, values}
+use Rattle.acts.specs.Arguments.{all, values}
 use Rattle.doing.specs.Walked.{Passed}
-use Rattle.doing.proofs.Gathers.{Whole, listed, fill, fill-blank, values-count, gather-fills}
+use Rattle.doing.proofs.Gathers.{Whole, listed, fill-blank, values-count, gather-fills}
 
 -- the same value at every place
 abbrev pub Alike : List ℤ → List ℤ → Type 0

@@ -2,10 +2,8 @@
 -- docs/TABLES.md, "Links". `t` are tables, p the number of the process, `decl` has for each name the item that declares it.
 use Prim.Native.Nat.{ℕ, _+_, _-_}
 use mathlib.Core.Path.{_≡_}
-use mathlib.Core.Bool.{true, false}
 use mathlib.Core.List.{List, [], _∷_}
 use lib.IntN.{ℤ}
-use lib.Dec.{eqb}
 use Rattle.tables.specs.Access.{codeOf, linkOf}
 use Rattle.syntax.specs.Tree.{Name, Expr, Ref, Received, into, equal, exactly, exactly-true, exactly-false, num, tru, fls}
 use Rattle.evaluating.specs.Expressions.{evalOf, locateOf}
