@@ -78,9 +78,6 @@ module _ (t : List ℕ) (a : Accepts t) where
   abbrev C : List ℕ
   C = codesAt t a
 
-  abbrev T : List ℕ
-  T = tablesText t
-
   -- it is its own mark
   pub alone-mark : (x : Item) (l : List Item) (j : ℕ) → Here t a (x ∷ l) j → isAlone (items.codeOf x) ≡ true → markOf (tablesText t) j ≡ j
   unfolding markOf
@@ -98,7 +95,8 @@ module _ (t : List ℕ) (a : Accepts t) where
       let c = here-codes t a (i-name w ∷ x ∷ z) j p in
       let e : j + 1 ≡ suc j = omega arith in
       rw (first-code t a (i-name w) (x ∷ z) j p, name-alone)
-      (link-mark t a j (j + 1) (omega arith) (omega (arith, here-long t a (i-name w ∷ x ∷ z) j p)) (ap classOf (c .0) ∙ name-class) (λ y u v. absurd (omega arith)) (ap (λ n. isMark (getD C n 0)) e ∙ ap isMark (c .1 .0) ∙ m))
+      (link-mark t a j (j + 1) (omega arith) (omega (arith, here-long t a (i-name w ∷ x ∷ z) j p)) (ap classOf (c .0) ∙ name-class) (λ y u v. absurd (omega arith))
+      (ap (λ n. isMark (getD C n 0)) e ∙ ap isMark (c .1 .0) ∙ m))
 
   -- a target links to the mark behind it
   pub target-assign : (e : Expr) (m : ℕ) → Here t a (i-target ∷ (code-exp e ++ i-assign ∷ [])) m → linkOf (tablesText t) m ≡ m + 1 + sizeIn e
@@ -148,7 +146,8 @@ module _ (t : List ℕ) (a : Accepts t) where
       let u = unit-most w in
       let z : i + 1 - 1 ≡ i = omega arith in
       text-held t a .links (i + 1) (omega arith) ∙ k .1
-      ∙ ap (min 4294967295) (run-link (k .0) (i + 1) (coded v) ∙ ap (globalOf C (saidAt t a) (homes C)) z ∙ global-unit w i (omega (arith, items-long t a)) (here-lies t a (i-name w ∷ x ∷ l) i p .0))
+      ∙ ap (min 4294967295) (run-link (k .0) (i + 1) (coded v) ∙ ap (globalOf C (saidAt t a) (homes C)) z
+      ∙ global-unit w i (omega (arith, items-long t a)) (here-lies t a (i-name w ∷ x ∷ l) i p .0))
       ∙ (let y : min 4294967295 (unitAt t a w) ≡ unitAt t a w = omega arith in y)
     where
       c : getD C (i + 1) 0 ≡ items.codeOf x

@@ -20,7 +20,6 @@ use Rattle.evaluating.specs.Expressions.{locateOf}
 use Rattle.executing.specs.Channels.{fieldsOf, argumentsOf, addressedOf}
 use Rattle.executing.specs.Executing.{messageOf}
 use Rattle.meaning.specs.Scenes.{sceneOf, locate}
-use Rattle.acts.specs.Stage.{Stage}
 use Rattle.acts.specs.Tables.{stageOf}
 use Rattle.acts.specs.Arguments.{nameOf, Aim, hit, miss, aim, Reach, channel, astray, reachAt, reach}
 use Rattle.doing.proofs.Receives.{placed, locate-aim}
@@ -55,9 +54,6 @@ count-five f n h = go (ℕ-discrete f n)
     go (no e) = ne-eqb f (min 5 n) (λ q. omega arith) ∙ sym (ne-eqb f n e)
 
 module _ (t : List ℕ) (decl : Name → ℕ) (s : List ℤ) (p : ℕ) (unit : Name → ℕ) where
-  abbrev c : Stage
-  c = stageOf t s p decl unit
-
   addressed-is : (n : ℕ) (w : Name) (y : Aim) → addressedOf t s (channelOf s (loadOf s (placed t decl p w y))) (min 5 n) ≡ recordOf (reachAt (stageOf t s p decl unit) n w y)
   addressed-is n w (miss f) = refl
   addressed-is n w (hit k) = go (madeOf s (nat v))

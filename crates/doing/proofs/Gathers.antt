@@ -33,7 +33,7 @@ fill-before : {A : Type 0} (d : A) (vs : List A) (l : List A) (k i : ℕ) → i 
 fill-before d [] l k i h = refl
 fill-before d (v ∷ vs) l k i h = fill-before d vs (set l k v) (k + 1) i (omega arith) ∙ getD-set-other l k i v d (λ e. omega arith)
 
-pub fill-at : {A : Type 0} (d : A) (vs : List A) (l : List A) (k i : ℕ) → i < length vs → k + length vs ≤ length l → getD (fill l k vs) (k + i) d ≡ getD vs i d
+fill-at : {A : Type 0} (d : A) (vs : List A) (l : List A) (k i : ℕ) → i < length vs → k + length vs ≤ length l → getD (fill l k vs) (k + i) d ≡ getD vs i d
 fill-at d [] l k i h g = absurd (omega arith)
 fill-at d (v ∷ vs) l k zero h g =
     let z : k + 0 ≡ k = omega arith in
@@ -67,7 +67,8 @@ fill-blank {A} d n vs h i = go (ℕ-discrete (min i (length vs)) i)
       where
         by : Dec (i ≡ length vs) → getD (fill (replicate n d) 0 vs) i d ≡ getD vs i d
         by (yes z) = fill-behind d vs (replicate n d) 0 i (omega arith) ∙ same-all d n i ∙ sym (past-end d vs i (omega arith))
-        by (no z) = let y : i ≡ 0 + i = omega arith in ap (λ m. getD (fill (replicate n d) 0 vs) m d) y ∙ fill-at d vs (replicate n d) 0 i (omega arith) (omega (arith, length-replicate {A = A} n d))
+        by (no z) =
+            let y : i ≡ 0 + i = omega arith in ap (λ m. getD (fill (replicate n d) 0 vs) m d) y ∙ fill-at d vs (replicate n d) 0 i (omega arith) (omega (arith, length-replicate {A = A} n d))
     go (no e) = fill-behind d vs (replicate n d) 0 i (omega arith) ∙ same-all d n i ∙ sym (past-end d vs i (omega arith))
 
 -- ---- what is worked out
@@ -141,7 +142,8 @@ module _ (t : List ℕ) (decl : Name → ℕ) where
     gather-fills (one-more m c l v r) zero h k x w = absurd (omega arith)
     gather-fills (one-more {e = e} {es = es} {a = a} {z = z} m c l v r) (suc n) h k x w =
         rw (ne-eqb (codeOf t a) 187 c) (ap (λ j. onValue (evalOf t s p a j) (λ u. gatherList t s p n (j + 1) (k + 1) (set x k u)) (λ f. x)) l
-        ∙ ap (λ y. onValue y (λ u. gatherList t s p n (m + 1) (k + 1) (set x k u)) (λ f. x)) (v s p) ∙ go (eval scene e) (values scene es) w (λ u. gather-fills r n (omega arith) (k + 1) (set x k u)))
+        ∙ ap (λ y. onValue y (λ u. gatherList t s p n (m + 1) (k + 1) (set x k u)) (λ f. x)) (v s p)
+        ∙ go (eval scene e) (values scene es) w (λ u. gather-fills r n (omega arith) (k + 1) (set x k u)))
       where
         go : (y : Answer) (q : Values) → Whole (valuesBy y q) → ((u : ℤ) → Whole q → gatherList t s p n (m + 1) (k + 1) (set x k u) ≡ fill (set x k u) (k + 1) (listed q))
             → onValue y (λ u. gatherList t s p n (m + 1) (k + 1) (set x k u)) (λ f. x) ≡ fill x k (listed (valuesBy y q))

@@ -37,7 +37,8 @@ module _ (t : List ℕ) (a : Accepts t) where
   T = tablesText t
 
   pub quiet-mark : (x : Item) (l : List Item) (m : ℕ) → Here t a (x ∷ l) m → items.codeOf x < 212 → Quiet t a m (m + 1)
-  quiet-mark x l m p h y u v = let z : y ≡ m = omega arith in let e : getD (codesAt t a) y 0 ≡ items.codeOf x = ap (λ n. getD (codesAt t a) n 0) z ∙ here-codes t a (x ∷ l) m p .0 in omega arith
+  quiet-mark x l m p h y u v =
+      let z : y ≡ m = omega arith in let e : getD (codesAt t a) y 0 ≡ items.codeOf x = ap (λ n. getD (codesAt t a) n 0) z ∙ here-codes t a (x ∷ l) m p .0 in omega arith
 
   -- a phrase and its mark declare nothing
   pub quiet-phrase : (j i : ℕ) → Quiet t a j i → {k : Shape} (e : Exp k) (x : Item) (z : List Item) → Here t a (code-exp e ++ x ∷ z) i → items.codeOf x < 212 → Quiet t a j (i + sizeIn e + 1)
@@ -56,7 +57,8 @@ module _ (t : List ℕ) (a : Accepts t) where
   leaf-there e z i p =
       let q = here-long t a (code-exp e ++ z) i p in
       let s = some-items e in
-      subst Leaf (sym (text-held t a .codes i (omega (arith, length-append (code-exp e) z)))) (begins-leaf (codesAt t a) i e (at-front (codesAt t a) i (code-exp e) z (here-codes t a (code-exp e ++ z) i p)))
+      subst Leaf (sym (text-held t a .codes i (omega (arith, length-append (code-exp e) z))))
+      (begins-leaf (codesAt t a) i e (at-front (codesAt t a) i (code-exp e) z (here-codes t a (code-exp e ++ z) i p)))
 
   -- ---- arguments
   pub arguments-there : (es : List Expr) (j b z : ℕ) → j ≤ b → Quiet t a j b → Here t a (each code-argument es ++ i-end ∷ []) b → z ≡ b + length (each code-argument es)
@@ -69,7 +71,8 @@ module _ (t : List ℕ) (a : Accepts t) where
       let y : length ((X ++ i-argument ∷ []) ++ Y) ≡ sizeIn x + 1 + length Y = omega (arith, length-append (X ++ i-argument ∷ []) Y, length-append X (i-argument ∷ [])) in
       one-more (b + sizeIn x) (leaf-no-end (leaf-there x (i-argument ∷ (Y ++ i-end ∷ [])) b r)) (linked-there t a x i-argument (Y ++ i-end ∷ []) b r (behind-argument .mark))
       (works t a j b h q x i-argument (Y ++ i-end ∷ []) r behind-argument)
-      (arguments-there es j (b + sizeIn x + 1) z (omega arith) (quiet-phrase j b q x i-argument (Y ++ i-end ∷ []) r (omega arith)) (behind-there x i-argument (Y ++ i-end ∷ []) b r) (omega arith))
+      (arguments-there es j (b + sizeIn x + 1) z (omega arith) (quiet-phrase j b q x i-argument (Y ++ i-end ∷ []) r (omega arith)) (behind-there x i-argument (Y ++ i-end ∷ []) b r)
+      (omega arith))
 
   -- ---- received arguments
   compared : (j b : ℕ) (y : List Item) (e : Expr) (x : Item) → (items.codeOf x ≡ 184 → ⊥) → Here t a (code-exp e ++ x ∷ y) b
@@ -128,5 +131,7 @@ module _ (t : List ℕ) (a : Accepts t) where
       let Y = each code-received ys in
       let r = subst (λ l. Here t a l b) (ap (λ l. (l ++ Y) ++ i-end ∷ []) (received-code x) ∙ regroup X m Y (i-end ∷ [])) p in
       let y : length (code-received x ++ Y) ≡ sizeIn (said x) + 1 + length Y = omega (arith, length-append (code-received x) Y, ap length (received-code x), length-append X (m ∷ [])) in
-      one-more (b + sizeIn (said x)) (leaf-no-end (leaf-there (said x) (m ∷ (Y ++ i-end ∷ [])) b r)) (linked-there t a (said x) m (Y ++ i-end ∷ []) b r (marked-mark x .0)) (agreed-there j b h q (Y ++ i-end ∷ []) x r)
-      (received-there ys j (b + sizeIn (said x) + 1) z (omega arith) (quiet-phrase j b q (said x) m (Y ++ i-end ∷ []) r (marked-mark x .1)) (behind-there (said x) m (Y ++ i-end ∷ []) b r) (omega arith))
+      one-more (b + sizeIn (said x)) (leaf-no-end (leaf-there (said x) (m ∷ (Y ++ i-end ∷ [])) b r)) (linked-there t a (said x) m (Y ++ i-end ∷ []) b r (marked-mark x .0))
+      (agreed-there j b h q (Y ++ i-end ∷ []) x r)
+      (received-there ys j (b + sizeIn (said x) + 1) z (omega arith) (quiet-phrase j b q (said x) m (Y ++ i-end ∷ []) r (marked-mark x .1)) (behind-there (said x) m (Y ++ i-end ∷ []) b r)
+      (omega arith))

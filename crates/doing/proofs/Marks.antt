@@ -110,7 +110,8 @@ inside-part c e = go (either-true (eqb c 70) _ e)
         on (inl y) = rw (eqb-true c 71 y)
         on (inr y) = last (either-true (both (ltb 146 c) (ltb c 168)) _ y)
           where
-            last : (both (ltb 146 c) (ltb c 168) ≡ true) ⊎ (both (ltb 175 c) (ltb c 183) ≡ true) → pick (either (within 70 71 c) (either (within 147 167 c) (within 176 182 c))) false true ≡ false
+            last : (both (ltb 146 c) (ltb c 168) ≡ true) ⊎ (both (ltb 175 c) (ltb c 183) ≡ true)
+                → pick (either (within 70 71 c) (either (within 147 167 c) (within 176 182 c))) false true ≡ false
             last (inl z) = parted (within 70 71 c) (within 147 167 c) (within 176 182 c) (inr (inl (between 146 167 z)))
             last (inr z) = parted (within 70 71 c) (within 147 167 c) (within 176 182 c) (inr (inr (between 175 182 z)))
 

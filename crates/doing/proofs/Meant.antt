@@ -50,7 +50,8 @@ module _ (cs vs hs : List ℕ) (n : ℕ) (low : getD cs n 0 < 212) where
       go true = rw (le-ltb n n (omega arith))
       go false =
           let z : 0 + n ≡ n = omega arith in
-          first-longer (declares cs vs hs 1 w h) 0 n (ap (declares cs vs hs 1 w h) z ∙ no-declaration w h) ∙ ap (λ k. pick (ltb (first (declares cs vs hs 1 w h) 0 n) k) (first (declares cs vs hs 1 w h) 0 n) (suc k)) z
+          first-longer (declares cs vs hs 1 w h) 0 n (ap (declares cs vs hs 1 w h) z ∙ no-declaration w h)
+          ∙ ap (λ k. pick (ltb (first (declares cs vs hs 1 w h) 0 n) k) (first (declares cs vs hs 1 w h) 0 n) (suc k)) z
 
   lookup-longer : (w h : ℕ) → lookup cs vs hs w h (suc n) ≡ later n (lookup cs vs hs w h n)
   unfolding lookup
@@ -60,7 +61,8 @@ module _ (cs vs hs : List ℕ) (n : ℕ) (low : getD cs n 0 < 212) where
       x = find cs vs hs 1 w h n
 
       go : (b : Bool) → ltb (find cs vs hs 1 w h n) n ≡ b
-          → pick (ltb (later n (find cs vs hs 1 w h n)) (suc n)) (later n (find cs vs hs 1 w h n)) (later n (find cs vs hs 1 w 0 n)) ≡ later n (pick b (find cs vs hs 1 w h n) (find cs vs hs 1 w 0 n))
+          → pick (ltb (later n (find cs vs hs 1 w h n)) (suc n)) (later n (find cs vs hs 1 w h n)) (later n (find cs vs hs 1 w 0 n))
+          ≡ later n (pick b (find cs vs hs 1 w h n) (find cs vs hs 1 w 0 n))
       go true e = rw (e, lt-ltb x (suc n) (let z = ltb-true x n e in omega arith))
       go false e = rw (e, le-ltb (suc n) (suc n) (omega arith))
 

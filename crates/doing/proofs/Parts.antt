@@ -19,9 +19,6 @@ use Rattle.expressions.proofs.Names.{Lies, lies-all}
 use Rattle.fitness.proofs.Tables.{text-held}
 use Rattle.acts.proofs.Stands.{Lying}
 
-pub front-lies : (l x y : List Item) (i j : ℕ) → Lying l i (x ++ y) j → Lying l i x j
-front-lies l x y i j p = record { front = p .front; rest = y ++ p .rest; split = p .split ∙ ap (p .front ++_) (append-assoc x y (p .rest)); place = p .place }
-
 pub back-lies : (l x y : List Item) (i j k : ℕ) → k ≡ j + length x → Lying l i (x ++ y) j → Lying l i y k
 back-lies l x y i j k e p =
     record {
@@ -34,9 +31,6 @@ back-lies l x y i j k e p =
 module _ (t : List ℕ) (a : Accepts t) where
   abbrev xs : List Item
   xs = code (a .tree)
-
-  abbrev C : List ℕ
-  C = codesAt t a
 
   -- these items stand in the tree's code from item i on
   abbrev pub Here : List Item → ℕ → Type 0
@@ -54,7 +48,8 @@ module _ (t : List ℕ) (a : Accepts t) where
   here-lies l i p =
       lies-all xs l i
       (λ j g. let e = p .place in let z : i + j ≡ length (p .front) + j = omega arith in
-      ap (λ (y : List Item). getD y (i + j) i-plain) (p .split) ∙ ap (λ n. getD (p .front ++ (l ++ p .rest)) n i-plain) z ∙ getD-append-add (p .front) (l ++ p .rest) j i-plain ∙ List·getD-append l (p .rest) i-plain j g)
+      ap (λ (y : List Item). getD y (i + j) i-plain) (p .split) ∙ ap (λ n. getD (p .front ++ (l ++ p .rest)) n i-plain) z ∙ getD-append-add (p .front) (l ++ p .rest) j i-plain
+      ∙ List·getD-append l (p .rest) i-plain j g)
 
   -- the first of them
   module _ (x : Item) (l : List Item) (i : ℕ) (p : Here (x ∷ l) i) where

@@ -109,7 +109,8 @@ role-declared : (cs vs hs : List ℕ) (m h role : ℕ) → (role ≡ 0 → ⊥) 
 unfolding badUse among
 role-declared cs vs hs m h role n e c =
     go (eqb (getD vs m 0) 0)
-    (sym (ap (λ y. pick (eqb (getD vs m 0) 0) (badPlain (eqb role 0) false) (pick (eqb y 220) (badPlain (either (eqb role 0) (eqb role 3)) false) (pick (among 14 y) (badVariable cs d role false) 4))) c) ∙ e)
+    (sym (ap (λ y. pick (eqb (getD vs m 0) 0) (badPlain (eqb role 0) false)
+    (pick (eqb y 220) (badPlain (either (eqb role 0) (eqb role 3)) false) (pick (among 14 y) (badVariable cs d role false) 4))) c) ∙ e)
   where
     d : ℕ
     d = lookup cs vs hs (getD vs m 0) h m
@@ -249,10 +250,12 @@ module _ (t : List ℕ) (a : Accepts t) where
         → evalOf (tablesText t) s q i (i + 1) ≡ eval (sceneOf (tablesText t) s q (declAt t a j)) (num n)
     number-works n x z p = constant-works (num n) x z p tt (omega arith)
 
-    pub true-works : (x : Item) (z : List Item) → Here t a (code-exp tru ++ x ∷ z) i → (s : List ℤ) (q : ℕ) → evalOf (tablesText t) s q i (i + 1) ≡ eval (sceneOf (tablesText t) s q (declAt t a j)) tru
+    pub true-works : (x : Item) (z : List Item) → Here t a (code-exp tru ++ x ∷ z) i → (s : List ℤ) (q : ℕ)
+        → evalOf (tablesText t) s q i (i + 1) ≡ eval (sceneOf (tablesText t) s q (declAt t a j)) tru
     true-works x z p = constant-works tru x z p tt (omega arith)
 
-    pub false-works : (x : Item) (z : List Item) → Here t a (code-exp fls ++ x ∷ z) i → (s : List ℤ) (q : ℕ) → evalOf (tablesText t) s q i (i + 1) ≡ eval (sceneOf (tablesText t) s q (declAt t a j)) fls
+    pub false-works : (x : Item) (z : List Item) → Here t a (code-exp fls ++ x ∷ z) i → (s : List ℤ) (q : ℕ)
+        → evalOf (tablesText t) s q i (i + 1) ≡ eval (sceneOf (tablesText t) s q (declAt t a j)) fls
     false-works x z p = constant-works fls x z p tt (omega arith)
 
     module _ (r : Ref) (x : Item) (z : List Item) (p : Here t a (code-exp r ++ x ∷ z) i) (b : Refers x) where

@@ -36,7 +36,8 @@ use Rattle.doing.proofs.Shapes.{printing}
 use Rattle.doing.proofs.Values.{text-alike, gathered-alike}
 
 -- ---- a format, byte by byte
-format-is : (t : List ℕ) (vs : List ℤ) (w : List ℕ) (n j i was k : ℕ) → n ≡ length w → ((d : ℕ) → d < length w → nameByte t j (i + d) ≡ getD w d 0) → writtenFrom t vs n j i was k ≡ format vs was k w
+format-is : (t : List ℕ) (vs : List ℤ) (w : List ℕ) (n j i was k : ℕ) → n ≡ length w → ((d : ℕ) → d < length w → nameByte t j (i + d) ≡ getD w d 0)
+    → writtenFrom t vs n j i was k ≡ format vs was k w
 unfolding writtenFrom format
 format-is t vs [] zero j i was k e f = refl
 format-is t vs [] (suc n) j i was k e f = absurd (omega arith)
@@ -45,7 +46,8 @@ format-is t vs (b ∷ w) (suc n) j i was k e f =
     let z : i ≡ i + 0 = omega arith in
     let q : nameByte t j i ≡ b = ap (nameByte t j) z ∙ f 0 (omega arith) in
     ap (λ x. written vs was x k ++ writtenFrom t vs n j (i + 1) (opened was x) (counted was x k)) q
-    ∙ ap (written vs was b k ++_) (format-is t vs w n j (i + 1) (opened was b) (counted was b k) (omega arith) (λ d h. let y : i + 1 + d ≡ i + suc d = omega arith in ap (nameByte t j) y ∙ f (suc d) (omega arith)))
+    ∙ ap (written vs was b k ++_) (format-is t vs w n j (i + 1) (opened was b) (counted was b k) (omega arith)
+    (λ d h. let y : i + 1 + d ≡ i + suc d = omega arith in ap (nameByte t j) y ∙ f (suc d) (omega arith)))
 
 module _ (t : List ℕ) (a : Accepts t) where
   abbrev T : List ℕ
@@ -65,12 +67,14 @@ module _ (t : List ℕ) (a : Accepts t) where
     text-length : nameLength T j ≡ length w
     text-length =
         ap (λ (x : List ℕ). nameLength x j) (text-tables t a)
-        ∙ holds-name-length (entriesIn (a .tree)) (linksAt t a) (accepted-fair t (a .parts) (a .tree) (a .reads) (a .gram)) j inside (inr (ap (λ x. x .code) entry-is)) ∙ ap (λ x. length (x .bytes)) entry-is
+        ∙ holds-name-length (entriesIn (a .tree)) (linksAt t a) (accepted-fair t (a .parts) (a .tree) (a .reads) (a .gram)) j inside (inr (ap (λ x. x .code) entry-is))
+        ∙ ap (λ x. length (x .bytes)) entry-is
 
     text-byte : (d : ℕ) → d < length w → nameByte T j d ≡ getD w d 0
     text-byte d h =
         ap (λ (x : List ℕ). nameByte x j d) (text-tables t a)
-        ∙ holds-name-byte (entriesIn (a .tree)) (linksAt t a) (accepted-fair t (a .parts) (a .tree) (a .reads) (a .gram)) j inside (inr (ap (λ x. x .code) entry-is)) (accepted-small t (a .parts) (a .tree) (a .reads) (a .gram)) d
+        ∙ holds-name-byte (entriesIn (a .tree)) (linksAt t a) (accepted-fair t (a .parts) (a .tree) (a .reads) (a .gram)) j inside (inr (ap (λ x. x .code) entry-is))
+        (accepted-small t (a .parts) (a .tree) (a .reads) (a .gram)) d
         (subst (λ x. d < length (x .bytes)) (sym entry-is) h) ∙ ap (λ x. getD (x .bytes) d 0) entry-is
 
     text-is : (vs : List ℤ) → textOf T vs j ≡ format vs 0 0 w
@@ -103,7 +107,8 @@ module _ (t : List ℕ) (a : Accepts t) where
     prints-at : (x : Tree action) → Here t a (code-tree x) j → printedAt T s p j ≡ prints (stageAt t a s p j) x
     prints-at (express e) h = none-printed (leaf-no-text (leaf-there t a e (i-express ∷ []) j h))
     prints-at (assign r e) h =
-        none-printed (leaf-no-text (leaf-there t a r (i-target ∷ (code-exp e ++ i-assign ∷ [])) j (subst (λ l. Here t a l j) (append-assoc (code-exp r) (i-target ∷ code-exp e) (i-assign ∷ [])) h)))
+        none-printed (leaf-no-text (leaf-there t a r (i-target ∷ (code-exp e ++ i-assign ∷ [])) j
+        (subst (λ l. Here t a l j) (append-assoc (code-exp r) (i-target ∷ code-exp e) (i-assign ∷ [])) h)))
     prints-at (increment r) h = none-printed (leaf-no-text (leaf-there t a r (i-increment ∷ []) j h))
     prints-at (decrement r) h = none-printed (leaf-no-text (leaf-there t a r (i-decrement ∷ []) j h))
     prints-at (send r es) h =
@@ -122,7 +127,8 @@ module _ (t : List ℕ) (a : Accepts t) where
     prints-at (run w es) h = alone-prints (i-name w) (i-run ∷ (each code-argument es ++ i-end ∷ [])) h (λ e. omega arith)
     prints-at (set-run r w es) h =
         let E = each code-argument es in
-        none-printed (leaf-no-text (leaf-there t a r (i-target ∷ i-name w ∷ i-set-run ∷ (E ++ i-end ∷ [])) j (subst (λ l. Here t a l j) (append-assoc (code-exp r) (i-target ∷ i-name w ∷ i-set-run ∷ E) (i-end ∷ [])) h)))
+        none-printed (leaf-no-text (leaf-there t a r (i-target ∷ i-name w ∷ i-set-run ∷ (E ++ i-end ∷ [])) j
+        (subst (λ l. Here t a l j) (append-assoc (code-exp r) (i-target ∷ i-name w ∷ i-set-run ∷ E) (i-end ∷ [])) h)))
     prints-at (select os) h = alone-prints i-if (code-tree os ++ i-fi ∷ []) h (λ e. omega arith)
     prints-at (loop os) h = alone-prints i-do (code-tree os ++ i-od ∷ []) h (λ e. omega arith)
 

@@ -143,26 +143,31 @@ module _ (t : List ℕ) (a : Accepts t) where
         let g = f .0 in
         let m = j + sizeIn r in
         at-mark m (g .mark) ∙ by-receive T s p late j m (g .coded)
-        ∙ ap (tables.receivable T s p (m + 1)) (message-is T (declAt t a j) s p (unitAt t a) r j m (length ys) (g .located s p) (got-count T (declAt t a j) (f .1) 5)) ∙ go (f .1) (reach c r (length ys)) refl
+        ∙ ap (tables.receivable T s p (m + 1)) (message-is T (declAt t a j) s p (unitAt t a) r j m (length ys) (g .located s p) (got-count T (declAt t a j) (f .1) 5))
+        ∙ go (f .1) (reach c r (length ys)) refl
       where
         go : {z : ℕ} → Got T (declAt t a j) ys (j + sizeIn r + 1) z → (y : Reach) → reach (stageAt t a s p j) r (length ys) ≡ y
             → tables.receivable T s p (j + sizeIn r + 1) (recordOf y) ≡ receivable (stageAt t a s p j) ys y
         go k (channel v) e =
             ap (λ y. pick (eqb (waitingOf s (nat v - 1)) 0) false y)
-            (ap tables.passes (matches-is T (declAt t a j) s p (unitAt t a) k 4 (reach-few T (declAt t a j) s p (unitAt t a) r (length ys) (subst Arrived (sym e) tt)) v 0) ∙ passes-is (agrees c v 0 ys))
+            (ap tables.passes (matches-is T (declAt t a j) s p (unitAt t a) k 4 (reach-few T (declAt t a j) s p (unitAt t a) r (length ys) (subst Arrived (sym e) tt)) v 0)
+            ∙ passes-is (agrees c v 0 ys))
         go k (astray f) e = refl
 
-    alone-ready : (x : Item) (l : List Item) (b : Bool) → Here t a (x ∷ l) j → isAlone (items.codeOf x) ≡ true → (codeOf T j ≡ items.codeOf x → readyBy T s p late j j ≡ b) → readyOf T s p late j ≡ b
+    alone-ready : (x : Item) (l : List Item) (b : Bool) → Here t a (x ∷ l) j → isAlone (items.codeOf x) ≡ true → (codeOf T j ≡ items.codeOf x → readyBy T s p late j j ≡ b)
+        → readyOf T s p late j ≡ b
     alone-ready x l b h o f = at-mark j (alone-mark t a x l j h o) ∙ f (first-code t a x l j h)
 
-    reference-ready : (r : Ref) (x : Item) (z : List Item) → Refers x → Here t a (code-exp r ++ x ∷ z) j → (codeOf T (j + sizeIn r) ≡ items.codeOf x → readyBy T s p late j (j + sizeIn r) ≡ true) → readyOf T s p late j ≡ true
+    reference-ready : (r : Ref) (x : Item) (z : List Item) → Refers x → Here t a (code-exp r ++ x ∷ z) j
+        → (codeOf T (j + sizeIn r) ≡ items.codeOf x → readyBy T s p late j (j + sizeIn r) ≡ true) → readyOf T s p late j ≡ true
     reference-ready r x z b h f = let g = reference-there t a r x z j b h in at-mark (j + sizeIn r) (g .mark) ∙ f (g .coded)
 
     ready-at : (x : Tree action) → Here t a (code-tree x) j → readyOf T s p late j ≡ ready (stageAt t a s p j) late x
     unfolding ready
     ready-at (express e) h = express-ready e h
     ready-at (assign r e) h =
-        reference-ready r i-target (code-exp e ++ i-assign ∷ []) refers-target (subst (λ l. Here t a l j) (append-assoc (code-exp r) (i-target ∷ code-exp e) (i-assign ∷ [])) h) (by-target T s p late j (j + sizeIn r))
+        reference-ready r i-target (code-exp e ++ i-assign ∷ []) refers-target (subst (λ l. Here t a l j) (append-assoc (code-exp r) (i-target ∷ code-exp e) (i-assign ∷ [])) h)
+        (by-target T s p late j (j + sizeIn r))
     ready-at (increment r) h = reference-ready r i-increment [] refers-increment h (by-increment T s p late j (j + sizeIn r))
     ready-at (decrement r) h = reference-ready r i-decrement [] refers-decrement h (by-decrement T s p late j (j + sizeIn r))
     ready-at (send r es) h = send-ready r es h
@@ -171,7 +176,8 @@ module _ (t : List ℕ) (a : Accepts t) where
     ready-at (print w es) h = let g = printing t a w es j h in at-mark j (g .mark) ∙ by-text T s p late j j (g .coded)
     ready-at skip h = alone-ready i-skip [] true h (alones .0) (by-skip T s p late j j)
     ready-at (goto w) h =
-        at-mark (j + 1) (name-mark t a w i-goto [] j h (marks .2)) ∙ by-goto T s p late j (j + 1) (first-code t a i-goto [] (j + 1) (back-lies (code (a .tree)) (i-name w ∷ []) (i-goto ∷ []) 0 j (j + 1) refl h))
+        at-mark (j + 1) (name-mark t a w i-goto [] j h (marks .2)) ∙ by-goto T s p late j (j + 1)
+        (first-code t a i-goto [] (j + 1) (back-lies (code (a .tree)) (i-name w ∷ []) (i-goto ∷ []) 0 j (j + 1) refl h))
     ready-at break h = alone-ready i-break [] true h (alones .1) (by-break T s p late j j)
     ready-at timeout h = alone-ready i-timeout [] late h (alones .2) (by-timeout T s p late j j)
     ready-at else h = alone-ready i-else [] false h (alones .3) (by-else T s p late j j)
@@ -180,5 +186,6 @@ module _ (t : List ℕ) (a : Accepts t) where
     ready-at (select os) h = alone-ready i-if (code-tree os ++ i-fi ∷ []) false h (alones .4) (by-if T s p late j j)
     ready-at (loop os) h = alone-ready i-do (code-tree os ++ i-od ∷ []) false h (alones .5) (by-do T s p late j j)
 
-  pub text-ready : (x : Tree action) {j : ℕ} → Lying (code (a .tree)) 0 (code-tree x) j → (s : List ℤ) (p : ℕ) (late : Bool) → readyOf (tablesText t) s p late j ≡ ready (stageAt t a s p j) late x
+  pub text-ready : (x : Tree action) {j : ℕ} → Lying (code (a .tree)) 0 (code-tree x) j → (s : List ℤ) (p : ℕ) (late : Bool)
+      → readyOf (tablesText t) s p late j ≡ ready (stageAt t a s p j) late x
   text-ready x {j} h s p late = ready-at j s p late x h

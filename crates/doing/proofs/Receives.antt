@@ -71,7 +71,8 @@ module _ (t : List ℕ) (decl : Name → ℕ) where
   got-count (no-more {a = a} e) (suc n) = rw (eq-eqb (codeOf t a) 187 e) (let z : 0 ≡ min (suc n) 0 = omega arith in z)
   got-count (one-more {xs = xs} m c l v r) zero = let z : 0 ≡ min 0 (suc (length xs)) = omega arith in z
   got-count (one-more {xs = xs} {a = a} m c l v r) (suc n) =
-      rw (ne-eqb (codeOf t a) 187 c) (ap (λ k. 1 + argumentsFrom t n (k + 1)) l ∙ ap (1 +_) (got-count r n) ∙ (let z : 1 + min n (length xs) ≡ min (suc n) (suc (length xs)) = omega arith in z))
+      rw (ne-eqb (codeOf t a) 187 c) (ap (λ k. 1 + argumentsFrom t n (k + 1)) l ∙ ap (1 +_) (got-count r n)
+      ∙ (let z : 1 + min n (length xs) ≡ min (suc n) (suc (length xs)) = omega arith in z))
 
   -- an mtype name is compared, a variable is stored to
   abbrev constant : Name → Bool
@@ -129,13 +130,15 @@ module _ (t : List ℕ) (decl : Name → ℕ) where
     agree-is : (x : Received) (a m : ℕ) → Agreed t decl x a m → (v : ℤ) (f : ℕ) → agreesOf t s p (nat v - 1) a m f ≡ agree (stageOf t s p decl unit) v f x
     unfolding agreesOf eval
     agree-is (into r) a m g v f =
-        rw (stored-compared r a m g) (ap (λ y. pick (constant (nameOf r)) y (Value (pos 1))) (ap (λ y. tables.equalBy y (fieldOf s (nat v - 1) 0 f)) (g .worked s p) ∙ equal-is (eval (c .scene) r) (fieldOf s (nat v - 1) 0 f)))
+        rw (stored-compared r a m g) (ap (λ y. pick (constant (nameOf r)) y (Value (pos 1)))
+        (ap (λ y. tables.equalBy y (fieldOf s (nat v - 1) 0 f)) (g .worked s p) ∙ equal-is (eval (c .scene) r) (fieldOf s (nat v - 1) 0 f)))
     agree-is (equal e) a m g v f = agreed-other v f a m (eval (c .scene) e) (g .mark) (g .worked s p)
     agree-is (exactly n) a m g v f = agreed-other v f a m (Value (pos n)) (g .mark) (g .worked s p)
     agree-is exactly-true a m g v f = agreed-other v f a m (Value (pos 1)) (g .mark) (g .worked s p)
     agree-is exactly-false a m g v f = agreed-other v f a m (Value (pos 0)) (g .mark) (g .worked s p)
 
-    pub matches-is : {xs : List Received} {a z : ℕ} → Got t decl xs a z → (n : ℕ) → length xs ≤ n → (v : ℤ) (f : ℕ) → matchesFrom t s p n (nat v - 1) a f ≡ agrees (stageOf t s p decl unit) v f xs
+    pub matches-is : {xs : List Received} {a z : ℕ} → Got t decl xs a z → (n : ℕ) → length xs ≤ n → (v : ℤ) (f : ℕ)
+        → matchesFrom t s p n (nat v - 1) a f ≡ agrees (stageOf t s p decl unit) v f xs
     unfolding matchesFrom agrees
     matches-is (no-more e) zero h v f = refl
     matches-is (no-more {a = a} e) (suc n) h v f = rw (eq-eqb (codeOf t a) 187 e)
@@ -191,7 +194,8 @@ module _ (t : List ℕ) (decl : Name → ℕ) where
     aim-fills (one-more m d e g r) zero h k l w = absurd (omega arith)
     aim-fills (one-more {x = x} {xs = xs} {a = a} m d e g r) (suc n) h k l w =
         rw (ne-eqb (codeOf t a) 187 d) (ap (λ i. onPlace (aimOf t s p a i) (λ u. aimList t s p n (i + 1) (k + 1) (set l k u)) (λ f. l)) e
-        ∙ ap (λ y. onPlace y (λ u. aimList t s p n (m + 1) (k + 1) (set l k u)) (λ f. l)) (aim-is x a m g) ∙ go (target c x) (targets c xs) w (λ u. aim-fills r n (omega arith) (k + 1) (set l k u)))
+        ∙ ap (λ y. onPlace y (λ u. aimList t s p n (m + 1) (k + 1) (set l k u)) (λ f. l)) (aim-is x a m g)
+        ∙ go (target c x) (targets c xs) w (λ u. aim-fills r n (omega arith) (k + 1) (set l k u)))
       where
         go : (y : Aim) (q : Aims) → Sure (aimsBy y q) → ((u : ℕ) → Sure q → aimList t s p n (m + 1) (k + 1) (set l k u) ≡ fill (set l k u) (k + 1) (spots p xs (aimed q)))
             → onPlace (spotBy x y) (λ u. aimList t s p n (m + 1) (k + 1) (set l k u)) (λ f. l) ≡ fill l k (spots p (x ∷ xs) (aimed (aimsBy y q)))
@@ -236,6 +240,7 @@ module _ (t : List ℕ) (decl : Name → ℕ) where
     delivered-is (one-more {x = y} {xs = xs} {a = a} m d e g r) (suc n) h v f ps l (k ∷ ks) q gp gl x =
         let z : f ≡ f + 0 = omega arith in
         rw (ne-eqb (codeOf t a) 187 d) (ap (λ i. delivered t n (i + 1) (f + 1) ps l (deliveredOne t i f ps l x)) e
-        ∙ ap (delivered t n (m + 1) (f + 1) ps l) (one-delivered y a m g v f k ps l (ap (λ i. getD ps i 0) z ∙ gp 0 (omega arith)) (ap (λ i. getD l i (pos 0)) z ∙ gl 0 (omega arith) ∙ ap (λ i. fieldOf s (nat v - 1) 0 i) (sym z)) x)
+        ∙ ap (delivered t n (m + 1) (f + 1) ps l) (one-delivered y a m g v f k ps l (ap (λ i. getD ps i 0) z ∙ gp 0 (omega arith))
+        (ap (λ i. getD l i (pos 0)) z ∙ gl 0 (omega arith) ∙ ap (λ i. fieldOf s (nat v - 1) 0 i) (sym z)) x)
         ∙ delivered-is r n (omega arith) v (f + 1) ps l ks (omega arith) (λ i u. let w : f + 1 + i ≡ f + suc i = omega arith in ap (λ j. getD ps j 0) w ∙ gp (suc i) (omega arith))
         (λ i u. let w : f + 1 + i ≡ f + suc i = omega arith in ap (λ j. getD l j (pos 0)) w ∙ gl (suc i) (omega arith) ∙ ap (λ j. fieldOf s (nat v - 1) 0 j) (sym w)) (delivery c v f y k x))

@@ -40,9 +40,11 @@ module _ (t : List ℕ) (decl : Name → ℕ) (s : List ℤ) (p : ℕ) (unit : N
 
   -- ---- sends; z is the last item, which links to n
   sent-to : (es : List Expr) (b z n : ℕ) → Passed t decl es b z → length es ≤ 32 → linkOf t z ≡ n → (v : ℤ)
-      → onEnd (gatherEnd t s p 32 b) (λ e. (Done, moved p (linkOf t e) (appended t (nat v - 1) (gatherList t s p 32 b 0 blank) s))) (fault s) ≡ sentTo (stageOf t s p decl unit) n s v (values (sceneOf t s p decl) es)
+      → onEnd (gatherEnd t s p 32 b) (λ e. (Done, moved p (linkOf t e) (appended t (nat v - 1) (gatherList t s p 32 b 0 blank) s))) (fault s)
+      ≡ sentTo (stageOf t s p decl unit) n s v (values (sceneOf t s p decl) es)
   sent-to es b z n r few l v =
-      ap (λ y. onEnd y (λ e. (Done, moved p (linkOf t e) (appended t (nat v - 1) (gatherList t s p 32 b 0 blank) s))) (fault s)) (gather-ends t decl s p r 32 few) ∙ go (values (c .scene) es) refl
+      ap (λ y. onEnd y (λ e. (Done, moved p (linkOf t e) (appended t (nat v - 1) (gatherList t s p 32 b 0 blank) s))) (fault s)) (gather-ends t decl s p r 32 few)
+      ∙ go (values (c .scene) es) refl
     where
       go : (y : Values) → values (sceneOf t s p decl) es ≡ y
           → onEnd (endBy z y) (λ e. (Done, moved p (linkOf t e) (appended t (nat v - 1) (gatherList t s p 32 b 0 blank) s))) (fault s) ≡ sentTo (stageOf t s p decl unit) n s v y
@@ -72,11 +74,16 @@ module _ (t : List ℕ) (decl : Name → ℕ) (s : List ℤ) (p : ℕ) (unit : N
       → receivedFrom t p b (nat v - 1) s ≡ receivedAt (stageOf t s p decl unit) n s v ys (targets (stageOf t s p decl unit) ys)
   unfolding receivedFrom
   received-at ys b z n g few l v =
-      ap (λ y. onEnd y (λ e. (Done, moved p (linkOf t e) (delivered t 4 b 0 (aimList t s p 4 b 0 (replicate 4 0)) (oldest s (nat v - 1) (replicate 4 (pos 0))) (removed (nat v - 1) s)))) (fault s))
+      ap (λ y. onEnd y (λ e. (Done, moved p (linkOf t e) (delivered t 4 b 0 (aimList t s p 4 b 0 (replicate 4 0)) (oldest s (nat v - 1) (replicate 4 (pos 0))) (removed (nat v - 1) s))))
+      (fault s))
       (aim-ends t decl s p unit g 4 few) ∙ go (targets c ys) refl
     where
       go : (y : Aims) → targets (stageOf t s p decl unit) ys ≡ y
-          → onEnd (endAims z y) (λ e. (Done, moved p (linkOf t e) (delivered t 4 b 0 (aimList t s p 4 b 0 (replicate 4 0)) (oldest s (nat v - 1) (replicate 4 (pos 0))) (removed (nat v - 1) s)))) (fault s)
+          → onEnd (endAims z y) (λ e. (
+            Done,
+            moved p (linkOf t e) (delivered t 4 b 0 (aimList t s p 4 b 0 (replicate 4 0)) (oldest s (nat v - 1) (replicate 4 (pos 0)))
+                (removed (nat v - 1) s)),
+          )) (fault s)
           ≡ receivedAt (stageOf t s p decl unit) n s v ys y
       go (hits ks) e =
           let w : Sure (targets (stageOf t s p decl unit) ys) = subst Sure (sym e) tt in
@@ -95,7 +102,8 @@ module _ (t : List ℕ) (decl : Name → ℕ) (s : List ℤ) (p : ℕ) (unit : N
       → received t p q m s ≡ receivedBy (stageOf t s p decl unit) n s ys (reach (stageOf t s p decl unit) r (length ys))
   unfolding received
   received-is r ys q m z n f g l =
-      ap (λ y. onChannel y (λ d. onValue (matchesOf t s p d (m + 1)) (λ v. receivedFrom t p (m + 1) d s) (fault s)) (fault s)) (message-is t decl s p unit r q m (length ys) f (got-count t decl g 5))
+      ap (λ y. onChannel y (λ d. onValue (matchesOf t s p d (m + 1)) (λ v. receivedFrom t p (m + 1) d s) (fault s)) (fault s))
+      (message-is t decl s p unit r q m (length ys) f (got-count t decl g 5))
       ∙ go (reach c r (length ys)) refl
     where
       go : (y : Reach) → reach (stageOf t s p decl unit) r (length ys) ≡ y

@@ -49,9 +49,8 @@ module _ (t : List ℕ) (a : Accepts t) where
   none-yet : (j : ℕ) → Quiet t a j j
   none-yet j y u v = absurd (omega arith)
 
-  -- a reference, its mark m and the statement's last item
+  -- the reference that a statement begins with, and its mark m
   pub record Reference (r : Ref) (x : Item) (j m : ℕ) : Type 0 where
-    pub place : m ≡ j + sizeIn r
     pub mark : markOf (tablesText t) j ≡ m
     pub coded : codeOf (tablesText t) m ≡ items.codeOf x
     pub declared : linkOf (tablesText t) (m - 1) ≡ declAt t a j (nameOf r)
@@ -60,7 +59,6 @@ module _ (t : List ℕ) (a : Accepts t) where
   pub reference-there : (r : Ref) (x : Item) (z : List Item) (j : ℕ) → Refers x → Here t a (code-exp r ++ x ∷ z) j → Reference r x j (j + sizeIn r)
   reference-there r x z j b p =
       record {
-        place = refl;
         mark = phrase-mark t a r x z j p (b .behind .mark);
         coded = mark-code t a r x z j p;
         declared = refers-linked t a j j (omega arith) (none-yet j) r x z p b;
@@ -68,7 +66,8 @@ module _ (t : List ℕ) (a : Accepts t) where
       }
 
   -- ---- how many arguments
-  few-there : (x : Item) (l : List Item) (m : ℕ) (es : List Expr) (decl : Name → ℕ) (z : ℕ) → Here t a (x ∷ l) m → inner (items.codeOf x) ≡ true → opens (items.codeOf x) ≡ true → (items.codeOf x ≡ 228 → ⊥)
+  few-there : (x : Item) (l : List Item) (m : ℕ) (es : List Expr) (decl : Name → ℕ) (z : ℕ) → Here t a (x ∷ l) m → inner (items.codeOf x) ≡ true → opens (items.codeOf x) ≡ true
+      → (items.codeOf x ≡ 228 → ⊥)
       → Passed T decl es (m + 1) z → length es ≤ 32
   few-there x l m es decl z p i o n r =
       let c = here-codes t a (x ∷ l) m p .0 in
@@ -82,8 +81,11 @@ module _ (t : List ℕ) (a : Accepts t) where
       let R = code-exp r in
       let E = each code-argument es in
       let h = subst (λ l. Here t a l j) (append-assoc R (i-send ∷ E) (i-end ∷ [])) p in
-      let n : length ((R ++ i-send ∷ E) ++ i-end ∷ []) ≡ sizeIn r + 1 + length E + 1 = omega (arith, length-append (R ++ i-send ∷ E) (i-end ∷ []), length-append R (i-send ∷ E)) in
-      (reference-there r i-send (E ++ i-end ∷ []) j refers-send h, arguments-there t a es j (j + sizeIn r + 1) (j + tree.sizeIn (send r es) - 1) (omega arith) (quiet-phrase t a j j (none-yet j) r i-send (E ++ i-end ∷ []) h (omega arith)) (behind-there t a r i-send (E ++ i-end ∷ []) j h) (omega arith))
+      let n : length ((R ++ i-send ∷ E) ++ i-end ∷ []) ≡ sizeIn r + 1 + length E + 1 = omega (arith, length-append (R ++ i-send ∷ E) (i-end ∷ []), length-append R (i-send ∷ E)) in (
+        reference-there r i-send (E ++ i-end ∷ []) j refers-send h,
+        arguments-there t a es j (j + sizeIn r + 1) (j + tree.sizeIn (send r es) - 1) (omega arith)
+            (quiet-phrase t a j j (none-yet j) r i-send (E ++ i-end ∷ []) h (omega arith)) (behind-there t a r i-send (E ++ i-end ∷ []) j h) (omega arith),
+      )
 
   pub receiving : (r : Ref) (ys : List Received) (j : ℕ) → Here t a (code-tree (receive r ys)) j
       → Reference r i-receive j (j + sizeIn r) × Got (tablesText t) (declAt t a j) ys (j + sizeIn r + 1) (j + tree.sizeIn (receive r ys) - 1)
@@ -91,8 +93,11 @@ module _ (t : List ℕ) (a : Accepts t) where
       let R = code-exp r in
       let E = each code-received ys in
       let h = subst (λ l. Here t a l j) (append-assoc R (i-receive ∷ E) (i-end ∷ [])) p in
-      let n : length ((R ++ i-receive ∷ E) ++ i-end ∷ []) ≡ sizeIn r + 1 + length E + 1 = omega (arith, length-append (R ++ i-receive ∷ E) (i-end ∷ []), length-append R (i-receive ∷ E)) in
-      (reference-there r i-receive (E ++ i-end ∷ []) j refers-receive h, received-there t a ys j (j + sizeIn r + 1) (j + tree.sizeIn (receive r ys) - 1) (omega arith) (quiet-phrase t a j j (none-yet j) r i-receive (E ++ i-end ∷ []) h (omega arith)) (behind-there t a r i-receive (E ++ i-end ∷ []) j h) (omega arith))
+      let n : length ((R ++ i-receive ∷ E) ++ i-end ∷ []) ≡ sizeIn r + 1 + length E + 1 = omega (arith, length-append (R ++ i-receive ∷ E) (i-end ∷ []), length-append R (i-receive ∷ E)) in (
+        reference-there r i-receive (E ++ i-end ∷ []) j refers-receive h,
+        received-there t a ys j (j + sizeIn r + 1) (j + tree.sizeIn (receive r ys) - 1) (omega arith)
+            (quiet-phrase t a j j (none-yet j) r i-receive (E ++ i-end ∷ []) h (omega arith)) (behind-there t a r i-receive (E ++ i-end ∷ []) j h) (omega arith),
+      )
 
   pub record Printing (es : List Expr) (j z : ℕ) : Type 0 where
     pub mark : markOf (tablesText t) j ≡ j
@@ -105,7 +110,8 @@ module _ (t : List ℕ) (a : Accepts t) where
       let E = each code-argument es in
       let n : length (E ++ i-end ∷ []) ≡ length E + 1 = length-append E (i-end ∷ []) in
       let k =
-      arguments-there t a es j (j + 1) (j + tree.sizeIn (print w es) - 1) (omega arith) (quiet-mark t a (i-text w) (E ++ i-end ∷ []) j p (omega arith)) (back-lies xs (i-text w ∷ []) (E ++ i-end ∷ []) 0 j (j + 1) refl p) (omega arith) in
+      arguments-there t a es j (j + 1) (j + tree.sizeIn (print w es) - 1) (omega arith) (quiet-mark t a (i-text w) (E ++ i-end ∷ []) j p (omega arith))
+      (back-lies xs (i-text w ∷ []) (E ++ i-end ∷ []) 0 j (j + 1) refl p) (omega arith) in
       record {
         mark = alone-mark t a (i-text w) (E ++ i-end ∷ []) j p text-alone;
         coded = first-code t a (i-text w) (E ++ i-end ∷ []) j p;
@@ -128,7 +134,8 @@ module _ (t : List ℕ) (a : Accepts t) where
       let r = back-lies xs (i-run ∷ []) (E ++ i-end ∷ []) 0 (j + 1) (j + 1 + 1) refl q in
       let k =
       arguments-there t a es j (j + 1 + 1) (j + tree.sizeIn (run w es) - 1) (omega arith)
-      (quiet-join t a j (j + 1) (j + 1 + 1) (quiet-mark t a (i-name w) (i-run ∷ (E ++ i-end ∷ [])) j p (omega arith)) (quiet-mark t a i-run (E ++ i-end ∷ []) (j + 1) q (omega arith))) r (omega arith) in (
+      (quiet-join t a j (j + 1) (j + 1 + 1) (quiet-mark t a (i-name w) (i-run ∷ (E ++ i-end ∷ [])) j p (omega arith)) (quiet-mark t a i-run (E ++ i-end ∷ []) (j + 1) q (omega arith))) r
+      (omega arith) in (
         name-mark t a w i-run (E ++ i-end ∷ []) j p run-mark,
         record {
           coded = first-code t a i-run (E ++ i-end ∷ []) (j + 1) q;
@@ -147,13 +154,16 @@ module _ (t : List ℕ) (a : Accepts t) where
       let z = j + tree.sizeIn (set-run r w es) - 1 in
       let Y = E ++ i-end ∷ [] in
       let h = subst (λ l. Here t a l j) (append-assoc R (i-target ∷ i-name w ∷ i-set-run ∷ E) (i-end ∷ [])) p in
-      let n : length ((R ++ i-target ∷ i-name w ∷ i-set-run ∷ E) ++ i-end ∷ []) ≡ sizeIn r + 3 + length E + 1 = omega (arith, length-append (R ++ i-target ∷ i-name w ∷ i-set-run ∷ E) (i-end ∷ []), length-append R (i-target ∷ i-name w ∷ i-set-run ∷ E)) in
+      let n : length ((R ++ i-target ∷ i-name w ∷ i-set-run ∷ E) ++ i-end ∷ []) ≡ sizeIn r + 3 + length E + 1 =
+      omega (arith, length-append (R ++ i-target ∷ i-name w ∷ i-set-run ∷ E) (i-end ∷ []), length-append R (i-target ∷ i-name w ∷ i-set-run ∷ E)) in
       let g = back-lies xs R (i-target ∷ i-name w ∷ i-set-run ∷ Y) 0 j m refl h in
       let q = back-lies xs (i-target ∷ []) (i-name w ∷ i-set-run ∷ Y) 0 m (m + 1) refl g in
       let o = back-lies xs (i-name w ∷ []) (i-set-run ∷ Y) 0 (m + 1) (m + 2) (omega arith) q in
       let v = back-lies xs (i-set-run ∷ []) Y 0 (m + 2) (m + 2 + 1) refl o in
       let d : m + 1 + 1 ≡ m + 2 = omega arith in
-      let u = quiet-join t a j (m + 1) (m + 2) (quiet-phrase t a j j (none-yet j) r i-target (i-name w ∷ i-set-run ∷ Y) h (omega arith)) (subst (Quiet t a (m + 1)) d (quiet-mark t a (i-name w) (i-set-run ∷ Y) (m + 1) q (omega arith))) in
+      let u =
+      quiet-join t a j (m + 1) (m + 2) (quiet-phrase t a j j (none-yet j) r i-target (i-name w ∷ i-set-run ∷ Y) h (omega arith))
+      (subst (Quiet t a (m + 1)) d (quiet-mark t a (i-name w) (i-set-run ∷ Y) (m + 1) q (omega arith))) in
       let k = arguments-there t a es j (m + 2 + 1) z (omega arith) (quiet-join t a j (m + 2) (m + 2 + 1) u (quiet-mark t a i-set-run Y (m + 2) o (omega arith))) v (omega arith) in (
         reference-there r i-target (i-name w ∷ i-set-run ∷ Y) j refers-target h,
         target-run t a w Y m g,

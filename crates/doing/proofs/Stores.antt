@@ -38,7 +38,8 @@ module _ (t : List ℕ) (decl : Name → ℕ) (s : List ℤ) (p : ℕ) (unit : N
   c = stageOf t s p decl unit
 
   -- ---- expressions and assertions; z is the last item, which links to n
-  pub expressed-is : (e : Expr) (q z n : ℕ) → evalOf t s p q z ≡ eval (sceneOf t s p decl) e → linkOf t z ≡ n → expressed t p q z s ≡ expressedBy (stageOf t s p decl unit) n s (eval (sceneOf t s p decl) e)
+  pub expressed-is : (e : Expr) (q z n : ℕ) → evalOf t s p q z ≡ eval (sceneOf t s p decl) e → linkOf t z ≡ n
+      → expressed t p q z s ≡ expressedBy (stageOf t s p decl unit) n s (eval (sceneOf t s p decl) e)
   unfolding expressed
   expressed-is e q z n w l = ap₂ (λ y k. onValue y (λ v. (Done, moved p k s)) (fault s)) w l ∙ go (eval (c .scene) e)
     where
@@ -46,7 +47,8 @@ module _ (t : List ℕ) (decl : Name → ℕ) (s : List ℤ) (p : ℕ) (unit : N
       go (Value v) = refl
       go (Fails f) = refl
 
-  pub asserted-is : (e : Expr) (q z n : ℕ) → evalOf t s p q z ≡ eval (sceneOf t s p decl) e → linkOf t z ≡ n → asserted t p q z s ≡ assertedBy (stageOf t s p decl unit) n s (eval (sceneOf t s p decl) e)
+  pub asserted-is : (e : Expr) (q z n : ℕ) → evalOf t s p q z ≡ eval (sceneOf t s p decl) e → linkOf t z ≡ n
+      → asserted t p q z s ≡ assertedBy (stageOf t s p decl unit) n s (eval (sceneOf t s p decl) e)
   unfolding asserted
   asserted-is e q z n w l = ap₂ (λ y k. onValue y (λ v. pick (isTrue v) (Done, moved p k s) (Refuted, s)) (fault s)) w l ∙ go (eval (c .scene) e)
     where
@@ -60,14 +62,16 @@ module _ (t : List ℕ) (decl : Name → ℕ) (s : List ℤ) (p : ℕ) (unit : N
     w = nameOf r
 
     -- what is done where it stands
-    placed-is : {A : Type 0} (g : ℕ → ℕ → A) (h : Fault → A) → onPlace (locateOf t s p q m) (λ i. g i (linkOf t (linkOf t (m - 1)))) h ≡ onPlace (placed t decl p (nameOf r) (aim (sceneOf t s p decl) r)) (λ i. g i (linkOf t (decl (nameOf r)))) h
+    placed-is : {A : Type 0} (g : ℕ → ℕ → A) (h : Fault → A)
+        → onPlace (locateOf t s p q m) (λ i. g i (linkOf t (linkOf t (m - 1)))) h ≡ onPlace (placed t decl p (nameOf r) (aim (sceneOf t s p decl) r)) (λ i. g i (linkOf t (decl (nameOf r)))) h
     placed-is g h = ap₂ (λ y d. onPlace y (λ i. g i (linkOf t d)) h) (found ∙ locate-aim t decl s p r) declared
 
     pub stepped-is : (d : ℤ) (n : ℕ) → linkOf t m ≡ n → stepped t p d q m s ≡ steppedBy (stageOf t s p decl unit) n s (nameOf r) d (aim (sceneOf t s p decl) r)
     unfolding stepped
     stepped-is d n l =
         placed-is (λ i k. (Done, moved p (linkOf t m) (set s i (castOf (typeOf k) (wrap32 (cellOf s i +ℤ d)))))) (fault s)
-        ∙ ap (λ k. onPlace (placed t decl p w (aim (c .scene) r)) (λ i. (Done, moved p k (set s i (castOf (typeOf (linkOf t (decl w))) (wrap32 (cellOf s i +ℤ d)))))) (fault s)) l ∙ go (aim (c .scene) r)
+        ∙ ap (λ k. onPlace (placed t decl p w (aim (c .scene) r)) (λ i. (Done, moved p k (set s i (castOf (typeOf (linkOf t (decl w))) (wrap32 (cellOf s i +ℤ d)))))) (fault s)) l
+        ∙ go (aim (c .scene) r)
       where
         go : (y : Aim) → onPlace (placed t decl p (nameOf r) y) (λ i. (Done, moved p n (set s i (castOf (typeOf (linkOf t (decl (nameOf r)))) (wrap32 (cellOf s i +ℤ d)))))) (fault s)
             ≡ steppedBy (stageOf t s p decl unit) n s (nameOf r) d y
@@ -82,7 +86,8 @@ module _ (t : List ℕ) (decl : Name → ℕ) (s : List ℤ) (p : ℕ) (unit : N
         ∙ ap₂ (λ y k. onPlace (placed t decl p w (aim (c .scene) r)) (λ i. onValue y (λ v. (Done, moved p k (set s i (castOf (typeOf (linkOf t (decl w))) v)))) (fault s)) (fault s)) x l
         ∙ go (aim (c .scene) r) (eval (c .scene) e)
       where
-        go : (y : Aim) (v : Answer) → onPlace (placed t decl p (nameOf r) y) (λ i. onValue v (λ v. (Done, moved p n (set s i (castOf (typeOf (linkOf t (decl (nameOf r)))) v)))) (fault s)) (fault s)
+        go : (y : Aim) (v : Answer)
+            → onPlace (placed t decl p (nameOf r) y) (λ i. onValue v (λ v. (Done, moved p n (set s i (castOf (typeOf (linkOf t (decl (nameOf r)))) v)))) (fault s)) (fault s)
             ≡ assignedBy (stageOf t s p decl unit) n s (nameOf r) v y
         go (hit k) (Value v) = refl
         go (hit k) (Fails f) = refl
@@ -105,26 +110,40 @@ module _ (t : List ℕ) (decl : Name → ℕ) (s : List ℤ) (p : ℕ) (unit : N
         ≡ ranBy (stageOf t s p decl unit) n s w (values (sceneOf t s p decl) es)
     ran-by w = ended-is (λ k. (Done, moved p k (called t (unit w) (gatherList t s p 32 b 0 blank) s))) (fault s) ∙ go (values (c .scene) es) refl
       where
-        go : (y : Values) → values (sceneOf t s p decl) es ≡ y → onEnd (endBy z y) (λ e. (Done, moved p (linkOf t e) (called t (unit w) (gatherList t s p 32 b 0 blank) s))) (fault s) ≡ ranBy (stageOf t s p decl unit) n s w y
+        go : (y : Values) → values (sceneOf t s p decl) es ≡ y
+            → onEnd (endBy z y) (λ e. (Done, moved p (linkOf t e) (called t (unit w) (gatherList t s p 32 b 0 blank) s))) (fault s) ≡ ranBy (stageOf t s p decl unit) n s w y
         go (all vs) e = ap₂ (λ k x. (Done, moved p k x)) l (called-alike t (unit w) (gatherList t s p 32 b 0 blank) vs s (gathered-alike t decl s p r few vs e))
         go (stopped f) e = refl
 
     set-by : (w : Name) (x : Name) (k : ℕ) → onEnd (gatherEnd t s p 32 b)
-        (λ e. (Done, moved p (linkOf t e) (set (called t (unit w) (gatherList t s p 32 b 0 blank) s) (slotOf (linkOf t (decl x)) p k) (castOf (typeOf (linkOf t (decl x))) (kept (processesOf s)))))) (fault s)
+        (λ e. (
+          Done,
+          moved p (linkOf t e) (set (called t (unit w) (gatherList t s p 32 b 0 blank) s) (slotOf (linkOf t (decl x)) p k)
+              (castOf (typeOf (linkOf t (decl x))) (kept (processesOf s)))),
+        )) (fault s)
         ≡ setBy (stageOf t s p decl unit) n s x k w (values (sceneOf t s p decl) es)
     set-by w x k =
-        ended-is (λ i. (Done, moved p i (set (called t (unit w) (gatherList t s p 32 b 0 blank) s) (slotOf (linkOf t (decl x)) p k) (castOf (typeOf (linkOf t (decl x))) (kept (processesOf s)))))) (fault s)
+        ended-is (λ i. (
+          Done,
+          moved p i (set (called t (unit w) (gatherList t s p 32 b 0 blank) s) (slotOf (linkOf t (decl x)) p k)
+              (castOf (typeOf (linkOf t (decl x))) (kept (processesOf s)))),
+        )) (fault s)
         ∙ go (values (c .scene) es) refl
       where
         go : (y : Values) → values (sceneOf t s p decl) es ≡ y
-            → onEnd (endBy z y) (λ e. (Done, moved p (linkOf t e) (set (called t (unit w) (gatherList t s p 32 b 0 blank) s) (slotOf (linkOf t (decl x)) p k) (castOf (typeOf (linkOf t (decl x))) (kept (processesOf s)))))) (fault s)
+            → onEnd (endBy z y) (λ e. (
+              Done,
+              moved p (linkOf t e) (set (called t (unit w) (gatherList t s p 32 b 0 blank) s) (slotOf (linkOf t (decl x)) p k)
+                  (castOf (typeOf (linkOf t (decl x))) (kept (processesOf s)))),
+            )) (fault s)
             ≡ setBy (stageOf t s p decl unit) n s x k w y
         go (all vs) e =
             ap₂ (λ i y. (Done, moved p i (set y (slotOf (linkOf t (decl x)) p k) (castOf (typeOf (linkOf t (decl x))) (kept (processesOf s)))))) l
             (called-alike t (unit w) (gatherList t s p 32 b 0 blank) vs s (gathered-alike t decl s p r few vs e))
         go (stopped f) e = refl
 
-  pub printed-is : (es : List Expr) (m z n : ℕ) → Passed t decl es (m + 1) z → length es ≤ 32 → linkOf t z ≡ n → printed t p m s ≡ printedBy (stageOf t s p decl unit) n s (values (sceneOf t s p decl) es)
+  pub printed-is : (es : List Expr) (m z n : ℕ) → Passed t decl es (m + 1) z → length es ≤ 32 → linkOf t z ≡ n
+      → printed t p m s ≡ printedBy (stageOf t s p decl unit) n s (values (sceneOf t s p decl) es)
   unfolding printed
   printed-is es m z n r few l = printed-by es (m + 1) z n r few l
 
@@ -135,17 +154,28 @@ module _ (t : List ℕ) (decl : Name → ℕ) (s : List ℤ) (p : ℕ) (unit : N
       ap (λ k. pick (fitsOf t s k) (onEnd (gatherEnd t s p 32 (m + 1)) (λ e. (Done, moved p (linkOf t e) (called t k (gatherList t s p 32 (m + 1) 0 blank) s))) (fault s)) (Idle, s)) u
       ∙ ap (λ y. pick (fitsOf t s (unit w)) y (Idle, s)) (ran-by es (m + 1) z n r few l w)
 
-  pub set-ran-is : (x : Ref) (w : Name) (es : List Expr) (q m e z n : ℕ) → locateOf t s p q m ≡ locate t s p decl x → linkOf t (m - 1) ≡ decl (nameOf x) → linkOf t e ≡ unit w → Passed t decl es (e + 1) z
+  pub set-ran-is : (x : Ref) (w : Name) (es : List Expr) (q m e z n : ℕ) → locateOf t s p q m ≡ locate t s p decl x → linkOf t (m - 1) ≡ decl (nameOf x) → linkOf t e ≡ unit w
+      → Passed t decl es (e + 1) z
       → length es ≤ 32 → linkOf t z ≡ n → setRan t p q m e s ≡ setRunBy (stageOf t s p decl unit) n s (nameOf x) w (values (sceneOf t s p decl) es) (aim (sceneOf t s p decl) x)
   unfolding setRan setRunAt
   set-ran-is x w es q m e z n f d u r few l =
       (λ i. onPlace ((f ∙ locate-aim t decl s p x) i) (λ k. pick (fitsOf t s (u i))
-      (onEnd (gatherEnd t s p 32 (e + 1)) (λ y. (Done, moved p (linkOf t y) (set (called t (u i) (gatherList t s p 32 (e + 1) 0 blank) s) k (castOf (typeOf (linkOf t (d i))) (kept (processesOf s)))))) (fault s))
+      (onEnd (gatherEnd t s p 32 (e + 1)) (λ y. (
+        Done,
+        moved p (linkOf t y) (set (called t (u i) (gatherList t s p 32 (e + 1) 0 blank) s) k
+            (castOf (typeOf (linkOf t (d i))) (kept (processesOf s)))),
+      )) (fault s))
       (Done, moved p ((ap (linkOf t) (end-is t decl r 32 few) ∙ l) i) (set s k (castOf (typeOf (linkOf t (d i))) (pos 0))))) (fault s)) ∙ go (aim (c .scene) x)
     where
       go : (y : Aim) → onPlace (placed t decl p (nameOf x) y) (λ k. pick (fitsOf t s (unit w))
-          (onEnd (gatherEnd t s p 32 (e + 1)) (λ y. (Done, moved p (linkOf t y) (set (called t (unit w) (gatherList t s p 32 (e + 1) 0 blank) s) k (castOf (typeOf (linkOf t (decl (nameOf x)))) (kept (processesOf s)))))) (fault s))
+          (onEnd (gatherEnd t s p 32 (e + 1)) (λ y. (
+            Done,
+            moved p (linkOf t y) (set (called t (unit w) (gatherList t s p 32 (e + 1) 0 blank) s) k
+                (castOf (typeOf (linkOf t (decl (nameOf x)))) (kept (processesOf s)))),
+          )) (fault s))
           (Done, moved p n (set s k (castOf (typeOf (linkOf t (decl (nameOf x)))) (pos 0))))) (fault s)
           ≡ setRunBy (stageOf t s p decl unit) n s (nameOf x) w (values (sceneOf t s p decl) es) y
-      go (hit k) = ap (λ y. pick (fitsOf t s (unit w)) y (Done, moved p n (set s (slotOf (linkOf t (decl (nameOf x))) p k) (castOf (typeOf (linkOf t (decl (nameOf x)))) (pos 0))))) (set-by es (e + 1) z n r few l w (nameOf x) k)
+      go (hit k) =
+          ap (λ y. pick (fitsOf t s (unit w)) y (Done, moved p n (set s (slotOf (linkOf t (decl (nameOf x))) p k) (castOf (typeOf (linkOf t (decl (nameOf x)))) (pos 0)))))
+          (set-by es (e + 1) z n r few l w (nameOf x) k)
       go (miss f) = refl

@@ -147,20 +147,24 @@ module _ (t : List ℕ) (a : Accepts t) where
         let m = j + sizeIn r in
         let o = reference-there t a r i-increment [] j refers-increment f in
         let z : j + length (code-exp r ++ i-increment ∷ []) - 1 ≡ m = omega (arith, length-append (code-exp r) (i-increment ∷ [])) in
-        at-mark m (o .mark) ∙ by-increment T p j m s (o .coded) ∙ stepped-is T (declAt t a j) s p (unitAt t a) r j m (o .located s p) (o .declared) (pos 1) (h .next) (ap (linkOf T) (sym z) ∙ l)
+        at-mark m (o .mark) ∙ by-increment T p j m s (o .coded) ∙ stepped-is T (declAt t a j) s p (unitAt t a) r j m (o .located s p) (o .declared) (pos 1) (h .next)
+        (ap (linkOf T) (sym z) ∙ l)
     takes-at (decrement r) f h l =
         let m = j + sizeIn r in
         let o = reference-there t a r i-decrement [] j refers-decrement f in
         let z : j + length (code-exp r ++ i-decrement ∷ []) - 1 ≡ m = omega (arith, length-append (code-exp r) (i-decrement ∷ [])) in
-        at-mark m (o .mark) ∙ by-decrement T p j m s (o .coded) ∙ stepped-is T (declAt t a j) s p (unitAt t a) r j m (o .located s p) (o .declared) (negsuc 0) (h .next) (ap (linkOf T) (sym z) ∙ l)
+        at-mark m (o .mark) ∙ by-decrement T p j m s (o .coded) ∙ stepped-is T (declAt t a j) s p (unitAt t a) r j m (o .located s p) (o .declared) (negsuc 0) (h .next)
+        (ap (linkOf T) (sym z) ∙ l)
     takes-at (send r es) f h l =
         let g = sending t a r es j f in
         let m = j + sizeIn r in
-        at-mark m (g .0 .mark) ∙ by-send T p j m s (g .0 .coded) ∙ sent-is T (declAt t a j) s p (unitAt t a) r es j m (j + length (code-tree (send r es)) - 1) (h .next) (g .0 .located s p) (g .1) l
+        at-mark m (g .0 .mark) ∙ by-send T p j m s (g .0 .coded) ∙ sent-is T (declAt t a j) s p (unitAt t a) r es j m (j + length (code-tree (send r es)) - 1) (h .next) (g .0 .located s p)
+        (g .1) l
     takes-at (receive r ys) f h l =
         let g = receiving t a r ys j f in
         let m = j + sizeIn r in
-        at-mark m (g .0 .mark) ∙ by-receive T p j m s (g .0 .coded) ∙ received-is T (declAt t a j) s p (unitAt t a) r ys j m (j + length (code-tree (receive r ys)) - 1) (h .next) (g .0 .located s p) (g .1) l
+        at-mark m (g .0 .mark) ∙ by-receive T p j m s (g .0 .coded) ∙ received-is T (declAt t a j) s p (unitAt t a) r ys j m (j + length (code-tree (receive r ys)) - 1) (h .next)
+        (g .0 .located s p) (g .1) l
     takes-at (assert e) f h l =
         let m = j + sizeIn e in
         let z : j + length (code-exp e ++ i-assert ∷ []) - 1 ≡ m = omega (arith, length-append (code-exp e) (i-assert ∷ [])) in
@@ -171,7 +175,8 @@ module _ (t : List ℕ) (a : Accepts t) where
         at-mark j (g .mark) ∙ by-text T p j j s (g .coded) ∙ printed-is T (declAt t a j) s p (unitAt t a) es j (j + length (code-tree (print w es)) - 1) (h .next) (g .passed) (g .few) l
     takes-at skip f h l = let z : j ≡ j + 1 - 1 = omega arith in alone-takes i-skip (h .next) f (alones .0) (ap (linkOf T) z ∙ l) (by-skip T p j j s)
     takes-at (goto w) f h l =
-        at-mark (j + 1) (name-mark t a w i-goto [] j f (marks .2)) ∙ by-goto T p j (j + 1) s (first-code t a i-goto [] (j + 1) (back-lies (code (a .tree)) (i-name w ∷ []) (i-goto ∷ []) 0 j (j + 1) refl f))
+        at-mark (j + 1) (name-mark t a w i-goto [] j f (marks .2)) ∙ by-goto T p j (j + 1) s
+        (first-code t a i-goto [] (j + 1) (back-lies (code (a .tree)) (i-name w ∷ []) (i-goto ∷ []) 0 j (j + 1) refl f))
         ∙ ap (λ k. goOn (stageAt t a s p j) k s) l
     takes-at break f h l = alone-takes i-break (h .out) f (alones .1) l (by-break T p j j s)
     takes-at timeout f h l = let z : j ≡ j + 1 - 1 = omega arith in alone-takes i-timeout (h .next) f (alones .2) (ap (linkOf T) z ∙ l) (by-timeout T p j j s)
@@ -179,14 +184,16 @@ module _ (t : List ℕ) (a : Accepts t) where
     takes-at (run w es) f h l =
         let g = running t a w es j f in
         let o = g .1 in
-        at-mark (j + 1) (g .0) ∙ by-run T p j (j + 1) s (o .coded) ∙ ran-is T (declAt t a j) s p (unitAt t a) w es (j + 1) (j + length (code-tree (run w es)) - 1) (h .next) (o .begun) (o .passed) (o .few) l
+        at-mark (j + 1) (g .0) ∙ by-run T p j (j + 1) s (o .coded) ∙ ran-is T (declAt t a j) s p (unitAt t a) w es (j + 1) (j + length (code-tree (run w es)) - 1) (h .next) (o .begun)
+        (o .passed) (o .few) l
     takes-at (set-run r w es) f h l =
         let g = set-running t a r w es j f in
         let m = j + sizeIn r in
         let b = g .0 in
         let o = g .2 in
         at-mark m (b .mark) ∙ by-set-run T p j m s (m + 2) (b .coded) (g .1) (o .coded)
-        ∙ set-ran-is T (declAt t a j) s p (unitAt t a) r w es j m (m + 2) (j + length (code-tree (set-run r w es)) - 1) (h .next) (b .located s p) (b .declared) (o .begun) (o .passed) (o .few) l
+        ∙ set-ran-is T (declAt t a j) s p (unitAt t a) r w es j m (m + 2) (j + length (code-tree (set-run r w es)) - 1) (h .next) (b .located s p) (b .declared) (o .begun) (o .passed)
+        (o .few) l
     takes-at (select os) f h l = idle-takes i-if (code-tree os ++ i-fi ∷ []) f (alones .4) (by-if T p j j s)
     takes-at (loop os) f h l = idle-takes i-do (code-tree os ++ i-od ∷ []) f (alones .5) (by-do T p j j s)
 

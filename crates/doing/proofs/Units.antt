@@ -70,8 +70,12 @@ module _ (t : List ℕ) (a : Accepts t) where
       let b = r .before in
       let c = both-true (leb 223 (getD C (r .at) 0)) (leb (getD C (r .at) 0) 226) (r .head) in
       let q = H .codes (r .at) (omega arith) in
-      let u : Unit T (r .at) =
-      (subst (λ k. r .at < k) (sym (H .items)) (omega arith), subst (λ k. 223 ≤ k) (sym q) (leb-true 223 (getD C (r .at) 0) (c .0)), subst (λ k. k ≤ 226) (sym q) (leb-true (getD C (r .at) 0) 226 (c .1))) in
+      let u : Unit T (r .at) = (
+        subst (λ k. r .at < k) (sym (H .items)) (omega arith),
+        subst (λ k. 223 ≤ k) (sym q) (leb-true 223 (getD C (r .at) 0) (c .0)),
+        subst (λ k. k ≤ 226) (sym q)
+            (leb-true (getD C (r .at) 0) 226 (c .1)),
+      ) in
       let s = span-of T C (saidAt t a) H K (r .at) u .closed in
       (r .at, text-well t a .arguments (r .at) m u (b, behind (r .at) (r .open-yet) (s .0) (s .2) (ℕ-discrete (linkOf T (r .at)) m)) o)
     where

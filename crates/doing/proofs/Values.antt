@@ -29,12 +29,15 @@ Alike l m = (i : ℕ) → getD l i (pos 0) ≡ getD m i (pos 0)
 
 pub appended-alike : (t : List ℕ) (c : ℕ) (l m s : List ℤ) → Alike l m → appended t c l s ≡ appended t c m s
 unfolding appended
-appended-alike t c l m s e = λ k. set (walk (λ f x. set x (fieldAt c (waitingOf s c) f) (castOf (fieldType t (declaredOf s c) f) (e f k))) 0 (fieldsOf t (declaredOf s c)) s) (channelAt c + 1) (kept (waitingOf s c + 1))
+appended-alike t c l m s e =
+    λ k. set (walk (λ f x. set x (fieldAt c (waitingOf s c) f) (castOf (fieldType t (declaredOf s c) f) (e f k))) 0 (fieldsOf t (declaredOf s c)) s) (channelAt c + 1)
+    (kept (waitingOf s c + 1))
 
 pub called-alike : (t : List ℕ) (u : ℕ) (l m s : List ℤ) → Alike l m → called t u l s ≡ called t u m s
 unfolding called parameterSet
 called-alike t u l m s e =
-    λ k. walk (λ i x. pick (eqb (codeOf t (u + i)) 222) (set x (slotOf (linkOf t (u + i)) (processesOf s) 0) (castOf (typeOf (linkOf t (u + i))) (e (linkOf t (u + i) / 1024) k))) x) 0 (unitLength t u) (processMade t u s)
+    λ k. walk (λ i x. pick (eqb (codeOf t (u + i)) 222) (set x (slotOf (linkOf t (u + i)) (processesOf s) 0) (castOf (typeOf (linkOf t (u + i))) (e (linkOf t (u + i) / 1024) k))) x) 0
+    (unitLength t u) (processMade t u s)
 
 written-alike : (l m : List ℤ) → Alike l m → (was b k : ℕ) → written l was b k ≡ written m was b k
 unfolding written
@@ -47,7 +50,8 @@ text-alike t l m e zero j i was k = refl
 text-alike t l m e (suc n) j i was k = ap₂ _++_ (written-alike l m e was (nameByte t j i) k) (text-alike t l m e n j (i + 1) (opened was (nameByte t j i)) (counted was (nameByte t j i) k))
 
 -- ---- what arguments fill
-pub gathered-alike : (t : List ℕ) (decl : Name → ℕ) (s : List ℤ) (p : ℕ) {es : List Expr} {a z : ℕ} → Passed t decl es a z → length es ≤ 32 → (vs : List ℤ) → values (sceneOf t s p decl) es ≡ all vs
+pub gathered-alike : (t : List ℕ) (decl : Name → ℕ) (s : List ℤ) (p : ℕ) {es : List Expr} {a z : ℕ} → Passed t decl es a z → length es ≤ 32 → (vs : List ℤ)
+    → values (sceneOf t s p decl) es ≡ all vs
     → Alike (gatherList t s p 32 a 0 (replicate 32 (pos 0))) vs
 gathered-alike t decl s p {es} r h vs e i =
     let w : Whole (values (sceneOf t s p decl) es) = subst Whole (inv e) tt in
