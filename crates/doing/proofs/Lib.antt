@@ -15,3 +15,4 @@ pub mod Stores
 pub mod Sends
 pub mod Takes
 pub mod Prints
+pub mod Bodies

@@ -19,6 +19,9 @@ use Rattle.expressions.proofs.Names.{Lies, lies-all}
 use Rattle.fitness.proofs.Tables.{text-held}
 use Rattle.acts.proofs.Stands.{Lying}
 
+pub front-lies : (l x y : List Item) (i j : ℕ) → Lying l i (x ++ y) j → Lying l i x j
+front-lies l x y i j p = record { front = p .front; rest = y ++ p .rest; split = p .split ∙ ap (p .front ++_) (append-assoc x y (p .rest)); place = p .place }
+
 pub back-lies : (l x y : List Item) (i j k : ℕ) → k ≡ j + length x → Lying l i (x ++ y) j → Lying l i y k
 back-lies l x y i j k e p =
     record {
