@@ -7,6 +7,7 @@ use mathlib.Core.Bool.{Bool, true, false}
 use mathlib.Core.Logic.{_⊎_, inl, inr}
 use mathlib.Core.List.{List, [], _∷_, _++_}
 use lib.ListN.{length, getD, length-append}
+use lib.Seq.{getD-append-seam}
 use lib.Dec.{eqb, ltb}
 use borrow.Author.Tests.{eq-eqb, eqb-true, ltb-true, ltb-false, lt-ltb}
 use Rattle.base.specs.Choice.{pick, both, either}
@@ -18,7 +19,7 @@ use Rattle.rules.specs.Rules.{badTwice, ruleOf, badBy}
 use Rattle.tables.specs.Access.{itemsOf, codeOf, linkOf}
 use Rattle.places.specs.Places.{isPart, isAlone, isMark, placeFrom}
 use Rattle.syntax.specs.Tree.{Name, sequence, Tree, goto, bare, Body, body}
-use Rattle.syntax.specs.Code.{Item, i-name, i-plain, i-label, i-goto, code-tree, code-body, code}
+use Rattle.syntax.specs.Code.{Item, i-name, i-plain, i-label, i-goto, i-local, i-body, i-end-body, each, code-declaration, code-tree, code-body, code}
 use Rattle.entries.specs.Items as items
 use Rattle.judging.specs.Judging.{tablesText}
 use Rattle.accepting.specs.Meaning.{Accepts}
@@ -102,6 +103,17 @@ label-marks = refl
 body-some : (b : Body) → 1 ≤ length (code-body b)
 body-some (body ds q) = omega arith
 
+start-late : (b : Body) (k : ℕ) → k < startIn b k
+start-late (body ds q) k = omega arith
+
+-- the end of a body stands behind its statements
+body-long : (b : Body) (k : ℕ) → endIn b k + 1 ≡ k + length (code-body b)
+body-long (body ds q) k =
+    let D = each (code-declaration i-local) ds in
+    let m = length-append (i-body ∷ D ++ code-tree q) (i-end-body ∷ []) in
+    let n = length-append (i-body ∷ D) (code-tree q) in
+    omega arith
+
 end-is : (b : Body) (k : ℕ) → endIn b k ≡ startIn b k + sizeIn (statementsOf b)
 end-is (body ds q) k = refl
 
@@ -170,16 +182,17 @@ module _ (t : List ℕ) (a : Accepts t) where
       label-code-there : getD C (r .at + 1) 0 ≡ 188
       label-code-there = ap (λ n. getD C n 0) (let z : r .at + 1 ≡ suc (r .at) = omega arith in z) ∙ lying-at t a (marked w (r .act)) (r .at) lies .1 .0
 
-      inside-there : (u < r .at + 1) × (r .at + 1 < endIn b k)
-      inside-there =
-          let e = holds-between p .ends in
+      act-ends : r .at + 2 + sizeIn (r .act) ≤ endIn b k
+      act-ends =
           let f = r .lies .place in
           let n = ap length (r .lies .split) in
           let g = length-append (r .lies .front) (marked w (r .act) ++ r .lies .rest) in
           let h = length-append (marked w (r .act)) (r .lies .rest) in
           let z = end-is b k in
-          let o = start-late b k in
-          (omega arith, omega arith)
+          omega arith
+
+      inside-there : (u < r .at + 1) × (r .at + 1 < endIn b k)
+      inside-there = let e = holds-between p .ends in let f = r .lies .place in let o = start-late b k in let n = act-ends in (omega arith, omega arith)
 
       -- the place behind the label is that of the statement
       place-there : placeFrom C (r .at + 1) ≡ j
@@ -187,9 +200,53 @@ module _ (t : List ℕ) (a : Accepts t) where
           let l = r .at + 1 in
           let back = lying-back X (i-name w ∷ []) (i-label ∷ code-tree (r .act)) 0 (r .at) l refl lies in
           let act = lying-back X (i-label ∷ []) (code-tree (r .act)) 0 l (l + 1) refl back in
-          let n = ends-before (code-tree (r .act)) (l + 1) act in
+          let o = act-ends in
+          let long = body-long b k in
+          let most = lying-ends t a (code-body b) k (body-lies p) in
           let m = lying-at t a (i-label ∷ code-tree (r .act)) l back in
           dull-skip C (mark label-quiet none) l (m .0, tt) (omega arith)
-          ∙ statement-from C (bare (r .act)) (lying-known t a (code-tree (r .act)) (l + 1) act) (l + 1) (lying-at t a (code-tree (r .act)) (l + 1) act) n
+          ∙ statement-from C (bare (r .act)) (lying-known t a (code-tree (r .act)) (l + 1) act) (l + 1) (lying-at t a (code-tree (r .act)) (l + 1) act) (omega arith)
           (ap (λ i. isMark (getD C i 0)) (let z : l + 1 - 1 ≡ l = omega arith in z) ∙ ap isMark (m .0) ∙ label-marks) .0
           ∙ (let z = r .two in let y : l + 1 ≡ j = omega arith in y)
+
+  -- ---- goto
+  module _ {u j : ℕ} {w : Name} {h : Ways} (s : Statement (a .tree) u (goto w) j h) where
+    abbrev b : Body
+    b = s .own
+
+    abbrev k : ℕ
+    k = s .at
+
+    n : Unit T u
+    n = unit-of b (s .held)
+
+    lies-here : Lying X 0 (code-tree (goto w)) j
+    lies-here = lying-in X (code-tree (q b (s .held))) (code-tree (goto w)) 0 (from b (s .held)) j (all b (s .held)) (within-lies (s .inside))
+
+    here : Inside T u (j + 1)
+    here =
+        let e = holds-between (s .held) .ends in
+        let f = within-lies (s .inside) in
+        let g = f .place in
+        let m = ap length (f .split) in
+        let v = length-append (f .front) (code-tree (goto w) ++ f .rest) in
+        let z = end-is b k in
+        let o = start-late b k in
+        let l = ends b (s .held) in
+        (omega arith, omega arith)
+
+    name-here : getD X j i-plain ≡ i-name w
+    name-here =
+        let f = lies-here .front in
+        let z : j ≡ length f = let e = lies-here .place in omega arith in
+        ap (λ (y : List Item). getD y j i-plain) (lies-here .split) ∙ ap (λ i. getD (f ++ (code-tree (goto w) ++ lies-here .rest)) i i-plain) z ∙ getD-append-seam f (i-name w) (i-goto ∷ lies-here .rest) i-plain
+
+    code-here : getD C (j + 1) 0 ≡ 198
+    code-here = ap (λ i. getD C i 0) (let z : j + 1 ≡ suc j = omega arith in z) ∙ lying-at t a (code-tree (goto w)) j lies-here .1 .0
+
+    there : j + 1 < length C
+    there = let m = lying-ends t a (code-tree (goto w)) j lies-here in omega arith
+
+    -- the label that is found
+    l : ℕ
+    l = find C S hs 2 (getD S (j + 1 - 1) 0) (getD hs (j + 1) 0) (length C)
