@@ -167,7 +167,7 @@ module _ (t : List ℕ) (a : Accepts t) where
 
     -- where its statement stands
     module _ (w : Name) (j : ℕ) (m : Labelled w q from j) where
-      r : Behind w (code-tree q) from j
+      abbrev r : Behind w (code-tree q) from j
       r = labelled-lies q from j m
 
       lies : Lying X 0 (marked w (r .act)) (r .at)
@@ -204,7 +204,7 @@ module _ (t : List ℕ) (a : Accepts t) where
           let long = body-long b k in
           let most = lying-ends t a (code-body b) k (body-lies p) in
           let m = lying-at t a (i-label ∷ code-tree (r .act)) l back in
-          dull-skip C (mark label-quiet none) l (m .0, tt) (omega arith)
+          dull-skip C (mark {x = i-label} label-quiet none) l (m .0, tt) (omega arith)
           ∙ statement-from C (bare (r .act)) (lying-known t a (code-tree (r .act)) (l + 1) act) (l + 1) (lying-at t a (code-tree (r .act)) (l + 1) act) (omega arith)
           (ap (λ i. isMark (getD C i 0)) (let z : l + 1 - 1 ≡ l = omega arith in z) ∙ ap isMark (m .0) ∙ label-marks) .0
           ∙ (let z = r .two in let y : l + 1 ≡ j = omega arith in y)
@@ -248,5 +248,100 @@ module _ (t : List ℕ) (a : Accepts t) where
     there = let m = lying-ends t a (code-tree (goto w)) j lies-here in omega arith
 
     -- the label that is found
-    l : ℕ
+    abbrev l : ℕ
     l = find C S hs 2 (getD S (j + 1 - 1) 0) (getD hs (j + 1) 0) (length C)
+
+    found : l < length C
+    found = goto-rule T C S H K u n (j + 1) there code-here
+
+    declared : declares C S hs 2 (getD S (j + 1 - 1) 0) (getD hs (j + 1) 0) l ≡ true
+    declared = find-says C S hs 2 (getD S (j + 1 - 1) 0) (getD hs (j + 1) 0) (length C) found
+
+    home-here : getD hs (j + 1) 0 ≡ u + 1
+    home-here = unit-home T C S H K u (j + 1) n here
+
+    label-is : getD C l 0 ≡ 188
+    label-is = label-code (getD C l 0) (declared-says C S hs 2 (getD S (j + 1 - 1) 0) (getD hs (j + 1) 0) l declared .0)
+
+    label-in : (u < l) × (l < endIn b k)
+    label-in =
+        let r = body-in T C S H K u n l found (λ z. omega (arith, label-is)) (declared-says C S hs 2 (getD S (j + 1 - 1) 0) (getD hs (j + 1) 0) l declared .1 ∙ home-here) in
+        (r .0, let e = ends b (s .held) in let r1 = r .1 in omega arith)
+
+    -- its name is the goto's
+    says-here : getD S (j + 1 - 1) 0 ≡ getD S j 0
+    says-here = ap (λ i. getD S i 0) (let z : j + 1 - 1 ≡ j = omega arith in z)
+
+    some : getD S (j + 1 - 1) 0 ≡ 0 → ⊥
+    some = find-some C S hs 2 (getD S (j + 1 - 1) 0) (getD hs (j + 1) 0) (length C) found .0
+
+    labelled-here : Labelled w (q b (s .held)) (from b (s .held)) (l + 1)
+    labelled-here =
+        let m = label-of b (s .held) l (label-in .0) (label-in .1) label-is in
+        let v = m .0 in
+        let r = labelled-lies (q b (s .held)) (from b (s .held)) (l + 1) (m .1) in
+        let two = r .two in
+        let x : r .at ≡ l - 1 = omega arith in
+        let long = items-long t a in
+        let f = found in
+        let g = there in
+        let same : v ≡ w = said-names t a (r .at) j v w (omega arith) (omega arith) (name-there b (s .held) v (l + 1) (m .1)) name-here
+            (ap (λ i. getD S i 0) x ∙ declares-name C S hs 2 (getD S (j + 1 - 1) 0) (getD hs (j + 1) 0) l declared ∙ says-here)
+            (λ z. some (inv (declares-name C S hs 2 (getD S (j + 1 - 1) 0) (getD hs (j + 1) 0) l declared) ∙ ap (λ i. getD S i 0) (inv x) ∙ z)) in
+        subst (λ (y : Name). Labelled y (q b (s .held)) (from b (s .held)) (l + 1)) same (m .1)
+
+    -- the first label of that name is the only one
+    only : (p : ℕ) → Labelled w (q b (s .held)) (from b (s .held)) p → p ≡ l + 1
+    only p m = go (decLt l (r .at + 1))
+      where
+        r : Behind w (code-tree (q b (s .held))) (from b (s .held)) p
+        r = labelled-lies (q b (s .held)) (from b (s .held)) p m
+
+        i : Inside T u (r .at + 1)
+        i = let x = inside-there b (s .held) w p m in (x .0, let e = ends b (s .held) in let y = x .1 in omega arith)
+
+        code : getD C (r .at + 1) 0 ≡ 188
+        code = label-code-there b (s .held) w p m
+
+        home : getD hs (r .at + 1) 0 ≡ u + 1
+        home = unit-home T C S H K u (r .at + 1) n i
+
+        before : r .at + 1 < length C
+        before = let x = inside-there b (s .held) w p m .1 in let y = body-long b k in let z = lying-ends t a (code-body b) k (body-lies (s .held)) in omega arith
+
+        says : getD S (r .at + 1 - 1) 0 ≡ getD S (j + 1 - 1) 0
+        says =
+            ap (λ x. getD S x 0) (let z : r .at + 1 - 1 ≡ r .at = omega arith in z)
+            ∙ inv (first-said t a w (r .at) (let x = before in let y = items-long t a in omega arith) (name-there b (s .held) w p m))
+            ∙ first-said t a w j (let x = there in let y = items-long t a in omega arith) name-here ∙ inv says-here
+
+        most : l ≤ r .at + 1
+        most = find-most C S hs 2 (getD S (j + 1 - 1) 0) (getD hs (j + 1) 0) (length C) (r .at + 1) some before (label-declares C S hs (getD S (j + 1 - 1) 0) (getD hs (j + 1) 0) (r .at + 1) code says (home ∙ inv home-here))
+
+        go : Dec (l < r .at + 1) → p ≡ l + 1
+        go (no z) = let x = r .two in let y = most in omega arith
+        go (yes z) =
+            absurd (once-only C S hs (r .at + 1) (inv (label-rule C S hs (starts C) (heights C) (r .at + 1) code) ∙ K .ruled (r .at + 1) before)
+            (let x = find-most C S hs 2 (getD S (r .at + 1 - 1) 0) (getD hs (r .at + 1) 0) (r .at + 1) l (λ e. some (inv says ∙ e)) z
+                (label-declares C S hs (getD S (r .at + 1 - 1) 0) (getD hs (r .at + 1) 0) l label-is
+                (declares-name C S hs 2 (getD S (j + 1 - 1) 0) (getD hs (j + 1) 0) l declared ∙ inv says) (declared-says C S hs 2 (getD S (j + 1 - 1) 0) (getD hs (j + 1) 0) l declared .1 ∙ home-here ∙ inv home)) in
+            omega arith))
+
+    label-place : labelIn w (q b (s .held)) (from b (s .held)) 0 ≡ l + 1
+    label-place = go (label-found w (q b (s .held)) (from b (s .held)) 0)
+      where
+        go : Search w (q b (s .held)) (from b (s .held)) 0 → labelIn w (q b (s .held)) (from b (s .held)) 0 ≡ l + 1
+        go (inl m) = only (labelIn w (q b (s .held)) (from b (s .held)) 0) m
+        go (inr m) = absurd (m .1 (l + 1) labelled-here)
+
+    place-of : placeFrom C l ≡ l + 1
+    place-of =
+        let r = labelled-lies (q b (s .held)) (from b (s .held)) (l + 1) labelled-here in
+        ap (placeFrom C) (let x = r .two in let z : l ≡ r .at + 1 = omega arith in z) ∙ place-there b (s .held) w (l + 1) labelled-here
+
+    pub text-label : linkOf (tablesText t) (j + 1) ≡ h .label w
+    text-label =
+        let r = link-is C S (j + 1) (K .few) there in
+        let f = found in
+        let few = K .few in
+        H .links (j + 1) there ∙ r .1 ∙ ap (min 4294967295) (goto-link T C S H K u n (r .0) (j + 1) code-here ∙ place-of) ∙ (let z : min 4294967295 (l + 1) ≡ l + 1 = omega arith in z) ∙ inv label-place ∙ inv (s .labels w)
