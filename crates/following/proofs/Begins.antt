@@ -111,12 +111,12 @@ module _ (cs : List ℕ) where
       ∙ dull-last d (suc (suc k)) (ap isMark (h .1 .0) ∙ quiet-mark (codeOf y) q) (h .1 .1)
 
 -- ---- declarations
-dull-append : {x y : List Item} → Dull x → Dull y → Dull (x ++ y)
+pub dull-append : {x y : List Item} → Dull x → Dull y → Dull (x ++ y)
 dull-append none b = b
 dull-append (mark q d) b = mark q (dull-append d b)
 dull-append (said a n q u d) b = said a n q u (dull-append d b)
 
-dull-each : {A : Type 0} (f : A → List Item) → ((a : A) → AllKnown (f a) → Dull (f a)) → (l : List A) → AllKnown (each f l) → Dull (each f l)
+pub dull-each : {A : Type 0} (f : A → List Item) → ((a : A) → AllKnown (f a) → Dull (f a)) → (l : List A) → AllKnown (each f l) → Dull (each f l)
 dull-each f h [] k = none
 dull-each f h (a ∷ l) k = dull-append (h a (known-front (f a) (each f l) k)) (dull-each f h l (known-back (f a) (each f l) k))
 

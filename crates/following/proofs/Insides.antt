@@ -155,7 +155,7 @@ pub inner-append : (x y : List Item) → Inner x → Inner y → Inner (x ++ y)
 inner-append [] y a b = b
 inner-append (c ∷ x) y a b = (a .0, inner-append x y (a .1) b)
 
-inner-each : {A : Type 0} (f : A → List Item) → ((a : A) → Inner (f a)) → (l : List A) → Inner (each f l)
+pub inner-each : {A : Type 0} (f : A → List Item) → ((a : A) → Inner (f a)) → (l : List A) → Inner (each f l)
 inner-each f h [] = tt
 inner-each f h (a ∷ l) = inner-append (f a) (each f l) (h a) (inner-each f h l)
 
@@ -230,7 +230,7 @@ inner-value set-false = (refl, (refl, tt))
 inner-value (set-name w) = (refl, (refl, tt))
 inner-value (set-channel n ks) = (refl, (refl, inner-each code-field inner-field ks))
 
-inner-variable : (v : Variable) → Inner (code-variable v)
+pub inner-variable : (v : Variable) → Inner (code-variable v)
 unfolding kind
 inner-variable (variable w s v) = (refl, (refl, inner-append (code-size s) (code-value v) (inner-size s) (inner-value v)))
 

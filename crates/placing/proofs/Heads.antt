@@ -5,7 +5,7 @@ use native.Mathlib.Decide.{decLt, ℕ-discrete}
 use mathlib.Core.Path.{_≡_, refl, sym as inv, ap, _∙_, subst}
 use mathlib.Core.List.{List, [], _∷_, _++_}
 use lib.ListN.{length, getD, length-append}
-use Rattle.syntax.specs.Tree.{Name, Group, group, Body, body, Model, process, init}
+use Rattle.syntax.specs.Tree.{Name, Declaration, Group, group, Body, body, Model, process, init}
 use Rattle.syntax.specs.Code.{Item, i-local, i-init, i-body, i-end-body, each, code-tree, code-declaration, code-parameter, code-group, code-body, code-activity, code-part, code}
 use Rattle.entries.specs.Items.{AllKnown}
 use Rattle.holdings.proofs.Accepted.{accepted-known}
@@ -23,28 +23,26 @@ bare-parameter w = (λ k z. omega arith, (λ k z. omega arith, tt))
 bare-group : (g : Group) → Bare (code-group g)
 bare-group (group k ws) = (bare-type k, (λ n z. omega arith, bare-each code-parameter bare-parameter ws))
 
--- the parameters of a unit
+-- the parameters of a unit stand between its first item and its body
 pub record Between (l : List Item) (i u k : ℕ) : Type 0 where
-  pub between : List Item
-  pub bare : Bare between
-  pub lies : Lying l i between (suc u)
-  pub ends : k ≡ suc u + length between
+  pub groups : List Group
+  pub lies : Lying l i (each code-group groups) (suc u)
+  pub ends : k ≡ suc u + length (each code-group groups)
 
 pub holds-between : {m : Model} {i u k : ℕ} {b : Body} → Holds m i u b k → Between (code m) i u k
 holds-between {i = i} {u = u} (in-process {x = x} {w = w} {gs = gs} {b = b} {m = m} e f) =
     let A = code-activity x w in
     let G = each code-group gs in
     record {
-      between = G;
-      bare = bare-each code-group bare-group gs;
+      groups = gs;
       lies = lying-before (A ++ G ++ code-body b) (code m) G i (suc u) (lying-before (A ++ G) (code-body b) G i (suc u) (lying-behind A G G i (suc u) (suc u) e (lying-whole G (suc u))));
       ends = f;
     }
 holds-between {i = i} (in-init {b = b} {m = m} e) =
-    record { between = []; bare = tt; lies = record { front = i-init ∷ []; rest = code-body b ++ code m; split = refl; place = omega arith }; ends = omega arith }
+    record { groups = []; lies = record { front = i-init ∷ []; rest = code-body b ++ code m; split = refl; place = omega arith }; ends = omega arith }
 holds-between {i = i} {u = u} {k = k} (later {x = x} {m = m} p) =
     let r = holds-between p in
-    record { between = r .between; bare = r .bare; lies = lying-behind (code-part x) (code m) (r .between) i (i + length (code-part x)) (suc u) refl (r .lies); ends = r .ends }
+    record { groups = r .groups; lies = lying-behind (code-part x) (code m) (each code-group (r .groups)) i (i + length (code-part x)) (suc u) refl (r .lies); ends = r .ends }
 
 -- ---- in an accepted text
 module _ (t : List ℕ) (a : Accepts t) where
@@ -54,12 +52,12 @@ module _ (t : List ℕ) (a : Accepts t) where
   pub lying-known : (l : List Item) (j : ℕ) → Lying X 0 l j → AllKnown l
   lying-known l j p = known-front l (p .rest) (known-back (p .front) (l ++ p .rest) (subst AllKnown (p .split) (accepted-known t (a .parts) (a .tree) (a .reads) (a .gram))))
 
-  free : (l : List Item) (j x : ℕ) → Bare l → Lying X 0 l j → j ≤ x → x < j + length l → getD (codesAt t a) x 0 ≡ 188 → ⊥
-  free l j x b p = bare-at (codesAt t a) l j x b (lying-known l j p) (lying-at t a l j p)
-
-  -- a label item of a unit stands among its statements
-  pub label-late : {u k : ℕ} (b : Body) → Holds (a .tree) 0 u b k → (x : ℕ) → u < x → getD (codesAt t a) x 0 ≡ 188 → startIn b k ≤ x
-  label-late {u} {k} (body ds q) p x g e = go (decLt x k) (ℕ-discrete x k) (decLt x (startIn (body ds q) k))
+  -- an item of a unit that is no parameter's, not its `body` and no declaration's stands among its statements or behind them
+  pub stands-late : {u k : ℕ} (b : Body) (p : Holds (a .tree) 0 u b k) (x : ℕ) → u < x
+      → ((gs : List Group) → Lying X 0 (each code-group gs) (suc u) → x < suc u + length (each code-group gs) → ⊥)
+      → (getD (codesAt t a) x 0 ≡ 227 → ⊥)
+      → ((ds : List Declaration) → Lying X 0 (each (code-declaration i-local) ds) (k + 1) → k + 1 ≤ x → x < k + 1 + length (each (code-declaration i-local) ds) → ⊥) → startIn b k ≤ x
+  stands-late {u} {k} (body ds q) p x g f h d = go (decLt x k) (ℕ-discrete x k) (decLt x (startIn (body ds q) k))
     where
       D : List Item
       D = each (code-declaration i-local) ds
@@ -67,17 +65,21 @@ module _ (t : List ℕ) (a : Accepts t) where
       r : Between X 0 u k
       r = holds-between p
 
-      all : Lying X 0 (code-body (body ds q)) k
-      all = body-lies p
-
-      front : Lying X 0 (i-body ∷ D ++ code-tree q) k
-      front = lying-front X (i-body ∷ D ++ code-tree q) (i-end-body ∷ []) 0 k all
-
       heads : Lying X 0 (i-body ∷ D) k
-      heads = lying-front X (i-body ∷ D) (code-tree q) 0 k front
+      heads = lying-front X (i-body ∷ D) (code-tree q) 0 k (lying-front X (i-body ∷ D ++ code-tree q) (i-end-body ∷ []) 0 k (body-lies p))
 
       go : Dec (x < k) → Dec (x ≡ k) → Dec (x < startIn (body ds q) k) → startIn (body ds q) k ≤ x
-      go (yes y) z w = absurd (free (r .between) (suc u) x (r .bare) (r .lies) (omega arith) (let v = r .ends in omega arith) e)
-      go (no y) (yes z) w = absurd (let v = lying-at t a (i-body ∷ D) k heads .0 in let c : getD (codesAt t a) x 0 ≡ 227 = ap (λ n. getD (codesAt t a) n 0) z ∙ v in omega arith)
-      go (no y) (no z) (yes w) = absurd (free D (k + 1) x (bare-each (code-declaration i-local) bare-declaration ds) (lying-back X (i-body ∷ []) D 0 k (k + 1) refl heads) (omega arith) w e)
+      go (yes y) z w = absurd (f (r .groups) (r .lies) (let v = r .ends in omega arith))
+      go (no y) (yes z) w = absurd (h (ap (λ n. getD (codesAt t a) n 0) z ∙ lying-at t a (i-body ∷ D) k heads .0))
+      go (no y) (no z) (yes w) = absurd (d ds (lying-back X (i-body ∷ []) D 0 k (k + 1) refl heads) (omega arith) w)
       go (no y) (no z) (no w) = omega arith
+
+  -- a label item of a unit stands among its statements
+  module _ (x : ℕ) (e : getD (codesAt t a) x 0 ≡ 188) where
+    free : (l : List Item) (j : ℕ) → Bare l → Lying X 0 l j → j ≤ x → x < j + length l → ⊥
+    free l j b p g h = bare-at (codesAt t a) l j x b (lying-known l j p) (lying-at t a l j p) g h e
+
+    pub label-late : {u k : ℕ} (b : Body) → Holds (a .tree) 0 u b k → u < x → startIn b k ≤ x
+    label-late {u} {k} b p g =
+        stands-late b p x g (λ gs l h. free (each code-group gs) (suc u) (bare-each code-group bare-group gs) l (omega arith) h) (λ z. omega arith)
+        (λ ds l y h. free (each (code-declaration i-local) ds) (k + 1) (bare-each (code-declaration i-local) bare-declaration ds) l y h)

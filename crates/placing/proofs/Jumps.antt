@@ -114,7 +114,7 @@ body-long (body ds q) k =
     let n = length-append (i-body ∷ D) (code-tree q) in
     omega arith
 
-end-is : (b : Body) (k : ℕ) → endIn b k ≡ startIn b k + sizeIn (statementsOf b)
+pub end-is : (b : Body) (k : ℕ) → endIn b k ≡ startIn b k + sizeIn (statementsOf b)
 end-is (body ds q) k = refl
 
 module _ (t : List ℕ) (a : Accepts t) where
@@ -163,7 +163,7 @@ module _ (t : List ℕ) (a : Accepts t) where
 
     -- ---- a label item of the unit is a label of the tree
     label-of : (l : ℕ) → u < l → l < endIn b k → getD C l 0 ≡ 188 → (w : Name) × Labelled w q from (l + 1)
-    label-of l g h e = label-there C q from l (lying-known t a (code-tree q) from all) (lying-at t a (code-tree q) from all) (label-late t a b p l g e) (let z = end-is b k in omega arith) e
+    label-of l g h e = label-there C q from l (lying-known t a (code-tree q) from all) (lying-at t a (code-tree q) from all) (label-late t a l e b p g) (let z = end-is b k in omega arith) e
 
     -- where its statement stands
     module _ (w : Name) (j : ℕ) (m : Labelled w q from j) where

@@ -6,3 +6,5 @@ pub mod Labels
 pub mod Names
 pub mod Heads
 pub mod Jumps
+pub mod Units
+pub mod Whole
