@@ -1,5 +1,5 @@
 -- THE LABELS OF A TREE: the place that `labelIn` finds is that of a statement with the label, or there is none.
-use Prim.Native.Nat.{ℕ, suc, _+_}
+use Prim.Native.Nat.{ℕ, _+_}
 use native.Mathlib.Omega.{arith}
 use mathlib.Core.Path.{_≡_, refl, sym, ap, _∙_, subst}
 use mathlib.Core.Bool.{Bool, true, false}

@@ -1,13 +1,13 @@
 -- THE ITEMS OF A STATEMENT STAND AT ITS PLACE in the code of the model, with what is before and behind them.
-use Prim.Native.Nat.{ℕ, suc, _+_}
+use Prim.Native.Nat.{ℕ, _+_}
 use native.Mathlib.Omega.{arith}
 use mathlib.Core.Path.{_≡_, refl, sym, ap, _∙_}
 use mathlib.Core.List.{List, [], _∷_, _++_, append-assoc, append-nil}
 use lib.ListN.{length, length-append}
-use Rattle.syntax.specs.Tree.{Name, Sort, action, Tree, select, loop, bare, labelled, then, option, Group, Body, body, Activity, Part, process, init, Model}
+use Rattle.syntax.specs.Tree.{Sort, action, Tree, Body, body, Model}
 use Rattle.syntax.specs.Code.{Item, i-if, i-fi, i-do, i-od, i-option, i-end-option, i-name, i-label, i-local, i-init, i-body, i-end-body, each, code-tree, code-declaration, code-group, code-body, code-activity, code-part, code}
 use Rattle.acts.specs.Stage.{Ways}
-use Rattle.acts.specs.Program.{sizeIn, Within, itself, in-if, in-do, unlabelled, behind-label, in-first, in-rest, in-option, in-others, Holds, in-process, in-init, later, startIn, endIn, statementsOf, Statement}
+use Rattle.acts.specs.Program.{sizeIn, Within, itself, in-if, in-do, unlabelled, behind-label, in-first, in-rest, in-option, in-others, Holds, in-process, in-init, later, startIn, statementsOf, Statement}
 
 -- the items x stand in the items l, which begin at item i, from item j on
 pub record Lying (l : List Item) (i : ℕ) (x : List Item) (j : ℕ) : Type 0 where

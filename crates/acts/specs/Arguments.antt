@@ -1,7 +1,6 @@
 -- Targets, channel operands and arguments worked out: document 01, "How it moves", "Within a statement work goes left to right in the text, but a channel's number and field count are tested
 -- first". The first fault ends the work.
 use Prim.Native.Nat.{ℕ, _+_}
-use mathlib.Core.Bool.{Bool}
 use mathlib.Core.List.{List, [], _∷_}
 use lib.IntN.{ℤ, pos, negsuc}
 use lib.Dec.{eqb, ltb}

@@ -1,7 +1,7 @@
 -- What a statement of a tree does, and what it prints: document 01, "How it moves", "Taking: target indices are worked out in the state before the step, then stores go left to right .. A
 -- failed assertion or fault changes no state and prints nothing", "Arguments of a send or `run` are worked out only when there is room for it", "`v = run` stores 0 where nothing fits",
 -- "`goto` and `break` are steps of their own (H)". Each gives what came of it, and the state after.
-use Prim.Native.Nat.{ℕ, zero, _+_}
+use Prim.Native.Nat.{ℕ, _+_}
 use mathlib.Core.List.{List, [], _∷_, _++_}
 use lib.ListN.{length}
 use lib.IntN.{ℤ, pos, negsuc, _+ℤ_}

@@ -1,8 +1,8 @@
 -- Worked examples on both sides of a boundary, computed: a guard that is 0, one that is not and one that faults beside `else`; a send to a full channel and to one that is not; and
 -- the slip that document 01 names, "using a new `i` for the index in `c?i,a[i]`". The stage is a small one of its own: a state has i, a[0], a[1] and c.
-use Prim.Native.Nat.{ℕ, zero, suc, _+_}
+use Prim.Native.Nat.{ℕ, _+_}
 use mathlib.Core.Path.{_≡_, refl}
-use mathlib.Core.Bool.{Bool, true, false}
+use mathlib.Core.Bool.{true, false}
 use mathlib.Core.List.{List, [], _∷_}
 use lib.ListN.{getD, set}
 use lib.IntN.{ℤ, pos}

@@ -4,7 +4,7 @@ use Prim.Native.Nat.{ℕ, _+_}
 use mathlib.Core.Bool.{Bool}
 use mathlib.Core.List.{List, [], _∷_, _++_}
 use Rattle.base.specs.Choice.{pick}
-use Rattle.syntax.specs.Tree.{Sort, action, statement, options, Tree, express, assign, increment, decrement, send, receive, assert, print, skip, goto, break, timeout, else, run, set-run, select, loop, bare, labelled, end, then, over, option}
+use Rattle.syntax.specs.Tree.{Sort, action, Tree, express, assign, increment, decrement, send, receive, assert, print, skip, goto, break, timeout, else, run, set-run, select, loop, bare, labelled, end, then, over, option}
 use Rattle.offering.specs.Offers.{orElse}
 use Rattle.acts.specs.Program.{sizeIn}
 

@@ -1,13 +1,12 @@
 -- The statements of a model and their places: the tree's statements in text order, each with the place that follows it. Document 01, "How it moves", "an ended option leads past `fi`, or back
 -- to `do`". A place is the number of the item in the tree's code (crate `syntax`) with which a statement begins, behind its label; the end of a process is the item that ends its body.
-use Prim.Native.Nat.{ℕ, zero, suc, _+_}
+use Prim.Native.Nat.{ℕ, suc, _+_}
 use mathlib.Core.Path.{_≡_}
-use mathlib.Core.Bool.{Bool, true, false}
-use mathlib.Core.List.{List, [], _∷_, _++_}
+use mathlib.Core.List.{List, _∷_}
 use lib.ListN.{length}
 use Rattle.base.specs.Choice.{pick}
 use Rattle.base.specs.Lists.{same}
-use Rattle.syntax.specs.Tree.{Name, Sort, action, statement, sequence, options, Tree, express, assign, increment, decrement, send, receive, assert, print, skip, goto, break, timeout, else, run, set-run, select, loop, bare, labelled, end, then, over, option, Group, Body, body, Activity, Part, mtypes, global, process, init, Model}
+use Rattle.syntax.specs.Tree.{Name, Sort, action, statement, sequence, options, Tree, express, assign, increment, decrement, send, receive, assert, print, skip, goto, break, timeout, else, run, set-run, select, loop, bare, labelled, end, then, over, option, Group, Body, body, Activity, Part, process, init, Model}
 use Rattle.syntax.specs.Code.{each, code-tree, code-declaration, code-group, code-activity, code-part, i-local}
 use Rattle.acts.specs.Stage.{Ways}
 

@@ -1,28 +1,24 @@
 -- THE STEPPER MOVES AS THE TREE SAYS (Q12, Q13): in every state of an accepted text's model, what is offered and done over its tables is what its tree's statements offer and do.
-use Prim.Native.Nat.{ℕ, zero, suc, _+_, _-_, _≤_, _<_, min}
-use native.Mathlib.Omega.{arith}
-use mathlib.Core.Path.{_≡_, refl, sym as inv, ap, _∙_, subst}
+use Prim.Native.Nat.{ℕ, _-_, _<_}
+use mathlib.Core.Path.{_≡_, sym as inv, ap, _∙_, subst}
 use mathlib.Core.Bool.{Bool, true}
 use mathlib.Core.Logic.{_⊎_, inl, inr}
-use mathlib.Core.List.{List, [], _∷_, _++_}
-use lib.ListN.{length}
+use mathlib.Core.List.{List}
 use lib.IntN.{ℤ}
-use Rattle.syntax.specs.Tree.{Name, Sort, action, Tree, goto}
-use Rattle.syntax.specs.Code.{code-tree, code}
-use Rattle.tables.specs.Access.{itemsOf, codeOf, linkOf}
+use Rattle.syntax.specs.Tree.{Sort, action, Tree}
+use Rattle.tables.specs.Access.{linkOf}
 use Rattle.judging.specs.Judging.{tablesText}
 use Rattle.accepting.specs.Meaning.{Accepts}
 use Rattle.frames.specs.Layout.{processesOf, unitOf, placeOf}
 use Rattle.executing.specs.Executing.{readyOf}
-use Rattle.offering.specs.declared.Walk.{Walk}
-use Rattle.offering.specs.declared.Walk.the-variants.{Found, Left}
+use Rattle.offering.specs.declared.Walk.the-variants.{Found}
 use Rattle.offering.specs.Offers.{offersOf, pickAt}
 use Rattle.effects.specs.Effects.{takenOf}
 use Rattle.printing.specs.Printing.{printedAt}
 use Rattle.standing.specs.Standing.{placeAt}
 use Rattle.standing.specs.Meaning.{Stands}
-use Rattle.keeping.specs.Well.{Well, Unit}
-use Rattle.lasting.specs.Offered.{Offered, AllOffered}
+use Rattle.keeping.specs.Well.{Unit}
+use Rattle.lasting.specs.Offered.{Offered}
 use Rattle.keeping.proofs.Parts.{unit-of}
 use Rattle.lasting.proofs.Offers.{all-pick, offers-belong}
 use Rattle.fitness.proofs.Whole.{text-well}
@@ -30,19 +26,17 @@ use Rattle.acts.specs.Stage.{Ways}
 use Rattle.acts.specs.Ready.{ready}
 use Rattle.acts.specs.Effect.{effect, prints}
 use Rattle.acts.specs.Offers.{offers}
-use Rattle.acts.specs.Program.{Within, itself, in-if, in-do, unlabelled, behind-label, in-first, in-rest, in-option, in-others, startIn, Statement, Ending}
-use Rattle.acts.specs.Tables.{Leads}
+use Rattle.acts.specs.Program.{Within, itself, in-if, in-do, unlabelled, behind-label, in-first, in-rest, in-option, in-others, Statement, Ending}
 use Rattle.acts.proofs.Stands.{statement-lies}
 use Rattle.acts.proofs.Offers.{offers-same}
 use Rattle.following.proofs.Main.{text-leads}
 use Rattle.choosing.proofs.Main.{text-offers, text-ended, text-ends}
-use Rattle.doing.specs.Stages.{stageAt}
 use Rattle.doing.proofs.Ready.{text-ready}
 use Rattle.doing.proofs.Takes.{text-takes}
 use Rattle.doing.proofs.Prints.{text-prints}
 use Rattle.doing.proofs.Bodies.{text-stage}
 use Rattle.placing.proofs.Jumps.{text-label}
-use Rattle.placing.proofs.Whole.{Stated, text-stated, text-ending}
+use Rattle.placing.proofs.Whole.{text-stated, text-ending}
 use Rattle.motion.specs.Motion.{stageOf}
 use Rattle.motion.specs.Motion as motion
 

@@ -2,18 +2,18 @@
 use Prim.Native.Nat.{ℕ, suc, _+_, _≤_, _<_}
 use native.Mathlib.Omega.{arith}
 use native.Mathlib.Decide.{decLt, ℕ-discrete}
-use mathlib.Core.Path.{_≡_, refl, sym as inv, ap, _∙_, subst}
+use mathlib.Core.Path.{_≡_, refl, ap, _∙_, subst}
 use mathlib.Core.List.{List, [], _∷_, _++_}
-use lib.ListN.{length, getD, length-append}
-use Rattle.syntax.specs.Tree.{Name, Declaration, Group, group, Body, body, Model, process, init}
+use lib.ListN.{length, getD}
+use Rattle.syntax.specs.Tree.{Name, Declaration, Group, group, Body, body, Model}
 use Rattle.syntax.specs.Code.{Item, i-local, i-init, i-body, i-end-body, each, code-tree, code-declaration, code-parameter, code-group, code-body, code-activity, code-part, code}
 use Rattle.entries.specs.Items.{AllKnown}
 use Rattle.holdings.proofs.Accepted.{accepted-known}
 use Rattle.accepting.specs.Meaning.{Accepts}
 use Rattle.expressions.specs.Names.{codesAt}
 use Rattle.expressions.proofs.Operators.{known-front, known-back}
-use Rattle.acts.specs.Program.{sizeIn, Holds, in-process, in-init, later, startIn, endIn, statementsOf}
-use Rattle.acts.proofs.Stands.{Lying, lying-behind, lying-before, lying-whole, body-lies, statements-lie, lying-in}
+use Rattle.acts.specs.Program.{Holds, in-process, in-init, later, startIn}
+use Rattle.acts.proofs.Stands.{Lying, lying-behind, lying-before, lying-whole, body-lies}
 use Rattle.placing.proofs.Lists.{lying-front, lying-back, lying-at}
 use Rattle.placing.proofs.Labels.{Bare, bare-each, bare-at, bare-declaration, bare-type}
 

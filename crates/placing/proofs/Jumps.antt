@@ -4,26 +4,25 @@ use native.Mathlib.Omega.{arith}
 use native.Mathlib.Decide.{decLt}
 use mathlib.Core.Path.{_≡_, refl, sym as inv, ap, _∙_, subst}
 use mathlib.Core.Bool.{Bool, true, false}
-use mathlib.Core.Logic.{_⊎_, inl, inr}
+use mathlib.Core.Logic.{inl, inr}
 use mathlib.Core.List.{List, [], _∷_, _++_}
 use lib.ListN.{length, getD, length-append}
 use lib.Seq.{getD-append-seam}
-use lib.Dec.{eqb, ltb}
-use borrow.Author.Tests.{eq-eqb, eqb-true, ltb-true, ltb-false, lt-ltb}
+use lib.Dec.{eqb}
+use borrow.Author.Tests.{eq-eqb, eqb-true, lt-ltb}
 use Rattle.base.specs.Choice.{pick, both, either}
 use Rattle.base.proofs.Tests.{true-false, both-true}
 use Rattle.sheets.specs.Walks.{first}
 use Rattle.finding.specs.Sets.{among}
 use Rattle.finding.specs.Search.{declares, find}
 use Rattle.rules.specs.Rules.{badTwice, ruleOf, badBy}
-use Rattle.tables.specs.Access.{itemsOf, codeOf, linkOf}
+use Rattle.tables.specs.Access.{linkOf}
 use Rattle.places.specs.Places.{isPart, isAlone, isMark, placeFrom}
 use Rattle.syntax.specs.Tree.{Name, sequence, Tree, goto, bare, Body, body}
 use Rattle.syntax.specs.Code.{Item, i-name, i-plain, i-label, i-goto, i-local, i-body, i-end-body, each, code-declaration, code-tree, code-body, code}
-use Rattle.entries.specs.Items as items
 use Rattle.judging.specs.Judging.{tablesText}
 use Rattle.accepting.specs.Meaning.{Accepts}
-use Rattle.expressions.specs.Names.{codesAt, saidAt, firstName}
+use Rattle.expressions.specs.Names.{codesAt, saidAt}
 use Rattle.expressions.proofs.Main.{items-long}
 use Rattle.expressions.proofs.Said.{first-said}
 use Rattle.keeping.specs.Well.{Unit, Inside}
@@ -32,20 +31,20 @@ use Rattle.fitness.specs.Facts.{homes, starts, heights, linksIn, Facts}
 use Rattle.fitness.proofs.Tables.{text-held}
 use Rattle.fitness.proofs.Known.{text-facts}
 use Rattle.fitness.proofs.Links.{link-is}
-use Rattle.fitness.proofs.Firsts.{first-is, first-most}
+use Rattle.fitness.proofs.Firsts.{first-most}
 use Rattle.fitness.proofs.Variables.{unit-home}
 use Rattle.fitness.proofs.Jumps.{find-says, declared-says, label-code, body-in, goto-rule, goto-link}
 use Rattle.following.proofs.Insides.{quiet}
 use Rattle.following.proofs.Begins.{mark, none, dull-skip, statement-from}
 use Rattle.following.proofs.Main.{text-unit}
 use Rattle.acts.specs.Stage.{Ways}
-use Rattle.acts.specs.Program.{sizeIn, Within, Holds, labelIn, startIn, endIn, statementsOf, Statement}
+use Rattle.acts.specs.Program.{sizeIn, Holds, labelIn, startIn, endIn, statementsOf, Statement}
 use Rattle.acts.proofs.Stands.{Lying, within-lies, body-lies, statements-lie, lying-in}
 use Rattle.acts.proofs.Labels.{Labelled, Search, label-found, marked, Behind, labelled-lies}
-use Rattle.placing.proofs.Lists.{lying-front, lying-back, lying-at, lying-ends}
+use Rattle.placing.proofs.Lists.{lying-back, lying-at, lying-ends}
 use Rattle.placing.proofs.Labels.{label-there}
 use Rattle.placing.proofs.Names.{said-names}
-use Rattle.placing.proofs.Heads.{Between, holds-between, lying-known, label-late}
+use Rattle.placing.proofs.Heads.{holds-between, lying-known, label-late}
 
 -- ---- what a search for a label says
 module _ (cs vs hs : List ℕ) where
@@ -286,8 +285,8 @@ module _ (t : List ℕ) (a : Accepts t) where
         let f = found in
         let g = there in
         let same : v ≡ w = said-names t a (r .at) j v w (omega arith) (omega arith) (name-there b (s .held) v (l + 1) (m .1)) name-here
-            (ap (λ i. getD S i 0) x ∙ declares-name C S hs 2 (getD S (j + 1 - 1) 0) (getD hs (j + 1) 0) l declared ∙ says-here)
-            (λ z. some (inv (declares-name C S hs 2 (getD S (j + 1 - 1) 0) (getD hs (j + 1) 0) l declared) ∙ ap (λ i. getD S i 0) (inv x) ∙ z)) in
+        (ap (λ i. getD S i 0) x ∙ declares-name C S hs 2 (getD S (j + 1 - 1) 0) (getD hs (j + 1) 0) l declared ∙ says-here)
+        (λ z. some (inv (declares-name C S hs 2 (getD S (j + 1 - 1) 0) (getD hs (j + 1) 0) l declared) ∙ ap (λ i. getD S i 0) (inv x) ∙ z)) in
         subst (λ (y : Name). Labelled y (q b (s .held)) (from b (s .held)) (l + 1)) same (m .1)
 
     -- the first label of that name is the only one
@@ -323,8 +322,8 @@ module _ (t : List ℕ) (a : Accepts t) where
         go (yes z) =
             absurd (once-only C S hs (r .at + 1) (inv (label-rule C S hs (starts C) (heights C) (r .at + 1) code) ∙ K .ruled (r .at + 1) before)
             (let x = find-most C S hs 2 (getD S (r .at + 1 - 1) 0) (getD hs (r .at + 1) 0) (r .at + 1) l (λ e. some (inv says ∙ e)) z
-                (label-declares C S hs (getD S (r .at + 1 - 1) 0) (getD hs (r .at + 1) 0) l label-is
-                (declares-name C S hs 2 (getD S (j + 1 - 1) 0) (getD hs (j + 1) 0) l declared ∙ inv says) (declared-says C S hs 2 (getD S (j + 1 - 1) 0) (getD hs (j + 1) 0) l declared .1 ∙ home-here ∙ inv home)) in
+            (label-declares C S hs (getD S (r .at + 1 - 1) 0) (getD hs (r .at + 1) 0) l label-is
+            (declares-name C S hs 2 (getD S (j + 1 - 1) 0) (getD hs (j + 1) 0) l declared ∙ inv says) (declared-says C S hs 2 (getD S (j + 1 - 1) 0) (getD hs (j + 1) 0) l declared .1 ∙ home-here ∙ inv home)) in
             omega arith))
 
     label-place : labelIn w (q b (s .held)) (from b (s .held)) 0 ≡ l + 1

@@ -13,7 +13,7 @@ use borrow.Author.Tests.{ltb-true}
 use Rattle.base.specs.Choice.{pick, both}
 use Rattle.base.proofs.Tests.{true-false, both-true}
 use Rattle.syntax.specs.Tree.{Name, Shape, Exp, Expr, Received, into, equal, exactly, exactly-true, exactly-false, Sort, action, statement, sequence, options, Tree, express, assign, increment, decrement, send, receive, assert, print, skip, goto, break, timeout, else, run, set-run, select, loop, bare, labelled, end, then, over, option, Value, unset, set-number, set-minus, set-true, set-false, set-name, set-channel, Variable, variable, Declaration, declare}
-use Rattle.syntax.specs.Code.{Item, i-name, i-number, i-text, i-type, i-plain, i-argument, i-into, i-equal, i-constant, i-end, i-label, i-express, i-target, i-assign, i-increment, i-decrement, i-send, i-receive, i-assert, i-skip, i-goto, i-break, i-timeout, i-else, i-run, i-set-run, i-if, i-fi, i-do, i-od, i-option, i-end-option, i-local, i-declared, i-size, i-value, i-minus, i-named, i-channel, i-field, each, code-exp, code-argument, code-received, code-tree, code-field, code-size, code-value, code-variable, code-declaration}
+use Rattle.syntax.specs.Code.{Item, i-name, i-type, i-plain, i-argument, i-into, i-equal, i-end, i-express, i-target, i-assign, i-increment, i-decrement, i-send, i-receive, i-assert, i-set-run, i-if, i-fi, i-do, i-od, i-option, i-end-option, i-local, each, code-exp, code-argument, code-received, code-tree, code-field, code-size, code-value, code-variable, code-declaration}
 use Rattle.productions.specs.Numbering.{nth, items}
 use Rattle.entries.specs.Items.{codeOf, Known, is-name, is-text, is-number, is-mark, AllKnown}
 use Rattle.places.specs.Places.{isPart}

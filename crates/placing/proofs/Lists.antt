@@ -1,7 +1,7 @@
 -- Items that stand in the code of an accepted text's tree: their codes, and the parts of what stands there.
 use Prim.Native.Nat.{ℕ, _+_, _≤_}
 use native.Mathlib.Omega.{arith}
-use mathlib.Core.Path.{_≡_, refl, sym as inv, ap, _∙_, subst}
+use mathlib.Core.Path.{_≡_, sym as inv, ap, _∙_, subst}
 use mathlib.Core.List.{List, _++_, map, map-append}
 use lib.ListN.{length, length-map, length-append}
 use Rattle.syntax.specs.Code.{Item, code}

@@ -1,5 +1,5 @@
 -- Two names of an accepted text that say the same are the same, but for `_pid`, which says 0.
-use Prim.Native.Nat.{ℕ, zero, suc, _+_, _≤_, _<_}
+use Prim.Native.Nat.{ℕ, _+_, _<_}
 use native.Mathlib.Omega.{arith}
 use native.Mathlib.Decide.{decLt}
 use mathlib.Core.Path.{_≡_, refl, sym as inv, ap, _∙_}

@@ -2,17 +2,17 @@
 use Prim.Native.Nat.{ℕ, suc, _+_, _≤_, _<_}
 use native.Mathlib.Omega.{arith}
 use native.Mathlib.Decide.{ℕ-discrete, decLt}
-use mathlib.Core.Path.{_≡_, refl, sym as inv, ap, _∙_, subst}
-use mathlib.Core.Bool.{Bool, true, false}
+use mathlib.Core.Path.{_≡_, refl, sym as inv, subst}
+use mathlib.Core.Bool.{true}
 use mathlib.Core.List.{List, [], _∷_, _++_}
-use lib.ListN.{length, getD, length-append}
-use Rattle.syntax.specs.Tree.{Name, Sort, action, statement, sequence, options, Tree, express, assign, increment, decrement, send, receive, assert, print, skip, goto, break, timeout, else, run, set-run, select, loop, bare, labelled, end, then, over, option}
+use lib.ListN.{length, length-append}
+use Rattle.syntax.specs.Tree.{Sort, action, statement, sequence, options, Tree, express, assign, increment, decrement, send, receive, assert, print, skip, goto, break, timeout, else, run, set-run, select, loop, bare, labelled, end, then, over, option}
 use Rattle.syntax.specs.Code.{Item, i-name, i-text, i-end, i-label, i-express, i-target, i-assign, i-increment, i-decrement, i-send, i-receive, i-assert, i-skip, i-goto, i-break, i-timeout, i-else, i-run, i-set-run, i-if, i-fi, i-do, i-od, i-option, i-end-option, each, code-exp, code-argument, code-received, code-tree, code}
 use Rattle.places.specs.Places.{isPlace}
 use Rattle.accepting.specs.Meaning.{Accepts}
 use Rattle.acts.specs.Program.{sizeIn, enter, Within, itself, in-if, in-do, unlabelled, behind-label, in-first, in-rest, in-option, in-others}
 use Rattle.placing.proofs.Lists.{lying-front, lying-back}
-use Rattle.placing.proofs.Quiet.{C, L, Quiet, Lone, quiet-then, closing-plain, lead-plain, leaf-parts, label-dull, assign-dull, set-run-dull, end-dull, item-quiet, leaf-quiet, pair-quiet, pair-lone, each-quiet, expression-quiet, argument-quiet, received-quiet, spread, alone-lone, lone-one, named-lone}
+use Rattle.placing.proofs.Quiet.{C, L, Quiet, Lone, quiet-then, closing-plain, lead-plain, leaf-parts, label-dull, assign-dull, set-run-dull, end-dull, item-quiet, leaf-quiet, pair-lone, each-quiet, expression-quiet, argument-quiet, received-quiet, spread, alone-lone, lone-one, named-lone}
 
 -- a statement of the tree has the place x
 abbrev pub Found : (k : Sort) → Tree k → ℕ → ℕ → ℕ → ℕ → Type 0
@@ -102,8 +102,8 @@ module _ (t : List ℕ) (a : Accepts t) where
       go x g h e (no z) deeper = let f = deeper (omega arith) (omega arith) e in (f .0, f .1, f .2, behind-label (f .3))
   places-in end i n o p = λ x g h e. absurd (omega arith)
   places-in (then s q) i n o p = λ x g h e.
-    go x g h e (decLt x (i + sizeIn s)) (places-in s i (enter q (i + sizeIn s) n) o (lying-front X (code-tree s) (code-tree q) 0 i p) x)
-    (places-in q (i + sizeIn s) n o (lying-back X (code-tree s) (code-tree q) 0 i (i + sizeIn s) refl p) x)
+      go x g h e (decLt x (i + sizeIn s)) (places-in s i (enter q (i + sizeIn s) n) o (lying-front X (code-tree s) (code-tree q) 0 i p) x)
+      (places-in q (i + sizeIn s) n o (lying-back X (code-tree s) (code-tree q) 0 i (i + sizeIn s) refl p) x)
     where
       all : sizeIn (then s q) ≡ sizeIn s + sizeIn q
       all = length-append (code-tree s) (code-tree q)
@@ -115,9 +115,9 @@ module _ (t : List ℕ) (a : Accepts t) where
       go x g h e (no z) early late = let f = late (omega arith) (omega (arith, all)) e in (f .0, f .1, f .2, in-rest (f .3))
   places-in over i n o p = λ x g h e. absurd (omega arith)
   places-in (option q os) i n o p = λ x g h e.
-    go x g h e (decLt x (i + 1)) (decLt x (i + 1 + sizeIn q)) (decLt x (i + 2 + sizeIn q))
-    (places-in q (i + 1) n o (lying-back X (i-option ∷ []) (code-tree q) 0 i (i + 1) refl (option-front q os i p)) x)
-    (places-in os (i + 2 + sizeIn q) n o (lying-back X (i-end-option ∷ []) (code-tree os) 0 (i + 1 + sizeIn q) (i + 2 + sizeIn q) (omega arith) (option-tail q os i p)) x)
+      go x g h e (decLt x (i + 1)) (decLt x (i + 1 + sizeIn q)) (decLt x (i + 2 + sizeIn q))
+      (places-in q (i + 1) n o (lying-back X (i-option ∷ []) (code-tree q) 0 i (i + 1) refl (option-front q os i p)) x)
+      (places-in os (i + 2 + sizeIn q) n o (lying-back X (i-end-option ∷ []) (code-tree os) 0 (i + 1 + sizeIn q) (i + 2 + sizeIn q) (omega arith) (option-tail q os i p)) x)
     where
       opens : Quiet t a i 1
       opens = item-quiet t a i-option i (lying-front X (i-option ∷ []) (code-tree q) 0 i (option-front q os i p)) (closing-plain .2)

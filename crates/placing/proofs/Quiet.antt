@@ -1,20 +1,19 @@
 -- Items among which no place stands, or none but the first: arguments, and statements that are no selections.
 use Prim.Native.Nat.{ℕ, suc, _+_, _≤_, _<_}
 use native.Mathlib.Omega.{arith}
-use native.Mathlib.Decide.{ℕ-discrete, decLt}
+use native.Mathlib.Decide.{decLt}
 use mathlib.Core.Path.{_≡_, refl, sym as inv, ap, _∙_, subst}
-use mathlib.Core.Bool.{Bool, true, false}
+use mathlib.Core.Bool.{true, false}
 use mathlib.Core.List.{List, [], _∷_, _++_}
 use lib.ListN.{length, getD, length-append}
-use Rattle.syntax.specs.Tree.{Name, Shape, Exp, Expr, Received, into, equal, exactly, exactly-true, exactly-false, Sort, action, statement, sequence, options, Tree, express, assign, increment, decrement, send, receive, assert, print, skip, goto, break, timeout, else, run, set-run, select, loop, bare, labelled, end, then, over, option}
-use Rattle.syntax.specs.Code.{Item, i-name, i-number, i-text, i-true, i-false, i-argument, i-into, i-equal, i-constant, i-end, i-label, i-express, i-target, i-assign, i-increment, i-decrement, i-send, i-receive, i-assert, i-skip, i-goto, i-break, i-timeout, i-else, i-run, i-set-run, i-if, i-fi, i-do, i-od, i-option, i-end-option, each, code-exp, code-argument, code-received, code-tree, code}
+use Rattle.syntax.specs.Tree.{Name, Shape, Exp, Expr, Received, into, equal, exactly, exactly-true, exactly-false}
+use Rattle.syntax.specs.Code.{Item, i-name, i-number, i-true, i-false, i-argument, i-into, i-equal, i-constant, each, code-exp, code-argument, code-received, code}
 use Rattle.base.specs.Choice.{pick}
 use Rattle.base.proofs.Tests.{true-false}
 use Rattle.entries.specs.Items as items
-use Rattle.places.specs.Places.{isPart, isMark, isAlone, isLead, isPlace, markFrom, markOf}
+use Rattle.places.specs.Places.{isPart, isMark, isAlone, isLead, isPlace}
 use Rattle.accepting.specs.Meaning.{Accepts}
 use Rattle.expressions.specs.Names.{codesAt}
-use Rattle.acts.specs.Program.{sizeIn, Within, itself, in-if, in-do, unlabelled, behind-label, in-first, in-rest, in-option, in-others}
 use Rattle.acts.proofs.Stands.{Lying}
 use Rattle.placing.proofs.Lists.{lying-front, lying-back, lying-at}
 use Rattle.placing.proofs.Phrases.{none-at, part-says, next-mark, first-place, no-place}
@@ -203,5 +202,5 @@ module _ (t : List ℕ) (a : Accepts t) where
   named-lone w y m z j p c d q =
       alone-lone (i-name w) (y ∷ m) z j p d
       (λ k l.
-        subst (Quiet k) (let v : 1 + length m ≡ suc (length m) = omega arith in v)
-        (quiet-then k 1 (length m) (item-quiet y k (lying-front (code (a .tree)) (y ∷ []) m 0 k l) c) (q (k + 1) (lying-back (code (a .tree)) (y ∷ []) m 0 k (k + 1) refl l))))
+      subst (Quiet k) (let v : 1 + length m ≡ suc (length m) = omega arith in v)
+      (quiet-then k 1 (length m) (item-quiet y k (lying-front (code (a .tree)) (y ∷ []) m 0 k l) c) (q (k + 1) (lying-back (code (a .tree)) (y ∷ []) m 0 k (k + 1) refl l))))

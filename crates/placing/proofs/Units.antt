@@ -3,15 +3,11 @@ use Prim.Native.Nat.{ℕ, suc, _+_, _-_, _≤_, _<_}
 use native.Mathlib.Omega.{arith}
 use native.Mathlib.Decide.{decLt, ℕ-discrete}
 use mathlib.Core.Path.{_≡_, refl, sym as inv, ap, _∙_, subst}
-use mathlib.Core.Bool.{Bool, true, false}
 use mathlib.Core.List.{List, [], _∷_, _++_}
 use lib.ListN.{length, getD, length-append}
-use lib.Dec.{eqb}
-use Rattle.base.specs.Choice.{pick, both}
-use Rattle.base.proofs.Tests.{true-false, both-true}
-use Rattle.syntax.specs.Tree.{Name, sequence, Tree, action, Declaration, declare, Group, group, Body, body, Activity, idle, once, times, Part, mtypes, global, process, init, Model}
-use Rattle.syntax.specs.Code.{Item, i-name, i-number, i-type, i-global, i-local, i-mtypes, i-message, i-proctype, i-active, i-active-many, i-init, i-body, i-end-body, each, code-tree, code-variable, code-declaration, code-parameter, code-group, code-body, code-activity, code-message, code-part, code}
-use Rattle.entries.specs.Items.{codeOf, AllKnown}
+use Rattle.syntax.specs.Tree.{Name, Declaration, declare, Body, body, Activity, idle, once, times, Part, mtypes, global, process, init, Model}
+use Rattle.syntax.specs.Code.{Item, i-local, i-body, i-end-body, each, code-tree, code-variable, code-declaration, code-group, code-body, code-activity, code-message, code-part, code}
+use Rattle.entries.specs.Items.{AllKnown}
 use Rattle.phrases.specs.Phrases.{At}
 use Rattle.phrases.proofs.Starts.{at-front, at-back}
 use Rattle.expressions.proofs.Operators.{known-front, known-back}
@@ -132,7 +128,7 @@ module _ (cs : List ℕ) where
   head-in (x ∷ m) i u a h g d l n =
       go (decLt u (i + length (code-part x)))
       (λ y. head-in m (i + length (code-part x)) u (known-back (code-part x) (code m) a) (at-back cs (code-part x) (code m) i (i + length (code-part x)) refl h) (omega arith)
-        (omega (arith, length-append (code-part x) (code m))) l n)
+      (omega (arith, length-append (code-part x) (code m))) l n)
     where
       go : Dec (u < i + length (code-part x)) → ((u < i + length (code-part x) → ⊥) → Head m (i + length (code-part x)) u) → Head (x ∷ m) i u
       go (yes y) below = part-head x m i u (known-front (code-part x) (code m) a) (at-front cs i (code-part x) (code m) h) g y l n

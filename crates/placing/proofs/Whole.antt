@@ -1,17 +1,15 @@
 -- EACH PLACE OF A UNIT OF AN ACCEPTED TEXT IS THE PLACE OF A STATEMENT OF ITS TREE, or the end of its body.
 use Prim.Native.Nat.{ℕ, suc, _+_, _-_, _≤_, _<_}
 use native.Mathlib.Omega.{arith}
-use native.Mathlib.Decide.{decLt, ℕ-discrete}
 use mathlib.Core.Path.{_≡_, refl, sym as inv, ap, _∙_, subst}
 use mathlib.Core.Bool.{Bool, true, false}
-use mathlib.Core.List.{List, [], _∷_, _++_}
+use mathlib.Core.List.{List}
 use lib.ListN.{length, getD}
 use lib.Dec.{eqb}
 use Rattle.base.specs.Choice.{pick, both, either}
 use Rattle.base.proofs.Tests.{true-false, both-true}
-use Rattle.sheets.specs.Walks.{first}
-use Rattle.syntax.specs.Tree.{Name, sequence, Tree, action, Group, group, Body, body, Model}
-use Rattle.syntax.specs.Code.{Item, i-type, i-local, i-body, i-end-body, each, code-tree, code-declaration, code-parameter, code-group, code-body, code}
+use Rattle.syntax.specs.Tree.{Name, Tree, action, Group, group, Body, Model}
+use Rattle.syntax.specs.Code.{Item, i-type, code-tree, code-parameter, code-group, code-body, code}
 use Rattle.entries.specs.Items.{AllKnown}
 use Rattle.holdings.proofs.Accepted.{accepted-known}
 use Rattle.phrases.specs.Phrases.{At}
@@ -32,12 +30,12 @@ use Rattle.fitness.proofs.Units.{text-ends}
 use Rattle.fitness.proofs.Variables.{unit-there}
 use Rattle.fitness.proofs.Marks.{mark-is, mark-in, begun-class}
 use Rattle.following.proofs.Insides.{quiet, kind, type-known}
-use Rattle.following.proofs.Begins.{Dull, none, mark, said, dull-append, dull-each, dull-skip, dull-declarations}
+use Rattle.following.proofs.Begins.{Dull, none, mark, said, dull-each, dull-skip, dull-declarations}
 use Rattle.following.proofs.Main.{text-unit}
 use Rattle.acts.specs.Stage.{Ways}
 use Rattle.acts.specs.Program.{labelIn, Holds, startIn, endIn, statementsOf, Statement, Ending}
 use Rattle.acts.proofs.Stands.{Lying, body-lies, statements-lie, lying-in, lying-whole}
-use Rattle.placing.proofs.Lists.{lying-front, lying-back, lying-at, lying-ends}
+use Rattle.placing.proofs.Lists.{lying-at, lying-ends}
 use Rattle.placing.proofs.Phrases.{none-at}
 use Rattle.placing.proofs.Places.{places-in}
 use Rattle.placing.proofs.Heads.{lying-known, stands-late}
