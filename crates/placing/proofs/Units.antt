@@ -12,7 +12,8 @@ use Rattle.phrases.specs.Phrases.{At}
 use Rattle.phrases.proofs.Starts.{at-front, at-back}
 use Rattle.expressions.proofs.Operators.{known-front, known-back}
 use Rattle.following.proofs.Insides.{kind, inner-known, Inner, inner-append, inner-each, inner-variable, inner-tree, inner-declarations, inner-groups}
-use Rattle.acts.specs.Program.{Holds, in-process, in-init, later}
+use Rattle.acts.specs.Program.{in-process, in-init, later}
+use Rattle.placing.specs.Stated.{Head}
 
 -- ---- items inside of units have low codes
 module _ (cs : List ℕ) where
@@ -61,11 +62,6 @@ body-apart cs (body ds q) k x a h g d l m = go (ℕ-discrete x k) (decLt x (k + 
         omega arith
 
 -- ---- what begins a unit
-pub record Head (m : Model) (i u : ℕ) : Type 0 where
-  pub own : Body
-  pub at : ℕ
-  pub held : Holds m i u own at
-
 module _ (cs : List ℕ) where
   -- it is the last item of its activity and name
   activity-head : (x : Activity) (w : Name) (i u : ℕ) → At cs i (code-activity x w) → i ≤ u → u < i + length (code-activity x w) → 223 ≤ getD cs u 0 → suc u ≡ i + length (code-activity x w)

@@ -8,7 +8,7 @@ use lib.ListN.{length, getD}
 use lib.Dec.{eqb}
 use Rattle.base.specs.Choice.{pick, both, either}
 use Rattle.base.proofs.Tests.{true-false, both-true}
-use Rattle.syntax.specs.Tree.{Name, Tree, action, Group, group, Body, Model}
+use Rattle.syntax.specs.Tree.{Name, Group, group, Body}
 use Rattle.syntax.specs.Code.{Item, i-type, code-tree, code-parameter, code-group, code-body, code}
 use Rattle.entries.specs.Items.{AllKnown}
 use Rattle.holdings.proofs.Accepted.{accepted-known}
@@ -32,14 +32,14 @@ use Rattle.fitness.proofs.Marks.{mark-is, mark-in, begun-class}
 use Rattle.following.proofs.Insides.{quiet, kind, type-known}
 use Rattle.following.proofs.Begins.{Dull, none, mark, said, dull-each, dull-skip, dull-declarations}
 use Rattle.following.proofs.Main.{text-unit}
-use Rattle.acts.specs.Stage.{Ways}
-use Rattle.acts.specs.Program.{labelIn, Holds, startIn, endIn, statementsOf, Statement, Ending}
+use Rattle.acts.specs.Program.{labelIn, Holds, startIn, endIn, statementsOf, Ending}
 use Rattle.acts.proofs.Stands.{Lying, body-lies, statements-lie, lying-in, lying-whole}
+use Rattle.placing.specs.Stated.{Stated, Head}
 use Rattle.placing.proofs.Lists.{lying-at, lying-ends}
 use Rattle.placing.proofs.Phrases.{none-at}
 use Rattle.placing.proofs.Places.{places-in}
 use Rattle.placing.proofs.Heads.{lying-known, stands-late}
-use Rattle.placing.proofs.Units.{Head, head-in}
+use Rattle.placing.proofs.Units.{head-in}
 use Rattle.placing.proofs.Jumps.{end-is}
 
 -- ---- no place among parameters
@@ -70,12 +70,6 @@ dull-none cs {l} d k x h g a b e =
 body-plain : (isAlone 227 ≡ false) × (isPart 227 ≡ false)
 unfolding isAlone isPart
 body-plain = (refl, refl)
-
--- a statement has this place
-pub record Stated (m : Model) (u j : ℕ) : Type 0 where
-  pub act : Tree action
-  pub ways : Ways
-  pub stands : Statement m u act j ways
 
 module _ (t : List ℕ) (a : Accepts t) where
   abbrev T : List ℕ
