@@ -42,4 +42,4 @@ module _ (f g : Tree action → ℕ → Bool) where
   offers-same (then s q) i n o h = offers-same s i (enter q (i + sizeIn s) n) o (λ a j m u w. h a j m u (in-first w))
   offers-same over i n o h = λ t. []
   offers-same (option q os) i n o h = λ t.
-    offers-same q (i + 1) n o (λ a j m u w. h a j m u (in-option w)) t ++ offers-same os (i + 2 + sizeIn q) n o (λ a j m u w. h a j m u (in-others w)) t
+      offers-same q (i + 1) n o (λ a j m u w. h a j m u (in-option w)) t ++ offers-same os (i + 2 + sizeIn q) n o (λ a j m u w. h a j m u (in-others w)) t

@@ -102,8 +102,8 @@ module _ (t : List ℕ) (a : Accepts t) where
       go x g h e (no z) deeper = let f = deeper (omega arith) (omega arith) e in (f .0, f .1, f .2, behind-label (f .3))
   places-in end i n o p = λ x g h e. absurd (omega arith)
   places-in (then s q) i n o p = λ x g h e.
-    go x g h e (decLt x (i + sizeIn s)) (places-in s i (enter q (i + sizeIn s) n) o (lying-front X (code-tree s) (code-tree q) 0 i p) x)
-    (places-in q (i + sizeIn s) n o (lying-back X (code-tree s) (code-tree q) 0 i (i + sizeIn s) refl p) x)
+      go x g h e (decLt x (i + sizeIn s)) (places-in s i (enter q (i + sizeIn s) n) o (lying-front X (code-tree s) (code-tree q) 0 i p) x)
+      (places-in q (i + sizeIn s) n o (lying-back X (code-tree s) (code-tree q) 0 i (i + sizeIn s) refl p) x)
     where
       all : sizeIn (then s q) ≡ sizeIn s + sizeIn q
       all = length-append (code-tree s) (code-tree q)
@@ -115,9 +115,9 @@ module _ (t : List ℕ) (a : Accepts t) where
       go x g h e (no z) early late = let f = late (omega arith) (omega (arith, all)) e in (f .0, f .1, f .2, in-rest (f .3))
   places-in over i n o p = λ x g h e. absurd (omega arith)
   places-in (option q os) i n o p = λ x g h e.
-    go x g h e (decLt x (i + 1)) (decLt x (i + 1 + sizeIn q)) (decLt x (i + 2 + sizeIn q))
-    (places-in q (i + 1) n o (lying-back X (i-option ∷ []) (code-tree q) 0 i (i + 1) refl (option-front q os i p)) x)
-    (places-in os (i + 2 + sizeIn q) n o (lying-back X (i-end-option ∷ []) (code-tree os) 0 (i + 1 + sizeIn q) (i + 2 + sizeIn q) (omega arith) (option-tail q os i p)) x)
+      go x g h e (decLt x (i + 1)) (decLt x (i + 1 + sizeIn q)) (decLt x (i + 2 + sizeIn q))
+      (places-in q (i + 1) n o (lying-back X (i-option ∷ []) (code-tree q) 0 i (i + 1) refl (option-front q os i p)) x)
+      (places-in os (i + 2 + sizeIn q) n o (lying-back X (i-end-option ∷ []) (code-tree os) 0 (i + 1 + sizeIn q) (i + 2 + sizeIn q) (omega arith) (option-tail q os i p)) x)
     where
       opens : Quiet t a i 1
       opens = item-quiet t a i-option i (lying-front X (i-option ∷ []) (code-tree q) 0 i (option-front q os i p)) (closing-plain .2)

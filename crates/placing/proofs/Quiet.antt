@@ -203,5 +203,5 @@ module _ (t : List ℕ) (a : Accepts t) where
   named-lone w y m z j p c d q =
       alone-lone (i-name w) (y ∷ m) z j p d
       (λ k l.
-        subst (Quiet k) (let v : 1 + length m ≡ suc (length m) = omega arith in v)
-        (quiet-then k 1 (length m) (item-quiet y k (lying-front (code (a .tree)) (y ∷ []) m 0 k l) c) (q (k + 1) (lying-back (code (a .tree)) (y ∷ []) m 0 k (k + 1) refl l))))
+      subst (Quiet k) (let v : 1 + length m ≡ suc (length m) = omega arith in v)
+      (quiet-then k 1 (length m) (item-quiet y k (lying-front (code (a .tree)) (y ∷ []) m 0 k l) c) (q (k + 1) (lying-back (code (a .tree)) (y ∷ []) m 0 k (k + 1) refl l))))
