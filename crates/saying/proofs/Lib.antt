@@ -1,1 +1,5 @@
 pub mod Says
+pub mod Codes
+pub mod Standing
+pub mod Bodies
+pub mod Counts
