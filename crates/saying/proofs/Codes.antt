@@ -232,14 +232,18 @@ tree-codes (option q os) =
 abbrev pub InDeclaration : ℕ → Type 0
 InDeclaration c = (70 ≤ c) × (c ≤ 218) × (c ≡ 72 → ⊥) × (183 ≤ c → 210 ≤ c)
 
-field-codes : (n : ℕ) → Every InDeclaration (code-field n)
+-- what stands behind a declared name
+abbrev pub InValue : ℕ → Type 0
+InValue c = (70 ≤ c) × (c ≤ 218) × (c ≡ 72 → ⊥) × (183 ≤ c → 213 ≤ c)
+
+field-codes : (n : ℕ) → Every InValue (code-field n)
 field-codes n = (λ k. let h = type-low n k in (omega arith, omega arith, λ e. omega arith, λ e. omega arith), (λ k. (omega arith, omega arith, λ e. omega arith, λ e. omega arith), tt))
 
-size-codes : (s : Option ℕ) → Every InDeclaration (code-size s)
+pub size-codes : (s : Option ℕ) → Every InValue (code-size s)
 size-codes none = tt
 size-codes (some n) = (λ k. (omega arith, omega arith, λ e. omega arith, λ e. omega arith), (λ k. (omega arith, omega arith, λ e. omega arith, λ e. omega arith), tt))
 
-value-codes : (v : Value) → Every InDeclaration (code-value v)
+pub value-codes : (v : Value) → Every InValue (code-value v)
 value-codes unset = tt
 value-codes (set-number n) = (λ k. (omega arith, omega arith, λ e. omega arith, λ e. omega arith), (λ k. (omega arith, omega arith, λ e. omega arith, λ e. omega arith), tt))
 value-codes (set-minus n) = (λ k. (omega arith, omega arith, λ e. omega arith, λ e. omega arith), (λ k. (omega arith, omega arith, λ e. omega arith, λ e. omega arith), tt))
@@ -247,11 +251,11 @@ value-codes set-true = (λ k. (omega arith, omega arith, λ e. omega arith, λ e
 value-codes set-false = (λ k. (omega arith, omega arith, λ e. omega arith, λ e. omega arith), (λ k. (omega arith, omega arith, λ e. omega arith, λ e. omega arith), tt))
 value-codes (set-name w) = (λ k. (omega arith, omega arith, λ e. omega arith, λ e. omega arith), (λ k. (omega arith, omega arith, λ e. omega arith, λ e. omega arith), tt))
 value-codes (set-channel n ks) =
-    (λ k. (omega arith, omega arith, λ e. omega arith, λ e. omega arith), (λ k. (omega arith, omega arith, λ e. omega arith, λ e. omega arith), every-each InDeclaration code-field field-codes ks))
+    (λ k. (omega arith, omega arith, λ e. omega arith, λ e. omega arith), (λ k. (omega arith, omega arith, λ e. omega arith, λ e. omega arith), every-each InValue code-field field-codes ks))
 
 variable-codes : (x : Variable) → Every InDeclaration (code-variable x)
 variable-codes (variable w s v) =
-    (λ k. (omega arith, omega arith, λ e. omega arith, λ e. omega arith), (λ k. (omega arith, omega arith, λ e. omega arith, λ e. omega arith), every-append InDeclaration (code-size s) (code-value v) (size-codes s) (value-codes v)))
+    (λ k. (omega arith, omega arith, λ e. omega arith, λ e. omega arith), (λ k. (omega arith, omega arith, λ e. omega arith, λ e. omega arith), every-lift InValue InDeclaration (λ c h. (omega arith, omega arith, h .2, λ z. let y = h .3 z in omega arith)) (code-size s ++ code-value v) (every-append InValue (code-size s) (code-value v) (size-codes s) (value-codes v))))
 
 -- the mark of a declaration is `local` or `global`
 pub declaration-codes : (i : Item) → InDeclaration (codeOf i) → (d : Declaration) → Every InDeclaration (code-declaration i d)

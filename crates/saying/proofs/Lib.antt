@@ -3,3 +3,5 @@ pub mod Codes
 pub mod Standing
 pub mod Bodies
 pub mod Counts
+pub mod Parts
+pub mod Made
