@@ -5,3 +5,4 @@ pub mod Bodies
 pub mod Counts
 pub mod Parts
 pub mod Made
+pub mod Numbers
