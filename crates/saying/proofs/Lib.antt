@@ -6,3 +6,4 @@ pub mod Counts
 pub mod Parts
 pub mod Made
 pub mod Numbers
+pub mod Heavy

@@ -47,14 +47,14 @@ module _ (cs vs hs : List ℕ) where
       ap₂ (λ i j. both (eqb (getD cs i 0) 71) (eqb (getD cs j 0) 213)) (let z : d + 1 ≡ suc d = omega arith in z) (let z : d + 2 ≡ suc (suc d) = omega arith in z) ∙ rw (a, b)
 
   module _ (h : ℕ) where
-    abbrev N : ℕ → ℕ
+    abbrev pub N : ℕ → ℕ
     N = numbersAt cs vs hs h
 
-    no-variable : (j : ℕ) → (getD cs j 0 ≡ 212 → ⊥) → (getD cs j 0 ≡ 222 → ⊥) → N j ≡ 0
+    pub no-variable : (j : ℕ) → (getD cs j 0 ≡ 212 → ⊥) → (getD cs j 0 ≡ 222 → ⊥) → N j ≡ 0
     unfolding numbersAt among
     no-variable j a b = rw (ne-eqb (getD cs j 0) 212 a, ne-eqb (getD cs j 0) 222 b)
 
-    elsewhere : (j : ℕ) → (getD hs j 0 ≡ h → ⊥) → N j ≡ 0
+    pub elsewhere : (j : ℕ) → (getD hs j 0 ≡ h → ⊥) → N j ≡ 0
     unfolding numbersAt
     elsewhere j n = rw (ne-eqb (getD hs j 0) h n) (go (among 14 (getD cs j 0)))
       where
@@ -77,7 +77,7 @@ module _ (cs vs hs : List ℕ) where
     unfolding among
     passes = refl
 
-    abbrev St : ℕ → List Item → Type 0
+    abbrev pub St : ℕ → List Item → Type 0
     St = Stood cs vs hs h
 
     -- ---- a variable
@@ -182,7 +182,7 @@ module _ (cs vs hs : List ℕ) where
     ahead-tree (x ∷ y ∷ l) j e s a = ahead-next j (λ z. let b = e .1 .0 (s .4 .0) in let c = s .4 .1 in omega arith)
 
     -- the numbers of a unit's body, where this is its body
-    numbers-unit : (A : List Item) (gs : List Group) (ds : List Declaration) (q : Tree sequence) (i u : ℕ) → suc u ≡ i + length A → h ≡ u + 1 → Housed cs vs hs u gs ds q → weigh N i A ≡ 0
+    pub numbers-unit : (A : List Item) (gs : List Group) (ds : List Declaration) (q : Tree sequence) (i u : ℕ) → suc u ≡ i + length A → h ≡ u + 1 → Housed cs vs hs u gs ds q → weigh N i A ≡ 0
         → weigh N i (A ++ each code-group gs ++ code-body (body ds q)) ≡ tally ofGroup gs + tally ofDeclaration ds
     numbers-unit A gs ds q i u e r H n =
         let G = each code-group gs in
@@ -216,7 +216,7 @@ module _ (cs vs hs : List ℕ) where
         let l = off (suc k + length D + length T) (H .last .3) in
         omega arith
 
-    activity-none : (x : Activity) (w : Name) (i : ℕ) → Lain cs vs i (code-activity x w) → weigh N i (code-activity x w) ≡ 0
+    pub activity-none : (x : Activity) (w : Name) (i : ℕ) → Lain cs vs i (code-activity x w) → weigh N i (code-activity x w) ≡ 0
     activity-none idle w i s =
         let a = no-variable i (λ z. let y = s .2 in omega arith) (λ z. let y = s .2 in omega arith) in
         let b = no-variable (suc i) (λ z. let y = s .4 .2 in omega arith) (λ z. let y = s .4 .2 in omega arith) in
