@@ -7,3 +7,4 @@ pub mod Parts
 pub mod Made
 pub mod Numbers
 pub mod Heavy
+pub mod Widths
