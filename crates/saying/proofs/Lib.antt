@@ -8,3 +8,5 @@ pub mod Made
 pub mod Numbers
 pub mod Heavy
 pub mod Widths
+pub mod Modest
+pub mod Whole
