@@ -1,20 +1,18 @@
 -- Units with a body by their parts: what stands behind the item that begins a unit is in its body, and nothing else is.
 use Prim.Native.Nat.{ℕ, zero, suc, _+_, _-_, _≤_, _<_}
 use native.Mathlib.Omega.{arith}
-use mathlib.Core.Path.{_≡_, refl, sym, ap, _∙_, subst}
+use mathlib.Core.Path.{_≡_, refl, ap, _∙_, subst}
 use mathlib.Core.Bool.{Bool, true, false}
 use mathlib.Core.Logic.{_⊎_, inl, inr}
 use mathlib.Core.List.{List, [], _∷_, _++_}
 use lib.ListN.{length, getD, length-append}
-use lib.Dec.{eqb, ltb}
+use lib.Dec.{eqb}
 use borrow.Author.Tests.{le-ltb}
 use Rattle.base.specs.Choice.{pick}
-use Rattle.base.proofs.Tests.{both-no}
-use Rattle.syntax.specs.Tree.{Name, Sort, sequence, Tree, Declaration, Group, Body, body, Activity, idle, once, times}
-use Rattle.syntax.specs.Code.{Item, i-local, i-init, i-body, i-end-body, i-name, i-number, i-proctype, i-active, i-active-many, each, code-tree, code-declaration, code-group, code-body, code-activity}
-use Rattle.entries.specs.Items.{codeOf}
+use Rattle.syntax.specs.Tree.{sequence, Tree, Declaration, Group, body}
+use Rattle.syntax.specs.Code.{i-local, i-body, i-end-body, each, code-tree, code-declaration, code-group, code-body}
 use Rattle.sheets.specs.Homes.{heads, insideOf, homeOf}
-use Rattle.saying.proofs.Codes.{Every, every-append, every-lift, InTree, tree-codes, InDeclaration, local-codes, InGroup, groups-codes}
+use Rattle.saying.proofs.Codes.{every-lift, InTree, tree-codes, InDeclaration, local-codes, InGroup, groups-codes}
 use Rattle.saying.proofs.Standing.{weigh, weigh-append, Lain, lain-front, lain-back, Stood, Inner, inside-head, settled, settled-end}
 
 -- ---- which body an item can be in

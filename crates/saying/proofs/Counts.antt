@@ -1,25 +1,23 @@
 -- How many statements, mtype names and proctypes there are: by the codes of the items, and in the tree.
-use Prim.Native.Nat.{ℕ, zero, suc, _+_, _≤_, _<_}
+use Prim.Native.Nat.{ℕ, suc, _+_, _≤_, _<_}
 use native.Mathlib.Omega.{arith}
-use mathlib.Core.Path.{_≡_, refl, sym, ap, ap₂, _∙_}
-use mathlib.Core.Bool.{Bool, true, false}
+use mathlib.Core.Path.{_≡_, refl, ap, ap₂, _∙_}
 use mathlib.Core.Logic.{_⊎_, inl, inr}
 use mathlib.Core.List.{List, [], _∷_, _++_}
 use lib.ListN.{length, getD}
-use lib.Dec.{eqb, leb}
+use lib.Dec.{leb}
 use borrow.Author.Tests.{ne-eqb, lt-leb}
-use Rattle.base.specs.Choice.{pick, both, either}
 use Rattle.base.proofs.Tests.{both-no}
 use Rattle.machine.proofs.Never.{lt-or-ge}
 use Rattle.syntax.specs.Tree.{Name, Shape, Exp, Expr, Received, Sort, sequence, Tree, express, assign, increment, decrement, send, receive, assert, print, skip, goto, break, timeout, else, run, set-run, select, loop, bare, labelled, end, then, over, option, Declaration, Group, Body, body, Activity, idle, once, times, Part, mtypes, global, process, init, Model}
-use Rattle.syntax.specs.Code.{Item, i-name, i-target, i-assign, i-express, i-increment, i-decrement, i-send, i-receive, i-assert, i-end, i-set-run, i-fi, i-od, i-if, i-do, i-option, i-end-option, i-local, i-global, i-init, i-mtypes, i-body, i-end-body, each, code-exp, code-argument, code-received, code-tree, code-declaration, code-group, code-body, code-activity, code-message, code-part, code}
+use Rattle.syntax.specs.Code.{Item, i-name, i-target, i-assign, i-express, i-increment, i-decrement, i-send, i-receive, i-assert, i-end, i-set-run, i-fi, i-od, i-end-option, i-local, i-global, i-body, i-end-body, each, code-exp, code-argument, code-received, code-tree, code-declaration, code-group, code-body, code-activity, code-message, code-part, code}
 use Rattle.entries.specs.Items.{codeOf, AllKnown}
 use Rattle.finding.specs.Sets.{among}
 use Rattle.ceilings.specs.Ceilings.{one}
 use Rattle.expressions.proofs.Operators.{known-front, known-back}
 use Rattle.lawful.specs.Units.{tally}
 use Rattle.lawful.specs.Ceilings.{statementsIn, statementsOf, messagesOf, proctypesOf}
-use Rattle.saying.proofs.Codes.{Every, every-lift, InExp, exp-codes, InArgs, args-codes, all-received-codes, InTree, tree-codes, InDeclaration, local-codes, global-codes, InGroup, groups-codes, InMessages, messages-codes}
+use Rattle.saying.proofs.Codes.{Every, InExp, exp-codes, InArgs, args-codes, all-received-codes, InTree, tree-codes, InDeclaration, local-codes, global-codes, InGroup, groups-codes, InMessages, messages-codes}
 use Rattle.saying.proofs.Standing.{weigh, Lain}
 
 -- ---- sums of what depends on the code alone

@@ -1,17 +1,17 @@
 -- Which units have too many numbers for a process: over the items, and in the tree.
 use Prim.Native.Nat.{ℕ, zero, suc, _+_, _-_, _≤_, _<_}
 use native.Mathlib.Omega.{arith}
-use mathlib.Core.Path.{_≡_, refl, sym, ap, ap₂, _∙_, subst}
-use mathlib.Core.Bool.{Bool, true, false}
+use mathlib.Core.Path.{_≡_, refl, ap, _∙_}
+use mathlib.Core.Bool.{Bool, true}
 use mathlib.Core.Logic.{_⊎_, inl, inr}
 use mathlib.Core.List.{List, [], _∷_, _++_}
 use lib.ListN.{length, getD, length-append}
 use lib.Dec.{eqb, ltb, leb}
 use borrow.Author.Tests.{lt-ltb, le-ltb, lt-leb, le-leb}
-use Rattle.base.specs.Choice.{pick, both}
+use Rattle.base.specs.Choice.{pick}
 use Rattle.base.proofs.Tests.{both-no}
 use Rattle.machine.proofs.Never.{lt-or-ge}
-use Rattle.syntax.specs.Tree.{Name, sequence, Tree, Declaration, Group, Body, body, Activity, idle, once, times, Part, mtypes, global, process, init}
+use Rattle.syntax.specs.Tree.{Name, Group, Body, body, Activity, idle, once, times, Part, mtypes, global, process, init}
 use Rattle.syntax.specs.Code.{Item, i-init, each, code-group, code-activity, code-body, code-part}
 use Rattle.sheets.specs.Walks.{sum}
 use Rattle.sheets.specs.Homes.{homeOf}

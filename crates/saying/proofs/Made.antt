@@ -1,26 +1,25 @@
 -- How many processes start and how many channels are made: over the items, and in the tree.
-use Prim.Native.Nat.{ℕ, zero, suc, _+_, _-_, _*_, _≤_, _<_}
+use Prim.Native.Nat.{ℕ, suc, _+_, _-_, _*_, _≤_, _<_}
 use native.Mathlib.Nat.{mul-add}
 use native.Mathlib.Omega.{arith}
-use mathlib.Core.Path.{_≡_, refl, sym, ap, ap₂, _∙_, subst}
-use mathlib.Core.Bool.{Bool, true, false}
+use mathlib.Core.Path.{_≡_, refl, sym, ap, _∙_}
 use mathlib.Core.Option.{Option, none, some}
-use mathlib.Core.Logic.{_⊎_, inl, inr}
+use mathlib.Core.Logic.{inl, inr}
 use mathlib.Core.List.{List, [], _∷_, _++_}
-use lib.ListN.{length, getD, length-append}
+use lib.ListN.{length, getD}
 use lib.Dec.{eqb}
-use borrow.Author.Tests.{ne-eqb, eq-eqb}
+use borrow.Author.Tests.{ne-eqb}
 use Rattle.base.specs.Choice.{pick}
-use Rattle.syntax.specs.Tree.{Name, sequence, Tree, Value, unset, set-number, set-minus, set-true, set-false, set-name, set-channel, Declaration, declare, Group, Body, body, Activity, idle, once, times, Part, mtypes, global, process, init, Model}
+use Rattle.syntax.specs.Tree.{Name, sequence, Tree, Value, unset, set-number, set-minus, set-true, set-false, set-name, set-channel, Declaration, declare, Group, Body, body, Activity, idle, once, times, Part, mtypes, global, process, init}
 use Rattle.syntax.specs.Tree as tree
-use Rattle.syntax.specs.Code.{Item, i-local, i-global, i-init, i-mtypes, each, code-field, code-size, code-value, code-variable, code-tree, code-declaration, code-group, code-body, code-activity, code-message, code-part, code}
+use Rattle.syntax.specs.Code.{Item, i-local, i-global, i-init, each, code-field, code-size, code-value, code-variable, code-tree, code-declaration, code-group, code-body, code-activity, code-message, code-part}
 use Rattle.entries.specs.Items.{codeOf}
 use Rattle.sheets.specs.Homes.{homeOf}
 use Rattle.ceilings.specs.Ceilings.{startsAt, makesAt}
 use Rattle.lawful.specs.Units.{tally}
-use Rattle.lawful.specs.Ceilings.{madeBy, madeByVariable, madeByDeclaration, madeByBody, startedBy, startsOf, channelsOf}
-use Rattle.saying.proofs.Codes.{Every, every-lift, type-low, InTree, tree-codes, InDeclaration, local-codes, global-codes, InGroup, groups-codes, InMessages, messages-codes}
-use Rattle.saying.proofs.Standing.{weigh, weigh-append, Lain, lain-front, lain-back, Stood, stood-front, stood-back, still}
+use Rattle.lawful.specs.Ceilings.{madeBy, madeByVariable, madeByDeclaration, startedBy, startsOf, channelsOf}
+use Rattle.saying.proofs.Codes.{type-low, InTree, tree-codes, InDeclaration, local-codes, global-codes, InGroup, groups-codes, InMessages, messages-codes}
+use Rattle.saying.proofs.Standing.{weigh, weigh-append, Lain, lain-front, Stood, stood-front, stood-back, still}
 use Rattle.saying.proofs.Bodies.{Housed}
 use Rattle.saying.proofs.Parts.{headAt, head-last, unit-sum, process-housed, init-housed, mtypes-stood, global-stood, Standing}
 

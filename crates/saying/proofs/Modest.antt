@@ -1,16 +1,16 @@
 -- A MODEL PASSES NO CEILING EXACTLY WHEN ITS TREE IS MODEST: what is summed over the items is what the tree has.
 use Prim.Native.Nat.{ℕ, zero, suc, _+_, _≤_, _<_}
 use native.Mathlib.Omega.{arith}
-use mathlib.Core.Path.{_≡_, refl, sym, ap, ap₂, _∙_}
+use mathlib.Core.Path.{_≡_, refl, ap, ap₂, _∙_}
 use mathlib.Core.Bool.{Bool, true, false, not}
 use mathlib.Core.Logic.{_⊎_, inl, inr}
 use mathlib.Core.List.{List, [], _∷_}
 use lib.ListN.{length, getD, replicate, length-map, length-replicate}
 use lib.Dec.{eqb, ltb, leb}
-use borrow.Author.Tests.{lt-ltb, le-ltb, lt-leb, le-leb, eq-eqb, ne-eqb}
-use Rattle.base.specs.Choice.{pick, both, either}
+use borrow.Author.Tests.{lt-ltb, le-ltb, lt-leb, le-leb, ne-eqb}
+use Rattle.base.specs.Choice.{both, either}
 use Rattle.machine.proofs.Never.{lt-or-ge}
-use Rattle.syntax.specs.Tree.{Body, body, Part, mtypes, global, process, init, Model}
+use Rattle.syntax.specs.Tree.{body, Part, mtypes, global, process, init, Model}
 use Rattle.syntax.specs.Code.{code}
 use Rattle.entries.specs.Items.{codeOf}
 use Rattle.sheets.specs.Walks.{sum}

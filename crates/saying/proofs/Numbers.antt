@@ -1,32 +1,31 @@
 -- How many numbers are declared, globally and for a process: over the items, and in the tree.
-use Prim.Native.Nat.{ℕ, zero, suc, _+_, _-_, _≤_, _<_}
+use Prim.Native.Nat.{ℕ, suc, _+_, _<_}
 use native.Mathlib.Omega.{arith}
 use mathlib.Core.Path.{_≡_, refl, sym, ap, ap₂, _∙_, subst}
 use mathlib.Core.Bool.{Bool, true, false}
 use mathlib.Core.Option.{Option, none, some}
-use mathlib.Core.Logic.{_⊎_, inl, inr}
+use mathlib.Core.Logic.{inl, inr}
 use mathlib.Core.List.{List, [], _∷_, _++_}
 use native.Mathlib.Decide.{ℕ-discrete}
 use lib.ListN.{length, getD, length-append}
-use lib.Dec.{eqb, ltb, leb}
-use borrow.Author.Tests.{ne-eqb, eq-eqb, lt-leb}
+use lib.Dec.{eqb}
+use borrow.Author.Tests.{ne-eqb, eq-eqb}
 use Rattle.base.specs.Choice.{pick, both}
-use Rattle.syntax.specs.Tree.{Name, sequence, Tree, Value, unset, set-number, set-minus, set-true, set-false, set-name, set-channel, Declaration, declare, Group, group, Body, body, Activity, idle, once, times, Part, mtypes, global, process, init, Model}
+use Rattle.syntax.specs.Tree.{Name, sequence, Tree, Value, unset, set-number, set-minus, set-true, set-false, set-name, set-channel, Declaration, declare, Group, group, body, Activity, idle, once, times, Part, mtypes, global, process, init}
 use Rattle.syntax.specs.Tree as tree
-use Rattle.syntax.specs.Code.{Item, i-local, i-global, i-init, i-mtypes, i-parameter, each, code-field, code-size, code-value, code-variable, code-tree, code-declaration, code-parameter, code-group, code-body, code-activity, code-message, code-part, code}
+use Rattle.syntax.specs.Code.{Item, i-local, i-global, i-init, each, code-size, code-value, code-variable, code-tree, code-declaration, code-parameter, code-group, code-body, code-activity, code-message, code-part}
 use Rattle.entries.specs.Items.{codeOf}
-use Rattle.sheets.specs.Walks.{sum}
-use Rattle.sheets.specs.Homes.{insideOf, homeOf}
+use Rattle.sheets.specs.Homes.{homeOf}
 use Rattle.finding.specs.Sets.{among}
 use Rattle.rules.specs.Rules.{isArray}
-use Rattle.ceilings.specs.Ceilings.{numbersAt, numbers, heavyAt}
+use Rattle.ceilings.specs.Ceilings.{numbersAt}
 use Rattle.lawful.specs.Units.{tally}
 use Rattle.lawful.specs.Ceilings.{sizeOf, ofVariable, ofDeclaration, ofGroup, globalsOf}
-use Rattle.saying.proofs.Codes.{Every, every-append, every-lift, type-low, InTree, tree-codes, InValue, size-codes, value-codes, InDeclaration, local-codes, global-codes, InGroup, groups-codes, InMessages, messages-codes}
-use Rattle.saying.proofs.Standing.{weigh, weigh-append, sum-weigh, Lain, lain-front, lain-back, Stood, stood-front, stood-back, still, away}
-use Rattle.saying.proofs.Bodies.{Housed, home-most, home-past}
+use Rattle.saying.proofs.Codes.{Every, every-append, type-low, InTree, tree-codes, InValue, size-codes, value-codes, InMessages, messages-codes}
+use Rattle.saying.proofs.Standing.{weigh, weigh-append, Lain, Stood, stood-front, stood-back, still, away}
+use Rattle.saying.proofs.Bodies.{Housed}
 use Rattle.saying.proofs.Parts.{Ahead, headAt, head-last, unit-sum, process-housed, init-housed, mtypes-stood, global-stood, Standing}
-use Rattle.saying.proofs.Made.{process-activity, head-mtypes, head-global, head-process, head-init}
+use Rattle.saying.proofs.Made.{process-activity}
 
 module _ (cs vs hs : List ℕ) where
   -- ---- one item

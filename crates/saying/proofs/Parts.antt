@@ -1,21 +1,20 @@
 -- Units of a model one after the other: where each stands, and sums over all from sums over each.
 use Prim.Native.Nat.{ℕ, zero, suc, _+_, _≤_, _<_}
 use native.Mathlib.Omega.{arith}
-use mathlib.Core.Path.{_≡_, refl, sym, ap, ap₂, _∙_, subst}
-use mathlib.Core.Bool.{Bool, true, false}
-use mathlib.Core.Logic.{_⊎_, inl, inr}
+use mathlib.Core.Path.{_≡_, refl, sym, ap, ap₂, _∙_}
+use mathlib.Core.Bool.{Bool, true}
+use mathlib.Core.Logic.{inl, inr}
 use mathlib.Core.List.{List, [], _∷_, _++_}
 use lib.ListN.{length, getD, length-append}
 use lib.Dec.{eqb}
 use borrow.Author.Tests.{ne-eqb, le-ltb}
 use Rattle.base.specs.Choice.{both}
-use Rattle.syntax.specs.Tree.{Name, sequence, Tree, Declaration, declare, Group, Body, body, Activity, idle, once, times, Part, mtypes, global, process, init, Model}
-use Rattle.syntax.specs.Code.{Item, i-local, i-global, i-init, i-mtypes, i-body, i-end-body, i-name, i-number, i-proctype, i-active, i-active-many, each, code-tree, code-declaration, code-group, code-body, code-activity, code-message, code-part, code}
-use Rattle.entries.specs.Items.{codeOf}
+use Rattle.syntax.specs.Tree.{Name, sequence, Tree, Declaration, declare, Group, body, Activity, idle, once, times, Part, mtypes, global, process, init, Model}
+use Rattle.syntax.specs.Code.{Item, i-local, i-init, i-body, i-end-body, each, code-tree, code-declaration, code-group, code-body, code-activity, code-message, code-part, code}
 use Rattle.sheets.specs.Homes.{heads, insideOf, homeOf}
 use Rattle.lawful.specs.Units.{tally}
 use Rattle.lawful.specs.Ceilings.{every}
-use Rattle.saying.proofs.Codes.{Every, every-lift, type-low, InDeclaration, global-codes, InMessages, messages-codes}
+use Rattle.saying.proofs.Codes.{every-lift, type-low, InDeclaration, global-codes, InMessages, messages-codes}
 use Rattle.saying.proofs.Standing.{weigh, weigh-append, Lain, lain-front, lain-back, Stood, Inner, settled}
 use Rattle.saying.proofs.Bodies.{Housed, housed, weigh-body}
 

@@ -1,6 +1,6 @@
 -- THE ITEMS OF A TEXT WITH A TREE SAY WHAT THE TREE SAYS: their codes are those of the tree's code, two names say the same exactly where they are the same, numbers say their value and
 -- strings what their format asks for.
-use Prim.Native.Nat.{ℕ, zero, suc, _+_, _-_, _*_, _≤_, _<_, min}
+use Prim.Native.Nat.{ℕ, zero, suc, _+_, _-_, _≤_, _<_, min}
 use native.Mathlib.Omega.{arith}
 use mathlib.Core.Path.{_≡_, refl, sym as inv, ap, ap₂, _∙_}
 use mathlib.Core.Bool.{Bool, true, false}
@@ -9,7 +9,7 @@ use mathlib.Core.List.{List, [], _∷_, _++_, map}
 use lib.ListN.{length, getD, replicate, length-map, length-replicate}
 use lib.Seq.{ext-getD}
 use lib.Dec.{eqb}
-use borrow.Author.Tests.{le-ltb, eq-eqb, ne-eqb, eqb-true}
+use borrow.Author.Tests.{le-ltb, eq-eqb, ne-eqb}
 use Rattle.base.specs.Choice.{pick}
 use Rattle.base.specs.Lists.{same}
 use Rattle.base.proofs.Lists.{same-refl, same-eq}
@@ -33,7 +33,6 @@ use Rattle.tables.specs.Trees.{entriesIn}
 use Rattle.sheets.specs.Walks.{first}
 use Rattle.sheets.specs.Payload.{wordOf, pid, formatFrom, formatOf, sameName, firstSame, nameArg, argOf, argsOf, spelled}
 use Rattle.sheets.proofs.Meaning.{filled-at}
-use Rattle.sheets.proofs.Walks.{first-most}
 use Rattle.holdings.specs.Read.{Right}
 use Rattle.holdings.proofs.Read.{get-only}
 use Rattle.holdings.proofs.Accepted.{accepted-known, accepted-items}

@@ -1,10 +1,10 @@
 -- Items that stand in a model's items at a place, with what they say and the body that they are in, and sums over them.
-use Prim.Native.Nat.{ℕ, zero, suc, _+_, _≤_, _<_}
+use Prim.Native.Nat.{ℕ, suc, _+_, _≤_, _<_}
 use native.Mathlib.Omega.{arith}
-use mathlib.Core.Path.{_≡_, refl, sym, ap, ap₂, _∙_, subst}
-use mathlib.Core.Bool.{Bool, true, false}
-use mathlib.Core.List.{List, [], _∷_, _++_, map}
-use lib.ListN.{length, getD, length-map, length-append}
+use mathlib.Core.Path.{_≡_, refl, sym, ap, _∙_, subst}
+use mathlib.Core.Bool.{true, false}
+use mathlib.Core.List.{List, [], _∷_, _++_}
+use lib.ListN.{length, getD, length-map}
 use borrow.Author.Tests.{ne-eqb}
 use Rattle.syntax.specs.Tree.{Model}
 use Rattle.syntax.specs.Code.{Item, i-number, i-plain, i-end-body, code}

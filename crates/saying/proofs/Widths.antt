@@ -3,15 +3,15 @@ use Prim.Native.Nat.{ℕ, zero, suc, _+_, _-_, _≤_, _<_}
 use native.Mathlib.Omega.{arith}
 use mathlib.Core.Path.{_≡_, refl, sym, ap, ap₂, _∙_, subst}
 use mathlib.Core.Bool.{Bool, true, false}
-use mathlib.Core.Logic.{_⊎_, inl, inr}
+use mathlib.Core.Logic.{inl, inr}
 use mathlib.Core.List.{List, [], _∷_, _++_, append-assoc}
 use native.Mathlib.Decide.{ℕ-discrete}
 use lib.ListN.{length, getD, length-append}
-use lib.Dec.{eqb, ltb, leb}
+use lib.Dec.{eqb, ltb}
 use borrow.Author.Tests.{ne-eqb, eq-eqb, lt-leb}
-use Rattle.base.specs.Choice.{pick, both, either}
-use Rattle.syntax.specs.Tree.{Name, Shape, Exp, Expr, Received, Sort, sequence, Tree, express, assign, increment, decrement, send, receive, assert, print, skip, goto, break, timeout, else, run, set-run, select, loop, bare, labelled, end, then, over, option, Declaration, Group, Body, body, Activity, idle, once, times, Part, mtypes, global, process, init}
-use Rattle.syntax.specs.Code.{Item, i-name, i-text, i-argument, i-express, i-target, i-assign, i-increment, i-decrement, i-send, i-receive, i-assert, i-end, i-run, i-set-run, i-if, i-fi, i-do, i-od, i-option, i-end-option, i-local, i-init, i-mtypes, each, code-exp, code-argument, code-received, code-tree, code-declaration, code-group, code-body, code-activity, code-message, code-part}
+use Rattle.base.specs.Choice.{pick, both}
+use Rattle.syntax.specs.Tree.{Name, Shape, Exp, Expr, Sort, sequence, Tree, express, assign, increment, decrement, send, receive, assert, print, skip, goto, break, timeout, else, run, set-run, select, loop, bare, labelled, end, then, over, option, Declaration, Group, body, Activity, idle, once, times, Part, mtypes, global, process, init}
+use Rattle.syntax.specs.Code.{Item, i-name, i-text, i-argument, i-express, i-target, i-assign, i-increment, i-decrement, i-send, i-receive, i-assert, i-end, i-run, i-set-run, i-if, i-fi, i-do, i-od, i-end-option, i-local, i-init, each, code-exp, code-argument, code-received, code-tree, code-declaration, code-group, code-body, code-activity, code-message, code-part}
 use Rattle.entries.specs.Items.{codeOf}
 use Rattle.sheets.specs.Walks.{after, sum}
 use Rattle.sheets.specs.Homes.{homeOf}
