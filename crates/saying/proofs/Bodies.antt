@@ -78,7 +78,7 @@ module _ (cs vs hs : List ℕ) where
   pub weigh-body : (f : ℕ → ℕ) (ds : List Declaration) (q : Tree sequence) (k : ℕ)
       → weigh f k (code-body (body ds q))
       ≡ f k + weigh f (suc k) (each (code-declaration i-local) ds) + weigh f (suc k + length (each (code-declaration i-local) ds)) (code-tree q)
-        + f (suc k + length (each (code-declaration i-local) ds) + length (code-tree q))
+      + f (suc k + length (each (code-declaration i-local) ds) + length (code-tree q))
   weigh-body f ds q k =
       let D = each (code-declaration i-local) ds in
       let T = code-tree q in
@@ -100,8 +100,8 @@ module _ (cs vs hs : List ℕ) where
         let bd = lain-front cs vs k (i-body ∷ D) T bt in
         let y = settled cs vs hs homed (i-body ∷ []) (u + 1) k (λ z. (refl, λ w. omega arith), tt) (bd .0, bd .1, bd .2, bd .3, tt) (x .1) in
         let d = settled cs vs hs homed D (u + 1) (suc k) (every-lift InDeclaration Mine (λ c h. (low-heads c (omega arith), λ z. omega arith)) D (local-codes ds)) (bd .4)
-            (ap (insideOf cs) (let z : suc k ≡ k + 1 = omega arith in z) ∙ y .1) in
+        (ap (insideOf cs) (let z : suc k ≡ k + 1 = omega arith in z) ∙ y .1) in
         let t = settled cs vs hs homed T (u + 1) (suc k + length D) (every-lift InTree Mine (λ c h. (low-heads c (omega arith), λ z. omega arith)) T (tree-codes q))
-            (lain-back cs vs (i-body ∷ D) T k (suc k + length D) (omega arith) bt) (d .1) in
+        (lain-back cs vs (i-body ∷ D) T k (suc k + length D) (omega arith) bt) (d .1) in
         let z = settled-end cs vs hs homed (suc k + length D + length T) (u + 1) be (t .1) in
         record { groups = x .0; mark = y .0; declarations = d .0; statements = t .0; last = z .0; shut = z .1 }

@@ -137,147 +137,147 @@ every-lift P Q h (x ∷ l) a = (λ k. h (codeOf x) (a .0 k), every-lift P Q h l 
 
 -- ---- expressions: no string, and no mark beyond them
 abbrev pub InExp : ℕ → Type 0
-InExp c = (70 ≤ c) × (c ≤ 182) × (c ≡ 72 → ⊥)
+InExp c = (c ≤ 182) × (c ≡ 72 → ⊥)
 
 low-exp : (c : ℕ) → Low c → InExp c
-low-exp c h = (omega arith, omega arith, λ e. omega arith)
+low-exp c h = (omega arith, λ e. omega arith)
 
 pub exp-codes : {s : Shape} (e : Exp s) → Every InExp (code-exp e)
-exp-codes (plain w) = (λ k. (omega arith, omega arith, λ e. omega arith), (λ k. (omega arith, omega arith, λ e. omega arith), tt))
-exp-codes (indexed w e) = (λ k. (omega arith, omega arith, λ e. omega arith), every-append InExp (code-exp e) (i-index ∷ []) (exp-codes e) (λ k. (omega arith, omega arith, λ e. omega arith), tt))
-exp-codes (num n) = (λ k. (omega arith, omega arith, λ e. omega arith), tt)
-exp-codes tru = (λ k. (omega arith, omega arith, λ e. omega arith), tt)
-exp-codes fls = (λ k. (omega arith, omega arith, λ e. omega arith), tt)
+exp-codes (plain w) = (λ k. (omega arith, λ e. omega arith), (λ k. (omega arith, λ e. omega arith), tt))
+exp-codes (indexed w e) = (λ k. (omega arith, λ e. omega arith), every-append InExp (code-exp e) (i-index ∷ []) (exp-codes e) (λ k. (omega arith, λ e. omega arith), tt))
+exp-codes (num n) = (λ k. (omega arith, λ e. omega arith), tt)
+exp-codes tru = (λ k. (omega arith, λ e. omega arith), tt)
+exp-codes fls = (λ k. (omega arith, λ e. omega arith), tt)
 exp-codes (get r) = exp-codes r
-exp-codes (len r) = every-append InExp (code-exp r) (i-len ∷ []) (exp-codes r) (λ k. (omega arith, omega arith, λ e. omega arith), tt)
+exp-codes (len r) = every-append InExp (code-exp r) (i-len ∷ []) (exp-codes r) (λ k. (omega arith, λ e. omega arith), tt)
 exp-codes (unary o e) = every-append InExp (code-exp e) (i-unary o ∷ []) (exp-codes e) (λ k. low-exp _ (unary-low o k), tt)
 exp-codes (binary o a b) =
     every-append InExp (code-exp a ++ code-exp b) (i-binary o ∷ []) (every-append InExp (code-exp a) (code-exp b) (exp-codes a) (exp-codes b)) (λ k. low-exp _ (binary-low o k), tt)
 exp-codes (choice a b c) =
     every-append InExp (code-exp a ++ code-exp b ++ i-otherwise ∷ code-exp c) (i-choice ∷ [])
     (every-append InExp (code-exp a ++ code-exp b) (i-otherwise ∷ code-exp c) (every-append InExp (code-exp a) (code-exp b) (exp-codes a) (exp-codes b))
-    (λ k. (omega arith, omega arith, λ e. omega arith), exp-codes c))
-    (λ k. (omega arith, omega arith, λ e. omega arith), tt)
+    (λ k. (omega arith, λ e. omega arith), exp-codes c))
+    (λ k. (omega arith, λ e. omega arith), tt)
 
 -- ---- arguments: expressions, each with its mark
 abbrev pub InArgs : ℕ → Type 0
-InArgs c = (70 ≤ c) × (c ≤ 186) × (c ≡ 72 → ⊥)
+InArgs c = (c ≤ 186) × (c ≡ 72 → ⊥)
 
 exp-args : {s : Shape} (e : Exp s) → Every InArgs (code-exp e)
-exp-args e = every-lift InExp InArgs (λ c h. (omega arith, omega arith, h .2)) (code-exp e) (exp-codes e)
+exp-args e = every-lift InExp InArgs (λ c h. (omega arith, h .1)) (code-exp e) (exp-codes e)
 
 pub args-codes : (es : List Expr) → Every InArgs (each code-argument es)
-args-codes es = every-each InArgs code-argument (λ e. every-append InArgs (code-exp e) (i-argument ∷ []) (exp-args e) (λ k. (omega arith, omega arith, λ e. omega arith), tt)) es
+args-codes es = every-each InArgs code-argument (λ e. every-append InArgs (code-exp e) (i-argument ∷ []) (exp-args e) (λ k. (omega arith, λ e. omega arith), tt)) es
 
 received-codes : (x : Received) → Every InArgs (code-received x)
-received-codes (into r) = every-append InArgs (code-exp r) (i-into ∷ []) (exp-args r) (λ k. (omega arith, omega arith, λ e. omega arith), tt)
-received-codes (equal e) = every-append InArgs (code-exp e) (i-equal ∷ []) (exp-args e) (λ k. (omega arith, omega arith, λ e. omega arith), tt)
-received-codes (exactly n) = (λ k. (omega arith, omega arith, λ e. omega arith), (λ k. (omega arith, omega arith, λ e. omega arith), tt))
-received-codes exactly-true = (λ k. (omega arith, omega arith, λ e. omega arith), (λ k. (omega arith, omega arith, λ e. omega arith), tt))
-received-codes exactly-false = (λ k. (omega arith, omega arith, λ e. omega arith), (λ k. (omega arith, omega arith, λ e. omega arith), tt))
+received-codes (into r) = every-append InArgs (code-exp r) (i-into ∷ []) (exp-args r) (λ k. (omega arith, λ e. omega arith), tt)
+received-codes (equal e) = every-append InArgs (code-exp e) (i-equal ∷ []) (exp-args e) (λ k. (omega arith, λ e. omega arith), tt)
+received-codes (exactly n) = (λ k. (omega arith, λ e. omega arith), (λ k. (omega arith, λ e. omega arith), tt))
+received-codes exactly-true = (λ k. (omega arith, λ e. omega arith), (λ k. (omega arith, λ e. omega arith), tt))
+received-codes exactly-false = (λ k. (omega arith, λ e. omega arith), (λ k. (omega arith, λ e. omega arith), tt))
 
 pub all-received-codes : (xs : List Received) → Every InArgs (each code-received xs)
 all-received-codes xs = every-each InArgs code-received received-codes xs
 
 -- ---- statements
 abbrev pub InTree : ℕ → Type 0
-InTree c = (70 ≤ c) × (c ≤ 209)
+InTree c = c ≤ 209
 
 exp-tree : {s : Shape} (e : Exp s) → Every InTree (code-exp e)
-exp-tree e = every-lift InExp InTree (λ c h. (omega arith, omega arith)) (code-exp e) (exp-codes e)
+exp-tree e = every-lift InExp InTree (λ c h. omega arith) (code-exp e) (exp-codes e)
 
 args-tree : (es : List Expr) → Every InTree (each code-argument es)
-args-tree es = every-lift InArgs InTree (λ c h. (omega arith, omega arith)) (each code-argument es) (args-codes es)
+args-tree es = every-lift InArgs InTree (λ c h. omega arith) (each code-argument es) (args-codes es)
 
 received-tree : (xs : List Received) → Every InTree (each code-received xs)
-received-tree xs = every-lift InArgs InTree (λ c h. (omega arith, omega arith)) (each code-received xs) (all-received-codes xs)
+received-tree xs = every-lift InArgs InTree (λ c h. omega arith) (each code-received xs) (all-received-codes xs)
 
 pub tree-codes : {k : Sort} (t : Tree k) → Every InTree (code-tree t)
-tree-codes (express e) = every-append InTree (code-exp e) (i-express ∷ []) (exp-tree e) (λ k. (omega arith, omega arith), tt)
+tree-codes (express e) = every-append InTree (code-exp e) (i-express ∷ []) (exp-tree e) (λ k. omega arith, tt)
 tree-codes (assign r e) =
-    every-append InTree (code-exp r ++ i-target ∷ code-exp e) (i-assign ∷ []) (every-append InTree (code-exp r) (i-target ∷ code-exp e) (exp-tree r) (λ k. (omega arith, omega arith), exp-tree e))
-    (λ k. (omega arith, omega arith), tt)
-tree-codes (increment r) = every-append InTree (code-exp r) (i-increment ∷ []) (exp-tree r) (λ k. (omega arith, omega arith), tt)
-tree-codes (decrement r) = every-append InTree (code-exp r) (i-decrement ∷ []) (exp-tree r) (λ k. (omega arith, omega arith), tt)
+    every-append InTree (code-exp r ++ i-target ∷ code-exp e) (i-assign ∷ []) (every-append InTree (code-exp r) (i-target ∷ code-exp e) (exp-tree r) (λ k. omega arith, exp-tree e))
+    (λ k. omega arith, tt)
+tree-codes (increment r) = every-append InTree (code-exp r) (i-increment ∷ []) (exp-tree r) (λ k. omega arith, tt)
+tree-codes (decrement r) = every-append InTree (code-exp r) (i-decrement ∷ []) (exp-tree r) (λ k. omega arith, tt)
 tree-codes (send r es) =
     every-append InTree (code-exp r ++ i-send ∷ each code-argument es) (i-end ∷ [])
-    (every-append InTree (code-exp r) (i-send ∷ each code-argument es) (exp-tree r) (λ k. (omega arith, omega arith), args-tree es)) (λ k. (omega arith, omega arith), tt)
+    (every-append InTree (code-exp r) (i-send ∷ each code-argument es) (exp-tree r) (λ k. omega arith, args-tree es)) (λ k. omega arith, tt)
 tree-codes (receive r xs) =
     every-append InTree (code-exp r ++ i-receive ∷ each code-received xs) (i-end ∷ [])
-    (every-append InTree (code-exp r) (i-receive ∷ each code-received xs) (exp-tree r) (λ k. (omega arith, omega arith), received-tree xs)) (λ k. (omega arith, omega arith), tt)
-tree-codes (assert e) = every-append InTree (code-exp e) (i-assert ∷ []) (exp-tree e) (λ k. (omega arith, omega arith), tt)
-tree-codes (print w es) = (λ k. (omega arith, omega arith), every-append InTree (each code-argument es) (i-end ∷ []) (args-tree es) (λ k. (omega arith, omega arith), tt))
-tree-codes skip = (λ k. (omega arith, omega arith), tt)
-tree-codes (goto w) = (λ k. (omega arith, omega arith), (λ k. (omega arith, omega arith), tt))
-tree-codes break = (λ k. (omega arith, omega arith), tt)
-tree-codes timeout = (λ k. (omega arith, omega arith), tt)
-tree-codes else = (λ k. (omega arith, omega arith), tt)
-tree-codes (run w es) = (λ k. (omega arith, omega arith), (λ k. (omega arith, omega arith), every-append InTree (each code-argument es) (i-end ∷ []) (args-tree es) (λ k. (omega arith, omega arith), tt)))
+    (every-append InTree (code-exp r) (i-receive ∷ each code-received xs) (exp-tree r) (λ k. omega arith, received-tree xs)) (λ k. omega arith, tt)
+tree-codes (assert e) = every-append InTree (code-exp e) (i-assert ∷ []) (exp-tree e) (λ k. omega arith, tt)
+tree-codes (print w es) = (λ k. omega arith, every-append InTree (each code-argument es) (i-end ∷ []) (args-tree es) (λ k. omega arith, tt))
+tree-codes skip = (λ k. omega arith, tt)
+tree-codes (goto w) = (λ k. omega arith, (λ k. omega arith, tt))
+tree-codes break = (λ k. omega arith, tt)
+tree-codes timeout = (λ k. omega arith, tt)
+tree-codes else = (λ k. omega arith, tt)
+tree-codes (run w es) = (λ k. omega arith, (λ k. omega arith, every-append InTree (each code-argument es) (i-end ∷ []) (args-tree es) (λ k. omega arith, tt)))
 tree-codes (set-run r w es) =
     every-append InTree (code-exp r ++ i-target ∷ i-name w ∷ i-set-run ∷ each code-argument es) (i-end ∷ [])
     (every-append InTree (code-exp r) (i-target ∷ i-name w ∷ i-set-run ∷ each code-argument es) (exp-tree r)
-    (λ k. (omega arith, omega arith), (λ k. (omega arith, omega arith), (λ k. (omega arith, omega arith), args-tree es))))
-    (λ k. (omega arith, omega arith), tt)
-tree-codes (select os) = (λ k. (omega arith, omega arith), every-append InTree (code-tree os) (i-fi ∷ []) (tree-codes os) (λ k. (omega arith, omega arith), tt))
-tree-codes (loop os) = (λ k. (omega arith, omega arith), every-append InTree (code-tree os) (i-od ∷ []) (tree-codes os) (λ k. (omega arith, omega arith), tt))
+    (λ k. omega arith, (λ k. omega arith, (λ k. omega arith, args-tree es))))
+    (λ k. omega arith, tt)
+tree-codes (select os) = (λ k. omega arith, every-append InTree (code-tree os) (i-fi ∷ []) (tree-codes os) (λ k. omega arith, tt))
+tree-codes (loop os) = (λ k. omega arith, every-append InTree (code-tree os) (i-od ∷ []) (tree-codes os) (λ k. omega arith, tt))
 tree-codes (bare a) = tree-codes a
-tree-codes (labelled w a) = (λ k. (omega arith, omega arith), (λ k. (omega arith, omega arith), tree-codes a))
+tree-codes (labelled w a) = (λ k. omega arith, (λ k. omega arith, tree-codes a))
 tree-codes end = tt
 tree-codes (then s q) = every-append InTree (code-tree s) (code-tree q) (tree-codes s) (tree-codes q)
 tree-codes over = tt
 tree-codes (option q os) =
-    (λ k. (omega arith, omega arith), every-append InTree (code-tree q) (i-end-option ∷ code-tree os) (tree-codes q) (λ k. (omega arith, omega arith), tree-codes os))
+    (λ k. omega arith, every-append InTree (code-tree q) (i-end-option ∷ code-tree os) (tree-codes q) (λ k. omega arith, tree-codes os))
 
 -- ---- declarations: nothing that stands in statements alone
 abbrev pub InDeclaration : ℕ → Type 0
-InDeclaration c = (70 ≤ c) × (c ≤ 218) × (c ≡ 72 → ⊥) × (183 ≤ c → 210 ≤ c)
+InDeclaration c = (c ≤ 218) × (c ≡ 72 → ⊥) × (183 ≤ c → 210 ≤ c)
 
 -- what stands behind a declared name
 abbrev pub InValue : ℕ → Type 0
-InValue c = (70 ≤ c) × (c ≤ 218) × (c ≡ 72 → ⊥) × (183 ≤ c → 213 ≤ c)
+InValue c = (c ≤ 218) × (c ≡ 72 → ⊥) × (183 ≤ c → 213 ≤ c)
 
 field-codes : (n : ℕ) → Every InValue (code-field n)
-field-codes n = (λ k. let h = type-low n k in (omega arith, omega arith, λ e. omega arith, λ e. omega arith), (λ k. (omega arith, omega arith, λ e. omega arith, λ e. omega arith), tt))
+field-codes n = (λ k. let h = type-low n k in (omega arith, λ e. omega arith, λ e. omega arith), (λ k. (omega arith, λ e. omega arith, λ e. omega arith), tt))
 
 pub size-codes : (s : Option ℕ) → Every InValue (code-size s)
 size-codes none = tt
-size-codes (some n) = (λ k. (omega arith, omega arith, λ e. omega arith, λ e. omega arith), (λ k. (omega arith, omega arith, λ e. omega arith, λ e. omega arith), tt))
+size-codes (some n) = (λ k. (omega arith, λ e. omega arith, λ e. omega arith), (λ k. (omega arith, λ e. omega arith, λ e. omega arith), tt))
 
 pub value-codes : (v : Value) → Every InValue (code-value v)
 value-codes unset = tt
-value-codes (set-number n) = (λ k. (omega arith, omega arith, λ e. omega arith, λ e. omega arith), (λ k. (omega arith, omega arith, λ e. omega arith, λ e. omega arith), tt))
-value-codes (set-minus n) = (λ k. (omega arith, omega arith, λ e. omega arith, λ e. omega arith), (λ k. (omega arith, omega arith, λ e. omega arith, λ e. omega arith), tt))
-value-codes set-true = (λ k. (omega arith, omega arith, λ e. omega arith, λ e. omega arith), (λ k. (omega arith, omega arith, λ e. omega arith, λ e. omega arith), tt))
-value-codes set-false = (λ k. (omega arith, omega arith, λ e. omega arith, λ e. omega arith), (λ k. (omega arith, omega arith, λ e. omega arith, λ e. omega arith), tt))
-value-codes (set-name w) = (λ k. (omega arith, omega arith, λ e. omega arith, λ e. omega arith), (λ k. (omega arith, omega arith, λ e. omega arith, λ e. omega arith), tt))
+value-codes (set-number n) = (λ k. (omega arith, λ e. omega arith, λ e. omega arith), (λ k. (omega arith, λ e. omega arith, λ e. omega arith), tt))
+value-codes (set-minus n) = (λ k. (omega arith, λ e. omega arith, λ e. omega arith), (λ k. (omega arith, λ e. omega arith, λ e. omega arith), tt))
+value-codes set-true = (λ k. (omega arith, λ e. omega arith, λ e. omega arith), (λ k. (omega arith, λ e. omega arith, λ e. omega arith), tt))
+value-codes set-false = (λ k. (omega arith, λ e. omega arith, λ e. omega arith), (λ k. (omega arith, λ e. omega arith, λ e. omega arith), tt))
+value-codes (set-name w) = (λ k. (omega arith, λ e. omega arith, λ e. omega arith), (λ k. (omega arith, λ e. omega arith, λ e. omega arith), tt))
 value-codes (set-channel n ks) =
-    (λ k. (omega arith, omega arith, λ e. omega arith, λ e. omega arith), (λ k. (omega arith, omega arith, λ e. omega arith, λ e. omega arith), every-each InValue code-field field-codes ks))
+    (λ k. (omega arith, λ e. omega arith, λ e. omega arith), (λ k. (omega arith, λ e. omega arith, λ e. omega arith), every-each InValue code-field field-codes ks))
 
 variable-codes : (x : Variable) → Every InDeclaration (code-variable x)
 variable-codes (variable w s v) =
-    (λ k. (omega arith, omega arith, λ e. omega arith, λ e. omega arith), (λ k. (omega arith, omega arith, λ e. omega arith, λ e. omega arith), every-lift InValue InDeclaration (λ c h. (omega arith, omega arith, h .2, λ z. let y = h .3 z in omega arith)) (code-size s ++ code-value v) (every-append InValue (code-size s) (code-value v) (size-codes s) (value-codes v))))
+    (λ k. (omega arith, λ e. omega arith, λ e. omega arith), (λ k. (omega arith, λ e. omega arith, λ e. omega arith), every-lift InValue InDeclaration (λ c h. (h .0, h .1, λ z. let y = h .2 z in omega arith)) (code-size s ++ code-value v) (every-append InValue (code-size s) (code-value v) (size-codes s) (value-codes v))))
 
 -- the mark of a declaration is `local` or `global`
 pub declaration-codes : (i : Item) → InDeclaration (codeOf i) → (d : Declaration) → Every InDeclaration (code-declaration i d)
 declaration-codes i m (declare n xs) =
-    (λ k. let h = type-low n k in (omega arith, omega arith, λ e. omega arith, λ e. omega arith), (λ k. m, every-each InDeclaration code-variable variable-codes xs))
+    (λ k. let h = type-low n k in (omega arith, λ e. omega arith, λ e. omega arith), (λ k. m, every-each InDeclaration code-variable variable-codes xs))
 
 pub local-codes : (ds : List Declaration) → Every InDeclaration (each (code-declaration i-local) ds)
-local-codes ds = every-each InDeclaration (code-declaration i-local) (declaration-codes i-local (omega arith, omega arith, λ e. omega arith, λ e. omega arith)) ds
+local-codes ds = every-each InDeclaration (code-declaration i-local) (declaration-codes i-local (omega arith, λ e. omega arith, λ e. omega arith)) ds
 
 pub global-codes : (d : Declaration) → Every InDeclaration (code-declaration i-global d)
-global-codes d = declaration-codes i-global (omega arith, omega arith, λ e. omega arith, λ e. omega arith) d
+global-codes d = declaration-codes i-global (omega arith, λ e. omega arith, λ e. omega arith) d
 
 -- ---- parameters and mtype names
 abbrev pub InGroup : ℕ → Type 0
-InGroup c = (70 ≤ c) × (c ≤ 222) × (c ≡ 72 → ⊥) × (176 ≤ c → 221 ≤ c)
+InGroup c = (c ≤ 222) × (c ≡ 72 → ⊥) × (176 ≤ c → 221 ≤ c)
 
 group-codes : (g : Group) → Every InGroup (code-group g)
 group-codes (group n ws) =
-    (λ k. let h = type-low n k in (omega arith, omega arith, λ e. omega arith, λ e. omega arith), (λ k. (omega arith, omega arith, λ e. omega arith, λ e. omega arith), every-each InGroup code-parameter named ws))
+    (λ k. let h = type-low n k in (omega arith, λ e. omega arith, λ e. omega arith), (λ k. (omega arith, λ e. omega arith, λ e. omega arith), every-each InGroup code-parameter named ws))
   where
     named : (w : Name) → Every InGroup (code-parameter w)
-    named w = (λ k. (omega arith, omega arith, λ e. omega arith, λ e. omega arith), (λ k. (omega arith, omega arith, λ e. omega arith, λ e. omega arith), tt))
+    named w = (λ k. (omega arith, λ e. omega arith, λ e. omega arith), (λ k. (omega arith, λ e. omega arith, λ e. omega arith), tt))
 
 pub groups-codes : (gs : List Group) → Every InGroup (each code-group gs)
 groups-codes gs = every-each InGroup code-group group-codes gs

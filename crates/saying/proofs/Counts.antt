@@ -82,13 +82,13 @@ abbrev S : List Item → ℕ
 S = mass (one 11)
 
 exp-none : {s : Shape} (e : Exp s) → AllKnown (code-exp e) → S (code-exp e) ≡ 0
-exp-none e k = mass-none (one 11) InExp (code-exp e) (exp-codes e) k (λ c h. quiet-low c (omega arith) (h .2))
+exp-none e k = mass-none (one 11) InExp (code-exp e) (exp-codes e) k (λ c h. quiet-low c (omega arith) (h .1))
 
 args-none : (es : List Expr) → AllKnown (each code-argument es) → S (each code-argument es) ≡ 0
-args-none es k = mass-none (one 11) InArgs (each code-argument es) (args-codes es) k (λ c h. quiet-low c (omega arith) (h .2))
+args-none es k = mass-none (one 11) InArgs (each code-argument es) (args-codes es) k (λ c h. quiet-low c (omega arith) (h .1))
 
 received-none : (xs : List Received) → AllKnown (each code-received xs) → S (each code-received xs) ≡ 0
-received-none xs k = mass-none (one 11) InArgs (each code-received xs) (all-received-codes xs) k (λ c h. quiet-low c (omega arith) (h .2))
+received-none xs k = mass-none (one 11) InArgs (each code-received xs) (all-received-codes xs) k (λ c h. quiet-low c (omega arith) (h .1))
 
 -- an expression with its mark
 marked : {s : Shape} (e : Exp s) (x : Item) → AllKnown (code-exp e ++ x ∷ []) → S (code-exp e ++ x ∷ []) ≡ one 11 (codeOf x)
@@ -170,10 +170,10 @@ statements-tree (option q os) k =
     omega arith
 
 locals-none : (ds : List Declaration) → AllKnown (each (code-declaration i-local) ds) → S (each (code-declaration i-local) ds) ≡ 0
-locals-none ds k = mass-none (one 11) InDeclaration (each (code-declaration i-local) ds) (local-codes ds) k (λ c h. quiet-both c (h .2) (h .3))
+locals-none ds k = mass-none (one 11) InDeclaration (each (code-declaration i-local) ds) (local-codes ds) k (λ c h. quiet-both c (h .1) (h .2))
 
 groups-none : (gs : List Group) → AllKnown (each code-group gs) → S (each code-group gs) ≡ 0
-groups-none gs k = mass-none (one 11) InGroup (each code-group gs) (groups-codes gs) k (λ c h. quiet-both c (h .2) (λ z. let y = h .3 (omega arith) in omega arith))
+groups-none gs k = mass-none (one 11) InGroup (each code-group gs) (groups-codes gs) k (λ c h. quiet-both c (h .1) (λ z. let y = h .2 (omega arith) in omega arith))
 
 statements-body : (ds : List Declaration) (q : Tree sequence) → AllKnown (code-body (body ds q)) → S (code-body (body ds q)) ≡ statementsIn q
 unfolding one among
@@ -199,7 +199,7 @@ messages-none ws k = mass-none (one 11) InMessages (each code-message ws) (messa
 statements-part : (p : Part) → AllKnown (code-part p) → S (code-part p) ≡ statementsOf p
 unfolding one among
 statements-part (mtypes ws) k = let a = messages-none ws (k .1) in omega arith
-statements-part (global d) k = mass-none (one 11) InDeclaration (code-declaration i-global d) (global-codes d) k (λ c h. quiet-both c (h .2) (h .3))
+statements-part (global d) k = mass-none (one 11) InDeclaration (code-declaration i-global d) (global-codes d) k (λ c h. quiet-both c (h .1) (h .2))
 statements-part (process x w gs (body ds q)) k =
     let a = mass-unit (one 11) (code-activity x w) gs (body ds q) in
     let b = groups-none gs (known-groups (code-activity x w) gs ds q k) in
@@ -254,7 +254,7 @@ unfolding one among
 messages-part (mtypes ws) k = let a = messages-each ws in omega arith
 messages-part (global d) k = mass-none (one 12) InDeclaration (code-declaration i-global d) (global-codes d) k (λ c h. no-message c (λ z. omega arith))
 messages-part (process x w gs b) k =
-    bare-unit (one 12) (λ c h. no-message c (λ z. omega arith)) (λ c h. no-message c (λ z. let y = h .3 (omega arith) in omega arith)) (λ c h. no-message c (λ z. omega arith)) refl refl (code-activity x w) gs b k
+    bare-unit (one 12) (λ c h. no-message c (λ z. omega arith)) (λ c h. no-message c (λ z. let y = h .2 (omega arith) in omega arith)) (λ c h. no-message c (λ z. omega arith)) refl refl (code-activity x w) gs b k
     ∙ go x
   where
     go : (x : Activity) → mass (one 12) (code-activity x w) ≡ 0
@@ -262,7 +262,7 @@ messages-part (process x w gs b) k =
     go once = refl
     go (times n) = refl
 messages-part (init b) k =
-    let a = bare-body (one 12) (λ c h. no-message c (λ z. omega arith)) (λ c h. no-message c (λ z. let y = h .3 (omega arith) in omega arith)) (λ c h. no-message c (λ z. omega arith)) refl refl b (k .1) in
+    let a = bare-body (one 12) (λ c h. no-message c (λ z. omega arith)) (λ c h. no-message c (λ z. let y = h .2 (omega arith) in omega arith)) (λ c h. no-message c (λ z. omega arith)) refl refl b (k .1) in
     omega arith
 
 pub messages-model : (m : Model) → AllKnown (code m) → mass (one 12) (code m) ≡ tally messagesOf m

@@ -30,9 +30,9 @@ module _ (cs vs hs : List ℕ) (homed : (j : ℕ) → j < length cs → getD hs 
         → weigh f i (A ++ each code-group gs ++ code-body (body ds q)) ≡ weigh f i A
     unit-head A gs ds q i u e H =
         let a = unit-sum cs vs hs f A gs ds q i u e in
-        let g = still cs vs hs f InGroup (each code-group gs) (u + 1) _ (groups-codes gs) (H .groups) (λ j h. low j (h .1)) in
-        let d = still cs vs hs f InDeclaration (each (code-declaration i-local) ds) (u + 1) _ (local-codes ds) (H .declarations) (λ j h. low j (let z = h .1 in omega arith)) in
-        let t = still cs vs hs f InTree (code-tree q) (u + 1) _ (tree-codes q) (H .statements) (λ j h. low j (let z = h .1 in omega arith)) in
+        let g = still cs vs hs f InGroup (each code-group gs) (u + 1) _ (groups-codes gs) (H .groups) (λ j h. low j (h .0)) in
+        let d = still cs vs hs f InDeclaration (each (code-declaration i-local) ds) (u + 1) _ (local-codes ds) (H .declarations) (λ j h. low j (let z = h .0 in omega arith)) in
+        let t = still cs vs hs f InTree (code-tree q) (u + 1) _ (tree-codes q) (H .statements) (λ j h. low j (omega arith)) in
         let b = high (suc u + length (each code-group gs)) (let z = H .mark .1 in omega arith) in
         let l = high (suc (suc u + length (each code-group gs)) + length (each (code-declaration i-local) ds) + length (code-tree q)) (let z = H .last .1 in omega arith) in
         omega arith
@@ -55,7 +55,7 @@ module _ (cs vs hs : List ℕ) (homed : (j : ℕ) → j < length cs → getD hs 
 
     pub head-global : (d : Declaration) (i : ℕ) → Standing cs vs hs homed (global d) i → weigh f i (code-part (global d)) ≡ 0
     head-global d i S =
-        still cs vs hs f InDeclaration (code-part (global d)) 0 i (global-codes d) (global-stood cs vs hs homed i d (S .lain) (S .free) .0) (λ j h. low j (let z = h .1 in omega arith))
+        still cs vs hs f InDeclaration (code-part (global d)) 0 i (global-codes d) (global-stood cs vs hs homed i d (S .lain) (S .free) .0) (λ j h. low j (let z = h .0 in omega arith))
 
     pub head-process : (x : Activity) (w : Name) (gs : List Group) (b : Body) (i : ℕ) → Standing cs vs hs homed (process x w gs b) i → weigh f i (code-part (process x w gs b)) ≡ f (headAt x i)
     head-process x w gs (body ds q) i S =
@@ -181,9 +181,9 @@ module _ (cs vs hs : List ℕ) (homed : (j : ℕ) → j < length cs → getD hs 
       → weigh K i (A ++ each code-group gs ++ code-body (body ds q)) ≡ startsAt cs vs u * tally madeByDeclaration ds
   made-unit A gs ds q i u e H n =
       let a = unit-sum cs vs hs K A gs ds q i u e in
-      let g = still cs vs hs K InGroup (each code-group gs) (u + 1) _ (groups-codes gs) (H .groups) (λ j h. no-channel j (λ z. let y = h .3 (omega arith) in omega arith)) in
+      let g = still cs vs hs K InGroup (each code-group gs) (u + 1) _ (groups-codes gs) (H .groups) (λ j h. no-channel j (λ z. let y = h .2 (omega arith) in omega arith)) in
       let d = channels-locals (u + 1) ds _ (H .declarations) in
-      let t = still cs vs hs K InTree (code-tree q) (u + 1) _ (tree-codes q) (H .statements) (λ j h. no-channel j (λ z. let y = h .1 in omega arith)) in
+      let t = still cs vs hs K InTree (code-tree q) (u + 1) _ (tree-codes q) (H .statements) (λ j h. no-channel j (λ z. omega arith)) in
       let b = no-channel (suc u + length (each code-group gs)) (λ z. let y = H .mark .1 in omega arith) in
       let l = no-channel (suc (suc u + length (each code-group gs)) + length (each (code-declaration i-local) ds) + length (code-tree q)) (λ z. let y = H .last .1 in omega arith) in
       let m : each-made (u + 1) ≡ startsAt cs vs u = rw (ne-eqb (u + 1) 0 (λ z. omega arith)) (ap (startsAt cs vs) (let z : u + 1 - 1 ≡ u = omega arith in z)) in

@@ -106,7 +106,7 @@ module _ (cs vs hs : List ℕ) where
         let b = no-variable i (λ z. let y = s .1 in omega arith) (λ z. let y = s .1 in omega arith) in
         let c = numbers-declared o v (suc i) (s .4 .1) (s .4 .3) (s .4 .4) (subst (Ahead cs vs hs) (let z : i + suc (suc (length (code-size o ++ code-value v))) ≡ suc (suc i) + length (code-size o ++ code-value v) = omega arith in z) a) in
         let d = still cs vs hs N InValue (code-size o ++ code-value v) h (suc (suc i)) (every-append InValue (code-size o) (code-value v) (size-codes o) (value-codes v)) (s .4 .4)
-            (λ j g. no-variable j (λ z. let y = g .3 (omega arith) in omega arith) (λ z. let y = g .1 in omega arith)) in
+        (λ j g. no-variable j (λ z. let y = g .2 (omega arith) in omega arith) (λ z. let y = g .0 in omega arith)) in
         omega arith
 
     -- ---- lists, one after the other: the next begins as no size does
@@ -134,7 +134,7 @@ module _ (cs vs hs : List ℕ) where
         let b = no-variable j (λ z. let y = s .1 in let x = type-low k (s .0) in omega arith) (λ z. let y = s .1 in let x = type-low k (s .0) in omega arith) in
         let c = no-variable (suc j) (λ z. m (sym (s .4 .1) ∙ z)) (λ z. n (sym (s .4 .1) ∙ z)) in
         let d = numbers-each code-variable ofVariable numbers-variable variable-begins xs (suc (suc j)) (s .4 .4)
-            (subst (Ahead cs vs hs) (let z : j + suc (suc (length (each code-variable xs))) ≡ suc (suc j) + length (each code-variable xs) = omega arith in z) a) in
+        (subst (Ahead cs vs hs) (let z : j + suc (suc (length (each code-variable xs))) ≡ suc (suc j) + length (each code-variable xs) = omega arith in z) a) in
         omega arith
 
     local-begins : (d : Declaration) (l : List Item) (i : ℕ) → St i (code-declaration i-local d ++ l) → Ahead cs vs hs i
@@ -164,7 +164,7 @@ module _ (cs vs hs : List ℕ) where
         let b = no-variable j (λ z. let y = s .1 in let x = type-low k (s .0) in omega arith) (λ z. let y = s .1 in let x = type-low k (s .0) in omega arith) in
         let c = no-variable (suc j) (λ z. let y = s .4 .1 in omega arith) (λ z. let y = s .4 .1 in omega arith) in
         let d = numbers-each code-parameter (λ w. 1) numbers-parameter parameter-begins ws (suc (suc j)) (s .4 .4)
-            (subst (Ahead cs vs hs) (let z : j + suc (suc (length (each code-parameter ws))) ≡ suc (suc j) + length (each code-parameter ws) = omega arith in z) a) in
+        (subst (Ahead cs vs hs) (let z : j + suc (suc (length (each code-parameter ws))) ≡ suc (suc j) + length (each code-parameter ws) = omega arith in z) a) in
         let e = all-ones ws in
         omega arith
 
@@ -193,7 +193,7 @@ module _ (cs vs hs : List ℕ) where
         let g = numbers-groups gs (suc u) (own _ G (H .groups)) (ahead-other k (λ z. let y = H .mark .1 in omega arith)) in
         let t = ahead-tree T (suc k + length D) (tree-codes q) (own _ T (H .statements)) (H .last .1) in
         let d = numbers-locals ds (suc k) (own _ D (H .declarations)) t in
-        let c = still cs vs hs N InTree T h (suc k + length D) (tree-codes q) (own _ T (H .statements)) (λ j y. no-variable j (λ z. let x = y .1 in omega arith) (λ z. let x = y .1 in omega arith)) in
+        let c = still cs vs hs N InTree T h (suc k + length D) (tree-codes q) (own _ T (H .statements)) (λ j y. no-variable j (λ z. omega arith) (λ z. omega arith)) in
         let b = no-variable k (λ z. let y = H .mark .1 in omega arith) (λ z. let y = H .mark .1 in omega arith) in
         let l = no-variable (suc k + length D + length T) (λ z. let y = H .last .1 in omega arith) (λ z. let y = H .last .1 in omega arith) in
         omega arith

@@ -47,9 +47,9 @@ module _ (cs vs hs : List ℕ) where
   pub unit-sum : (f : ℕ → ℕ) (A : List Item) (gs : List Group) (ds : List Declaration) (q : Tree sequence) (i u : ℕ) → suc u ≡ i + length A
       → weigh f i (A ++ each code-group gs ++ code-body (body ds q))
       ≡ weigh f i A + weigh f (suc u) (each code-group gs)
-        + (f (suc u + length (each code-group gs)) + weigh f (suc (suc u + length (each code-group gs))) (each (code-declaration i-local) ds)
-        + weigh f (suc (suc u + length (each code-group gs)) + length (each (code-declaration i-local) ds)) (code-tree q)
-        + f (suc (suc u + length (each code-group gs)) + length (each (code-declaration i-local) ds) + length (code-tree q)))
+      + (f (suc u + length (each code-group gs)) + weigh f (suc (suc u + length (each code-group gs))) (each (code-declaration i-local) ds)
+      + weigh f (suc (suc u + length (each code-group gs)) + length (each (code-declaration i-local) ds)) (code-tree q)
+      + f (suc (suc u + length (each code-group gs)) + length (each (code-declaration i-local) ds) + length (code-tree q)))
   unit-sum f A gs ds q i u e =
       let G = each code-group gs in
       let a = weigh-append f (A ++ G) (code-body (body ds q)) i (suc u + length G) (omega (arith, length-append A G)) in
@@ -102,7 +102,7 @@ module _ (cs vs hs : List ℕ) where
       pub global-stood : (d : Declaration) → Lain cs vs i (code-part (global d)) → insideOf cs i ≡ 0 → Stood cs vs hs 0 i (code-part (global d)) × (insideOf cs (i + length (code-part (global d))) ≡ 0)
       global-stood d s o =
           settled cs vs hs homed (code-part (global d)) 0 i
-          (every-lift InDeclaration (Inner cs vs hs) (λ c h. (rw (le-ltb 222 c (let z = h .1 in omega arith)), λ z. omega arith)) (code-part (global d)) (global-codes d)) s o
+          (every-lift InDeclaration (Inner cs vs hs) (λ c h. (rw (le-ltb 222 c (let z = h .0 in omega arith)), λ z. omega arith)) (code-part (global d)) (global-codes d)) s o
 
     -- no body is open behind a unit
     pub part-shut : (p : Part) (i : ℕ) → Lain cs vs i (code-part p) → insideOf cs i ≡ 0 → insideOf cs (i + length (code-part p)) ≡ 0

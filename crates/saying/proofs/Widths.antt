@@ -52,7 +52,7 @@ tight (init (body ds q)) = narrow q
 
 no-opener : (c : ℕ) → InArgs c → among 4 c ≡ false
 unfolding among
-no-opener c h = rw (ne-eqb c 72 (h .2), lt-leb 194 c (omega arith), lt-leb 202 c (omega arith))
+no-opener c h = rw (ne-eqb c 72 (h .1), lt-leb 194 c (omega arith), lt-leb 202 c (omega arith))
 
 opens-send : among 4 194 ≡ true
 unfolding among
@@ -132,7 +132,7 @@ module _ (cs vs hs : List ℕ) where
         let r = stood-back cs vs hs h (X ++ i-argument ∷ []) R i (suc k) (omega (arith, length-append X (i-argument ∷ []))) s in
         let a = weigh-append B (X ++ i-argument ∷ []) R i (suc k) (omega (arith, length-append X (i-argument ∷ []))) in
         let b = weigh-append B X (i-argument ∷ []) i k refl in
-        let c = still cs vs hs B InExp X h i (exp-codes e) (stood-front cs vs hs h i X (i-argument ∷ []) f) (λ j z. not-one j (z .1)) in
+        let c = still cs vs hs B InExp X h i (exp-codes e) (stood-front cs vs hs h i X (i-argument ∷ []) f) (λ j z. not-one j (z .0)) in
         let d = is-one k (m .1) (m .3) in
         let g = arguments es (suc k) r in
         omega arith
@@ -202,7 +202,7 @@ module _ (cs vs hs : List ℕ) where
         let q : F ++ i-set-run ∷ A ≡ code-exp r ++ i-target ∷ i-name w ∷ i-set-run ∷ A = append-assoc (code-exp r) (i-target ∷ i-name w ∷ []) (i-set-run ∷ A) in
         ap (λ (l : List Item). eqb (weigh W i (l ++ i-end ∷ [])) 0) (sym q)
         ∙ closed F i-set-run A i (every-append Calm (code-exp r) (i-target ∷ i-name w ∷ []) (calm-exp r) (λ k z. omega arith, (λ k z. omega arith, tt))) (args-codes es) opens-set-run (λ z. omega arith) (λ z. omega arith)
-          (subst (λ (l : List Item). St i (l ++ i-end ∷ [])) (sym q) s)
+        (subst (λ (l : List Item). St i (l ++ i-end ∷ [])) (sym q) s)
     wide-tree (select os) i s =
         let T = code-tree os in
         let e = suc i + length T in
@@ -250,8 +250,8 @@ module _ (cs vs hs : List ℕ) where
       let T = code-tree q in
       let k = suc u + length G in
       let a = unit-sum cs vs hs W A gs ds q i u e in
-      let g = still cs vs hs W InGroup G (u + 1) (suc u) (groups-codes gs) (H .groups) (λ j y. no-end j (λ z. let x = y .3 (omega arith) in omega arith)) in
-      let d = still cs vs hs W InDeclaration D (u + 1) (suc k) (local-codes ds) (H .declarations) (λ j y. no-end j (λ z. let x = y .3 (omega arith) in omega arith)) in
+      let g = still cs vs hs W InGroup G (u + 1) (suc u) (groups-codes gs) (H .groups) (λ j y. no-end j (λ z. let x = y .2 (omega arith) in omega arith)) in
+      let d = still cs vs hs W InDeclaration D (u + 1) (suc k) (local-codes ds) (H .declarations) (λ j y. no-end j (λ z. let x = y .2 (omega arith) in omega arith)) in
       let b = no-end k (λ z. let y = H .mark .1 in omega arith) in
       let l = no-end (suc k + length D + length T) (λ z. let y = H .last .1 in omega arith) in
       ap (λ m. eqb m 0) (let z : weigh W i (A ++ G ++ code-body (body ds q)) ≡ weigh W (suc k + length D) T = omega arith in z) ∙ wide-tree (u + 1) q (suc k + length D) (H .statements)
@@ -278,7 +278,7 @@ module _ (cs vs hs : List ℕ) where
         ap (λ n. eqb n 0) (let z : weigh W i (code-part (mtypes ws)) ≡ 0 = omega arith in z)
     wide-part (global d) i S =
         ap (λ n. eqb n 0) (still cs vs hs W InDeclaration (code-part (global d)) 0 i (global-codes d) (global-stood cs vs hs homed i d (S .lain) (S .free) .0)
-        (λ j y. no-end j (λ z. let x = y .3 (omega arith) in omega arith)))
+        (λ j y. no-end j (λ z. let x = y .2 (omega arith) in omega arith)))
     wide-part (process x w gs (body ds q)) i S =
         wide-unit (code-activity x w) gs ds q i (headAt x i) (head-last x w i) (process-housed cs vs hs homed i x w gs ds q (S .lain)) (activity-none x w i (process-activity cs vs hs homed x w gs (body ds q) i S))
     wide-part (init (body ds q)) i S =
