@@ -108,7 +108,7 @@ module _ (t : List ℕ) (ps : List Placed) (e : reading t ≡ tokens ps) where
     number-says : symbol-of v ≡ 71 → Right ps (symbol-of v) (place-of v) → decimal (spelled t ss es (place-of v)) ≡ entryOf (read (tokensIn t ps) v) .value
     number-says h r = let (l, q, i) = holds 71 (omega arith) h r in ap decimal (spelling (place-of v) l) ∙ inv (ap (λ (z : Item). entryOf z .value) i)
 
-    text-says : symbol-of v ≡ 72 → Right ps (symbol-of v) (place-of v) → spelled t ss es (place-of v) ≡ quote ∷ (entryOf (read (tokensIn t ps) v) .bytes ++ quote ∷ [])
+    pub text-says : symbol-of v ≡ 72 → Right ps (symbol-of v) (place-of v) → spelled t (map Placed.start ps) (map Placed.end ps) (place-of v) ≡ quote ∷ (entryOf (read (tokensIn t ps) v) .bytes ++ quote ∷ [])
     text-says h r =
         let (l, q, i) = holds 72 (omega arith) h r in
         spelling (place-of v) l ∙ inv (text-spells (tokens-spelled t ps e (place-of v) l) q) ∙ inv (ap (λ (z : Item). quote ∷ (entryOf z .bytes ++ quote ∷ [])) i)

@@ -1,0 +1,12 @@
+pub mod Says
+pub mod Codes
+pub mod Standing
+pub mod Bodies
+pub mod Counts
+pub mod Parts
+pub mod Made
+pub mod Numbers
+pub mod Heavy
+pub mod Widths
+pub mod Modest
+pub mod Whole

@@ -1,0 +1,88 @@
+-- A TEXT IS ACCEPTED EXACTLY WHEN ITS TREE IS LAWFUL AND MODEST, from what the rules say of every tree: both directions.
+use Prim.Native.Nat.{ℕ}
+use native.Mathlib.Omega.{arith}
+use mathlib.Core.Path.{_≡_, refl, sym as inv, ap, _∙_}
+use mathlib.Core.Bool.{Bool, true, false, not}
+use mathlib.Core.List.{List, map}
+use Rattle.base.proofs.Tests.{true-false}
+use Rattle.tokens.specs.Kinds.{Token}
+use Rattle.syntax.specs.Tree.{Model}
+use Rattle.syntax.specs.Grammar.{Gram}
+use Rattle.spacing.specs.Writing.{tokensIn}
+use Rattle.machine.specs.Machine.{place-of}
+use Rattle.machine.specs.Answer.{parsed}
+use Rattle.machine.proofs.Main.{accepts}
+use Rattle.faults.specs.Faults.{checked}
+use Rattle.faults.specs.declared.Fault.the-variants.{None}
+use Rattle.judging.specs.declared.Judged.the-variants.{Accepted}
+use Rattle.judging.specs.Judging.{judgeOf}
+use Rattle.accepting.specs.Meaning.{Accepts}
+use Rattle.accepting.proofs.Main.{kinds-are, all-proper, short, accepted-means, means-accepted}
+use Rattle.lawful.specs.Units.{modelLawful}
+use Rattle.lawful.specs.Ceilings as ceilings
+use Rattle.lawful.specs.Says.{Says}
+use Rattle.saying.specs.Parses.{Parses, codesOf, saidOf}
+use Rattle.saying.specs.Legal.{Legal}
+use Rattle.saying.proofs.Says.{text-says}
+use Rattle.saying.proofs.Modest.{passed-modest}
+
+denied : (b : Bool) → not b ≡ false → b ≡ true
+denied true e = refl
+denied false e = absurd (true-false e)
+
+-- the first half of what acceptance means
+pub accepted-parses : (t : List ℕ) → Accepts t → Parses t
+accepted-parses t a = record { parts = a .parts; reads = a .reads; tree = a .tree; gram = a .gram; numbers = a .numbers; written = a .written; coded = a .coded }
+
+-- a text with a tree that is not too deep has its items
+pub legal-parses : (t : List ℕ) → Legal t → Parses t
+legal-parses t l =
+    let ts = tokensIn t (l .parts) in
+    let (o, h, c) = accepts ts (all-proper t (l .parts)) (short t (l .parts) (l .reads)) 8192 (omega arith) (l .tree) (l .gram) (l .shallow) in
+    record {
+      parts = l .parts;
+      reads = l .reads;
+      tree = l .tree;
+      gram = l .gram;
+      numbers = o;
+      written = ap (λ (ks : List ℕ). parsed ks 8192) (inv (kinds-are t (l .parts))) ∙ h;
+      coded = c;
+    }
+
+-- what the rules say of every tree
+module _ (rules : (m : Model) (ts : List Token) → Gram ts m → (cs vs toks : List ℕ) → Says m cs vs
+    → (checked cs vs toks ≡ None → modelLawful m ≡ true) × (modelLawful m ≡ true → checked cs vs toks ≡ None)) where
+  pub accepted-lawful : (t : List ℕ) → judgeOf t ≡ Accepted → Legal t
+  unfolding accepted-parses
+  accepted-lawful t q =
+      let a = accepted-means t q in
+      let p = accepted-parses t a in
+      let s = text-says t p in
+      record {
+        parts = a .parts;
+        reads = a .reads;
+        tree = a .tree;
+        gram = a .gram;
+        shallow = a .shallow;
+        lawful = rules (a .tree) (tokensIn t (a .parts)) (a .gram) (codesOf t p) (saidOf t p) (map place-of (a .numbers)) s .0 (a .faultless);
+        modest = denied (ceilings.modest (a .tree)) (inv (passed-modest (a .tree) (codesOf t p) (saidOf t p) s) ∙ a .within);
+      }
+
+  pub lawful-accepted : (t : List ℕ) → Legal t → judgeOf t ≡ Accepted
+  unfolding legal-parses
+  lawful-accepted t l =
+      let p = legal-parses t l in
+      let s = text-says t p in
+      means-accepted t
+      record {
+        parts = p .parts;
+        reads = p .reads;
+        tree = p .tree;
+        gram = p .gram;
+        shallow = l .shallow;
+        numbers = p .numbers;
+        written = p .written;
+        coded = p .coded;
+        faultless = rules (p .tree) (tokensIn t (p .parts)) (p .gram) (codesOf t p) (saidOf t p) (map place-of (p .numbers)) s .1 (l .lawful);
+        within = passed-modest (p .tree) (codesOf t p) (saidOf t p) s ∙ ap not (l .modest);
+      }
