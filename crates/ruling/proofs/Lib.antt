@@ -1,0 +1,4 @@
+pub mod Tests
+pub mod Stands
+pub mod Uses
+pub mod Phrases
