@@ -2,3 +2,4 @@ pub mod Tests
 pub mod Stands
 pub mod Uses
 pub mod Phrases
+pub mod Arguments
