@@ -3,3 +3,5 @@ pub mod Stands
 pub mod Uses
 pub mod Phrases
 pub mod Arguments
+pub mod Walks
+pub mod Passing
