@@ -5,3 +5,4 @@ pub mod Phrases
 pub mod Arguments
 pub mod Walks
 pub mod Passing
+pub mod Statements
