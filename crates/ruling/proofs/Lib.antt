@@ -6,3 +6,4 @@ pub mod Arguments
 pub mod Walks
 pub mod Passing
 pub mod Statements
+pub mod Labels

@@ -62,7 +62,7 @@ either-group : (a b c : Bool) → either (either a b) c ≡ either a (either b c
 either-group true b c = refl
 either-group false b c = refl
 
-has-append : (l k : List Name) (w : Name) → has (l ++ k) w ≡ either (has l w) (has k w)
+pub has-append : (l k : List Name) (w : Name) → has (l ++ k) w ≡ either (has l w) (has k w)
 has-append [] k w = refl
 has-append (v ∷ l) k w = ap (either (same v w)) (has-append l k w) ∙ sym (either-group (same v w) (has l w) (has k w))
 either-none : (a : Bool) → either a false ≡ a
@@ -115,16 +115,16 @@ module _ (S : Scene) where
   unfolding declares
   no-label x i e = rw e refl
 
-  one-no : (set i : ℕ) → among set (getD (S .cs) i 0) ≡ false → before set (suc i) ≡ before set i
+  pub one-no : (set i : ℕ) → among set (getD (S .cs) i 0) ≡ false → before set (suc i) ≡ before set i
   one-no set i e = let a = count-next (S .cs) (homes S) set (S .h) i in let b = none-there set i e in omega arith
 
-  one-yes : (set i : ℕ) → among set (getD (S .cs) i 0) ≡ true → getD (homes S) i 0 ≡ S .h → before set (suc i) ≡ before set i + 1
+  pub one-yes : (set i : ℕ) → among set (getD (S .cs) i 0) ≡ true → getD (homes S) i 0 ≡ S .h → before set (suc i) ≡ before set i + 1
   one-yes set i e g = let a = count-next (S .cs) (homes S) set (S .h) i in let b = one-there set i e g in omega arith
 
   pub label-no : (x i : ℕ) → among 2 (getD (S .cs) i 0) ≡ false → label x (suc i) ≡ label x i
   label-no x i e = any-next (declares (S .cs) (S .vs) (homes S) 2 (getD (S .vs) x 0) (S .h)) i ∙ ap (either (label x i)) (no-label x i e) ∙ either-none (label x i)
 
-  pass-dull : (x : Item) (l : List Item) (i : ℕ) → Stands S i (x ∷ l) → dull (codeOf x) ≡ true → Passing i (suc i) [] 1
+  pub pass-dull : (x : Item) (l : List Item) (i : ℕ) → Stands S i (x ∷ l) → dull (codeOf x) ≡ true → Passing i (suc i) [] 1
   pass-dull x l i s d =
       let c = codeOf x in
       let it = code-at S x l i s in
