@@ -9,7 +9,7 @@ use Rattle.base.proofs.Tests.{true-false}
 use Rattle.sheets.specs.Payload.{pid}
 use Rattle.syntax.specs.Tree.{Name}
 use Rattle.lawful.specs.Statements.{has, apart}
-use Rattle.ruling.proofs.Tests.{both-group, same-tests}
+use Rattle.ruling.proofs.Tests.{both-group, both-last, same-tests}
 use Rattle.ruling.proofs.Passing.{has-append}
 
 -- the labels are no `_pid`, and none is of those before, nor of those before it
@@ -77,10 +77,6 @@ none-nothing : (l : List Name) → none [] l ≡ true
 unfolding none
 none-nothing [] = refl
 none-nothing (w ∷ l) = none-nothing l
-
-both-last : (a : Bool) → both a true ≡ a
-both-last true = refl
-both-last false = refl
 
 pub fresh-apart : (l : List Name) → fresh [] l ≡ apart l
 fresh-apart l = fresh-behind [] l ∙ ap (both (apart l)) (none-nothing l) ∙ both-last (apart l)

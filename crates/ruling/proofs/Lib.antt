@@ -7,3 +7,4 @@ pub mod Walks
 pub mod Passing
 pub mod Statements
 pub mod Labels
+pub mod Around
