@@ -8,3 +8,4 @@ pub mod Passing
 pub mod Statements
 pub mod Labels
 pub mod Around
+pub mod Trees
