@@ -9,3 +9,4 @@ pub mod Statements
 pub mod Labels
 pub mod Around
 pub mod Trees
+pub mod Main
