@@ -1,14 +1,14 @@
 -- LISTS OF ARGUMENTS have no fault exactly where each argument is lawful, and the item that ends them where there are as many as what began them asks for.
-use Prim.Native.Nat.{ℕ, zero, suc, _+_, _-_, _≤_, _<_}
+use Prim.Native.Nat.{ℕ, suc, _+_, _-_, _<_}
 use native.Mathlib.Omega.{arith}
 use native.Mathlib.Decide.{decLt}
-use mathlib.Core.Path.{_≡_, refl, sym, ap, ap₂, subst, _∙_}
+use mathlib.Core.Path.{_≡_, refl, sym, ap, ap₂, _∙_}
 use mathlib.Core.Bool.{Bool, true, false}
-use mathlib.Core.List.{List, [], _∷_, _++_, append-assoc}
-use lib.ListN.{length, getD, length-append}
-use lib.Dec.{eqb, ltb, leb}
+use mathlib.Core.List.{List, [], _∷_, _++_}
+use lib.ListN.{length, getD}
+use lib.Dec.{eqb}
 use borrow.Author.Tests.{ne-eqb, eq-eqb, lt-leb}
-use Rattle.base.specs.Choice.{pick, both, either}
+use Rattle.base.specs.Choice.{pick, both}
 use Rattle.base.proofs.Tests.{true-false}
 use Rattle.sheets.specs.Walks.{after, sum}
 use Rattle.finding.specs.Sets.{among}
@@ -16,12 +16,12 @@ use Rattle.finding.specs.Search.{last, opener, one, count}
 use Rattle.rules.specs.Rules.{ruleOf, roleOf, badHeight, badCount, badEnd, badBy}
 use Rattle.phrases.specs.Phrases.{inExpression}
 use Rattle.phrases.proofs.Inside.{all-inside, phrase-inside, mark-outside, text-outside}
-use Rattle.syntax.specs.Tree.{Shape, expression, Exp, Expr, Received, into, equal, exactly, exactly-true, exactly-false}
+use Rattle.syntax.specs.Tree.{Shape, Exp, Expr, Received, into, equal, exactly, exactly-true, exactly-false}
 use Rattle.syntax.specs.Code.{Item, i-number, i-true, i-false, i-argument, i-into, i-equal, i-constant, i-end, each, code-exp, code-argument, code-received}
 use Rattle.entries.specs.Items.{codeOf}
 use Rattle.lawful.specs.Expressions.{operand, received, whole}
 use Rattle.lawful.specs.Statements.{all, sense, receives}
-use Rattle.ruling.specs.Scene.{Scene, xs, homes, starts, heights, fine, clean, Stands}
+use Rattle.ruling.specs.Scene.{Scene, homes, starts, heights, clean, Stands}
 use Rattle.ruling.proofs.Tests.{both-last}
 use Rattle.ruling.proofs.Stands.{front, back, next, code-at, proper, home, clean-append, clean-one, clean-none, fine-by, fine-free}
 use Rattle.ruling.proofs.Phrases.{marked-fault, rules-none}
@@ -86,8 +86,10 @@ mark-roles = (refl, refl, refl)
 
 marked-one : {s : Shape} (e : Exp s) (x : Item) → all-inside (code-exp e) → among 4 (codeOf x) ≡ false → among 5 (codeOf x) ≡ true → Unopened (code-exp e ++ x ∷ []) × (marks (code-exp e ++ x ∷ []) ≡ 1)
 unfolding marks
-marked-one e x p a b = (unopened-append (code-exp e) (x ∷ []) (parts-unopened (code-exp e) p) (a, tt),
-    marks-append (code-exp e) (x ∷ []) ∙ ap₂ _+_ (parts-unmarked (code-exp e) p) (ap (λ (t : Bool). pick t 1 0 + 0) b))
+marked-one e x p a b = (
+  unopened-append (code-exp e) (x ∷ []) (parts-unopened (code-exp e) p) (a, tt),
+  marks-append (code-exp e) (x ∷ []) ∙ ap₂ _+_ (parts-unmarked (code-exp e) p) (ap (λ (t : Bool). pick t 1 0 + 0) b),
+)
 
 marked-two : (y x : Item) → among 4 (codeOf y) ≡ false → among 5 (codeOf y) ≡ false → among 4 (codeOf x) ≡ false → among 5 (codeOf x) ≡ true → Unopened (y ∷ x ∷ []) × (marks (y ∷ x ∷ []) ≡ 1)
 unfolding marks

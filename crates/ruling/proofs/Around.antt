@@ -1,10 +1,9 @@
 -- What stands around a statement: the labels before it, the loops that it is in, whether it begins an option, and whether an earlier option of the selection begins with `else`.
-use Prim.Native.Nat.{ℕ, zero, suc, _+_, _-_, _≤_, _<_}
+use Prim.Native.Nat.{ℕ, suc, _+_, _-_, _≤_, _<_}
 use native.Mathlib.Omega.{arith}
-use mathlib.Core.Path.{_≡_, refl, sym, ap, ap₂, subst, _∙_}
+use mathlib.Core.Path.{_≡_, refl, sym, ap, ap₂, _∙_}
 use mathlib.Core.Bool.{Bool, true, false, not}
-use mathlib.Core.Logic.{_⊎_, inl, inr}
-use mathlib.Core.List.{List, [], _∷_, _++_, append-assoc}
+use mathlib.Core.List.{List, [], _∷_, _++_}
 use lib.ListN.{length, getD, length-append}
 use lib.Dec.{eqb, ltb, leb}
 use borrow.Author.Tests.{lt-ltb, le-ltb, ltb-true, ltb-false, le-leb, lt-leb, leb-true, leb-false, ne-eqb, eqb-true, eqb-false}
@@ -12,15 +11,15 @@ use Rattle.base.specs.Choice.{pick, both, either}
 use Rattle.base.specs.Lists.{same}
 use Rattle.sheets.specs.Payload.{pid}
 use Rattle.finding.specs.Sets.{among}
-use Rattle.finding.specs.Search.{declares, find}
+use Rattle.finding.specs.Search.{find}
 use Rattle.rules.specs.Rules.{twin, badTwice, badGoto, badBreak, badElse, badBy, ruleOf}
 use Rattle.phrases.proofs.Starts.{some-items}
 use Rattle.phrases.proofs.Inside.{all-inside, phrase-inside}
-use Rattle.syntax.specs.Tree.{Name, Shape, Exp, Sort, action, statement, sequence, options, Tree, express, assign, increment, decrement, send, receive, assert, print, skip, goto, break, timeout, else, run, set-run, select, loop, bare, labelled, end, then, over, option}
+use Rattle.syntax.specs.Tree.{Name, Shape, Exp, Sort, action, statement, sequence, options, Tree, express, assign, increment, decrement, send, receive, assert, print, skip, goto, break, timeout, else, run, set-run, select, loop, bare, labelled, end, then}
 use Rattle.syntax.specs.Code.{Item, i-name, i-text, i-end, i-label, i-express, i-target, i-assign, i-increment, i-decrement, i-send, i-receive, i-assert, i-skip, i-goto, i-break, i-timeout, i-else, i-run, i-set-run, i-if, i-fi, i-do, i-od, i-option, i-end-option, each, code-exp, code-argument, code-received, code-tree}
 use Rattle.entries.specs.Items.{codeOf}
-use Rattle.lawful.specs.Statements.{has, isElse, labelsOf}
-use Rattle.lawful.specs.Says.{Says, itemAt}
+use Rattle.lawful.specs.Statements.{has, isElse}
+use Rattle.lawful.specs.Says.{itemAt}
 use Rattle.ruling.specs.Scene.{Scene, xs, homes, starts, heights, fine, clean, Stands}
 use Rattle.ruling.proofs.Tests.{both-last}
 use Rattle.ruling.proofs.Stands.{front, back, next, inside, code-at, proper, home, clean-one, clean-none, fine-by, fine-free}
@@ -28,7 +27,7 @@ use Rattle.ruling.proofs.Uses.{pid-told}
 use Rattle.ruling.proofs.Phrases.{rules-none}
 use Rattle.ruling.proofs.Arguments.{inner-code}
 use Rattle.ruling.proofs.Walks.{find-any, twin-option}
-use Rattle.ruling.proofs.Passing.{codes-sets, has-append, least, before, label, Passing, one-no, one-yes, label-no, pass-dull, passing}
+use Rattle.ruling.proofs.Passing.{codes-sets, has-append, before, label, Passing, one-no, one-yes, label-no, pass-dull, passing}
 
 -- ---- how many options may begin with `else`: none behind one that does
 abbrev pub quota : Bool → Bool → ℕ → Bool
@@ -123,7 +122,7 @@ module _ (S : Scene) where
       record {
         depth = p .depth;
         opened =
-          let a = one-no S 7 i (ap (among 7) it ∙ codes-sets (codeOf x) .1 ∙ e) in let b = one-no S 8 i (ap (among 8) it ∙ codes-sets (codeOf x) .2 ∙ f) in let c = p .opened in omega arith;
+            let a = one-no S 7 i (ap (among 7) it ∙ codes-sets (codeOf x) .1 ∙ e) in let b = one-no S 8 i (ap (among 8) it ∙ codes-sets (codeOf x) .2 ∙ f) in let c = p .opened in omega arith;
         told = p .told;
       }
 

@@ -1,10 +1,10 @@
 -- THE STATEMENTS OF A BODY: none of their items has a fault exactly where the labels are apart and the statements allowed.
-use Prim.Native.Nat.{ℕ, zero, suc, _+_, _-_, _≤_, _<_}
+use Prim.Native.Nat.{ℕ, suc, _+_, _-_, _≤_, _<_}
 use native.Mathlib.Omega.{arith}
 use native.Mathlib.Decide.{ℕ-discrete}
 use mathlib.Core.Path.{_≡_, refl, sym, ap, ap₂, subst, _∙_}
 use mathlib.Core.Bool.{Bool, true, false}
-use mathlib.Core.List.{List, [], _∷_, _++_, map, append-assoc}
+use mathlib.Core.List.{List, [], _∷_, _++_, append-assoc}
 use lib.ListN.{length, getD, length-append, length-map}
 use lib.Seq.{getD-append-seam}
 use lib.Dec.{eqb, ltb}
@@ -16,7 +16,7 @@ use Rattle.sheets.specs.Payload.{pid}
 use Rattle.sheets.specs.Homes.{homesOf}
 use Rattle.sheets.specs.Spans.{startsOf, heightsOf}
 use Rattle.finding.specs.Sets.{among}
-use Rattle.finding.specs.Search.{declares, find, one, count}
+use Rattle.finding.specs.Search.{declares, find, one}
 use Rattle.rules.specs.Rules.{bad}
 use Rattle.faults.specs.Faults.{blank}
 use Rattle.syntax.specs.Tree.{Name, sequence, Tree, Model}
@@ -28,10 +28,9 @@ use Rattle.lawful.specs.Statements.{Place, has, labelsOf, apart, allowed}
 use Rattle.lawful.specs.Says.{Says, itemAt}
 use Rattle.lawful.specs.Setting.{Setting}
 use Rattle.ruling.specs.Scene.{Scene, xs, homes, fine, clean, Items, Stands}
-use Rattle.ruling.proofs.Stands.{as-many}
 use Rattle.ruling.proofs.Uses.{pid-told}
 use Rattle.ruling.proofs.Walks.{any, any-zero, any-none, find-any, find-pid, count-none}
-use Rattle.ruling.proofs.Passing.{codes-sets, before, label, Passing, passing}
+use Rattle.ruling.proofs.Passing.{codes-sets, before, label, passing}
 use Rattle.ruling.proofs.Labels.{fresh-apart, plain, plain-apart, has-plain, plain-pid}
 use Rattle.ruling.proofs.Around.{Prior, Deep, Goes}
 use Rattle.ruling.proofs.Trees.{tree-fault}
@@ -147,19 +146,19 @@ module _ (m : Model) (cs vs : List ℕ) (says : Says m cs vs) (q : Tree sequence
         from = from;
         to = to;
         within =
-          let a = lies .place in let b = ap length (lies .split) in let c = length-append (lies .front) (code-tree q ++ lies .rest) in let d = length-append (code-tree q) (lies .rest) in
-          let e = ap length (says .codes) ∙ length-map (code m) codeOf in omega arith;
+            let a = lies .place in let b = ap length (lies .split) in let c = length-append (lies .front) (code-tree q ++ lies .rest) in let d = length-append (code-tree q) (lies .rest) in
+            let e = ap length (says .codes) ∙ length-map (code m) codeOf in omega arith;
         at = withLabels at (plain (labelsOf q));
         setting =
-          record {
-            home = setting .home;
-            string-inside = setting .string-inside;
-            mark-inside = setting .mark-inside;
-            finds = setting .finds;
-            hidden = setting .hidden;
-            runs = setting .runs;
-            pidless = setting .pidless;
-          };
+            record {
+              home = setting .home;
+              string-inside = setting .string-inside;
+              mark-inside = setting .mark-inside;
+              finds = setting .finds;
+              hidden = setting .hidden;
+              runs = setting .runs;
+              pidless = setting .pidless;
+            };
       }
 
   stands : Stands scene from (code-tree q)

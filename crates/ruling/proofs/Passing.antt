@@ -1,5 +1,5 @@
 -- WHAT A TREE CHANGES for what stands behind it: its labels are there; it closes each loop that it opens, and each selection.
-use Prim.Native.Nat.{ℕ, zero, suc, _+_, _-_, _≤_, _<_}
+use Prim.Native.Nat.{ℕ, suc, _+_, _-_, _≤_, _<_}
 use native.Mathlib.Omega.{arith}
 use mathlib.Core.Path.{_≡_, refl, sym, ap, ap₂, subst, _∙_}
 use mathlib.Core.Bool.{Bool, true, false}
@@ -15,12 +15,12 @@ use Rattle.finding.specs.Search.{declares, one, count}
 use Rattle.rules.specs.Rules.{twin}
 use Rattle.phrases.proofs.Inside.{all-inside, phrase-inside}
 use Rattle.syntax.specs.Tree.{Name, Shape, Exp, Expr, Received, into, equal, exactly, exactly-true, exactly-false, Sort, action, statement, sequence, options, Tree, express, assign, increment, decrement, send, receive, assert, print, skip, goto, break, timeout, else, run, set-run, select, loop, bare, labelled, end, then, over, option}
-use Rattle.syntax.specs.Code.{Item, i-name, i-text, i-number, i-true, i-false, i-argument, i-into, i-equal, i-constant, i-end, i-label, i-express, i-target, i-assign, i-increment, i-decrement, i-send, i-receive, i-assert, i-skip, i-goto, i-break, i-timeout, i-else, i-run, i-set-run, i-if, i-fi, i-do, i-od, i-option, i-end-option, each, code-exp, code-argument, code-received, code-tree}
+use Rattle.syntax.specs.Code.{Item, i-name, i-text, i-argument, i-into, i-equal, i-end, i-label, i-express, i-target, i-assign, i-increment, i-decrement, i-send, i-receive, i-assert, i-skip, i-goto, i-break, i-timeout, i-else, i-run, i-set-run, i-if, i-fi, i-do, i-od, i-option, i-end-option, each, code-exp, code-argument, code-received, code-tree}
 use Rattle.entries.specs.Items.{codeOf}
 use Rattle.lawful.specs.Statements.{has, labelsOf}
-use Rattle.lawful.specs.Says.{Says, itemAt}
+use Rattle.lawful.specs.Says.{itemAt}
 use Rattle.ruling.specs.Scene.{Scene, xs, homes, Stands}
-use Rattle.ruling.proofs.Stands.{front, back, next, inside, code-at, proper, home}
+use Rattle.ruling.proofs.Stands.{front, back, next, code-at, proper, home}
 use Rattle.ruling.proofs.Arguments.{inner-code}
 use Rattle.ruling.proofs.Walks.{any, any-next, count-next, twin-over, twin-in, twin-out, twin-deep}
 
@@ -65,6 +65,7 @@ either-group false b c = refl
 pub has-append : (l k : List Name) (w : Name) → has (l ++ k) w ≡ either (has l w) (has k w)
 has-append [] k w = refl
 has-append (v ∷ l) k w = ap (either (same v w)) (has-append l k w) ∙ sym (either-group (same v w) (has l w) (has k w))
+
 either-none : (a : Bool) → either a false ≡ a
 either-none true = refl
 either-none false = refl
@@ -90,7 +91,7 @@ module _ (S : Scene) where
         walk = λ d h. q .walk d h ∙ p .walk d h;
         even = let a = p .even in let b = q .even in omega arith;
         labels = λ x w h e.
-          q .labels x w h e ∙ ap (λ (b : Bool). either b (has ms w)) (p .labels x w h e) ∙ either-group (label x i) (has ls w) (has ms w) ∙ ap (either (label x i)) (sym (has-append ls ms w));
+            q .labels x w h e ∙ ap (λ (b : Bool). either b (has ms w)) (p .labels x w h e) ∙ either-group (label x i) (has ls w) (has ms w) ∙ ap (either (label x i)) (sym (has-append ls ms w));
       }
 
   pub pass-deeper : (i j : ℕ) (ls : List Name) → Passing i j ls 1 → Passing i j ls 2
@@ -187,10 +188,10 @@ module _ (S : Scene) where
       let cy = codeOf y in
       record {
         walk = λ d h.
-          twin-in (S .cs) j d cy is h c (f .1) ∙ p .walk (d + 1) (omega arith) ∙ twin-out (S .cs) i (d + 1) cx it (omega arith) b a (f .0) ∙ ap (twin (S .cs) i) (let z : d + 1 - 1 ≡ d = omega arith in z);
+            twin-in (S .cs) j d cy is h c (f .1) ∙ p .walk (d + 1) (omega arith) ∙ twin-out (S .cs) i (d + 1) cx it (omega arith) b a (f .0) ∙ ap (twin (S .cs) i) (let z : d + 1 - 1 ≡ d = omega arith in z);
         even = both-even it is (home S x (o ++ y ∷ []) i s) (home S y [] j ty) (eqb cy 207) refl;
         labels = λ z w h e.
-          label-no z j (ap (among 2) is ∙ codes-sets cy .0 ∙ f .3) ∙ p .labels z w h e ∙ ap (λ (t : Bool). either t (has ls w)) (label-no z i (ap (among 2) it ∙ codes-sets cx .0 ∙ f .2));
+            label-no z j (ap (among 2) is ∙ codes-sets cy .0 ∙ f .3) ∙ p .labels z w h e ∙ ap (λ (t : Bool). either t (has ls w)) (label-no z i (ap (among 2) it ∙ codes-sets cx .0 ∙ f .2));
       }
     where
       both-even : getD (S .cs) i 0 ≡ codeOf x → getD (S .cs) j 0 ≡ codeOf y → getD (homes S) i 0 ≡ S .h → getD (homes S) j 0 ≡ S .h → (t : Bool) → eqb (codeOf y) 207 ≡ t
@@ -221,9 +222,9 @@ module _ (S : Scene) where
         walk = λ d h. twin-over (S .cs) (suc i) d 188 it h refl refl refl;
         even = let a = one-no 7 (suc i) (ap (among 7) it ∙ codes-sets 188 .1) in let b = one-no 8 (suc i) (ap (among 8) it ∙ codes-sets 188 .2) in omega arith;
         labels = λ x v h e.
-          any-next (declares (S .cs) (S .vs) (homes S) 2 (getD (S .vs) x 0) (S .h)) (suc i)
-          ∙ ap (either (label x (suc i)))
-          (declared x v it (home S i-label l (suc i) n) (S .says .names i x w v (let a = s .high in let b = S .within in omega arith) h (s .items .0) e) ∙ sym (either-none (same w v)));
+            any-next (declares (S .cs) (S .vs) (homes S) 2 (getD (S .vs) x 0) (S .h)) (suc i)
+            ∙ ap (either (label x (suc i)))
+            (declared x v it (home S i-label l (suc i) n) (S .says .names i x w v (let a = s .high in let b = S .within in omega arith) h (s .items .0) e) ∙ sym (either-none (same w v)));
       }
     where
       declared : (x : ℕ) (v : Name) → getD (S .cs) (suc i) 0 ≡ 188 → getD (homes S) (suc i) 0 ≡ S .h → eqb (getD (S .vs) i 0) (getD (S .vs) x 0) ≡ same w v

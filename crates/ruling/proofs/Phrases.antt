@@ -1,28 +1,25 @@
 -- EXPRESSIONS have no fault exactly where their names are usable, and with the mark behind them where they are lawful.
-use Prim.Native.Nat.{ℕ, zero, suc, _+_, _-_, _≤_, _<_, min}
+use Prim.Native.Nat.{ℕ, suc, _+_, _-_, _≤_, min}
 use native.Mathlib.Omega.{arith}
 use mathlib.Core.Path.{_≡_, refl, sym, ap, ap₂, subst, _∙_}
-use mathlib.Core.Bool.{Bool, true, false, not}
-use mathlib.Core.Logic.{_⊎_, inl, inr}
+use mathlib.Core.Bool.{Bool, true, false}
 use mathlib.Core.List.{List, [], _∷_, _++_, append-nil}
 use lib.ListN.{length, getD, length-append, length-replicate}
 use lib.Dec.{eqb, ltb, leb}
-use borrow.Author.Tests.{lt-ltb, le-ltb, le-leb, lt-leb, leb-true, leb-false, ne-eqb}
-use Rattle.base.specs.Choice.{pick, both, either}
-use Rattle.sheets.specs.Spans.{startsOf, heightsOf}
+use borrow.Author.Tests.{lt-ltb, le-ltb, lt-leb, leb-true, leb-false, ne-eqb}
+use Rattle.base.specs.Choice.{pick, both}
 use Rattle.faults.specs.Faults.{blank}
 use Rattle.rules.specs.Rules.{roleOf, ruleOf, badHeight, badBy}
-use Rattle.phrases.specs.Phrases.{height, Proper, At}
+use Rattle.phrases.specs.Phrases.{height}
 use Rattle.phrases.proofs.Starts.{phrase-starts}
-use Rattle.phrases.proofs.Starts.{some-items}
 use Rattle.phrases.proofs.Heights.{phrase-heights}
-use Rattle.syntax.specs.Tree.{Name, Shape, expression, reference, Exp, plain, indexed, num, tru, fls, get, len, unary, binary, choice, Expr}
+use Rattle.syntax.specs.Tree.{Shape, expression, reference, Exp, plain, indexed, num, tru, fls, get, len, unary, binary, choice}
 use Rattle.syntax.specs.Grammar.{Is-unary, is-minus, is-not, is-flip}
 use Rattle.syntax.specs.Code.{Item, i-name, i-number, i-plain, i-index, i-true, i-false, i-len, i-otherwise, i-choice, i-unary, i-binary, code-exp}
 use Rattle.entries.specs.Items.{codeOf}
-use Rattle.lawful.specs.Expressions.{Role, operand, channel, target, received, usable, named, lawful, whole}
+use Rattle.lawful.specs.Expressions.{Role, operand, channel, usable, named, lawful}
 use Rattle.lawful.specs.Statements.{sense}
-use Rattle.ruling.specs.Scene.{Scene, xs, homes, starts, heights, fine, clean, Stands}
+use Rattle.ruling.specs.Scene.{Scene, homes, starts, heights, fine, clean, Stands}
 use Rattle.ruling.proofs.Tests.{both-turn, both-group, both-last}
 use Rattle.ruling.proofs.Stands.{front, back, next, inside, code-at, codes-at, proper, home, clean-append, clean-one, clean-none, fine-by, fine-free}
 use Rattle.ruling.proofs.Uses.{number, reference-fault}

@@ -1,8 +1,8 @@
 -- Items of a scene's statements: parts of them, their codes, and that they are known ones.
-use Prim.Native.Nat.{ℕ, zero, suc, _+_, _≤_, _<_}
+use Prim.Native.Nat.{ℕ, zero, suc, _+_, _<_}
 use native.Mathlib.Omega.{arith}
 use mathlib.Core.Path.{_≡_, refl, sym, ap, subst, _∙_}
-use mathlib.Core.Bool.{Bool, true, false}
+use mathlib.Core.Bool.{true}
 use mathlib.Core.List.{List, [], _∷_, _++_, map}
 use lib.ListN.{length, getD, length-map, length-append}
 use lib.Dec.{eqb}
@@ -13,7 +13,7 @@ use Rattle.syntax.specs.Tree.{Shape, Exp}
 use Rattle.syntax.specs.Code.{Item, i-plain, code-exp}
 use Rattle.entries.specs.Items.{codeOf, Known, AllKnown}
 use Rattle.expressions.proofs.Operators.{known-proper}
-use Rattle.lawful.specs.Says.{Says, itemAt}
+use Rattle.lawful.specs.Says.{itemAt}
 use Rattle.ruling.specs.Scene.{Scene, xs, homes, starts, heights, fine, clean, Items, Stands}
 use Rattle.ruling.proofs.Tests.{both-group}
 

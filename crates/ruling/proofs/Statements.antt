@@ -1,5 +1,5 @@
 -- STATEMENTS WITHOUT OTHERS INSIDE have no fault exactly where they are allowed: all but `goto`, `break` and `else`, which are judged by what stands around them.
-use Prim.Native.Nat.{ℕ, zero, suc, _+_, _-_, _/_, _%_, _≤_, _<_}
+use Prim.Native.Nat.{ℕ, suc, _+_, _-_, _/_, _%_, _<_}
 use native.Mathlib.Omega.{arith}
 use native.Mathlib.Nat.{mod-lt}
 use mathlib.Core.Path.{_≡_, refl, sym, ap, ap₂, subst, _∙_}
@@ -8,24 +8,23 @@ use mathlib.Core.Logic.{_⊎_, inl, inr}
 use mathlib.Core.List.{List, [], _∷_, _++_, append-assoc}
 use lib.ListN.{length, getD, length-append, List·getD-eq-default}
 use lib.Dec.{eqb, ltb, leb}
-use borrow.Author.Tests.{lt-ltb, le-ltb, leb-true, leb-false, eqb-true, eqb-false, eq-eqb, ne-eqb}
-use Rattle.base.specs.Choice.{pick, both, either}
+use borrow.Author.Tests.{lt-ltb, le-ltb, leb-true, leb-false, eqb-true, eqb-false, eq-eqb}
+use Rattle.base.specs.Choice.{pick, both}
 use Rattle.base.specs.Lists.{same}
 use Rattle.base.proofs.Lists.{same-eq}
 use Rattle.sheets.specs.Payload.{pid, formatOf}
 use Rattle.finding.specs.Sets.{among}
 use Rattle.finding.specs.Search.{find, count}
 use Rattle.rules.specs.Rules.{roleOf, ruleOf, badFormat, badCount, badPassing, badRun, badBy, globalOf, bodyOf}
-use Rattle.syntax.specs.Tree.{Name, Expr, Ref, Received, action, Tree, express, assign, increment, decrement, send, receive, assert, print, run, set-run}
+use Rattle.syntax.specs.Tree.{Name, Expr, Ref, Received, express, assign, increment, decrement, send, receive, assert, print, run, set-run}
 use Rattle.syntax.specs.Code.{Item, i-name, i-text, i-end, i-express, i-target, i-assign, i-increment, i-decrement, i-send, i-receive, i-assert, i-run, i-set-run, each, code-exp, code-argument, code-received, code-tree}
 use Rattle.entries.specs.Items.{codeOf}
 use Rattle.lawful.specs.Senses.{Sense, variable, constant, procedure, unknown, isUnknown, senseIn}
 use Rattle.lawful.specs.Expressions.{operand, channel, target, lawful, whole}
 use Rattle.lawful.specs.Statements.{all, sense, takes, runs, receives, formats, allowed}
-use Rattle.lawful.specs.Says.{Says, itemAt}
 use Rattle.lawful.specs.Setting.{Runs}
-use Rattle.ruling.specs.Scene.{Scene, xs, homes, starts, heights, fine, clean, Stands}
-use Rattle.ruling.proofs.Tests.{both-turn, both-group}
+use Rattle.ruling.specs.Scene.{Scene, homes, starts, heights, clean, Stands}
+use Rattle.ruling.proofs.Tests.{both-turn}
 use Rattle.ruling.proofs.Stands.{front, back, next, inside, code-at, home, clean-append, clean-one, fine-by, fine-free}
 use Rattle.ruling.proofs.Uses.{pid-told}
 use Rattle.ruling.proofs.Phrases.{marked-fault, rules-none}
@@ -135,9 +134,10 @@ module _ (S : Scene) where
     pid-global : same w pid ≡ true → (hidden ≡ false) × (among 13 (getD (S .cs) global 0) ≡ false)
     unfolding globalOf
     pid-global e =
-        let z = pid-told S i w (s .items .0) (s .low) (inside S (i-name w) (x ∷ l) i s) ∙ e in
-        (rw (find-pid (S .cs) (S .vs) (homes S) 1 (getD (S .vs) i 0) (S .h) i z) (le-ltb i i (omega arith)),
-        rw (find-pid (S .cs) (S .vs) (homes S) 1 (getD (S .vs) i 0) 0 (length (S .cs)) z, List·getD-eq-default (S .cs) 0 {n = length (S .cs)} (omega arith)) (openers .2))
+        let z = pid-told S i w (s .items .0) (s .low) (inside S (i-name w) (x ∷ l) i s) ∙ e in (
+          rw (find-pid (S .cs) (S .vs) (homes S) 1 (getD (S .vs) i 0) (S .h) i z) (le-ltb i i (omega arith)),
+          rw (find-pid (S .cs) (S .vs) (homes S) 1 (getD (S .vs) i 0) 0 (length (S .cs)) z, List·getD-eq-default (S .cs) 0 {n = length (S .cs)} (omega arith)) (openers .2),
+        )
 
     run-told : both (eqb (badRun (S .cs) (S .vs) (homes S) (suc i)) 0) (eqb (badPassing (S .cs) (S .vs) (homes S) (suc i) n) 0) ≡ runs (S .at) w n
     unfolding runs

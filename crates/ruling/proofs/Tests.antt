@@ -1,5 +1,5 @@
 -- Tests joined in another order.
-use mathlib.Core.Path.{_≡_, refl, sym, _∙_}
+use mathlib.Core.Path.{_≡_, refl, sym}
 use mathlib.Core.Bool.{Bool, true, false}
 use Rattle.base.specs.Choice.{both}
 

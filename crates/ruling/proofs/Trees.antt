@@ -1,29 +1,29 @@
 -- THE ITEMS OF A TREE have no fault exactly where its labels are new, it is allowed, and no second option of its selection begins with `else`.
-use Prim.Native.Nat.{ℕ, zero, suc, _+_, _-_, _≤_, _<_}
+use Prim.Native.Nat.{ℕ, suc, _+_, _-_}
 use native.Mathlib.Omega.{arith}
-use mathlib.Core.Path.{_≡_, refl, sym, ap, ap₂, subst, _∙_}
+use mathlib.Core.Path.{_≡_, refl, sym, ap, ap₂, _∙_}
 use mathlib.Core.Bool.{Bool, true, false, not}
 use mathlib.Core.List.{List, [], _∷_, _++_}
-use lib.ListN.{length, getD, length-append}
+use lib.ListN.{length, getD}
 use lib.Dec.{eqb, leb}
 use Rattle.base.specs.Choice.{pick, both, either}
 use Rattle.base.specs.Lists.{same}
 use Rattle.base.proofs.Tests.{true-false}
 use Rattle.sheets.specs.Payload.{pid}
 use Rattle.rules.specs.Rules.{twin, ruleOf}
-use Rattle.syntax.specs.Tree.{Name, Sort, action, options, Tree, express, assign, increment, decrement, send, receive, assert, print, skip, goto, break, timeout, else, run, set-run, select, loop, bare, labelled, end, then, over, option}
+use Rattle.syntax.specs.Tree.{Name, Sort, options, Tree, express, assign, increment, decrement, send, receive, assert, print, skip, goto, break, timeout, else, run, set-run, select, loop, bare, labelled, end, then, over, option}
 use Rattle.syntax.specs.Code.{Item, i-name, i-label, i-skip, i-timeout, i-if, i-fi, i-do, i-od, i-option, i-end-option, code-tree}
 use Rattle.entries.specs.Items.{codeOf}
 use Rattle.lawful.specs.Statements.{has, isElse, labelsOf, allowed}
-use Rattle.ruling.specs.Scene.{Scene, fine, clean, Stands}
+use Rattle.ruling.specs.Scene.{Scene, clean, Stands}
 use Rattle.ruling.proofs.Tests.{both-turn, both-group, both-last}
 use Rattle.ruling.proofs.Stands.{front, back, next, code-at, clean-append, clean-one, clean-none, fine-free}
 use Rattle.ruling.proofs.Phrases.{rules-none}
 use Rattle.ruling.proofs.Walks.{twin-out, twin-outside}
-use Rattle.ruling.proofs.Passing.{Passing, pass-label, pass-dull, passing}
+use Rattle.ruling.proofs.Passing.{pass-label, passing}
 use Rattle.ruling.proofs.Statements.{express-fault, assign-fault, increment-fault, decrement-fault, send-fault, receive-fault, assert-fault, print-fault, run-alone-fault, set-run-fault}
 use Rattle.ruling.proofs.Labels.{fresh, fresh-none, fresh-one, fresh-append}
-use Rattle.ruling.proofs.Around.{quota, quota-zero, quota-two, silent, Prior, Deep, Here, Around, prior-next, deep-next, deep-loop, prior-over, deep-over, statement-ends, option-seen, Goes, goto-fault, break-fault, else-fault, label-fault}
+use Rattle.ruling.proofs.Around.{quota, quota-zero, quota-two, silent, Prior, Deep, Around, prior-next, deep-next, deep-loop, prior-over, deep-over, statement-ends, option-seen, Goes, goto-fault, break-fault, else-fault, label-fault}
 
 -- ---- the order of what is judged
 leaf : (ls : List Name) (first twinned a c : Bool) → a ≡ c → a ≡ both (fresh ls []) (both (quota first twinned 0) c)

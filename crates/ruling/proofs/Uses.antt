@@ -1,28 +1,27 @@
 -- A REFERENCE has no fault exactly where its name is usable.
-use Prim.Native.Nat.{ℕ, suc, _+_, _≤_, _<_}
+use Prim.Native.Nat.{ℕ, _+_, _≤_, _<_}
 use native.Mathlib.Omega.{arith}
-use mathlib.Core.Path.{_≡_, refl, sym, ap, subst, _∙_}
+use mathlib.Core.Path.{_≡_, refl, sym, ap, _∙_}
 use mathlib.Core.Bool.{Bool, true, false, not}
-use mathlib.Core.Logic.{_⊎_, inl, inr}
 use mathlib.Core.List.{List}
-use lib.ListN.{length, getD}
+use lib.ListN.{getD}
 use lib.Dec.{eqb, leb}
-use borrow.Author.Tests.{eqb-true, eqb-false, leb-true, ne-eqb}
+use borrow.Author.Tests.{eqb-true, leb-true, ne-eqb}
 use Rattle.base.specs.Choice.{pick, both, either}
 use Rattle.base.specs.Lists.{same}
 use Rattle.base.proofs.Tests.{true-false, both-true}
 use Rattle.sheets.specs.Payload.{pid}
 use Rattle.finding.specs.Sets.{among}
 use Rattle.finding.specs.Search.{lookup}
-use Rattle.rules.specs.Rules.{isArray, isChan, roleOf, badPlain, badIndex, badVariable, badUse, badRef, ruleOf, badBy}
+use Rattle.rules.specs.Rules.{roleOf, badPlain, badIndex, badVariable, badUse, badRef, ruleOf, badBy}
 use Rattle.syntax.specs.Tree.{Name}
 use Rattle.syntax.specs.Code.{i-name}
-use Rattle.lawful.specs.Senses.{Sense, variable, constant, procedure, unknown, senseOf}
+use Rattle.lawful.specs.Senses.{Sense, variable, constant, procedure, unknown}
 use Rattle.lawful.specs.Expressions.{Role, operand, channel, target, received, forConstant, forPid, forChan, alike, suits, usable}
 use Rattle.lawful.specs.Statements.{sense}
-use Rattle.lawful.specs.Says.{Says, itemAt}
+use Rattle.lawful.specs.Says.{itemAt}
 use Rattle.lawful.specs.Setting.{Finds}
-use Rattle.ruling.specs.Scene.{Scene, xs, homes, starts, heights, fine}
+use Rattle.ruling.specs.Scene.{Scene, xs, homes, starts, fine}
 use Rattle.ruling.proofs.Stands.{fine-by}
 
 -- the number of a role

@@ -1,14 +1,13 @@
 -- Walks over places: whether any passes a test, how many items of a set there are, and whether an earlier option of a selection begins with `else`.
 use Prim.Native.Nat.{ℕ, zero, suc, _+_, _-_, _≤_, _<_}
 use native.Mathlib.Omega.{arith}
-use native.Mathlib.Decide.{ℕ-discrete}
-use mathlib.Core.Path.{_≡_, refl, sym, ap, ap₂, subst, _∙_}
+use mathlib.Core.Path.{_≡_, refl, sym, ap, ap₂, _∙_}
 use mathlib.Core.Bool.{Bool, true, false}
 use mathlib.Core.List.{List}
 use lib.ListN.{getD}
 use lib.Dec.{eqb, ltb}
 use borrow.Author.Tests.{lt-ltb, le-ltb, ne-eqb}
-use Rattle.base.specs.Choice.{pick, both, either}
+use Rattle.base.specs.Choice.{pick, either}
 use Rattle.base.proofs.Tests.{both-no}
 use Rattle.sheets.specs.Walks.{first, sum}
 use Rattle.finding.specs.Search.{declares, find, one, count}
