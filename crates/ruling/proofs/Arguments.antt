@@ -84,7 +84,8 @@ pub mark-roles : (roleOf 183 ≡ 0) × (roleOf 184 ≡ 3) × (roleOf 185 ≡ 0)
 unfolding roleOf
 mark-roles = (refl, refl, refl)
 
-marked-one : {s : Shape} (e : Exp s) (x : Item) → all-inside (code-exp e) → among 4 (codeOf x) ≡ false → among 5 (codeOf x) ≡ true → Unopened (code-exp e ++ x ∷ []) × (marks (code-exp e ++ x ∷ []) ≡ 1)
+marked-one : {s : Shape} (e : Exp s) (x : Item) → all-inside (code-exp e) → among 4 (codeOf x) ≡ false → among 5 (codeOf x) ≡ true → Unopened (code-exp e ++ x ∷ [])
+    × (marks (code-exp e ++ x ∷ []) ≡ 1)
 unfolding marks
 marked-one e x p a b = (
   unopened-append (code-exp e) (x ∷ []) (parts-unopened (code-exp e) p) (a, tt),
@@ -189,7 +190,8 @@ module _ (S : Scene) where
         let ends = back S L (i-end ∷ []) (suc k) j refl after-x in
         let u = each-unopened l (suc k) L-stands in
         let open′ : last (S .cs) 4 j - 1 ≡ k =
-        ap (_- 1) (last-over L (suc k) j refl L-stands u ∙ last-step k ∙ ap (λ (b : Bool). pick b (suc k) (last (S .cs) 4 k)) (ap (among 4) (code-at S x (L ++ i-end ∷ []) k s) ∙ o)) ∙ omega arith in
+        ap (_- 1) (last-over L (suc k) j refl L-stands u ∙ last-step k ∙ ap (λ (b : Bool). pick b (suc k) (last (S .cs) 4 k)) (ap (among 4) (code-at S x (L ++ i-end ∷ []) k s) ∙ o))
+        ∙ omega arith in
         let many : count (S .cs) (homes S) 5 (S .h) k j ≡ length l =
         count-marks x L k j refl (front S (x ∷ L) (i-end ∷ []) k s) ∙ ap₂ _+_ (ap (λ (b : Bool). pick b 1 0) n) (each-marks l (suc k) L-stands) ∙ omega arith in
         let judged-end : eqb (badBy (S .cs) (S .vs) (homes S) (starts S) (heights S) 16 j) 0 ≡ eqb (badCount (S .cs) (S .vs) (homes S) k (length l)) 0 =

@@ -211,7 +211,8 @@ module _ (S : Scene) where
   option-begins (then (labelled w a) q) l i s = begins-with (i-name w) (i-label ∷ ((code-tree a ++ code-tree q) ++ (i-end-option ∷ l))) i false s refl
 
   -- ---- behind an option the walk back finds it, where it begins with `else`, or what it found before it
-  pub option-seen : (q : Tree sequence) (l : List Item) (i k : ℕ) (twinned : Bool) → k ≡ suc i + length (code-tree q) → Stands S i (i-option ∷ (code-tree q ++ (i-end-option ∷ l))) → twin (S .cs) i 1 ≡ twinned
+  pub option-seen : (q : Tree sequence) (l : List Item) (i k : ℕ) (twinned : Bool) → k ≡ suc i + length (code-tree q) → Stands S i (i-option ∷ (code-tree q ++ (i-end-option ∷ l)))
+      → twin (S .cs) i 1 ≡ twinned
       → twin (S .cs) (suc k) 1 ≡ either twinned (eqb (isElse q) 1)
   option-seen q l i k twinned e s t =
       let Q = code-tree q in
@@ -247,7 +248,8 @@ module _ (S : Scene) where
 
   -- the name of a goto is found among the labels of the body
   abbrev pub Goes : List Name → Type 0
-  Goes ls = (x : ℕ) (w : Name) → S .from ≤ x → x < S .to → itemAt (xs S) x ≡ i-name w → ltb (find (S .cs) (S .vs) (homes S) 2 (getD (S .vs) x 0) (S .h) (length (S .cs))) (length (S .cs)) ≡ has ls w
+  Goes ls =
+      (x : ℕ) (w : Name) → S .from ≤ x → x < S .to → itemAt (xs S) x ≡ i-name w → ltb (find (S .cs) (S .vs) (homes S) 2 (getD (S .vs) x 0) (S .h) (length (S .cs))) (length (S .cs)) ≡ has ls w
 
   goto-is : (i : ℕ) → getD (homes S) (suc i) 0 ≡ S .h
       → badGoto (S .cs) (S .vs) (homes S) (suc i) ≡ pick (ltb (find (S .cs) (S .vs) (homes S) 2 (getD (S .vs) i 0) (S .h) (length (S .cs))) (length (S .cs))) 0 4

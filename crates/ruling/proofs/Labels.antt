@@ -92,7 +92,8 @@ unfolding apart
 plain-apart [] e = refl
 plain-apart (w ∷ l) e = go (same w pid) refl (has l w) refl e (plain-apart l)
   where
-    go : (b : Bool) → same w pid ≡ b → (c : Bool) → has l w ≡ c → pick (either (same w pid) (has l w)) false (apart l) ≡ true → (apart l ≡ true → plain l ≡ l) → pick (same w pid) (plain l) (w ∷ plain l) ≡ w ∷ l
+    go : (b : Bool) → same w pid ≡ b → (c : Bool) → has l w ≡ c → pick (either (same w pid) (has l w)) false (apart l) ≡ true → (apart l ≡ true → plain l ≡ l)
+        → pick (same w pid) (plain l) (w ∷ plain l) ≡ w ∷ l
     go true p c q e r = absurd (true-false (sym e ∙ ap (λ (t : Bool). pick (either t (has l w)) false (apart l)) p))
     go false p true q e r = absurd (true-false (sym e ∙ ap₂ (λ (t u : Bool). pick (either t u) false (apart l)) p q))
     go false p false q e r =

@@ -119,10 +119,12 @@ module _ (S : Scene) where
       where
         go : (b : Bool) → same w pid ≡ b → ltb (find (S .cs) (S .vs) (homes S) 2 (getD (S .vs) x 0) (S .h) (length (S .cs))) (length (S .cs)) ≡ has (plain (labelsOf q)) w
         go true p =
-            ap (λ m. ltb m (length (S .cs))) (find-pid (S .cs) (S .vs) (homes S) 2 (getD (S .vs) x 0) (S .h) (length (S .cs)) (pid-told S x w e low high ∙ p)) ∙ le-ltb (length (S .cs)) (length (S .cs)) (omega arith)
+            ap (λ m. ltb m (length (S .cs))) (find-pid (S .cs) (S .vs) (homes S) 2 (getD (S .vs) x 0) (S .h) (length (S .cs)) (pid-told S x w e low high ∙ p))
+            ∙ le-ltb (length (S .cs)) (length (S .cs)) (omega arith)
             ∙ sym (plain-pid (labelsOf q) w p)
         go false p =
-            find-any (S .cs) (S .vs) (homes S) 2 (getD (S .vs) x 0) (S .h) (length (S .cs)) (pid-told S x w e low high ∙ p) ∙ all-labels x w (let k = S .within in omega arith) e ∙ sym (has-plain (labelsOf q) w p)
+            find-any (S .cs) (S .vs) (homes S) 2 (getD (S .vs) x 0) (S .h) (length (S .cs)) (pid-told S x w e low high ∙ p) ∙ all-labels x w (let k = S .within in omega arith) e
+            ∙ sym (has-plain (labelsOf q) w p)
 
     body-fault : S .at .labels ≡ plain (labelsOf q) → eqb (getD (S .cs) (S .from - 1) 0) 208 ≡ false → clean S (S .from) (code-tree q) ≡ both (apart (labelsOf q)) (allowed (S .at) false false q)
     body-fault own free =

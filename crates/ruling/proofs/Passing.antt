@@ -188,7 +188,8 @@ module _ (S : Scene) where
       let cy = codeOf y in
       record {
         walk = λ d h.
-            twin-in (S .cs) j d cy is h c (f .1) ∙ p .walk (d + 1) (omega arith) ∙ twin-out (S .cs) i (d + 1) cx it (omega arith) b a (f .0) ∙ ap (twin (S .cs) i) (let z : d + 1 - 1 ≡ d = omega arith in z);
+            twin-in (S .cs) j d cy is h c (f .1) ∙ p .walk (d + 1) (omega arith) ∙ twin-out (S .cs) i (d + 1) cx it (omega arith) b a (f .0)
+            ∙ ap (twin (S .cs) i) (let z : d + 1 - 1 ≡ d = omega arith in z);
         even = both-even it is (home S x (o ++ y ∷ []) i s) (home S y [] j ty) (eqb cy 207) refl;
         labels = λ z w h e.
             label-no z j (ap (among 2) is ∙ codes-sets cy .0 ∙ f .3) ∙ p .labels z w h e ∙ ap (λ (t : Bool). either t (has ls w)) (label-no z i (ap (among 2) it ∙ codes-sets cx .0 ∙ f .2));
@@ -254,7 +255,8 @@ module _ (S : Scene) where
   passing (increment r) i j q s = pass-dulls (code-exp r ++ i-increment ∷ []) i j q s (dull-marked r i-increment i s refl)
   passing (decrement r) i j q s = pass-dulls (code-exp r ++ i-decrement ∷ []) i j q s (dull-marked r i-decrement i s refl)
   passing (send r es) i j q s =
-      pass-dulls ((code-exp r ++ i-send ∷ each code-argument es) ++ i-end ∷ []) i j q s (dull-two r i-send i-end (each code-argument es) i s refl refl (dull-arguments es (i + length (code-exp r) + 1)))
+      pass-dulls ((code-exp r ++ i-send ∷ each code-argument es) ++ i-end ∷ []) i j q s
+      (dull-two r i-send i-end (each code-argument es) i s refl refl (dull-arguments es (i + length (code-exp r) + 1)))
   passing (receive r es) i j q s =
       pass-dulls ((code-exp r ++ i-receive ∷ each code-received es) ++ i-end ∷ []) i j q s
       (dull-two r i-receive i-end (each code-received es) i s refl refl (dull-each code-received dull-received es (i + length (code-exp r) + 1)))
@@ -273,7 +275,8 @@ module _ (S : Scene) where
       let L = each code-argument es in
       let k = i + length (code-exp r) + 1 in
       pass-dulls ((code-exp r ++ i-target ∷ i-name w ∷ i-set-run ∷ L) ++ i-end ∷ []) i j q s
-      (dull-two r i-target i-end (i-name w ∷ i-set-run ∷ L) i s refl refl (λ z. (refl, (refl, dull-arguments es (suc (suc k)) (next S i-set-run L (suc k) (next S (i-name w) (i-set-run ∷ L) k z))))))
+      (dull-two r i-target i-end (i-name w ∷ i-set-run ∷ L) i s refl refl
+      (λ z. (refl, (refl, dull-arguments es (suc (suc k)) (next S i-set-run L (suc k) (next S (i-name w) (i-set-run ∷ L) k z))))))
   passing (select os) i j q s =
       let O = code-tree os in
       let k = suc i + length O in

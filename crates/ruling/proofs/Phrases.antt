@@ -50,7 +50,29 @@ binary-rule o a b =
     let c = 146 + o in
     let off : (k : ℕ) → 165 ≤ k → eqb c k ≡ false = λ k h. ne-eqb c k (λ e. omega arith) in
     let low : (k : ℕ) → 165 ≤ k → leb k c ≡ false = λ k h. lt-leb k c (omega arith) in
-    rw (ne-eqb c 72 (λ e. omega arith), low 183 (omega arith), low 189 (omega arith), off 199 (omega arith), off 201 (omega arith), off 219 (omega arith), off 226 (omega arith), off 188 (omega arith), off 212 (omega arith), off 220 (omega arith), low 222 (omega arith), off 198 (omega arith), low 202 (omega arith), off 213 (omega arith), off 216 (omega arith), off 217 (omega arith), off 218 (omega arith), low 176 (omega arith), off 187 (omega arith), off 185 (omega arith), off 196 (omega arith))
+    rw (
+      ne-eqb c 72 (λ e. omega arith),
+      low 183 (omega arith),
+      low 189 (omega arith),
+      off 199 (omega arith),
+      off 201 (omega arith),
+      off 219 (omega arith),
+      off 226 (omega arith),
+      off 188 (omega arith),
+      off 212 (omega arith),
+      off 220 (omega arith),
+      low 222 (omega arith),
+      off 198 (omega arith),
+      low 202 (omega arith),
+      off 213 (omega arith),
+      off 216 (omega arith),
+      off 217 (omega arith),
+      off 218 (omega arith),
+      low 176 (omega arith),
+      off 187 (omega arith),
+      off 185 (omega arith),
+      off 196 (omega arith),
+    )
     refl
 
 binary-role : (o : ℕ) → 1 ≤ o → o ≤ 18 → roleOf (codeOf (i-binary o)) ≡ 0
@@ -103,11 +125,13 @@ module _ (S : Scene) where
 
   started : {s : Shape} (e : Exp s) (i j : ℕ) → Stands S i (code-exp e) → j ≡ i + length (code-exp e) - 1 → getD (starts S) j 0 ≡ i
   started e i j s q =
-      phrase-starts (S .cs) blank e (proper S e i s) i j (codes-at S (code-exp e) i s) (S .says .few) (omega (arith, S .says .few, length-replicate {A = ℕ} 8192 0)) (omega (arith, s .high, S .within)) q
+      phrase-starts (S .cs) blank e (proper S e i s) i j (codes-at S (code-exp e) i s) (S .says .few) (omega (arith, S .says .few, length-replicate {A = ℕ} 8192 0))
+      (omega (arith, s .high, S .within)) q
 
   risen : {s : Shape} (e : Exp s) (i j : ℕ) → Stands S i (code-exp e) → j ≡ i + length (code-exp e) - 1 → getD (heights S) j 0 ≡ min 33 (height e)
   risen e i j s q =
-      phrase-heights (S .cs) blank blank e (proper S e i s) i j (codes-at S (code-exp e) i s) (S .says .few) (omega (arith, S .says .few, length-replicate {A = ℕ} 8192 0)) (omega (arith, S .says .few, length-replicate {A = ℕ} 8192 0))
+      phrase-heights (S .cs) blank blank e (proper S e i s) i j (codes-at S (code-exp e) i s) (S .says .few) (omega (arith, S .says .few, length-replicate {A = ℕ} 8192 0))
+      (omega (arith, S .says .few, length-replicate {A = ℕ} 8192 0))
       (omega (arith, s .high, S .within)) q
 
   pub phrase-fault : {s : Shape} (e : Exp s) (role : Role) (i k : ℕ) → Stands S i (code-exp e) → k ≡ i + length (code-exp e) → Stood s role → roleOf (getD (S .cs) k 0) ≡ number role
@@ -118,7 +142,8 @@ module _ (S : Scene) where
       clean-one S (i-name w) (i-plain ∷ []) i
       ∙ ap₂ both (free (i-name w) (i-plain ∷ []) i 70 s refl (rules-none .0))
       (clean-one S i-plain [] (suc i) ∙ ap₂ both
-      (reference-fault S i w (s .items .0) (s .low) (inside S (i-name w) (i-plain ∷ []) i s) (suc i) 176 role false (code-at S i-plain [] (suc i) (next S (i-name w) (i-plain ∷ []) i s)) (rules-used .0) refl
+      (reference-fault S i w (s .items .0) (s .low) (inside S (i-name w) (i-plain ∷ []) i s) (suc i) 176 role false (code-at S i-plain [] (suc i) (next S (i-name w) (i-plain ∷ []) i s))
+      (rules-used .0) refl
       (started (plain w) i (suc i) s (omega arith)) (home S i-plain [] (suc i) (next S (i-name w) (i-plain ∷ []) i s)) (ap (λ n. roleOf (getD (S .cs) n 0)) z ∙ r))
       (clean-none S (suc (suc i))) ∙ both-last (usable (sense (S .at)) role false w))
   phrase-fault (indexed w e) role i k s q o r =

@@ -32,7 +32,8 @@ use Rattle.ruling.proofs.Arguments.{height-rule, height-rule-behind, ar
 use Rattle.ruling.proofs.Walks.{find-pid}
 
 -- ---- rules, roles and sets
-rules : (ruleOf 189 ≡ 2) × (ruleOf 190 ≡ 2) × (ruleOf 191 ≡ 2) × (ruleOf 192 ≡ 2) × (ruleOf 193 ≡ 2) × (ruleOf 194 ≡ 2) × (ruleOf 195 ≡ 2) × (ruleOf 196 ≡ 17) × (ruleOf 72 ≡ 1) × (ruleOf 202 ≡ 10) × (ruleOf 203 ≡ 10)
+rules : (ruleOf 189 ≡ 2) × (ruleOf 190 ≡ 2) × (ruleOf 191 ≡ 2) × (ruleOf 192 ≡ 2) × (ruleOf 193 ≡ 2) × (ruleOf 194 ≡ 2) × (ruleOf 195 ≡ 2) × (ruleOf 196 ≡ 17) × (ruleOf 72 ≡ 1)
+    × (ruleOf 202 ≡ 10) × (ruleOf 203 ≡ 10)
 unfolding ruleOf
 rules = (refl, refl, refl, refl, refl, refl, refl, refl, refl, refl, refl)
 
@@ -142,7 +143,8 @@ module _ (S : Scene) where
     run-told : both (eqb (badRun (S .cs) (S .vs) (homes S) (suc i)) 0) (eqb (badPassing (S .cs) (S .vs) (homes S) (suc i) n) 0) ≡ runs (S .at) w n
     unfolding runs
     run-told =
-        ap₂ both (ap (λ k. eqb k 0) run-is) (ap (λ k. eqb k 0) (passing-is ∙ ap (λ k. pick (eqb k 0) (pick (eqb n (count (S .cs) (homes S) 6 (bodyOf (S .cs) global) 0 (length (S .cs)))) 0 5) 0) run-is))
+        ap₂ both (ap (λ k. eqb k 0) run-is) (ap (λ k. eqb k 0)
+        (passing-is ∙ ap (λ k. pick (eqb k 0) (pick (eqb n (count (S .cs) (homes S) 6 (bodyOf (S .cs) global) 0 (length (S .cs)))) 0 5) 0) run-is))
         ∙ passing-told hidden (among 13 (getD (S .cs) global 0)) (eqb n (count (S .cs) (homes S) 6 (bodyOf (S .cs) global) 0 (length (S .cs)))) ∙ go (same w pid) refl
       where
         go : (b : Bool) → same w pid ≡ b
@@ -166,7 +168,8 @@ module _ (S : Scene) where
 
   -- name, run or set-run, arguments, end
   run-fault : (w : Name) (x : Item) (es : List Expr) (i : ℕ) → (codeOf x ≡ 202) ⊎ (codeOf x ≡ 203) → ruleOf (codeOf x) ≡ 10 → among 4 (codeOf x) ≡ true → among 5 (codeOf x) ≡ false
-      → Stands S i (i-name w ∷ x ∷ (each code-argument es ++ i-end ∷ [])) → clean S i (i-name w ∷ x ∷ (each code-argument es ++ i-end ∷ [])) ≡ both (runs (S .at) w (length es)) (all (whole (sense (S .at))) es)
+      → Stands S i (i-name w ∷ x ∷ (each code-argument es ++ i-end ∷ [])) → clean S i (i-name w ∷ x ∷ (each code-argument es ++ i-end ∷ []))
+      ≡ both (runs (S .at) w (length es)) (all (whole (sense (S .at))) es)
   run-fault w x es i c r o m s =
       let L = each code-argument es ++ i-end ∷ [] in
       let k = next S (i-name w) (x ∷ L) i s in
@@ -174,8 +177,10 @@ module _ (S : Scene) where
       clean-one S (i-name w) (x ∷ L) i
       ∙ ap₂ both (fine-free S i 70 (code-at S (i-name w) (x ∷ L) i s) (rules-none .0))
       (clean-one S x L (suc i)
-      ∙ ap₂ both (fine-by S (suc i) (codeOf x) 10 it r ∙ ap (λ n. eqb n 0) (run-rule (suc i))) (arguments-fault S x es (suc i) k o m ∙ ap (λ n. both (all (whole (sense (S .at))) es) (eqb n 0)) (run-many (suc i) (length es) (begun it c)))
-      ∙ run-last (eqb (badRun (S .cs) (S .vs) (homes S) (suc i)) 0) (all (whole (sense (S .at))) es) (eqb (badPassing (S .cs) (S .vs) (homes S) (suc i) (length es)) 0) (runs (S .at) w (length es))
+      ∙ ap₂ both (fine-by S (suc i) (codeOf x) 10 it r ∙ ap (λ n. eqb n 0) (run-rule (suc i)))
+      (arguments-fault S x es (suc i) k o m ∙ ap (λ n. both (all (whole (sense (S .at))) es) (eqb n 0)) (run-many (suc i) (length es) (begun it c)))
+      ∙ run-last (eqb (badRun (S .cs) (S .vs) (homes S) (suc i)) 0) (all (whole (sense (S .at))) es) (eqb (badPassing (S .cs) (S .vs) (homes S) (suc i) (length es)) 0)
+      (runs (S .at) w (length es))
       (run-told w x L i (length es) s))
     where
       begun : getD (S .cs) (suc i) 0 ≡ codeOf x → (codeOf x ≡ 202) ⊎ (codeOf x ≡ 203) → (getD (S .cs) (suc i) 0 ≡ 202) ⊎ (getD (S .cs) (suc i) 0 ≡ 203)
@@ -183,7 +188,8 @@ module _ (S : Scene) where
       begun e (inr f) = inr (e ∙ f)
 
   -- ---- a reference or an expression with its mark, and then more
-  with-more : (l : List Item) (x : Item) (m : List Item) (i k : ℕ) (a b : Bool) → k ≡ suc (i + length l) → clean S i (l ++ x ∷ []) ≡ a → clean S k m ≡ b → clean S i ((l ++ x ∷ []) ++ m) ≡ both a b
+  with-more : (l : List Item) (x : Item) (m : List Item) (i k : ℕ) (a b : Bool) → k ≡ suc (i + length l) → clean S i (l ++ x ∷ []) ≡ a → clean S k m ≡ b → clean S i ((l ++ x ∷ []) ++ m)
+      ≡ both a b
   with-more l x m i k a b e f g = clean-append S (l ++ x ∷ []) m i k (let n = length-append l (x ∷ []) in omega arith) ∙ ap₂ both f g
 
   -- the second of two parts, with the mark before it
@@ -210,7 +216,8 @@ module _ (S : Scene) where
       ap (clean S i) (regroup R E i-target i-assign)
       ∙ with-more R i-target (E ++ i-assign ∷ []) i (suc (i + length R)) (lawful (sense (S .at)) target r) (whole (sense (S .at)) e) refl
       (marked-fault S r target i-target i 2 (initial R i-target i-assign E i s) tt (roles .1) (rules .1) (height-rule S))
-      (marked-fault S e operand i-assign (suc (i + length R)) 2 (next S i-target (E ++ i-assign ∷ []) (i + length R) (second R i-target i-assign E i s)) refl (roles .2) (rules .2) (height-rule S))
+      (marked-fault S e operand i-assign (suc (i + length R)) 2 (next S i-target (E ++ i-assign ∷ []) (i + length R) (second R i-target i-assign E i s)) refl (roles .2) (rules .2)
+      (height-rule S))
 
   pub increment-fault : (r : Ref) (i : ℕ) (loops first : Bool) → Stands S i (code-tree (increment r)) → clean S i (code-tree (increment r)) ≡ allowed (S .at) loops first (increment r)
   unfolding allowed
@@ -233,7 +240,8 @@ module _ (S : Scene) where
       (arguments-fault S i-send es k z (openers .0 .1) (openers .1 .1) ∙ ap (both (all (whole (sense (S .at))) es)) (sent-many k (length es) (code-at S i-send (L ++ i-end ∷ []) k z))
       ∙ both-turn (all (whole (sense (S .at))) es) (leb (length es) 4))
 
-  pub receive-fault : (r : Ref) (es : List Received) (i : ℕ) (loops first : Bool) → Stands S i (code-tree (receive r es)) → clean S i (code-tree (receive r es)) ≡ allowed (S .at) loops first (receive r es)
+  pub receive-fault : (r : Ref) (es : List Received) (i : ℕ) (loops first : Bool) → Stands S i (code-tree (receive r es)) → clean S i (code-tree (receive r es))
+      ≡ allowed (S .at) loops first (receive r es)
   unfolding allowed
   receive-fault r es i loops first s =
       let R = code-exp r in
@@ -250,7 +258,8 @@ module _ (S : Scene) where
   unfolding allowed
   assert-fault e i loops first s = marked-fault S e operand i-assert i 17 s refl (roles .7) (rules .7) (height-rule-behind S)
 
-  pub print-fault : (w : List ℕ) (es : List Expr) (i : ℕ) (loops first : Bool) → Stands S i (code-tree (print w es)) → clean S i (code-tree (print w es)) ≡ allowed (S .at) loops first (print w es)
+  pub print-fault : (w : List ℕ) (es : List Expr) (i : ℕ) (loops first : Bool) → Stands S i (code-tree (print w es)) → clean S i (code-tree (print w es))
+      ≡ allowed (S .at) loops first (print w es)
   unfolding allowed formats
   print-fault w es i loops first s =
       let L = each code-argument es ++ i-end ∷ [] in
@@ -258,7 +267,8 @@ module _ (S : Scene) where
       let v : getD (S .vs) i 0 ≡ formatOf w = S .says .strings i w (let a = s .high in let b = S .within in omega arith) (s .items .0) in
       clean-one S (i-text w) L i
       ∙ ap₂ both
-      (fine-by S i 72 1 it (rules .8) ∙ ap (λ n. eqb n 0) (format-rule i) ∙ bad-told (getD (S .vs) i 0 % 2) (mod-lt (getD (S .vs) i 0) (let q : 0 < 2 = omega arith in q)) ∙ ap (λ n. eqb (n % 2) 0) v)
+      (fine-by S i 72 1 it (rules .8) ∙ ap (λ n. eqb n 0) (format-rule i) ∙ bad-told (getD (S .vs) i 0 % 2) (mod-lt (getD (S .vs) i 0) (let q : 0 < 2 = omega arith in q))
+      ∙ ap (λ n. eqb (n % 2) 0) v)
       (arguments-fault S (i-text w) es i s (openers .0 .0) (openers .1 .0)
       ∙ ap (both (all (whole (sense (S .at))) es)) (printed-many i (length es) it ∙ ap (λ n. eqb (length es) (n / 2)) v))
       ∙ format-last (eqb (formatOf w % 2) 0) (all (whole (sense (S .at))) es) (eqb (length es) (formatOf w / 2))
@@ -267,7 +277,8 @@ module _ (S : Scene) where
   unfolding allowed
   run-alone-fault w es i loops first s = run-fault w i-run es i (inl refl) (rules .9) (openers .0 .3) (openers .1 .3) s
 
-  pub set-run-fault : (r : Ref) (w : Name) (es : List Expr) (i : ℕ) (loops first : Bool) → Stands S i (code-tree (set-run r w es)) → clean S i (code-tree (set-run r w es)) ≡ allowed (S .at) loops first (set-run r w es)
+  pub set-run-fault : (r : Ref) (w : Name) (es : List Expr) (i : ℕ) (loops first : Bool) → Stands S i (code-tree (set-run r w es)) → clean S i (code-tree (set-run r w es))
+      ≡ allowed (S .at) loops first (set-run r w es)
   unfolding allowed
   set-run-fault r w es i loops first s =
       let R = code-exp r in

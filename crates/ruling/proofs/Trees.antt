@@ -58,7 +58,8 @@ module _ (S : Scene) (goes : Goes S (S .at .labels)) where
   free-one x i s r = free x [] i s r ∙ clean-none S (suc i)
 
   -- items between two with no rule
-  between : (x y : Item) (o : List Item) (i : ℕ) (b : Bool) → Stands S i (x ∷ (o ++ y ∷ [])) → ruleOf (codeOf x) ≡ 0 → ruleOf (codeOf y) ≡ 0 → clean S (suc i) o ≡ b → clean S i (x ∷ (o ++ y ∷ [])) ≡ b
+  between : (x y : Item) (o : List Item) (i : ℕ) (b : Bool) → Stands S i (x ∷ (o ++ y ∷ [])) → ruleOf (codeOf x) ≡ 0 → ruleOf (codeOf y) ≡ 0 → clean S (suc i) o ≡ b
+      → clean S i (x ∷ (o ++ y ∷ [])) ≡ b
   between x y o i b s r t e =
       let n = next S x (o ++ y ∷ []) i s in
       let k = suc i + length o in
@@ -157,9 +158,12 @@ module _ (S : Scene) (goes : Goes S (S .at .labels)) where
       (tree-fault a (suc i) loops true twinned ls sa pi di
       (ap (λ m. eqb (getD (S .cs) m 0) 208) z ∙ ap (λ c. eqb c 208) (code-at S i-option (A ++ (i-end-option ∷ B)) i s), λ e. ap (λ m. twin (S .cs) m 1) z ∙ h .1))
       (free i-end-option B k se (silent .7)
-      ∙ tree-fault b (suc k) loops true t (ls ++ labelsOf a) (next S i-end-option B k se) (prior-next S i-end-option B k (ls ++ labelsOf a) se refl (prior-over S (suc i) k ls (labelsOf a) 1 q pi))
+      ∙ tree-fault b (suc k) loops true t (ls ++ labelsOf a) (next S i-end-option B k se)
+      (prior-next S i-end-option B k (ls ++ labelsOf a) se refl (prior-over S (suc i) k ls (labelsOf a) 1 q pi))
       (deep-next S i-end-option B k loops se refl refl (deep-over S (suc i) k (labelsOf a) 1 loops q di)) (refl, option-seen S a B i k twinned refl s (h .1))
       ∙ ap (λ (v : Bool). both (fresh (ls ++ labelsOf a) (labelsOf b)) (both (quota true t (isElse b)) v)) (options-alike loops true false b))
-      ∙ two-options (fresh ls (labelsOf a)) (fresh (ls ++ labelsOf a) (labelsOf b)) (leb (isElse a) (pick twinned 0 1)) (leb (isElse b) (pick t 0 1)) (leb (isElse a + isElse b) (pick twinned 0 1))
+      ∙ two-options (fresh ls (labelsOf a)) (fresh (ls ++ labelsOf a) (labelsOf b)) (leb (isElse a) (pick twinned 0 1)) (leb (isElse b) (pick t 0 1))
+      (leb (isElse a + isElse b) (pick twinned 0 1))
       (allowed (S .at) loops true a) (allowed (S .at) loops false b) (quota-two twinned (isElse a) (isElse b))
-      ∙ ap₂ (λ (v u : Bool). both v (both (quota u twinned (isElse a + isElse b)) (both (allowed (S .at) loops true a) (allowed (S .at) loops false b)))) (sym (fresh-append ls (labelsOf a) (labelsOf b))) (sym (h .0))
+      ∙ ap₂ (λ (v u : Bool). both v (both (quota u twinned (isElse a + isElse b)) (both (allowed (S .at) loops true a) (allowed (S .at) loops false b))))
+      (sym (fresh-append ls (labelsOf a) (labelsOf b))) (sym (h .0))

@@ -53,7 +53,8 @@ index-fault true false = refl
 index-fault false true = refl
 index-fault false false = refl
 
-variable-fault : (role : Role) (index chan array : Bool) → eqb (pick (eqb (number role) 1) (pick chan (badIndex index array) 4) (badIndex index array)) 0 ≡ both (forChan role chan) (alike index array)
+variable-fault : (role : Role) (index chan array : Bool) → eqb (pick (eqb (number role) 1) (pick chan (badIndex index array) 4) (badIndex index array)) 0
+    ≡ both (forChan role chan) (alike index array)
 variable-fault operand index chan array = index-fault index array
 variable-fault channel index true array = index-fault index array
 variable-fault channel index false array = refl
@@ -79,7 +80,8 @@ no-variable c h = rw (ne-eqb c 212 (λ e. omega arith), ne-eqb c 222 (λ e. omeg
 
 -- what a name of a sense may be used as
 sense-fault : (cs : List ℕ) (d : ℕ) (role : Role) (index : Bool) (s : Sense) → Finds cs d s
-    → eqb (pick (eqb (getD cs d 0) 220) (badPlain (either (eqb (number role) 0) (eqb (number role) 3)) index) (pick (among 14 (getD cs d 0)) (badVariable cs d (number role) index) 4)) 0 ≡ suits role index s
+    → eqb (pick (eqb (getD cs d 0) 220) (badPlain (either (eqb (number role) 0) (eqb (number role) 3)) index) (pick (among 14 (getD cs d 0)) (badVariable cs d (number role) index) 4)) 0
+    ≡ suits role index s
 unfolding badVariable
 sense-fault cs d role index (variable chan array) f = rw (no-message (getD cs d 0) (f .0), f .0, f .1, f .2) (variable-fault role index chan array)
 sense-fault cs d role index constant f = rw f (constant-fault role index)
@@ -101,7 +103,8 @@ module _ (S : Scene) where
         go : (b : Bool) → same w pid ≡ b
             → eqb (pick (eqb (getD (S .vs) i 0) 0) (badPlain (eqb (number role) 0) index)
             (pick (eqb (getD (S .cs) (lookup (S .cs) (S .vs) (homes S) (getD (S .vs) i 0) (S .h) i) 0) 220) (badPlain (either (eqb (number role) 0) (eqb (number role) 3)) index)
-            (pick (among 14 (getD (S .cs) (lookup (S .cs) (S .vs) (homes S) (getD (S .vs) i 0) (S .h) i) 0)) (badVariable (S .cs) (lookup (S .cs) (S .vs) (homes S) (getD (S .vs) i 0) (S .h) i) (number role) index) 4))) 0
+            (pick (among 14 (getD (S .cs) (lookup (S .cs) (S .vs) (homes S) (getD (S .vs) i 0) (S .h) i) 0))
+            (badVariable (S .cs) (lookup (S .cs) (S .vs) (homes S) (getD (S .vs) i 0) (S .h) i) (number role) index) 4))) 0
             ≡ pick b (both (forPid role) (not index)) (suits role index (sense (S .at) w))
         go true e = rw (pid-told ∙ e) (pid-fault role index)
         go false e = rw (pid-told ∙ e) (sense-fault (S .cs) (lookup (S .cs) (S .vs) (homes S) (getD (S .vs) i 0) (S .h) i) role index (sense (S .at) w) (S .setting .finds i w low high it e))

@@ -83,7 +83,8 @@ count-next cs hs set h j =
 sum-none : (f : ℕ → ℕ) (n : ℕ) → ((j : ℕ) → j < n → f j ≡ 0) → sum f 0 n ≡ 0
 unfolding sum
 sum-none f zero h = refl
-sum-none f (suc n) h = let a = sum-last f n 0 in let b = sum-none f n (λ j k. h j (omega arith)) in let c : f (0 + n) ≡ 0 = ap f (let z : 0 + n ≡ n = omega arith in z) ∙ h n (omega arith) in a ∙ omega arith
+sum-none f (suc n) h =
+    let a = sum-last f n 0 in let b = sum-none f n (λ j k. h j (omega arith)) in let c : f (0 + n) ≡ 0 = ap f (let z : 0 + n ≡ n = omega arith in z) ∙ h n (omega arith) in a ∙ omega arith
 
 pub count-none : (cs hs : List ℕ) (set h n : ℕ) → ((j : ℕ) → j < n → one cs hs set h j ≡ 0) → count cs hs set h 0 n ≡ 0
 unfolding count
