@@ -125,7 +125,7 @@ pub known-back : (x y : List Item) → AllKnown (x ++ y) → AllKnown y
 known-back [] y k = k
 known-back (a ∷ x) y k = known-back x y (k .1)
 
-known-proper : {s : Shape} (e : Exp s) → AllKnown (code-exp e) → Proper e
+pub known-proper : {s : Shape} (e : Exp s) → AllKnown (code-exp e) → Proper e
 known-proper (plain w) k = tt
 known-proper (indexed w e) k = known-proper e (known-front (code-exp e) (i-index ∷ []) (k .1))
 known-proper (num n) k = tt
