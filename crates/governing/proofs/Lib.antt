@@ -1,0 +1,4 @@
+pub mod Items
+pub mod Standing
+pub mod Homes
+pub mod Scopes
