@@ -2,3 +2,4 @@ pub mod Items
 pub mod Standing
 pub mod Homes
 pub mod Scopes
+pub mod Judging
