@@ -3,3 +3,4 @@ pub mod Standing
 pub mod Homes
 pub mod Scopes
 pub mod Judging
+pub mod Variables
