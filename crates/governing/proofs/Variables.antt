@@ -6,7 +6,7 @@ use mathlib.Core.Path.{_≡_, refl, sym, ap, _∙_, subst}
 use mathlib.Core.Bool.{Bool, true, false, not}
 use mathlib.Core.Option.{Option, none, some}
 use mathlib.Core.Logic.{_⊎_, inl, inr}
-use mathlib.Core.List.{List, [], _∷_, _++_, map, append-assoc}
+use mathlib.Core.List.{List, [], _∷_, _++_, map, append-assoc, append-nil}
 use lib.ListN.{length, getD, length-append}
 use lib.Dec.{eqb, leb}
 use borrow.Author.Tests.{ne-eqb, eq-eqb, le-leb, lt-leb, leb-true}
@@ -20,7 +20,7 @@ use Rattle.rules.specs.Rules as rules
 use Rattle.rules.specs.Rules.{ruleOf}
 use Rattle.syntax.specs.Tree.{Name, Model, Value, unset, set-number, set-minus, set-true, set-false, set-name, set-channel, Variable, variable}
 use Rattle.syntax.specs.Code.{Item, i-name, i-number, i-type, i-true, i-false, i-declared, i-size, i-value, i-minus, i-named, i-channel, i-field, each, code-field, code-size, code-value, code-variable, code}
-use Rattle.entries.specs.Items.{codeOf}
+use Rattle.entries.specs.Items.{codeOf, Known}
 use Rattle.lawful.specs.Senses as senses
 use Rattle.lawful.specs.Senses.{Sense, unknown, constant, procedure, declared, Scope, senseIn, isUnknown, isConstant, fresh, hides}
 use Rattle.lawful.specs.Units.{isArray, ofVariable, sized, variables}
@@ -107,7 +107,7 @@ module _ (m : Model) (cs vs : List ℕ) (S : Says m cs vs) where
 
   pub type-clean : (k t : ℕ) → k < length xs → itemAt xs k ≡ i-type t → Clean m cs vs S k (suc k)
   type-clean k t h q =
-      let a = type-code t (subst (Rattle.entries.specs.Items.Known) q (known-at m cs vs S k h)) in
+      let a = type-code t (subst Known q (known-at m cs vs S k h)) in
       let x = a .0 in
       let y = a .1 in
       let z = code-is m cs vs S k (i-type t) h q in
@@ -126,7 +126,7 @@ module _ (m : Model) (cs vs : List ℕ) (S : Says m cs vs) where
 
       was : last cs 16 (suc k) ≡ suc c
       was =
-          let a = type-code t (subst (Rattle.entries.specs.Items.Known) (h .1) (known-at m cs vs S k (h .0))) in
+          let a = type-code t (subst Known (h .1) (known-at m cs vs S k (h .0))) in
           let x = a .1 in
           let z = code-is m cs vs S k (i-type t) (h .0) (h .1) in
           last-skip m cs vs S 16 k (among-16 (getD cs k 0) (λ u. omega arith)) ∙ q
@@ -180,3 +180,148 @@ module _ (m : Model) (cs vs : List ℕ) (S : Says m cs vs) where
       judges-to k (suc (suc k)) (k + 2) (both (leb 1 n) (leb n 32)) (both (leb 1 n) (leb n 32)) (omega arith) refl
       (judges-skip m cs vs S k (suc k) (suc (suc k)) (both (leb 1 n) (leb n 32)) (omega arith) (omega arith) (mark-clean k 71 (i-number n) (l .0) (l .1) refl (rulesNone .1))
         (rule-size m cs vs S k n (below (suc k) (l .2 .0)) (l .1) (code-is m cs vs S (suc k) i-size (l .2 .0) (l .2 .1))))
+
+  -- ---- is it an array, is it a chan
+  -- no size stands at an item or behind it
+  abbrev pub After : ℕ → Type 0
+  After e = (getD cs e 0 ≡ 213 → ⊥) × (getD cs (suc e) 0 ≡ 213 → ⊥)
+
+  array-none : (k : ℕ) → (getD cs (suc (suc (suc k))) 0 ≡ 213 → ⊥) → rules.isArray cs (suc k) ≡ false
+  unfolding rules.isArray
+  array-none k n =
+      rw (let z : suc k + 2 ≡ suc (suc (suc k)) = omega arith in z) (rw (ne-eqb (getD cs (suc (suc (suc k))) 0) 213 n) (go (eqb (getD cs (suc k + 1) 0) 71)))
+    where
+      go : (b : Bool) → both b false ≡ false
+      go true = refl
+      go false = refl
+
+  array-some : (k : ℕ) → getD cs (suc (suc k)) 0 ≡ 71 → getD cs (suc (suc (suc k))) 0 ≡ 213 → rules.isArray cs (suc k) ≡ true
+  unfolding rules.isArray
+  array-some k a b = rw ((let z : suc k + 1 ≡ suc (suc k) = omega arith in z), (let z : suc k + 2 ≡ suc (suc (suc k)) = omega arith in z)) (rw (a, b) refl)
+
+  array-is : (s : Option ℕ) (v : Value) (k : ℕ) → Lies xs (suc (suc k)) (code-size s ++ code-value v) → After (suc (suc k) + length (code-size s ++ code-value v)) → rules.isArray cs (suc k) ≡ isArray s
+  array-is (some n) v k l a = array-some k (code-is m cs vs S (suc (suc k)) (i-number n) (l .0) (l .1)) (code-is m cs vs S (suc (suc (suc k))) i-size (l .2 .0) (l .2 .1))
+  array-is none unset k l a = array-none k (subst (λ x. getD cs (suc x) 0 ≡ 213 → ⊥) (let z : suc (suc k) + 0 ≡ suc (suc k) = omega arith in z) (a .1))
+  array-is none (set-number x) k l a = array-none k (λ z. (let c = code-is m cs vs S (suc (suc (suc k))) i-value (l .2 .0) (l .2 .1) in omega arith))
+  array-is none (set-minus x) k l a = array-none k (λ z. (let c = code-is m cs vs S (suc (suc (suc k))) i-minus (l .2 .0) (l .2 .1) in omega arith))
+  array-is none set-true k l a = array-none k (λ z. (let c = code-is m cs vs S (suc (suc (suc k))) i-value (l .2 .0) (l .2 .1) in omega arith))
+  array-is none set-false k l a = array-none k (λ z. (let c = code-is m cs vs S (suc (suc (suc k))) i-value (l .2 .0) (l .2 .1) in omega arith))
+  array-is none (set-name w) k l a = array-none k (λ z. (let c = code-is m cs vs S (suc (suc (suc k))) i-named (l .2 .0) (l .2 .1) in omega arith))
+  array-is none (set-channel x ks) k l a = array-none k (λ z. (let c = code-is m cs vs S (suc (suc (suc k))) i-channel (l .2 .0) (l .2 .1) in omega arith))
+
+  pub chan-is : (k p t : ℕ) → last cs 3 k ≡ suc (suc p) → getD cs p 0 ≡ 130 + t → rules.isChan cs k ≡ eqb t 43
+  unfolding rules.isChan
+  chan-is k p t e q = rw (e, (let z : suc (suc p) - 2 ≡ p = omega arith in z), q) (chan-code t)
+
+  -- ---- a variable of type t, in body h, with the type at item p; `sense` says what names stand for with the scope so far
+  module _ (t h lo hi p : ℕ) (sense : Scope → Name → Sense) (f : Scope → Variable → Bool)
+      (F : (l : Scope) (w : Name) (s : Option ℕ) (v : Value) → f l (variable w s v) ≡ both (fresh l w) (both (sized s) (units.valued (sense (l ++ ofVariable t (variable w s v) ∷ [])) v)))
+      (home : (j : ℕ) → lo ≤ j → j < hi → getD H j 0 ≡ h) (top : hi ≤ length cs) (typed : getD cs p 0 ≡ 130 + t)
+      (look : (l : Scope) (j : ℕ) (w : Name) → lo ≤ j → j < hi → itemAt xs j ≡ i-name w → Sc l h j → Pidless l → eqb (getD cs (lookup cs vs H (getD vs j 0) h j) 0) 220 ≡ isConstant (sense l w)) where
+
+    -- what stands behind a variable
+    pub record Passed (l : Scope) (b : Bool) (k e : ℕ) (l2 : Scope) : Type 0 where
+      pub scope : Sc l2 h e
+      pub kind : last cs 3 e ≡ suc (suc p)
+      pub judged : Pidless l → J k e b
+      pub pidless : Pidless l → b ≡ true → Pidless l2
+
+    one-variable : (w : Name) (s : Option ℕ) (v : Value) (l : Scope) (k e : ℕ) → e ≡ k + length (code-variable (variable w s v)) → lo ≤ k → e ≤ hi → Lies xs k (code-variable (variable w s v)) → last cs 3 k ≡ suc (suc p)
+        → After e → Sc l h k → Passed l (f l (variable w s v)) k e (l ++ ofVariable t (variable w s v) ∷ [])
+    one-variable w s v l k e q b d y c a sc =
+        record {
+          scope = scope-at e (omega arith) (omega arith);
+          kind = last-over m cs vs S 3 (suc (suc k)) e (omega arith) (λ j g u. low-three (getD cs j 0) (lows j g u)) ∙ last-skip m cs vs S 3 (suc k) (ap (among 3) cd ∙ sets .3) ∙ kind1;
+          judged = λ n. (let zz = sizes in subst (λ x. J k e x) (sym (F l w s v))
+            (judges-skip m cs vs S k (suc k) e _ (omega arith) (omega arith) (mark-clean k 70 (i-name w) (y .0) (y .1) refl (rulesNone .0))
+              (judges-both m cs vs S (suc k) (suc (suc k)) e (fresh l w) _ (omega arith) (omega arith) (rule-fresh m cs vs S l h k w (below (suc k) (y .2 .0)) (y .1) (ap (among 1) cd ∙ sets .2) hd sc1)
+                (λ fr. judges-both m cs vs S (suc (suc k)) k2 e (sized s) _ (omega arith) (omega arith) (size-judged s (suc (suc k)) (lies-front xs (suc (suc k)) (code-size s) (code-value v) (y .2 .2)))
+                  (λ sz. judges-to k2 (k2 + length (code-value v)) e _ _ (omega arith) refl
+                    (value-judged v k2 h (sense l2) (lies-back xs (code-size s) (code-value v) (suc (suc k)) k2 refl (y .2 .2)) (λ j g u. home j (omega arith) (omega arith))
+                      (λ x g u r. look l2 k2 x (omega arith) (omega arith) u (scope-at k2 (omega arith) (omega arith)) (fresh-pidless l w tt2 (sc .sure) fr n))))))));
+          pidless = λ n u. fresh-pidless l w tt2 (sc .sure) (both-true (fresh l w) _ (sym (F l w s v) ∙ u) .0) n;
+        }
+      where
+        tt2 : Sense
+        tt2 = senses.variable (eqb t 43) (isArray s)
+
+        l2 : Scope
+        l2 = l ++ declared w (senses.variable (eqb t 43) (isArray s)) ∷ []
+
+        k2 : ℕ
+        k2 = suc (suc k) + length (code-size s)
+
+        sizes : length (code-size s ++ code-value v) ≡ length (code-size s) + length (code-value v)
+        sizes = length-append (code-size s) (code-value v)
+
+        ends : e ≡ suc (suc k) + length (code-size s) + length (code-value v)
+        ends = let z = sizes in omega arith
+
+        cd : getD cs (suc k) 0 ≡ 212
+        cd = code-is m cs vs S (suc k) i-declared (y .2 .0) (y .2 .1)
+
+        hd : getD H (suc k) 0 ≡ h
+        hd = let z = ends in home (suc k) (omega arith) (omega arith)
+
+        cn : getD cs k 0 ≡ 70
+        cn = code-is m cs vs S k (i-name w) (y .0) (y .1)
+
+        kind1 : last cs 3 (suc k) ≡ suc (suc p)
+        kind1 = last-skip m cs vs S 3 k (ap (among 3) cn ∙ sets .1) ∙ c
+
+        sc1 : Sc l h (suc k)
+        sc1 = scoped-over m cs vs H S l h k (suc k) (omega arith) (λ j g u. inl (ap (λ n. among 1 (getD cs n 0)) (let z : j ≡ k = omega arith in z) ∙ ap (among 1) cn ∙ sets .0)) sc
+
+        lows : (j : ℕ) → suc (suc k) ≤ j → j < e → Low (getD cs j 0)
+        lows j g u =
+            let z = ends in
+            let n = sizes in
+            valued-at m cs vs S j (let r = long m cs vs S in omega arith)
+            (lies-all xs valued (code-size s ++ code-value v) (suc (suc k)) (y .2 .2) (all-append valued (code-size s) (code-value v) (all-size s) (all-value v)) j g (omega arith))
+
+        after : After (suc (suc k) + length (code-size s ++ code-value v))
+        after = subst After (let z = sizes in let n = ends in let r : e ≡ suc (suc k) + length (code-size s ++ code-value v) = omega arith in r) a
+
+        sc2 : Sc l2 h (suc (suc k))
+        sc2 =
+            scoped-more m cs vs H S l h k w tt2 (below (suc k) (y .2 .0)) (y .1) (ap (among 1) cd ∙ sets .2) hd refl
+            (omega arith, ap (among 14) cd ∙ sets .4, chan-is (suc k) p t kind1 typed, array-is s v k (y .2 .2) after) sc1
+
+        scope-at : (i : ℕ) → suc (suc k) ≤ i → i ≤ e → Sc l2 h i
+        scope-at i g u = scoped-over m cs vs H S l2 h (suc (suc k)) i g (λ j r z. inl (low-one (getD cs j 0) (lows j r (omega arith)))) sc2
+
+    -- all of them
+    after-variables : (us : List Variable) (k : ℕ) → Lies xs k (each code-variable us) → After (k + length (each code-variable us)) → After k
+    after-variables [] k y a = subst After (let z : k + 0 ≡ k = omega arith in z) a
+    after-variables (variable w s v ∷ us) k y a =
+        let c = code-is m cs vs S k (i-name w) (y .0) (y .1) in
+        let d = code-is m cs vs S (suc k) i-declared (y .2 .0) (y .2 .1) in
+        (λ z. omega arith, λ z. omega arith)
+
+    pub all-variables-judged : (us : List Variable) (l : Scope) (k e : ℕ) → e ≡ k + length (each code-variable us) → lo ≤ k → e ≤ hi → Lies xs k (each code-variable us) → last cs 3 k ≡ suc (suc p)
+        → After e → Sc l h k → Passed l (variables f t l us) k e (l ++ map (ofVariable t) us)
+    unfolding variables
+    all-variables-judged [] l k e q b d y c a sc =
+        let z : k ≡ e = omega arith in
+        record {
+          scope = subst (Sc (l ++ [])  h) z (subst (λ x. Sc x h k) (sym (append-nil l)) sc);
+          kind = subst (λ x. last cs 3 x ≡ suc (suc p)) z c;
+          judged = λ n. judges-true m cs vs S k e (clean-empty m cs vs S k e (omega arith));
+          pidless = λ n u. subst Pidless (sym (append-nil l)) n;
+        }
+    all-variables-judged (variable w s v ∷ us) l k e q b d y c a sc =
+        let X = code-variable (variable w s v) in
+        let E = each code-variable us in
+        let sizes : length (X ++ E) ≡ length X + length E = length-append X E in
+        let k2 = k + length X in
+        let r = lies-back xs X E k k2 refl y in
+        let one = one-variable w s v l k k2 refl b (omega arith) (lies-front xs k X E y) c (after-variables us k2 r (subst After (let z : e ≡ k2 + length E = omega arith in z) a)) sc in
+        let l2 = l ++ ofVariable t (variable w s v) ∷ [] in
+        let rest = all-variables-judged us l2 k2 e (omega arith) (omega arith) d r (one .kind) a (one .scope) in
+        let join : l2 ++ map (ofVariable t) us ≡ l ++ (ofVariable t (variable w s v) ∷ map (ofVariable t) us) = append-assoc l (ofVariable t (variable w s v) ∷ []) (map (ofVariable t) us) in
+        record {
+          scope = subst (λ x. Sc x h e) join (rest .scope);
+          kind = rest .kind;
+          judged = λ n. judges-both m cs vs S k k2 e (f l (variable w s v)) (variables f t l2 us) (omega arith) (omega arith) (one .judged n) (λ u. rest .judged (one .pidless n u));
+          pidless = λ n u. (let g = both-true (f l (variable w s v)) (variables f t l2 us) u in subst Pidless join (rest .pidless (one .pidless n (g .0)) (g .1)));
+        }
