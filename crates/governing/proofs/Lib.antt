@@ -4,3 +4,4 @@ pub mod Homes
 pub mod Scopes
 pub mod Judging
 pub mod Variables
+pub mod Declarations

@@ -186,7 +186,7 @@ module _ (m : Model) (cs vs : List ℕ) (S : Says m cs vs) where
   abbrev pub After : ℕ → Type 0
   After e = (getD cs e 0 ≡ 213 → ⊥) × (getD cs (suc e) 0 ≡ 213 → ⊥)
 
-  array-none : (k : ℕ) → (getD cs (suc (suc (suc k))) 0 ≡ 213 → ⊥) → rules.isArray cs (suc k) ≡ false
+  pub array-none : (k : ℕ) → (getD cs (suc (suc (suc k))) 0 ≡ 213 → ⊥) → rules.isArray cs (suc k) ≡ false
   unfolding rules.isArray
   array-none k n =
       rw (let z : suc k + 2 ≡ suc (suc (suc k)) = omega arith in z) (rw (ne-eqb (getD cs (suc (suc (suc k))) 0) 213 n) (go (eqb (getD cs (suc k + 1) 0) 71)))
