@@ -4,6 +4,7 @@ use native.Mathlib.Omega.{arith}
 use native.Mathlib.Decide.{ℕ-discrete}
 use mathlib.Core.Path.{_≡_, refl, sym, ap, _∙_, subst}
 use mathlib.Core.Bool.{Bool, true, false}
+use mathlib.Core.Option.{Option}
 use mathlib.Core.Logic.{_⊎_, inl, inr}
 use mathlib.Core.List.{List, [], _∷_, _++_, map, append-assoc, append-nil}
 use lib.ListN.{length, getD, length-append}
@@ -17,11 +18,12 @@ use Rattle.sheets.specs.Payload.{pid}
 use Rattle.finding.specs.Sets.{among}
 use Rattle.finding.specs.Search.{lookup, last}
 use Rattle.rules.specs.Rules.{ruleOf}
-use Rattle.syntax.specs.Tree.{Name, Model, Variable, Declaration, declare, Group, group}
+use Rattle.syntax.specs.Tree.{Name, Model, Value, Variable, Declaration, declare, Group, group}
+use Rattle.syntax.specs.Tree as tree
 use Rattle.syntax.specs.Code.{Item, i-name, i-type, i-local, i-global, i-group, i-parameter, each, code-variable, code-declaration, code-parameter, code-group, code}
 use Rattle.entries.specs.Items.{codeOf, Known}
-use Rattle.lawful.specs.Senses.{Sense, variable, constant, unknown, Declared, declared, Scope, senseIn, senseOf, isUnknown, isConstant, fresh, hides}
-use Rattle.lawful.specs.Units.{ofVariable, ofDeclaration, ofDeclarations, ofParameter, ofGroup, ofGroups, joins, localLawful, globalLawful, variables, declarations}
+use Rattle.lawful.specs.Senses.{Sense, variable, constant, procedure, unknown, Declared, declared, Scope, senseIn, senseOf, isUnknown, isConstant, fresh, hides}
+use Rattle.lawful.specs.Units.{ofVariable, ofDeclaration, ofDeclarations, ofParameter, ofGroup, ofGroups, sized, valued, joins, localLawful, globalLawful, variables, declarations}
 use Rattle.lawful.specs.Says.{itemAt, Says}
 use Rattle.governing.proofs.Items.{Low, type-code}
 use Rattle.governing.proofs.Standing.{Lies, lies-front, lies-back, long, known-at, code-is}
@@ -42,8 +44,12 @@ joins-append (d ∷ a) b l = go (fresh l (d .name)) (joins-append a b (l ++ d �
 hides-itself : (s : Sense) → hides s s ≡ s
 hides-itself (variable c a) = refl
 hides-itself constant = refl
-hides-itself (Rattle.lawful.specs.Senses.procedure n) = refl
+hides-itself (procedure n) = refl
 hides-itself unknown = refl
+
+sense-pid : (l g : Scope) → Pidless l → Pidless g → senseOf l g pid ≡ unknown
+unfolding senseOf
+sense-pid l g n o = ap (λ s. hides s (senseIn g pid)) (is-unknown (senseIn l pid) n) ∙ is-unknown (senseIn g pid) o
 
 name-set : among 1 70 ≡ false
 unfolding among
@@ -195,3 +201,108 @@ module _ (m : Model) (cs vs : List ℕ) (S : Says m cs vs) where
             subst Pidless join (rest .1 .pidless (ps .pidless n (g .0)) (g .1)));
         },
       )
+
+  -- ---- what the name of a value means
+  -- in body h, with the locals so far, behind the globals g
+  named-local : (g l : Scope) (h j : ℕ) (w : Name) → j < length cs → itemAt xs j ≡ i-name w → Sc l h j → Sc g 0 j → Pidless l → Pidless g
+      → eqb (getD cs (lookup cs vs H (getD vs j 0) h j) 0) 220 ≡ isConstant (senseOf l g w)
+  named-local g l h j w b q s r n o = go (same w pid) refl
+    where
+      cn : getD cs j 0 ≡ 70
+      cn = code-is m cs vs S j (i-name w) (let z = long m cs vs S in omega arith) q
+
+      go : (x : Bool) → same w pid ≡ x → eqb (getD cs (lookup cs vs H (getD vs j 0) h j) 0) 220 ≡ isConstant (senseOf l g w)
+      go true e =
+          let z = same-eq w pid e in
+          ap (λ i. eqb (getD cs i 0) 220) (lookup-pid m cs vs H S h j b (q ∙ ap i-name z)) ∙ ap (λ c. eqb c 220) cn ∙ sym (ap (λ v. isConstant (senseOf l g v)) z ∙ ap isConstant (sense-pid l g n o))
+      go false e = finds-constant cs (lookup cs vs H (getD vs j 0) h j) (senseOf l g w) (lookup-finds m cs vs H S l g h j w s r b q cn e)
+
+  -- outside of bodies
+  named-global : (l : Scope) (j : ℕ) (w : Name) → j < length cs → itemAt xs j ≡ i-name w → Sc l 0 j → Pidless l → eqb (getD cs (lookup cs vs H (getD vs j 0) 0 j) 0) 220 ≡ isConstant (senseOf [] l w)
+  unfolding senseOf senseIn
+  named-global l j w b q s n = named-local l l 0 j w b q s s n n ∙ ap isConstant (hides-itself (senseIn l w))
+
+  -- ---- a declaration, with its mark
+  module _ (x : Item) (c t h lo hi : ℕ) (sense : Scope → Name → Sense) (f : Scope → Variable → Bool) (coded : codeOf x ≡ c) (one : among 1 c ≡ false) (three : among 3 c ≡ true) (ruled : ruleOf c ≡ 0)
+      (F : (l : Scope) (w : Name) (s : Option ℕ) (v : Value) → f l (tree.variable w s v)
+        ≡ both (fresh l w) (both (sized s) (valued (sense (l ++ ofVariable t (tree.variable w s v) ∷ [])) v)))
+      (home : (j : ℕ) → lo ≤ j → j < hi → getD H j 0 ≡ h) (top : hi ≤ length cs)
+      (look : (l : Scope) (j : ℕ) (w : Name) → lo ≤ j → j < hi → itemAt xs j ≡ i-name w → Sc l h j → Pidless l → eqb (getD cs (lookup cs vs H (getD vs j 0) h j) 0) 220 ≡ isConstant (sense l w)) where
+    pub record Declares (l : Scope) (b : Bool) (k e : ℕ) (l2 : Scope) : Type 0 where
+      pub scope : Sc l2 h e
+      pub judged : Pidless l → J k e b
+      pub pidless : Pidless l → b ≡ true → Pidless l2
+
+    pub declaration-judged : (us : List Variable) (l : Scope) (k e : ℕ) → e ≡ k + length (code-declaration x (declare t us)) → lo ≤ k → e ≤ hi → Lies xs k (code-declaration x (declare t us)) → After m cs vs S e → Sc l h k
+        → Declares l (variables f t l us) k e (l ++ ofDeclaration (declare t us))
+    declaration-judged us l k e q b d y a sc =
+        let k2 = suc (suc k) in
+        let low = type-low k t (y .0) (y .1) in
+        let ct = code-is m cs vs S k (i-type t) (y .0) (y .1) in
+        let cx = code-is m cs vs S (suc k) x (y .2 .0) (y .2 .1) ∙ coded in
+        let s1 : Sc l h (suc k) = scoped-over m cs vs H S l h k (suc k) (omega arith) (λ j g v. inl (ap (λ n. among 1 (getD cs n 0)) (let z : j ≡ k = omega arith in z) ∙ low-one (getD cs k 0) low)) sc in
+        let s2 : Sc l h k2 = scoped-over m cs vs H S l h (suc k) k2 (omega arith) (λ j g v. inl (ap (λ n. among 1 (getD cs n 0)) (let z : j ≡ suc k = omega arith in z) ∙ ap (among 1) cx ∙ one)) s1 in
+        let r =
+        all-variables-judged m cs vs S t h lo hi k sense f F home top ct look us l k2 e (omega arith) (omega arith) d (y .2 .2) (last-here m cs vs S 3 (suc k) (ap (among 3) cx ∙ three)) a s2 in
+        record {
+          scope = r .scope;
+          judged = λ n.
+            judges-skip m cs vs S k k2 e (variables f t l us) (omega arith) (omega arith)
+            (clean-join m cs vs S k (suc k) k2 (type-clean m cs vs S k t (y .0) (y .1)) (mark-clean m cs vs S (suc k) c x (y .2 .0) (y .2 .1) coded ruled)) (r .judged n);
+          pidless = r .pidless;
+        }
+
+  -- ---- the declarations of a body
+  after-declarations : (ds : List Declaration) (k : ℕ) → Lies xs k (each (code-declaration i-local) ds) → After m cs vs S (k + length (each (code-declaration i-local) ds)) → After m cs vs S k
+  after-declarations [] k y a = subst (After m cs vs S) (let z : k + 0 ≡ k = omega arith in z) a
+  after-declarations (declare t us ∷ ds) k y a =
+      let c = code-is m cs vs S (suc k) i-local (y .2 .0) (y .2 .1) in
+      let b = type-code t (subst Known (y .1) (known-at m cs vs S k (y .0))) in
+      let b1 = b .1 in
+      let d = code-is m cs vs S k (i-type t) (y .0) (y .1) in
+      (λ z. omega arith, λ z. omega arith)
+
+  module _ (g : Scope) (h lo hi : ℕ) (home : (j : ℕ) → lo ≤ j → j < hi → getD H j 0 ≡ h) (top : hi ≤ length cs) (globals : (j : ℕ) → lo ≤ j → j < hi → Sc g 0 j) (outer : Pidless g) where
+    pub record Declared-all (l : Scope) (b : Bool) (k e : ℕ) (l2 : Scope) : Type 0 where
+      pub scope : Sc l2 h e
+      pub judged : Pidless l → J k e b
+      pub pidless : Pidless l → b ≡ true → Pidless l2
+
+    pub declarations-judged : (ds : List Declaration) (l : Scope) (k e : ℕ) → e ≡ k + length (each (code-declaration i-local) ds) → lo ≤ k → e ≤ hi → Lies xs k (each (code-declaration i-local) ds) → After m cs vs S e → Sc l h k
+        → Declared-all l (declarations g l ds) k e (l ++ ofDeclarations ds)
+    unfolding declarations
+    declarations-judged [] l k e q b d y a sc =
+        let z : k ≡ e = omega arith in
+        record {
+          scope = subst (Sc (l ++ []) h) z (subst (λ i. Sc i h k) (sym (append-nil l)) sc);
+          judged = λ n. judges-true m cs vs S k e (clean-empty m cs vs S k e (omega arith));
+          pidless = λ n v. subst Pidless (sym (append-nil l)) n;
+        }
+    declarations-judged (declare t us ∷ ds) l k e q b d y a sc =
+        let X = code-declaration i-local (declare t us) in
+        let E = each (code-declaration i-local) ds in
+        let sizes : length (X ++ E) ≡ length X + length E = length-append X E in
+        let k2 = k + length X in
+        let back = lies-back xs X E k k2 refl y in
+        let f : Scope → Variable → Bool = λ l x. localLawful g l t x in
+        let one =
+        declaration-judged i-local 210 t h lo hi (λ l. senseOf l g) f refl (opens .0) (opens .3) (marks .1) (λ l w s v. refl) home top (λ l j w i u v s n. named-local g l h j w (omega arith) v s (globals j i u) n outer) us l k k2 refl b
+        (omega arith) (lies-front xs k X E y) (after-declarations ds k2 back (subst (After m cs vs S) (let z : e ≡ k2 + length E = omega arith in z) a)) sc in
+        let l2 = l ++ ofDeclaration (declare t us) in
+        let rest = declarations-judged ds l2 k2 e (omega arith) (omega arith) d back a (one .scope) in
+        let join : l2 ++ ofDeclarations ds ≡ l ++ (ofDeclaration (declare t us) ++ ofDeclarations ds) = append-assoc l (ofDeclaration (declare t us)) (ofDeclarations ds) in
+        record {
+          scope = subst (λ i. Sc i h e) join (rest .scope);
+          judged = λ n. judges-both m cs vs S k k2 e (variables f t l us) (declarations g l2 ds) (omega arith) (omega arith) (one .judged n) (λ u. rest .judged (one .pidless n u));
+          pidless = λ n u. (let z = both-true (variables f t l us) (declarations g l2 ds) u in subst Pidless join (rest .pidless (one .pidless n (z .0)) (z .1)));
+        }
+
+  -- ---- a global declaration
+  pub global-judged : (t lo hi : ℕ) → ((j : ℕ) → lo ≤ j → j < hi → getD H j 0 ≡ 0) → hi ≤ length cs → (us : List Variable) (l : Scope) (k e : ℕ) → e ≡ k + length (code-declaration i-global (declare t us)) → lo ≤ k → e ≤ hi
+      → Lies xs k (code-declaration i-global (declare t us)) → After m cs vs S e → Sc l 0 k
+      → Sc (l ++ ofDeclaration (declare t us)) 0 e × (Pidless l → J k e (variables (λ l x. globalLawful l t x) t l us)) × (Pidless l → variables (λ l x. globalLawful l t x) t l us ≡ true → Pidless (l ++ ofDeclaration (declare t us)))
+  global-judged t lo hi home top us l k e q b d y a sc =
+      let f : Scope → Variable → Bool = λ l x. globalLawful l t x in
+      let r =
+      declaration-judged i-global 211 t 0 lo hi (λ l. senseOf [] l) f refl (opens .1) (opens .4) (marks .2) (λ l w s v. refl) home top (λ l j w i u v s n. named-global l j w (omega arith) v s n) us l k e q b d y a sc in
+      (r .scope, r .judged, r .pidless)
