@@ -146,7 +146,7 @@ module _ (m : Model) (cs vs : List ℕ) (S : Says m cs vs) where
   parameter-out : (t h p k : ℕ) → getD cs p 0 ≡ 130 + t → getD cs (suc k) 0 ≡ 222 → last cs 3 (suc k) ≡ suc (suc p) → After m cs vs S (suc (suc k)) → Out cs vs H (suc k) (suc (suc k)) (variable (eqb t 43) false)
   parameter-out t h p k typed c l a = (omega arith, ap (among 14) c ∙ opens .8, chan-is m cs vs S (suc k) p t l typed, array-none m cs vs S k (a .1))
 
-  after-groups : (gs : List Group) (k : ℕ) → Lies xs k (each code-group gs) → After m cs vs S (k + length (each code-group gs)) → After m cs vs S k
+  pub after-groups : (gs : List Group) (k : ℕ) → Lies xs k (each code-group gs) → After m cs vs S (k + length (each code-group gs)) → After m cs vs S k
   after-groups [] k y a = subst (After m cs vs S) (let z : k + 0 ≡ k = omega arith in z) a
   after-groups (group t ws ∷ gs) k y a =
       let l = type-low k t (y .0) (y .1) in
@@ -253,7 +253,7 @@ module _ (m : Model) (cs vs : List ℕ) (S : Says m cs vs) where
         }
 
   -- ---- the declarations of a body
-  after-declarations : (ds : List Declaration) (k : ℕ) → Lies xs k (each (code-declaration i-local) ds) → After m cs vs S (k + length (each (code-declaration i-local) ds)) → After m cs vs S k
+  pub after-declarations : (ds : List Declaration) (k : ℕ) → Lies xs k (each (code-declaration i-local) ds) → After m cs vs S (k + length (each (code-declaration i-local) ds)) → After m cs vs S k
   after-declarations [] k y a = subst (After m cs vs S) (let z : k + 0 ≡ k = omega arith in z) a
   after-declarations (declare t us ∷ ds) k y a =
       let c = code-is m cs vs S (suc k) i-local (y .2 .0) (y .2 .1) in

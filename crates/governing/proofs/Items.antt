@@ -17,7 +17,7 @@ use Rattle.productions.specs.Numbering.{nth, items}
 use Rattle.finding.specs.Sets.{within}
 use Rattle.entries.specs.Items.{codeOf, Known, is-name, is-text, is-number, is-mark}
 
--- ---- classes: 0 what stands in values of declarations, and 5 types there; 1 in statements alone; 2 in both; 3 other marks of declarations and parameters; 4 the others
+-- ---- classes: 0 what stands in values of declarations, and 5 types there; 1 in statements alone; 2 in both; 3 other marks of declarations, and 6 of parameters; 4 the others
 unfoldable pub class : Item → ℕ
 class (i-name w) = 2
 class (i-number n) = 2
@@ -70,8 +70,8 @@ class i-channel = 0
 class i-field = 0
 class i-mtypes = 4
 class i-message = 4
-class i-group = 3
-class i-parameter = 3
+class i-group = 6
+class i-parameter = 6
 class i-proctype = 4
 class i-active = 4
 class i-active-many = 4
@@ -85,8 +85,11 @@ spoken x = within 1 2 (class x)
 unfoldable pub valued : Item → Bool
 valued x = either (eqb (class x) 0) (either (eqb (class x) 2) (eqb (class x) 5))
 
+unfoldable pub settled : Item → Bool
+settled x = either (valued x) (eqb (class x) 3)
+
 unfoldable pub declaring : Item → Bool
-declaring x = either (valued x) (eqb (class x) 3)
+declaring x = either (settled x) (eqb (class x) 6)
 
 -- ---- what a class says of a code
 abbrev low : ℕ → Bool
@@ -98,7 +101,7 @@ calm c = either (ltb c 72) (either (within 168 175 c) (either (within 178 179 c)
 unfoldable fair : Item → Bool
 fair x =
     both (pick (spoken x) (leb (codeOf x) 209) true)
-    (both (pick (valued x) (low (codeOf x)) true) (both (pick (declaring x) (calm (codeOf x)) true) (pick (eqb (class x) 5) (within 168 175 (codeOf x)) true)))
+    (both (pick (valued x) (low (codeOf x)) true) (both (pick (declaring x) (calm (codeOf x)) true) (both (pick (eqb (class x) 5) (within 168 175 (codeOf x)) true) (pick (settled x) (leb (codeOf x) 218) true))))
 
 unfoldable fairs : List Item → Bool
 fairs [] = true
@@ -111,11 +114,11 @@ fair-nth (x ∷ l) zero d e h = both-true (fair x) (fairs l) e .0
 fair-nth (x ∷ l) (suc n) d e h = fair-nth l n d (both-true (fair x) (fairs l) e .1) h
 
 table-fair : fairs items ≡ true
-unfolding fairs fair spoken valued declaring class
+unfolding fairs fair spoken valued settled declaring class
 table-fair = refl
 
 known-fair : {x : Item} → Known x → fair x ≡ true
-unfolding fair spoken valued declaring class
+unfolding fair spoken valued settled declaring class
 known-fair (is-name a b) = refl
 known-fair (is-text a b) = refl
 known-fair is-number = refl
@@ -126,11 +129,11 @@ unfolding fair
 spoken-code x k e = leb-true (codeOf x) 209 (sym (ap (λ b. pick b (leb (codeOf x) 209) true) e) ∙ both-true (pick (spoken x) (leb (codeOf x) 209) true) _ (known-fair k) .0)
 
 pub type-code : (k : ℕ) → Known (i-type k) → (168 ≤ codeOf (i-type k)) × (codeOf (i-type k) ≤ 175)
-unfolding fair class spoken valued declaring
+unfolding fair class spoken valued settled declaring
 type-code k kn =
     let a = both-true (low (130 + k)) _ (known-fair kn) .1 in
     let b = both-true (calm (130 + k)) _ a .1 in
-    let c = both-true (leb 168 (130 + k)) (leb (130 + k) 175) b in
+    let c = both-true (leb 168 (130 + k)) (leb (130 + k) 175) (both-true (within 168 175 (130 + k)) _ b .0) in
     (leb-true 168 (130 + k) (c .0), leb-true (130 + k) 175 (c .1))
 
 within-true : (a b c : ℕ) → within a b c ≡ true → (a ≤ c) × (c ≤ b)
@@ -202,6 +205,14 @@ declaring-code x k e =
     let a = both-true (pick (spoken x) (leb (codeOf x) 209) true) _ (known-fair k) .1 in
     let b = both-true (pick (valued x) (low (codeOf x)) true) _ a .1 in
     calm-is (codeOf x) (sym (ap (λ b. pick b (calm (codeOf x)) true) e) ∙ both-true (pick (declaring x) (calm (codeOf x)) true) _ b .0)
+
+pub settled-code : (x : Item) → Known x → settled x ≡ true → codeOf x ≤ 218
+unfolding fair
+settled-code x k e =
+    let a = both-true (pick (spoken x) (leb (codeOf x) 209) true) _ (known-fair k) .1 in
+    let b = both-true (pick (valued x) (low (codeOf x)) true) _ a .1 in
+    let c = both-true (pick (declaring x) (calm (codeOf x)) true) _ b .1 in
+    leb-true (codeOf x) 218 (sym (ap (λ b. pick b (leb (codeOf x) 218) true) e) ∙ both-true (pick (eqb (class x) 5) (within 168 175 (codeOf x)) true) _ c .1)
 
 -- ---- all items of a list
 abbrev pub All : (Item → Bool) → List Item → Type 0
@@ -296,32 +307,40 @@ all-value set-false = (refl, (refl, tt))
 all-value (set-name w) = (refl, (refl, tt))
 all-value (set-channel n ks) = (refl, (refl, all-each valued code-field all-field ks))
 
-valued-declaring : (l : List Item) → All valued l → All declaring l
+valued-settled : (l : List Item) → All valued l → All settled l
+unfolding settled
+valued-settled [] a = tt
+valued-settled (x ∷ l) a = (rw (a .0), valued-settled l (a .1))
+
+pub settled-declaring : (x : Item) → settled x ≡ true → declaring x ≡ true
 unfolding declaring
-valued-declaring [] a = tt
-valued-declaring (x ∷ l) a = (rw (a .0), valued-declaring l (a .1))
+settled-declaring x e = rw e
 
-all-variable : (v : Variable) → All declaring (code-variable v)
-unfolding declaring valued class
-all-variable (variable w s v) = (refl, (refl, valued-declaring (code-size s ++ code-value v) (all-append valued (code-size s) (code-value v) (all-size s) (all-value v))))
+all-variable : (v : Variable) → All settled (code-variable v)
+unfolding settled valued class
+all-variable (variable w s v) = (refl, (refl, valued-settled (code-size s ++ code-value v) (all-append valued (code-size s) (code-value v) (all-size s) (all-value v))))
 
-pub all-variables : (vs : List Variable) → All declaring (each code-variable vs)
-all-variables vs = all-each declaring code-variable all-variable vs
+pub all-declaration : (i : Item) → settled i ≡ true → (d : Declaration) → All settled (code-declaration i d)
+unfolding settled valued class
+all-declaration i e (declare k vs) = (refl, (e, all-each settled code-variable all-variable vs))
 
-pub all-declaration : (i : Item) → declaring i ≡ true → (d : Declaration) → All declaring (code-declaration i d)
-unfolding declaring valued class
-all-declaration i e (declare k vs) = (refl, (e, all-variables vs))
+pub local-settled : settled i-local ≡ true
+unfolding settled valued class
+local-settled = refl
 
-pub all-declarations : (ds : List Declaration) → All declaring (each (code-declaration i-local) ds)
-unfolding declaring valued class
-all-declarations ds = all-each declaring (code-declaration i-local) (all-declaration i-local refl) ds
+pub global-settled : settled i-global ≡ true
+unfolding settled valued class
+global-settled = refl
+
+pub all-declarations : (ds : List Declaration) → All settled (each (code-declaration i-local) ds)
+all-declarations ds = all-each settled (code-declaration i-local) (all-declaration i-local local-settled) ds
 
 all-parameter : (w : Name) → All declaring (code-parameter w)
-unfolding declaring valued class
+unfolding declaring settled valued class
 all-parameter w = (refl, (refl, tt))
 
 all-group : (g : Group) → All declaring (code-group g)
-unfolding declaring valued class
+unfolding declaring settled valued class
 all-group (group k ws) = (refl, (refl, all-each declaring code-parameter all-parameter ws))
 
 pub all-groups : (gs : List Group) → All declaring (each code-group gs)

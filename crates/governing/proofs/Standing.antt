@@ -11,7 +11,7 @@ use Rattle.syntax.specs.Tree.{Model}
 use Rattle.syntax.specs.Code.{Item, i-plain, code}
 use Rattle.entries.specs.Items.{codeOf, Known, AllKnown}
 use Rattle.lawful.specs.Says.{itemAt, Says}
-use Rattle.governing.proofs.Items.{spoken, valued, declaring, Low, Calm, spoken-code, valued-code, declaring-code, All}
+use Rattle.governing.proofs.Items.{spoken, valued, settled, declaring, Low, Calm, spoken-code, valued-code, settled-code, declaring-code, settled-declaring, All}
 
 -- the items l stand in the items xs from item k on
 abbrev pub Lies : List Item → ℕ → List Item → Type 0
@@ -79,3 +79,7 @@ module _ (m : Model) (cs vs : List ℕ) (S : Says m cs vs) where
 
   pub declaring-at : (j : ℕ) → j < length (code m) → declaring (itemAt (code m) j) ≡ true → Calm (getD cs j 0)
   declaring-at j h e = subst Calm (sym (code-at j h)) (declaring-code (itemAt (code m) j) (known-at j h) e)
+
+  pub settled-at : (j : ℕ) → j < length (code m) → settled (itemAt (code m) j) ≡ true → (getD cs j 0 ≤ 218) × Calm (getD cs j 0)
+  settled-at j h e =
+      (let a = settled-code (itemAt (code m) j) (known-at j h) e in let b = code-at j h in omega arith, declaring-at j h (settled-declaring (itemAt (code m) j) e))
