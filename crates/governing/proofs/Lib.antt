@@ -5,3 +5,4 @@ pub mod Scopes
 pub mod Judging
 pub mod Variables
 pub mod Declarations
+pub mod Bodies
