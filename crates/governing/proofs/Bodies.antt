@@ -34,7 +34,7 @@ use Rattle.governing.proofs.Items.{spoken, settled, Calm, all-tree, all
 use Rattle.governing.proofs.Standing.{Lies, lies-front, lies-back, lies-all, long, code-is, spoken-at, settled-at}
 use Rattle.governing.proofs.Homes.{no-head, inside-head, inside-end, inside-over, home-inside, home-most, home-later}
 use Rattle.governing.proofs.Scopes.{Out, Scoped, out-known, scoped-over, lookup-finds}
-use Rattle.governing.proofs.Judging.{hs, fault, Clean, Judges, clean-one, judges-both, judges-skip, judges-trail}
+use Rattle.governing.proofs.Judging.{hs, fault-mark, Clean, Judges, clean-one, judges-both, judges-skip, judges-trail}
 use Rattle.governing.proofs.Variables.{Pidless, is-unknown, mark-clean, After}
 use Rattle.governing.proofs.Declarations.{type-low, after-declarations, declarations-judged}
 
@@ -70,6 +70,10 @@ end-none (x ∷ l) = end-none l
 marks : (ruleOf 227 ≡ 0) × (ruleOf 228 ≡ 0)
 unfolding ruleOf
 marks = (refl, refl)
+
+body-one : among 1 227 ≡ false
+unfolding among
+body-one = refl
 
 module _ (m : Model) (cs vs : List ℕ) (S : Says m cs vs) where
   abbrev xs : List Item
@@ -273,3 +277,52 @@ module _ (m : Model) (cs vs : List ℕ) (S : Says m cs vs) where
             let i0 = F .parts in
             let i1 = F .inner in
             scoped-over m cs vs H S g 0 (suc u) j (omega arith) (λ i a c. inr (λ z. (let q = home-in i a (omega arith) in omega arith))) sg
+
+  -- what is known of the statements of a body: crate `ruling`
+  abbrev pub Statements : Type 0
+  Statements =
+      (q : Tree sequence) (from to h : ℕ) (at : Place) → Full q → Lying xs 0 (code-tree q) from → to ≡ from + sizeIn q → to < length cs → getD cs to 0 ≡ 228 → Setting xs cs vs H h from to at → at .labels ≡ labelsOf q
+      → 1 ≤ from → (getD cs (from - 1) 0 ≡ 208 → ⊥)
+      → (Clean m cs vs S from to → both (apart (labelsOf q)) (allowed at false false q) ≡ true) × (both (apart (labelsOf q)) (allowed at false false q) ≡ true → Clean m cs vs S from to)
+
+  module _ (ruled : Statements) (u b f t : ℕ) (F : Frame u b f t) where
+    pub body-judged : (ds : List Declaration) (q : Tree sequence) (l g M : Scope) → Full q → Lying xs 0 (code-tree q) f → t ≡ f + sizeIn q → f ≡ suc b + length (each (code-declaration i-local) ds)
+        → Lies xs (suc b) (each (code-declaration i-local) ds) → (getD cs (suc t) 0 ≡ 213 → ⊥) → Sc l (suc u) b → Sc g 0 (suc u) → Sc M 0 (length cs) → Pidless l → Pidless g → Pidless M
+        → J b (suc t) (bodyLawful M g l (body ds q))
+    unfolding bodyLawful
+    body-judged ds q l g M full lying et ef y after sl sg sm nl ng nm =
+        let i0 = F .parts in
+        let i1 = F .inner in
+        let i2 = F .last in
+        let top = F .top in
+        let D = declarations-judged m cs vs S g (suc u) (suc u) (suc t) (λ j x z. home-in u b f t F j x (omega arith)) (omega arith) (λ j x z. globals j x (omega arith)) ng ds l (suc b) f ef (omega arith) (omega arith) y behind sl2 in
+        let W : Place = record { locals = l ++ ofDeclarations ds; globals = g; model = M; labels = labelsOf q } in
+        let B = both (apart (labelsOf q)) (allowed W false false q) in
+        judges-skip m cs vs S b (suc b) (suc t) (both (declarations g l ds) B) (omega arith) (omega arith) (clean-one m cs vs S b (fault-mark m cs vs S b 227 (marks .0) (F .begin)))
+        (judges-both m cs vs S (suc b) f (suc t) (declarations g l ds) B (omega arith) (omega arith) (D .judged nl)
+          (λ e. (let R = ruled q f t (suc u) W full lying et top (F .ends) (setting u b f t F (l ++ ofDeclarations ds) g M (labelsOf q) (D .scope) sg sm (D .pidless nl e) nm) refl (omega arith) before in
+            judges-trail m cs vs S f t (suc t) B (omega arith) (omega arith) (record { sound = R .0; complete = R .1 }) (clean-one m cs vs S t (fault-mark m cs vs S t 228 (marks .1) (F .ends))))))
+      where
+        sl2 : Scoped m cs vs (hs m cs vs S) S l (suc u) (suc b)
+        sl2 = scoped-over m cs vs H S l (suc u) b (suc b) (omega arith) (λ j x z. inl (ap (λ n. among 1 (getD cs n 0)) (let w : j ≡ b = omega arith in w) ∙ ap (among 1) (F .begin) ∙ body-one)) sl
+
+        globals : (j : ℕ) → suc u ≤ j → j ≤ t → Scoped m cs vs (hs m cs vs S) S g 0 j
+        globals j x z = scoped-over m cs vs H S g 0 (suc u) j x (λ i a c. inr (λ w. (let r = home-in u b f t F i a (omega arith) in omega arith))) sg
+
+        low-end : (j : ℕ) → f ≤ j → j ≤ suc t → getD cs j 0 ≡ 213 → ⊥
+        low-end j x z e = go (decLt j t) (ℕ-discrete j t)
+          where
+            go : Dec (j < t) → Dec (j ≡ t) → ⊥
+            go (yes a) c = let r = F .said j x a in omega arith
+            go (no a) (yes c) = let r : getD cs j 0 ≡ 228 = ap (λ n. getD cs n 0) c ∙ F .ends in omega arith
+            go (no a) (no c) = after (ap (λ n. getD cs n 0) (let w : suc t ≡ j = omega arith in w) ∙ e)
+
+        behind : After m cs vs S f
+        behind = let i2 = F .last in (low-end f (omega arith) (omega arith), low-end (suc f) (omega arith) (omega arith))
+
+        before : getD cs (f - 1) 0 ≡ 208 → ⊥
+        before e = let i1 = F .inner in go (ℕ-discrete f (suc b))
+          where
+            go : Dec (f ≡ suc b) → ⊥
+            go (yes z) = let c : getD cs (f - 1) 0 ≡ 227 = ap (λ n. getD cs n 0) (let w : f - 1 ≡ b = omega arith in w) ∙ F .begin in omega arith
+            go (no z) = let i1 = F .inner in let c = F .own (f - 1) (omega arith) (omega arith) .1 .high (omega arith) in omega arith
