@@ -30,8 +30,8 @@ use Rattle.nesting.specs.Full.{Full}
 use Rattle.acts.specs.Program.{sizeIn}
 use Rattle.acts.proofs.Stands.{Lying}
 use Rattle.fitness.proofs.Sums.{sum-split, sum-nones}
-use Rattle.governing.proofs.Items.{spoken, settled, Calm, all-tree, all-declarations}
-use Rattle.governing.proofs.Standing.{Lies, lies-front, lies-back, lies-all, long, code-is, spoken-at, settled-at}
+use Rattle.governing.proofs.Items.{spoken, settled, declaring, Calm, all-tree, all-declarations, all-groups}
+use Rattle.governing.proofs.Standing.{Lies, lies-front, lies-back, lies-all, long, code-is, spoken-at, declaring-at, settled-at}
 use Rattle.governing.proofs.Homes.{no-head, inside-head, inside-end, inside-over, home-inside, home-most, home-later}
 use Rattle.governing.proofs.Scopes.{Out, Scoped, out-known, scoped-over, lookup-finds}
 use Rattle.governing.proofs.Judging.{hs, fault-mark, Clean, Judges, clean-one, judges-both, judges-skip, judges-trail}
@@ -278,12 +278,49 @@ module _ (m : Model) (cs vs : List ℕ) (S : Says m cs vs) where
             let i1 = F .inner in
             scoped-over m cs vs H S g 0 (suc u) j (omega arith) (λ i a c. inr (λ z. (let q = home-in i a (omega arith) in omega arith))) sg
 
+    low-end : (getD cs (suc t) 0 ≡ 213 → ⊥) → (j : ℕ) → f ≤ j → j ≤ suc t → getD cs j 0 ≡ 213 → ⊥
+    low-end after j x z e = go (decLt j t) (ℕ-discrete j t)
+      where
+        go : Dec (j < t) → Dec (j ≡ t) → ⊥
+        go (yes a) c = let r = F .said j x a in omega arith
+        go (no a) (yes c) = let r : getD cs j 0 ≡ 228 = ap (λ n. getD cs n 0) c ∙ F .ends in omega arith
+        go (no a) (no c) = after (ap (λ n. getD cs n 0) (let w : suc t ≡ j = omega arith in w) ∙ e)
+
+    -- no size stands where the statements begin
+    pub frame-behind : (getD cs (suc t) 0 ≡ 213 → ⊥) → After m cs vs S f
+    frame-behind after = let i2 = F .last in (low-end after f (omega arith) (omega arith), low-end after (suc f) (omega arith) (omega arith))
+
   -- what is known of the statements of a body: crate `ruling`
   abbrev pub Statements : Type 0
   Statements =
       (q : Tree sequence) (from to h : ℕ) (at : Place) → Full q → Lying xs 0 (code-tree q) from → to ≡ from + sizeIn q → to < length cs → getD cs to 0 ≡ 228 → Setting xs cs vs H h from to at → at .labels ≡ labelsOf q
       → 1 ≤ from → (getD cs (from - 1) 0 ≡ 208 → ⊥)
       → (Clean m cs vs S from to → both (apart (labelsOf q)) (allowed at false false q) ≡ true) × (both (apart (labelsOf q)) (allowed at false false q) ≡ true → Clean m cs vs S from to)
+
+  -- the frame of a unit, by its items
+  pub frame-made : (gs : List Group) (ds : List Declaration) (q : Tree sequence) (u b f t : ℕ) → heads (getD cs u 0) ≡ true → b ≡ suc u + length (each code-group gs)
+      → f ≡ suc b + length (each (code-declaration i-local) ds) → t ≡ f + sizeIn q → Lies xs (suc u) (each code-group gs) → Lies xs b (code-body (body ds q)) → u < length xs → Frame u b f t
+  frame-made gs ds q u b f t h eb ef et yg yb bu =
+      let D = each (code-declaration i-local) ds in
+      let T = code-tree q in
+      let yd = lies-front xs b (i-body ∷ D) T (lies-front xs b (i-body ∷ D ++ T) (i-end-body ∷ []) yb) in
+      let yt = lies-back xs (i-body ∷ D) T b f (omega arith) (lies-front xs b (i-body ∷ D ++ T) (i-end-body ∷ []) yb) in
+      let n : length (i-body ∷ D ++ T) ≡ suc (length D) + length T = length-append (i-body ∷ D) T in
+      let ye = lies-back xs (i-body ∷ D ++ T) (i-end-body ∷ []) b t (omega arith) yb in
+      let top = ye .0 in
+      let lg = long m cs vs S in
+      record {
+        head = h;
+        parts = omega arith;
+        inner = omega arith;
+        last = omega arith;
+        top = omega arith;
+        before = λ j x z. declaring-at m cs vs S j (omega arith) (lies-all xs declaring (each code-group gs) (suc u) yg (all-groups gs) j x (omega arith));
+        begin = code-is m cs vs S b i-body (yb .0) (yb .1);
+        own = λ j x z. settled-at m cs vs S j (omega arith) (lies-all xs settled D (suc b) (yd .2) (all-declarations ds) j x (omega arith));
+        said = λ j x z. spoken-at m cs vs S j (omega arith) (lies-all xs spoken T f yt (all-tree q) j x (omega arith));
+        ends = code-is m cs vs S t i-end-body (ye .0) (ye .1);
+      }
 
   module _ (ruled : Statements) (u b f t : ℕ) (F : Frame u b f t) where
     pub body-judged : (ds : List Declaration) (q : Tree sequence) (l g M : Scope) → Full q → Lying xs 0 (code-tree q) f → t ≡ f + sizeIn q → f ≡ suc b + length (each (code-declaration i-local) ds)
@@ -295,7 +332,7 @@ module _ (m : Model) (cs vs : List ℕ) (S : Says m cs vs) where
         let i1 = F .inner in
         let i2 = F .last in
         let top = F .top in
-        let D = declarations-judged m cs vs S g (suc u) (suc u) (suc t) (λ j x z. home-in u b f t F j x (omega arith)) (omega arith) (λ j x z. globals j x (omega arith)) ng ds l (suc b) f ef (omega arith) (omega arith) y behind sl2 in
+        let D = declarations-judged m cs vs S g (suc u) (suc u) (suc t) (λ j x z. home-in u b f t F j x (omega arith)) (omega arith) (λ j x z. globals j x (omega arith)) ng ds l (suc b) f ef (omega arith) (omega arith) y (frame-behind u b f t F after) sl2 in
         let W : Place = record { locals = l ++ ofDeclarations ds; globals = g; model = M; labels = labelsOf q } in
         let B = both (apart (labelsOf q)) (allowed W false false q) in
         judges-skip m cs vs S b (suc b) (suc t) (both (declarations g l ds) B) (omega arith) (omega arith) (clean-one m cs vs S b (fault-mark m cs vs S b 227 (marks .0) (F .begin)))
@@ -308,17 +345,6 @@ module _ (m : Model) (cs vs : List ℕ) (S : Says m cs vs) where
 
         globals : (j : ℕ) → suc u ≤ j → j ≤ t → Scoped m cs vs (hs m cs vs S) S g 0 j
         globals j x z = scoped-over m cs vs H S g 0 (suc u) j x (λ i a c. inr (λ w. (let r = home-in u b f t F i a (omega arith) in omega arith))) sg
-
-        low-end : (j : ℕ) → f ≤ j → j ≤ suc t → getD cs j 0 ≡ 213 → ⊥
-        low-end j x z e = go (decLt j t) (ℕ-discrete j t)
-          where
-            go : Dec (j < t) → Dec (j ≡ t) → ⊥
-            go (yes a) c = let r = F .said j x a in omega arith
-            go (no a) (yes c) = let r : getD cs j 0 ≡ 228 = ap (λ n. getD cs n 0) c ∙ F .ends in omega arith
-            go (no a) (no c) = after (ap (λ n. getD cs n 0) (let w : suc t ≡ j = omega arith in w) ∙ e)
-
-        behind : After m cs vs S f
-        behind = let i2 = F .last in (low-end f (omega arith) (omega arith), low-end (suc f) (omega arith) (omega arith))
 
         before : getD cs (f - 1) 0 ≡ 208 → ⊥
         before e = let i1 = F .inner in go (ℕ-discrete f (suc b))
