@@ -6,3 +6,4 @@ pub mod Judging
 pub mod Variables
 pub mod Declarations
 pub mod Bodies
+pub mod Units
