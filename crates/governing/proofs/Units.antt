@@ -32,7 +32,7 @@ use Rattle.governing.proofs.Standing.{Lies, lies-front, lies-back, lies
 use Rattle.governing.proofs.Homes.{no-head, inside-over, home-inside, home-of-head, home-most}
 use Rattle.governing.proofs.Scopes.{Out, Scoped, scoped-start, scoped-over, scoped-more}
 use Rattle.governing.proofs.Judging.{hs, fault-mark, Clean, Judges, clean-join, clean-one, clean-empty, judges-true, judges-both, judges-skip, rule-fresh, rule-mtypes, rule-init}
-use Rattle.governing.proofs.Variables.{Pidless, fresh-pidless, mark-clean, After}
+use Rattle.governing.proofs.Variables.{low-one, Pidless, fresh-pidless, mark-clean, After}
 use Rattle.governing.proofs.Declarations.{names-judged, after-groups, groups-judged, after-declarations, global-judged}
 use Rattle.governing.proofs.Bodies.{Frame, frame-made, frame-behind, home-in, inside-after, parameters-counted, Statements, body-judged}
 
@@ -204,4 +204,129 @@ module _ (m : Model) (cs vs : List ℕ) (S : Says m cs vs) where
           inits = let f = count-over 10 j e (omega arith) (λ i u v. not-ten (getD cs i 0) (λ w. (let k = codes i u v in omega arith))) in omega arith;
           judged = λ M u v w. r .1 w;
           pidless = λ M n u. r .2 n u;
+        }
+
+    -- ---- units with a body
+    module _ (u b f t : ℕ) (F : Frame m cs vs S u b f t) where
+      frame-codes : (i : ℕ) → suc u ≤ i → i ≤ t → (getD cs i 0 ≡ 219 → ⊥) × (getD cs i 0 ≡ 226 → ⊥)
+      frame-codes i x y = go (decLt i b) (ℕ-discrete i b) (decLt i f) (decLt i t)
+        where
+          go : Dec (i < b) → Dec (i ≡ b) → Dec (i < f) → Dec (i < t) → (getD cs i 0 ≡ 219 → ⊥) × (getD cs i 0 ≡ 226 → ⊥)
+          go (yes p) q r s = let k = F .before i x p in let n = k .most in (k .mtypes, λ z. omega arith)
+          go (no p) (yes q) r s = let k : getD cs i 0 ≡ 227 = ap (λ n. getD cs n 0) q ∙ F .begin in (λ z. omega arith, λ z. omega arith)
+          go (no p) (no q) (yes r) s = let k = F .own i (omega arith) r .0 in (λ z. omega arith, λ z. omega arith)
+          go (no p) (no q) (no r) (yes s) = let k = F .said i (omega arith) s in (λ z. omega arith, λ z. omega arith)
+          go (no p) (no q) (no r) (no s) = let k : getD cs i 0 ≡ 228 = ap (λ n. getD cs n 0) (let z : i ≡ t = omega arith in z) ∙ F .ends in (λ z. omega arith, λ z. omega arith)
+
+      frame-scope : (l : Scope) → Sc l 0 (suc u) → Sc l 0 (suc t)
+      frame-scope l s =
+          let i0 = F .parts in
+          let i1 = F .inner in
+          let i2 = F .last in
+          scoped-over m cs vs H S l 0 (suc u) (suc t) (omega arith) (λ i x y. inr (λ z. (let k = home-in m cs vs S u b f t F i x (omega arith) in omega arith))) s
+
+      frame-nine : count cs H 9 0 0 (suc t) ≡ count cs H 9 0 0 (suc u)
+      frame-nine =
+          let i0 = F .parts in
+          let i1 = F .inner in
+          let i2 = F .last in
+          count-over 9 (suc u) (suc t) (omega arith) (λ i x y. not-nine (getD cs i 0) (frame-codes i x (omega arith) .0))
+
+      frame-ten : count cs H 10 0 0 (suc t) ≡ count cs H 10 0 0 (suc u)
+      frame-ten =
+          let i0 = F .parts in
+          let i1 = F .inner in
+          let i2 = F .last in
+          count-over 10 (suc u) (suc t) (omega arith) (λ i x y. not-ten (getD cs i 0) (frame-codes i x (omega arith) .1))
+
+      -- no local is declared before the body
+      frame-start : Sc [] (suc u) (suc u)
+      frame-start =
+          let i0 = F .parts in
+          let i1 = F .inner in
+          let i2 = F .last in
+          let top = F .top in
+          scoped-over m cs vs H S [] (suc u) 0 (suc u) (omega arith) (λ i x y. inr (λ z. (let k = home-most cs (S .few) i (omega arith) in omega arith))) (scoped-start m cs vs H S (suc u))
+
+    done-process : (a : Activity) (w : Name) (gs : List Group) (ds : List Declaration) (q : Tree sequence) (j n b f t k : ℕ) → Begins k → j ≤ n → n < length xs → itemAt xs n ≡ i-name w → suc n < length xs → getD cs (suc n) 0 ≡ k
+        → Clean m cs vs S j n → ((i : ℕ) → j ≤ i → i ≤ n → getD cs i 0 ≤ 71)
+        → b ≡ suc (suc n) + length (each code-group gs) → f ≡ suc b + length (each (code-declaration i-local) ds) → t ≡ f + sizeIn q → Lies xs (suc (suc n)) (each code-group gs) → Lies xs b (code-body (body ds q))
+        → Lying xs 0 (code-tree q) f → Full q → (getD cs (suc t) 0 ≡ 213 → ⊥) → Sc g 0 j → insideOf cs j ≡ 0 → count cs H 9 0 0 j ≡ c → count cs H 10 0 0 j ≡ d → Done ruled g c d (process a w gs (body ds q)) j (suc t)
+    done-process a w gs ds q j n b f t k bg jn bn qn bu ck clean low eb ef et yg yb lying full after sc ins c9 c10 =
+        let u = suc n in
+        let lg = long m cs vs S in
+        let bh = begins-head bg in
+        let F = frame-made m cs vs S gs ds q u b f t (ap heads ck ∙ bh .0) eb ef et yg yb bu in
+        let i0 = F .parts in
+        let i1 = F .inner in
+        let i2 = F .last in
+        let top = F .top in
+        let fl = flat j u ins (omega arith) (omega arith) (λ i x y. (let z = low i x (omega arith) in omega arith)) in
+        let su : Sc g 0 u = scoped-over m cs vs H S g 0 j u (omega arith) (λ i x y. inl (low-none (getD cs i 0) (low i x (omega arith)))) sc in
+        let sn : Sense = procedure (length (ofGroups gs)) in
+        let hu = home-of-head cs (S .few) u (omega arith) (ap heads ck ∙ bh .0) in
+        let am = ap (among 1) ck ∙ bh .1 in
+        let out : Out cs vs H u (suc u) sn = (omega arith, ap (among 13) ck ∙ bh .2, parameters-counted m cs vs S u b f t F gs yg eb) in
+        let g2 = g ++ declared w sn ∷ [] in
+        let s2 : Sc g2 0 (suc u) = scoped-more m cs vs H S g 0 n w sn (omega arith) qn am hu refl out su in
+        let yd = lies-front xs b (i-body ∷ each (code-declaration i-local) ds) (code-tree q) (lies-front xs b (i-body ∷ each (code-declaration i-local) ds ++ code-tree q) (i-end-body ∷ []) yb) in
+        let ab : After m cs vs S b =
+        ((λ z. (let e = F .begin in omega arith)), after-declarations m cs vs S ds (suc b) (yd .2) (subst (After m cs vs S) ef (frame-behind m cs vs S u b f t F after)) .0) in
+        let ps = groups-judged m cs vs S (suc u) (suc u) b (λ i x y. home-in m cs vs S u b f t F i x (omega arith)) (omega arith) gs [] (suc u) b eb (omega arith) (omega arith) yg ab (frame-start u b f t F) in
+        let JG : J (suc u) b (joins [] (ofGroups gs)) = ps .1 .judged in
+        let n9 = count-over 9 j (suc u) (omega arith) (λ i x y. not-nine (getD cs i 0) (heading i x (omega arith) (ℕ-discrete i u) ck (bh .3) (bh .4) low .0)) in
+        let n10 = count-over 10 j (suc u) (omega arith) (λ i x y. not-ten (getD cs i 0) (heading i x (omega arith) (ℕ-discrete i u) ck (bh .3) (bh .4) low .1)) in
+        let m9 = frame-nine u b f t F in
+        let m10 = frame-ten u b f t F in
+        record {
+          scope = frame-scope u b f t F g2 s2;
+          inside = inside-after m cs vs S u b f t F;
+          lists = omega arith;
+          inits = omega arith;
+          judged = λ M sm nm ng.
+            (let B = bodyLawful M g2 (ofGroups gs) (body ds q) in
+            judges-skip m cs vs S j u (suc t) (both (fresh g w) (both (joins [] (ofGroups gs)) B)) (omega arith) (omega arith)
+            (clean-join m cs vs S j n u clean (mark-clean m cs vs S n 70 (i-name w) bn qn refl (marks .0)))
+            (judges-both m cs vs S u (suc u) (suc t) (fresh g w) (both (joins [] (ofGroups gs)) B) (omega arith) (omega arith) (rule-fresh m cs vs S g 0 n w (omega arith) qn am hu su)
+              (λ fr. judges-both m cs vs S (suc u) b (suc t) (joins [] (ofGroups gs)) B (omega arith) (omega arith) JG
+                (λ jo. body-judged m cs vs S ruled u b f t F ds q (ofGroups gs) g2 M full lying et ef (yd .2) after (ps .1 .scope) s2 sm (ps .1 .pidless no-pid jo) (fresh-pidless g w sn (sc .sure) fr ng) nm))));
+          pidless = λ M ng e. fresh-pidless g w sn (sc .sure) (both-true (fresh g w) _ e .0) ng;
+        }
+      where
+        low-none : (x : ℕ) → x ≤ 71 → among 1 x ≡ false
+        low-none x h = low-one x (record { most = omega arith; string = λ z. omega arith; high = λ z. omega arith })
+
+        heading : (i : ℕ) → j ≤ i → i ≤ suc n → Dec (i ≡ suc n) → getD cs (suc n) 0 ≡ k → (k ≡ 219 → ⊥) → (k ≡ 226 → ⊥) → ((i : ℕ) → j ≤ i → i ≤ n → getD cs i 0 ≤ 71) → (getD cs i 0 ≡ 219 → ⊥) × (getD cs i 0 ≡ 226 → ⊥)
+        heading i x y (yes z) ck p q low = let e : getD cs i 0 ≡ k = ap (λ n. getD cs n 0) z ∙ ck in (λ r. p (sym e ∙ r), λ r. q (sym e ∙ r))
+        heading i x y (no z) ck p q low = let e = low i x (omega arith) in (λ r. omega arith, λ r. omega arith)
+
+    done-init : (ds : List Declaration) (q : Tree sequence) (j b f t : ℕ) → j < length xs → itemAt xs j ≡ i-init → b ≡ suc j → f ≡ suc b + length (each (code-declaration i-local) ds) → t ≡ f + sizeIn q
+        → Lies xs b (code-body (body ds q)) → Lying xs 0 (code-tree q) f → Full q → (getD cs (suc t) 0 ≡ 213 → ⊥) → Sc g 0 j → insideOf cs j ≡ 0 → count cs H 9 0 0 j ≡ c → count cs H 10 0 0 j ≡ d
+        → Done ruled g c d (init (body ds q)) j (suc t)
+    done-init ds q j b f t bj qj eb ef et yb lying full after sc ins c9 c10 =
+        let ci = code-is m cs vs S j i-init bj qj in
+        let lg = long m cs vs S in
+        let F = frame-made m cs vs S [] ds q j b f t (ap heads ci) (omega arith) ef et tt yb bj in
+        let i0 = F .parts in
+        let i1 = F .inner in
+        let i2 = F .last in
+        let top = F .top in
+        let hj = home-of-head cs (S .few) j (omega arith) (ap heads ci) in
+        let s1 : Sc g 0 (suc j) = scoped-over m cs vs H S g 0 j (suc j) (omega arith) (λ i x y. inl (ap (λ n. among 1 (getD cs n 0)) (let z : i ≡ j = omega arith in z) ∙ ap (among 1) ci ∙ sets .5)) sc in
+        let yd = lies-front xs b (i-body ∷ each (code-declaration i-local) ds) (code-tree q) (lies-front xs b (i-body ∷ each (code-declaration i-local) ds ++ code-tree q) (i-end-body ∷ []) yb) in
+        let n9 = count-over 9 j (suc j) (omega arith) (λ i x y. not-nine (getD cs i 0) (λ z. (let e : getD cs i 0 ≡ 226 = ap (λ n. getD cs n 0) (let w : i ≡ j = omega arith in w) ∙ ci in omega arith))) in
+        let n10 = count-next 10 j in
+        let o10 = one-here 10 j (ap (among 10) ci ∙ sets .1) hj in
+        let m9 = frame-nine j b f t F in
+        let m10 = frame-ten j b f t F in
+        record {
+          scope = subst (λ l. Sc l 0 (suc t)) (sym (append-nil g)) (frame-scope j b f t F g s1);
+          inside = inside-after m cs vs S j b f t F;
+          lists = omega arith;
+          inits = omega arith;
+          judged = λ M sm nm ng.
+            judges-both m cs vs S j (suc j) (suc t) (eqb d 0) (bodyLawful M g [] (body ds q)) (omega arith) (omega arith) (rule-init m cs vs S j d ci c10)
+            (λ z. subst (λ i. J i (suc t) (bodyLawful M g [] (body ds q))) eb
+              (body-judged m cs vs S ruled j b f t F ds q [] g M full lying et ef (yd .2) after (subst (Sc [] (suc j)) (sym eb) (frame-start j b f t F)) s1 sm no-pid ng nm));
+          pidless = λ M ng e. subst Pidless (sym (append-nil g)) ng;
         }
