@@ -7,3 +7,4 @@ pub mod Variables
 pub mod Declarations
 pub mod Bodies
 pub mod Units
+pub mod Parts

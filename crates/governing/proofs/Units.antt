@@ -153,7 +153,7 @@ module _ (m : Model) (cs vs : List ℕ) (S : Says m cs vs) where
 
   module _ (ruled : Statements m cs vs S) (g : Scope) (c d : ℕ) where
     -- ---- mtype names
-    done-mtypes : (ws : List Name) (j e : ℕ) → e ≡ j + length (code-part (mtypes ws)) → Lies xs j (code-part (mtypes ws)) → e ≤ length cs → After m cs vs S e → Sc g 0 j → insideOf cs j ≡ 0
+    pub done-mtypes : (ws : List Name) (j e : ℕ) → e ≡ j + length (code-part (mtypes ws)) → Lies xs j (code-part (mtypes ws)) → e ≤ length cs → After m cs vs S e → Sc g 0 j → insideOf cs j ≡ 0
         → count cs H 9 0 0 j ≡ c → count cs H 10 0 0 j ≡ d → Done ruled g c d (mtypes ws) j e
     done-mtypes ws j e q y top a sc ins c9 c10 =
         let cm = code-is m cs vs S j i-mtypes (y .0) (y .1) in
@@ -189,7 +189,7 @@ module _ (m : Model) (cs vs : List ℕ) (S : Says m cs vs) where
         upto i u v cm codes (no z) = let w = codes i (omega arith) v .0 in omega arith
 
     -- ---- a global declaration
-    done-global : (t : ℕ) (us : List Variable) (j e : ℕ) → e ≡ j + length (code-part (global (declare t us))) → Lies xs j (code-part (global (declare t us))) → e ≤ length cs → After m cs vs S e → Sc g 0 j → insideOf cs j ≡ 0
+    pub done-global : (t : ℕ) (us : List Variable) (j e : ℕ) → e ≡ j + length (code-part (global (declare t us))) → Lies xs j (code-part (global (declare t us))) → e ≤ length cs → After m cs vs S e → Sc g 0 j → insideOf cs j ≡ 0
         → count cs H 9 0 0 j ≡ c → count cs H 10 0 0 j ≡ d → Done ruled g c d (global (declare t us)) j e
     done-global t us j e q y top a sc ins c9 c10 =
         let lg = long m cs vs S in
@@ -248,7 +248,7 @@ module _ (m : Model) (cs vs : List ℕ) (S : Says m cs vs) where
           let top = F .top in
           scoped-over m cs vs H S [] (suc u) 0 (suc u) (omega arith) (λ i x y. inr (λ z. (let k = home-most cs (S .few) i (omega arith) in omega arith))) (scoped-start m cs vs H S (suc u))
 
-    done-process : (a : Activity) (w : Name) (gs : List Group) (ds : List Declaration) (q : Tree sequence) (j n b f t k : ℕ) → Begins k → j ≤ n → n < length xs → itemAt xs n ≡ i-name w → suc n < length xs → getD cs (suc n) 0 ≡ k
+    pub done-process : (a : Activity) (w : Name) (gs : List Group) (ds : List Declaration) (q : Tree sequence) (j n b f t k : ℕ) → Begins k → j ≤ n → n < length xs → itemAt xs n ≡ i-name w → suc n < length xs → getD cs (suc n) 0 ≡ k
         → Clean m cs vs S j n → ((i : ℕ) → j ≤ i → i ≤ n → getD cs i 0 ≤ 71)
         → b ≡ suc (suc n) + length (each code-group gs) → f ≡ suc b + length (each (code-declaration i-local) ds) → t ≡ f + sizeIn q → Lies xs (suc (suc n)) (each code-group gs) → Lies xs b (code-body (body ds q))
         → Lying xs 0 (code-tree q) f → Full q → (getD cs (suc t) 0 ≡ 213 → ⊥) → Sc g 0 j → insideOf cs j ≡ 0 → count cs H 9 0 0 j ≡ c → count cs H 10 0 0 j ≡ d → Done ruled g c d (process a w gs (body ds q)) j (suc t)
@@ -300,7 +300,7 @@ module _ (m : Model) (cs vs : List ℕ) (S : Says m cs vs) where
         heading i x y (yes z) ck p q low = let e : getD cs i 0 ≡ k = ap (λ n. getD cs n 0) z ∙ ck in (λ r. p (sym e ∙ r), λ r. q (sym e ∙ r))
         heading i x y (no z) ck p q low = let e = low i x (omega arith) in (λ r. omega arith, λ r. omega arith)
 
-    done-init : (ds : List Declaration) (q : Tree sequence) (j b f t : ℕ) → j < length xs → itemAt xs j ≡ i-init → b ≡ suc j → f ≡ suc b + length (each (code-declaration i-local) ds) → t ≡ f + sizeIn q
+    pub done-init : (ds : List Declaration) (q : Tree sequence) (j b f t : ℕ) → j < length xs → itemAt xs j ≡ i-init → b ≡ suc j → f ≡ suc b + length (each (code-declaration i-local) ds) → t ≡ f + sizeIn q
         → Lies xs b (code-body (body ds q)) → Lying xs 0 (code-tree q) f → Full q → (getD cs (suc t) 0 ≡ 213 → ⊥) → Sc g 0 j → insideOf cs j ≡ 0 → count cs H 9 0 0 j ≡ c → count cs H 10 0 0 j ≡ d
         → Done ruled g c d (init (body ds q)) j (suc t)
     done-init ds q j b f t bj qj eb ef et yb lying full after sc ins c9 c10 =
