@@ -8,3 +8,4 @@ pub mod Declarations
 pub mod Bodies
 pub mod Units
 pub mod Parts
+pub mod Main
