@@ -1,0 +1,11 @@
+pub mod Items
+pub mod Standing
+pub mod Homes
+pub mod Scopes
+pub mod Judging
+pub mod Variables
+pub mod Declarations
+pub mod Bodies
+pub mod Units
+pub mod Parts
+pub mod Main
