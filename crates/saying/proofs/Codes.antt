@@ -105,11 +105,11 @@ known-low (is-mark x a b) = low-nth items (x - 147) i-plain table-low refl
 abbrev pub Low : ℕ → Type 0
 Low c = (73 ≤ c) × (c ≤ 175)
 
-pub binary-low : (o : ℕ) → Known (i-binary o) → Low (codeOf (i-binary o))
+binary-low : (o : ℕ) → Known (i-binary o) → Low (codeOf (i-binary o))
 unfolding low loose
 binary-low o k = let z = both-true (leb 73 (codeOf (i-binary o))) (leb (codeOf (i-binary o)) 175) (known-low k) in (leb-true _ _ (z .0), leb-true _ _ (z .1))
 
-pub unary-low : (o : ℕ) → Known (i-unary o) → Low (codeOf (i-unary o))
+unary-low : (o : ℕ) → Known (i-unary o) → Low (codeOf (i-unary o))
 unfolding low loose
 unary-low o k = let z = both-true (leb 73 (codeOf (i-unary o))) (leb (codeOf (i-unary o)) 175) (known-low k) in (leb-true _ _ (z .0), leb-true _ _ (z .1))
 
@@ -127,7 +127,7 @@ module _ (P : ℕ → Type 0) where
   every-append [] y a b = b
   every-append (c ∷ x) y a b = (a .0, every-append x y (a .1) b)
 
-  pub every-each : {A : Type 0} (f : A → List Item) → ((a : A) → Every P (f a)) → (l : List A) → Every P (each f l)
+  every-each : {A : Type 0} (f : A → List Item) → ((a : A) → Every P (f a)) → (l : List A) → Every P (each f l)
   every-each f h [] = tt
   every-each f h (a ∷ l) = every-append (f a) (each f l) (h a) (every-each f h l)
 
@@ -255,10 +255,16 @@ value-codes (set-channel n ks) =
 
 variable-codes : (x : Variable) → Every InDeclaration (code-variable x)
 variable-codes (variable w s v) =
-    (λ k. (omega arith, λ e. omega arith, λ e. omega arith), (λ k. (omega arith, λ e. omega arith, λ e. omega arith), every-lift InValue InDeclaration (λ c h. (h .0, h .1, λ z. let y = h .2 z in omega arith)) (code-size s ++ code-value v) (every-append InValue (code-size s) (code-value v) (size-codes s) (value-codes v))))
+    let behind = every-append InValue (code-size s) (code-value v) (size-codes s) (value-codes v) in (
+      λ k. (omega arith, λ e. omega arith, λ e. omega arith),
+      (
+        λ k. (omega arith, λ e. omega arith, λ e. omega arith),
+        every-lift InValue InDeclaration (λ c h. (h .0, h .1, λ z. let y = h .2 z in omega arith)) (code-size s ++ code-value v) behind,
+      ),
+    )
 
 -- the mark of a declaration is `local` or `global`
-pub declaration-codes : (i : Item) → InDeclaration (codeOf i) → (d : Declaration) → Every InDeclaration (code-declaration i d)
+declaration-codes : (i : Item) → InDeclaration (codeOf i) → (d : Declaration) → Every InDeclaration (code-declaration i d)
 declaration-codes i m (declare n xs) =
     (λ k. let h = type-low n k in (omega arith, λ e. omega arith, λ e. omega arith), (λ k. m, every-each InDeclaration code-variable variable-codes xs))
 

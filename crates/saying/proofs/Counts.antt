@@ -222,7 +222,8 @@ pub statements-model : (m : Model) → AllKnown (code m) → mass (one 11) (code
 statements-model m k = mass-model (one 11) statementsOf statements-part m k
 
 -- ---- what is in no declaration, no parameter and no statement
-module _ (g : ℕ → ℕ) (declared : (c : ℕ) → InDeclaration c → g c ≡ 0) (grouped : (c : ℕ) → InGroup c → g c ≡ 0) (stated : (c : ℕ) → InTree c → g c ≡ 0) (opened : g 227 ≡ 0) (closed : g 228 ≡ 0) where
+module _ (g : ℕ → ℕ) (declared : (c : ℕ) → InDeclaration c → g c ≡ 0) (grouped : (c : ℕ) → InGroup c → g c ≡ 0)
+    (stated : (c : ℕ) → InTree c → g c ≡ 0) (opened : g 227 ≡ 0) (closed : g 228 ≡ 0) where
   bare-body : (b : Body) → AllKnown (code-body b) → mass g (code-body b) ≡ 0
   bare-body (body ds q) k =
       let a = mass-body g ds q in
@@ -244,6 +245,9 @@ no-message : (c : ℕ) → (c ≡ 220 → ⊥) → one 12 c ≡ 0
 unfolding one among
 no-message c n = rw (ne-eqb c 220 n)
 
+group-none : (c : ℕ) → InGroup c → one 12 c ≡ 0
+group-none c h = no-message c (λ z. let y = h .2 (omega arith) in omega arith)
+
 messages-each : (ws : List Name) → mass (one 12) (each code-message ws) ≡ length ws
 unfolding one among
 messages-each [] = refl
@@ -254,7 +258,7 @@ unfolding one among
 messages-part (mtypes ws) k = let a = messages-each ws in omega arith
 messages-part (global d) k = mass-none (one 12) InDeclaration (code-declaration i-global d) (global-codes d) k (λ c h. no-message c (λ z. omega arith))
 messages-part (process x w gs b) k =
-    bare-unit (one 12) (λ c h. no-message c (λ z. omega arith)) (λ c h. no-message c (λ z. let y = h .2 (omega arith) in omega arith)) (λ c h. no-message c (λ z. omega arith)) refl refl (code-activity x w) gs b k
+    bare-unit (one 12) (λ c h. no-message c (λ z. omega arith)) group-none (λ c h. no-message c (λ z. omega arith)) refl refl (code-activity x w) gs b k
     ∙ go x
   where
     go : (x : Activity) → mass (one 12) (code-activity x w) ≡ 0
@@ -262,7 +266,7 @@ messages-part (process x w gs b) k =
     go once = refl
     go (times n) = refl
 messages-part (init b) k =
-    let a = bare-body (one 12) (λ c h. no-message c (λ z. omega arith)) (λ c h. no-message c (λ z. let y = h .2 (omega arith) in omega arith)) (λ c h. no-message c (λ z. omega arith)) refl refl b (k .1) in
+    let a = bare-body (one 12) (λ c h. no-message c (λ z. omega arith)) group-none (λ c h. no-message c (λ z. omega arith)) refl refl b (k .1) in
     omega arith
 
 pub messages-model : (m : Model) → AllKnown (code m) → mass (one 12) (code m) ≡ tally messagesOf m

@@ -72,13 +72,13 @@ module _ (cs vs hs : List ℕ) (homed : (j : ℕ) → j < length cs → getD hs 
   unfolding startsAt
   no-start j a b c = rw (ne-eqb (getD cs j 0) 224 a, ne-eqb (getD cs j 0) 225 b, ne-eqb (getD cs j 0) 226 c)
 
-  pub starts-head : (x : Activity) (w : Name) (i : ℕ) → Lain cs vs i (code-activity x w) → startsAt cs vs (headAt x i) ≡ startedBy x
+  starts-head : (x : Activity) (w : Name) (i : ℕ) → Lain cs vs i (code-activity x w) → startsAt cs vs (headAt x i) ≡ startedBy x
   unfolding startsAt
   starts-head idle w i s = rw (s .4 .2)
   starts-head once w i s = rw (s .4 .2)
   starts-head (times n) w i s = rw (s .4 .4 .2) (ap (λ k. getD vs k 0) (let z : suc (suc i) - 2 ≡ i = omega arith in z) ∙ s .3 n refl)
 
-  pub starts-init : (i : ℕ) → getD cs i 0 ≡ 226 → startsAt cs vs i ≡ 1
+  starts-init : (i : ℕ) → getD cs i 0 ≡ 226 → startsAt cs vs i ≡ 1
   unfolding startsAt
   starts-init i e = rw e
 

@@ -104,7 +104,8 @@ module _ (cs vs hs : List ℕ) where
     numbers-variable : (x : tree.Variable) (i : ℕ) → St i (code-variable x) → Ahead cs vs hs (i + length (code-variable x)) → weigh N i (code-variable x) ≡ ofVariable x
     numbers-variable (tree.variable w o v) i s a =
         let b = no-variable i (λ z. let y = s .1 in omega arith) (λ z. let y = s .1 in omega arith) in
-        let c = numbers-declared o v (suc i) (s .4 .1) (s .4 .3) (s .4 .4) (subst (Ahead cs vs hs) (let z : i + suc (suc (length (code-size o ++ code-value v))) ≡ suc (suc i) + length (code-size o ++ code-value v) = omega arith in z) a) in
+        let l = length (code-size o ++ code-value v) in
+        let c = numbers-declared o v (suc i) (s .4 .1) (s .4 .3) (s .4 .4) (subst (Ahead cs vs hs) (let z : i + suc (suc l) ≡ suc (suc i) + l = omega arith in z) a) in
         let d = still cs vs hs N InValue (code-size o ++ code-value v) h (suc (suc i)) (every-append InValue (code-size o) (code-value v) (size-codes o) (value-codes v)) (s .4 .4)
         (λ j g. no-variable j (λ z. let y = g .2 (omega arith) in omega arith) (λ z. let y = g .0 in omega arith)) in
         omega arith
@@ -248,4 +249,5 @@ module _ (cs vs hs : List ℕ) where
         (activity-none 0 x w i (process-activity cs vs hs homed x w gs (body ds q) i S))
     globals-part (init (body ds q)) i S =
         let a = no-variable 0 i (λ z. let y = S .lain .2 in omega arith) (λ z. let y = S .lain .2 in omega arith) in
-        other-unit 0 (i-init ∷ []) [] ds q i i (omega arith) (λ z. omega arith) (init-housed cs vs hs homed i ds q (S .lain)) (let z : weigh (numbersAt cs vs hs 0) i (i-init ∷ []) ≡ 0 = omega arith in z)
+        other-unit 0 (i-init ∷ []) [] ds q i i (omega arith) (λ z. omega arith) (init-housed cs vs hs homed i ds q (S .lain))
+        (let z : weigh (numbersAt cs vs hs 0) i (i-init ∷ []) ≡ 0 = omega arith in z)

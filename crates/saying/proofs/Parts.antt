@@ -68,7 +68,7 @@ module _ (cs vs hs : List ℕ) where
       let d = length-append (i-body ∷ D) (code-tree q) in
       omega arith
 
-  pub activity-head : (x : Activity) (w : Name) (i : ℕ) → Lain cs vs i (code-activity x w) → heads (getD cs (headAt x i) 0) ≡ true
+  activity-head : (x : Activity) (w : Name) (i : ℕ) → Lain cs vs i (code-activity x w) → heads (getD cs (headAt x i) 0) ≡ true
   activity-head idle w i s = rw (s .4 .2)
   activity-head once w i s = rw (s .4 .2)
   activity-head (times n) w i s = rw (s .4 .4 .2)
@@ -79,14 +79,17 @@ module _ (cs vs hs : List ℕ) where
     unit-housed A gs ds q i u e h s =
         let G = each code-group gs in
         let B = code-body (body ds q) in
-        housed cs vs hs homed u gs ds q h (lain-back cs vs A G i (suc u) e (lain-front cs vs i (A ++ G) B s)) (lain-back cs vs (A ++ G) B i (suc u + length G) (omega (arith, length-append A G)) s)
+        housed cs vs hs homed u gs ds q h (lain-back cs vs A G i (suc u) e (lain-front cs vs i (A ++ G) B s))
+        (lain-back cs vs (A ++ G) B i (suc u + length G) (omega (arith, length-append A G)) s)
 
     -- a unit with a body
     module _ (i : ℕ) where
-      pub process-housed : (x : Activity) (w : Name) (gs : List Group) (ds : List Declaration) (q : Tree sequence) → Lain cs vs i (code-part (process x w gs (body ds q))) → Housed cs vs hs (headAt x i) gs ds q
+      pub process-housed : (x : Activity) (w : Name) (gs : List Group) (ds : List Declaration) (q : Tree sequence)
+          → Lain cs vs i (code-part (process x w gs (body ds q))) → Housed cs vs hs (headAt x i) gs ds q
       process-housed x w gs ds q s =
           let A = code-activity x w in
-          unit-housed A gs ds q i (headAt x i) (head-last x w i) (activity-head x w i (lain-front cs vs i A (each code-group gs) (lain-front cs vs i (A ++ each code-group gs) (code-body (body ds q)) s))) s
+          unit-housed A gs ds q i (headAt x i) (head-last x w i)
+          (activity-head x w i (lain-front cs vs i A (each code-group gs) (lain-front cs vs i (A ++ each code-group gs) (code-body (body ds q)) s))) s
 
       pub init-housed : (ds : List Declaration) (q : Tree sequence) → Lain cs vs i (code-part (init (body ds q))) → Housed cs vs hs i [] ds q
       init-housed ds q s = unit-housed (i-init ∷ []) [] ds q i i (omega arith) (rw (s .2)) s
@@ -95,17 +98,19 @@ module _ (cs vs hs : List ℕ) where
       message-inner c (inl e) = rw e (refl, λ z. omega arith)
       message-inner c (inr e) = rw e (refl, λ z. omega arith)
 
-      pub mtypes-stood : (ws : List Name) → Lain cs vs i (code-part (mtypes ws)) → insideOf cs i ≡ 0 → Stood cs vs hs 0 i (code-part (mtypes ws)) × (insideOf cs (i + length (code-part (mtypes ws))) ≡ 0)
+      pub mtypes-stood : (ws : List Name) → Lain cs vs i (code-part (mtypes ws)) → insideOf cs i ≡ 0
+          → Stood cs vs hs 0 i (code-part (mtypes ws)) × (insideOf cs (i + length (code-part (mtypes ws))) ≡ 0)
       mtypes-stood ws s o =
           settled cs vs hs homed (code-part (mtypes ws)) 0 i (λ k. (refl, λ z. omega arith), every-lift InMessages (Inner cs vs hs) message-inner (each code-message ws) (messages-codes ws)) s o
 
-      pub global-stood : (d : Declaration) → Lain cs vs i (code-part (global d)) → insideOf cs i ≡ 0 → Stood cs vs hs 0 i (code-part (global d)) × (insideOf cs (i + length (code-part (global d))) ≡ 0)
+      pub global-stood : (d : Declaration) → Lain cs vs i (code-part (global d)) → insideOf cs i ≡ 0
+          → Stood cs vs hs 0 i (code-part (global d)) × (insideOf cs (i + length (code-part (global d))) ≡ 0)
       global-stood d s o =
           settled cs vs hs homed (code-part (global d)) 0 i
           (every-lift InDeclaration (Inner cs vs hs) (λ c h. (rw (le-ltb 222 c (let z = h .0 in omega arith)), λ z. omega arith)) (code-part (global d)) (global-codes d)) s o
 
     -- no body is open behind a unit
-    pub part-shut : (p : Part) (i : ℕ) → Lain cs vs i (code-part p) → insideOf cs i ≡ 0 → insideOf cs (i + length (code-part p)) ≡ 0
+    part-shut : (p : Part) (i : ℕ) → Lain cs vs i (code-part p) → insideOf cs i ≡ 0 → insideOf cs (i + length (code-part p)) ≡ 0
     part-shut (mtypes ws) i s o = mtypes-stood i ws s o .1
     part-shut (global d) i s o = global-stood i d s o .1
     part-shut (process x w gs (body ds q)) i s o =
@@ -137,7 +142,8 @@ module _ (cs vs hs : List ℕ) where
     standing p m i s o e =
         let l = length-append (code-part p) (code m) in
         let h = lain-front cs vs i (code-part p) (code m) s in
-        record { lain = h; free = o; shut = part-shut p i h o; ahead = model-ahead m (i + length (code-part p)) (lain-back cs vs (code-part p) (code m) i _ refl s) (omega arith); within = omega arith }
+        let k = i + length (code-part p) in
+        record { lain = h; free = o; shut = part-shut p i h o; ahead = model-ahead m k (lain-back cs vs (code-part p) (code m) i k refl s) (omega arith); within = omega arith }
 
     pub model-sum : (f : ℕ → ℕ) (F : Part → ℕ) → ((p : Part) (i : ℕ) → Standing p i → weigh f i (code-part p) ≡ F p)
         → (m : Model) (i : ℕ) → Lain cs vs i (code m) → insideOf cs i ≡ 0 → i + length (code m) ≡ length cs → weigh f i (code m) ≡ tally F m

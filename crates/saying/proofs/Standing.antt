@@ -100,7 +100,7 @@ module _ (cs vs hs : List ℕ) where
   unfolding insideOf
   inside-head j p = rw p
 
-  pub inside-end : (j : ℕ) → getD cs j 0 ≡ 228 → insideOf cs (suc j) ≡ 0
+  inside-end : (j : ℕ) → getD cs j 0 ≡ 228 → insideOf cs (suc j) ≡ 0
   unfolding insideOf
   inside-end j p = rw p
 

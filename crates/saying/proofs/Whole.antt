@@ -1,9 +1,13 @@
 -- A TEXT IS ACCEPTED EXACTLY WHEN ITS TREE IS LAWFUL AND MODEST, from what the rules say of every tree: both directions.
-use Prim.Native.Nat.{ℕ}
+use Prim.Native.Nat.{ℕ, _≤_}
 use native.Mathlib.Omega.{arith}
 use mathlib.Core.Path.{_≡_, refl, sym as inv, ap, _∙_}
 use mathlib.Core.Bool.{Bool, true, false, not}
 use mathlib.Core.List.{List, map}
+use lib.ListN.{length}
+use lib.Dec.{ltb}
+use borrow.Author.Tests.{le-ltb}
+use Rattle.base.specs.Choice.{pick}
 use Rattle.base.proofs.Tests.{true-false}
 use Rattle.tokens.specs.Kinds.{Token}
 use Rattle.syntax.specs.Tree.{Model}
@@ -14,10 +18,11 @@ use Rattle.machine.specs.Answer.{parsed}
 use Rattle.machine.proofs.Main.{accepts}
 use Rattle.faults.specs.Faults.{checked}
 use Rattle.faults.specs.declared.Fault.the-variants.{None}
-use Rattle.judging.specs.declared.Judged.the-variants.{Accepted}
+use Rattle.judging.specs.declared.Judged.the-variants.{Accepted, Refused}
 use Rattle.judging.specs.Judging.{judgeOf}
 use Rattle.accepting.specs.Meaning.{Accepts}
 use Rattle.accepting.proofs.Main.{kinds-are, all-proper, short, accepted-means, means-accepted}
+use Rattle.reader.specs.Entries.{room, readOf}
 use Rattle.lawful.specs.Units.{modelLawful}
 use Rattle.lawful.specs.Ceilings as ceilings
 use Rattle.lawful.specs.Says.{Says}
@@ -86,3 +91,16 @@ module _ (rules : (m : Model) (ts : List Token) → Gram ts m → (cs vs toks : 
         faultless = rules (p .tree) (tokensIn t (p .parts)) (p .gram) (codesOf t p) (saidOf t p) (map place-of (p .numbers)) s .1 (l .lawful);
         within = passed-modest (p .tree) (codesOf t p) (saidOf t p) s ∙ ap not (l .modest);
       }
+
+  -- the same of the reader's entry, whose tables are lent with room or refused
+  pub read-lawful : (t old : List ℕ) → readOf t old ≡ Accepted → Legal t
+  unfolding readOf
+  read-lawful t old q = go (ltb (length old) room) q
+    where
+      go : (b : Bool) → pick b (Refused 7 0 0) (judgeOf t) ≡ Accepted → Legal t
+      go true e = absurd (let z : _≡_ {A = ℕ} 0 1 = cc in omega arith)
+      go false e = accepted-lawful t e
+
+  pub lawful-read : (t old : List ℕ) → room ≤ length old → Legal t → readOf t old ≡ Accepted
+  unfolding readOf
+  lawful-read t old h l = rw (le-ltb (length old) room h) (lawful-accepted t l)

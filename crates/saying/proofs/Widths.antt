@@ -157,7 +157,8 @@ module _ (cs vs hs : List ℕ) where
     marked e x i n s = quiet (code-exp e ++ x ∷ []) i (every-append Calm (code-exp e) (x ∷ []) (calm-exp e) (λ k. n, tt)) s
 
     -- arguments of what is no printf
-    closed : (F : List Item) (x : Item) (A : List Item) (i : ℕ) → Every Calm F → Every InArgs A → among 4 (codeOf x) ≡ true → (codeOf x ≡ 72 → ⊥) → Calm (codeOf x) → St i (F ++ x ∷ A ++ i-end ∷ [])
+    closed : (F : List Item) (x : Item) (A : List Item) (i : ℕ) → Every Calm F → Every InArgs A → among 4 (codeOf x) ≡ true → (codeOf x ≡ 72 → ⊥) → Calm (codeOf x)
+        → St i (F ++ x ∷ A ++ i-end ∷ [])
         → eqb (weigh W i (F ++ x ∷ A ++ i-end ∷ [])) 0 ≡ true
     closed F x A i f a t n m s =
         let o = i + length F in
@@ -175,7 +176,8 @@ module _ (cs vs hs : List ℕ) where
     wide-tree (express e) i s = marked e i-express i (λ z. omega arith) s
     wide-tree (assign r e) i s =
         quiet (code-exp r ++ i-target ∷ code-exp e ++ i-assign ∷ []) i
-        (every-append Calm (code-exp r ++ i-target ∷ code-exp e) (i-assign ∷ []) (every-append Calm (code-exp r) (i-target ∷ code-exp e) (calm-exp r) (λ k z. omega arith, calm-exp e)) (λ k z. omega arith, tt)) s
+        (every-append Calm (code-exp r ++ i-target ∷ code-exp e) (i-assign ∷ [])
+        (every-append Calm (code-exp r) (i-target ∷ code-exp e) (calm-exp r) (λ k z. omega arith, calm-exp e)) (λ k z. omega arith, tt)) s
     wide-tree (increment r) i s = marked r i-increment i (λ z. omega arith) s
     wide-tree (decrement r) i s = marked r i-decrement i (λ z. omega arith) s
     wide-tree (send r es) i s = closed (code-exp r) i-send (each code-argument es) i (calm-exp r) (args-codes es) opens-send (λ z. omega arith) (λ z. omega arith) s
@@ -201,7 +203,8 @@ module _ (cs vs hs : List ℕ) where
         let F = code-exp r ++ i-target ∷ i-name w ∷ [] in
         let q : F ++ i-set-run ∷ A ≡ code-exp r ++ i-target ∷ i-name w ∷ i-set-run ∷ A = append-assoc (code-exp r) (i-target ∷ i-name w ∷ []) (i-set-run ∷ A) in
         ap (λ (l : List Item). eqb (weigh W i (l ++ i-end ∷ [])) 0) (sym q)
-        ∙ closed F i-set-run A i (every-append Calm (code-exp r) (i-target ∷ i-name w ∷ []) (calm-exp r) (λ k z. omega arith, (λ k z. omega arith, tt))) (args-codes es) opens-set-run (λ z. omega arith) (λ z. omega arith)
+        ∙ closed F i-set-run A i (every-append Calm (code-exp r) (i-target ∷ i-name w ∷ []) (calm-exp r) (λ k z. omega arith, (λ k z. omega arith, tt)))
+        (args-codes es) opens-set-run (λ z. omega arith) (λ z. omega arith)
         (subst (λ (l : List Item). St i (l ++ i-end ∷ [])) (sym q) s)
     wide-tree (select os) i s =
         let T = code-tree os in
@@ -280,7 +283,8 @@ module _ (cs vs hs : List ℕ) where
         ap (λ n. eqb n 0) (still cs vs hs W InDeclaration (code-part (global d)) 0 i (global-codes d) (global-stood cs vs hs homed i d (S .lain) (S .free) .0)
         (λ j y. no-end j (λ z. let x = y .2 (omega arith) in omega arith)))
     wide-part (process x w gs (body ds q)) i S =
-        wide-unit (code-activity x w) gs ds q i (headAt x i) (head-last x w i) (process-housed cs vs hs homed i x w gs ds q (S .lain)) (activity-none x w i (process-activity cs vs hs homed x w gs (body ds q) i S))
+        wide-unit (code-activity x w) gs ds q i (headAt x i) (head-last x w i) (process-housed cs vs hs homed i x w gs ds q (S .lain))
+        (activity-none x w i (process-activity cs vs hs homed x w gs (body ds q) i S))
     wide-part (init (body ds q)) i S =
         let a = no-end i (λ z. let y = S .lain .2 in omega arith) in
         wide-unit (i-init ∷ []) [] ds q i i (omega arith) (init-housed cs vs hs homed i ds q (S .lain)) (let z : weigh W i (i-init ∷ []) ≡ 0 = omega arith in z)
