@@ -1,18 +1,16 @@
 -- Lists of declarations, of mtype names and of parameters: what they add to their scope, and that their items are free of faults exactly where they are lawful.
-use Prim.Native.Nat.{ℕ, zero, suc, _+_, _≤_, _<_}
+use Prim.Native.Nat.{ℕ, suc, _+_, _≤_, _<_}
 use native.Mathlib.Omega.{arith}
-use native.Mathlib.Decide.{ℕ-discrete}
 use mathlib.Core.Path.{_≡_, refl, sym, ap, _∙_, subst}
 use mathlib.Core.Bool.{Bool, true, false}
 use mathlib.Core.Option.{Option}
-use mathlib.Core.Logic.{_⊎_, inl, inr}
+use mathlib.Core.Logic.{inl}
 use mathlib.Core.List.{List, [], _∷_, _++_, map, append-assoc, append-nil}
 use lib.ListN.{length, getD, length-append}
 use lib.Dec.{eqb}
-use borrow.Author.Tests.{ne-eqb}
-use Rattle.base.specs.Choice.{pick, both}
+use Rattle.base.specs.Choice.{both}
 use Rattle.base.specs.Lists.{same}
-use Rattle.base.proofs.Tests.{true-false, both-true}
+use Rattle.base.proofs.Tests.{both-true}
 use Rattle.base.proofs.Lists.{same-eq}
 use Rattle.sheets.specs.Payload.{pid}
 use Rattle.finding.specs.Sets.{among}
@@ -20,16 +18,16 @@ use Rattle.finding.specs.Search.{lookup, last}
 use Rattle.rules.specs.Rules.{ruleOf}
 use Rattle.syntax.specs.Tree.{Name, Model, Value, Variable, Declaration, declare, Group, group}
 use Rattle.syntax.specs.Tree as tree
-use Rattle.syntax.specs.Code.{Item, i-name, i-type, i-local, i-global, i-group, i-parameter, each, code-variable, code-declaration, code-parameter, code-group, code}
+use Rattle.syntax.specs.Code.{Item, i-name, i-type, i-local, i-global, i-group, i-parameter, each, code-declaration, code-parameter, code-group, code}
 use Rattle.entries.specs.Items.{codeOf, Known}
-use Rattle.lawful.specs.Senses.{Sense, variable, constant, procedure, unknown, Declared, declared, Scope, senseIn, senseOf, isUnknown, isConstant, fresh, hides}
-use Rattle.lawful.specs.Units.{ofVariable, ofDeclaration, ofDeclarations, ofParameter, ofGroup, ofGroups, sized, valued, joins, localLawful, globalLawful, variables, declarations}
+use Rattle.lawful.specs.Senses.{Sense, variable, constant, procedure, unknown, declared, Scope, senseIn, senseOf, isUnknown, isConstant, fresh, hides}
+use Rattle.lawful.specs.Units.{ofVariable, ofDeclaration, ofDeclarations, ofGroup, ofGroups, sized, valued, joins, localLawful, globalLawful, variables, declarations}
 use Rattle.lawful.specs.Says.{itemAt, Says}
 use Rattle.governing.proofs.Items.{Low, type-code}
 use Rattle.governing.proofs.Standing.{Lies, lies-front, lies-back, long, known-at, code-is}
 use Rattle.governing.proofs.Scopes.{Out, Scoped, scoped-over, scoped-more, lookup-finds, lookup-pid, finds-constant}
-use Rattle.governing.proofs.Judging.{hs, Clean, Judges, clean-join, clean-empty, judges-true, judges-both, judges-skip, rule-fresh, last-here, last-skip}
-use Rattle.governing.proofs.Variables.{low-one, Pidless, is-unknown, fresh-pidless, mark-clean, type-clean, After, array-none, chan-is, Passed, all-variables-judged}
+use Rattle.governing.proofs.Judging.{hs, Judges, clean-join, clean-empty, judges-true, judges-both, judges-skip, rule-fresh, last-here, last-skip}
+use Rattle.governing.proofs.Variables.{low-one, Pidless, is-unknown, fresh-pidless, mark-clean, type-clean, After, array-none, chan-is, all-variables-judged}
 
 joins-append : (a b l : Scope) → joins l (a ++ b) ≡ both (joins l a) (joins (l ++ a) b)
 unfolding joins

@@ -2,13 +2,13 @@
 use Prim.Native.Nat.{ℕ, zero, suc, _+_, _-_, _*_, _≤_, _<_}
 use native.Mathlib.Omega.{arith}
 use native.Mathlib.Decide.{ℕ-discrete, decLt}
-use mathlib.Core.Path.{_≡_, refl, sym, ap, _∙_, subst}
+use mathlib.Core.Path.{_≡_, refl, sym, ap, _∙_}
 use mathlib.Core.Bool.{Bool, true, false, not}
 use mathlib.Core.Logic.{_⊎_, inl, inr}
 use mathlib.Core.List.{List}
 use lib.ListN.{length, getD, replicate}
 use lib.Dec.{eqb, ltb, leb}
-use borrow.Author.Tests.{ltb-true, lt-ltb, le-ltb, ne-eqb, eq-eqb, le-leb, lt-leb, leb-true, eqb-true}
+use borrow.Author.Tests.{lt-ltb, ne-eqb, eq-eqb, le-leb, lt-leb, leb-true, eqb-true}
 use Rattle.base.specs.Choice.{pick, both, either}
 use Rattle.base.specs.Lists.{same}
 use Rattle.base.proofs.Tests.{true-false, both-true, either-true}
@@ -20,7 +20,7 @@ use Rattle.finding.specs.Sets.{within, among}
 use Rattle.finding.specs.Search.{find, lookup, last, count}
 use Rattle.rules.specs.Rules.{badTwice, badNamed, badSecond, badSize, badField, ruleOf, badBy, bad}
 use Rattle.syntax.specs.Tree.{Name, Model}
-use Rattle.syntax.specs.Code.{Item, i-name, i-number, code}
+use Rattle.syntax.specs.Code.{i-name, i-number, code}
 use Rattle.lawful.specs.Senses.{Scope, senseIn, isUnknown, fresh}
 use Rattle.lawful.specs.Says.{itemAt, Says}
 use Rattle.governing.proofs.Scopes.{Scoped, out-known}

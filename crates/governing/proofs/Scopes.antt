@@ -1,26 +1,25 @@
 -- What searches find: the first declaration of a scope's name. A scope and the items below a place go together (`Scoped`); the scope grows with each item that declares a name.
 use Prim.Native.Nat.{ℕ, zero, suc, _+_, _-_, _≤_, _<_}
 use native.Mathlib.Omega.{arith}
-use native.Mathlib.Decide.{ℕ-discrete}
 use mathlib.Core.Path.{_≡_, refl, sym, ap, _∙_, subst}
 use mathlib.Core.Bool.{Bool, true, false, not}
 use mathlib.Core.Logic.{_⊎_, inl, inr}
 use mathlib.Core.List.{List, [], _∷_, _++_}
 use lib.ListN.{length, getD}
 use lib.Dec.{eqb, ltb}
-use borrow.Author.Tests.{ltb-true, ltb-false, lt-ltb, le-ltb, ne-eqb, eq-eqb}
-use Rattle.base.specs.Choice.{pick, both, either}
+use borrow.Author.Tests.{lt-ltb, le-ltb, ne-eqb, eq-eqb}
+use Rattle.base.specs.Choice.{pick, both}
 use Rattle.base.specs.Lists.{same}
 use Rattle.base.proofs.Tests.{true-false}
-use Rattle.base.proofs.Lists.{same-refl, same-eq}
+use Rattle.base.proofs.Lists.{same-refl}
 use Rattle.sheets.specs.Payload.{pid}
 use Rattle.sheets.specs.Walks.{first}
 use Rattle.finding.specs.Sets.{among}
 use Rattle.finding.specs.Search.{declares, find, lookup, count}
 use Rattle.rules.specs.Rules.{isArray, isChan}
 use Rattle.syntax.specs.Tree.{Name, Model}
-use Rattle.syntax.specs.Code.{Item, i-name, code}
-use Rattle.lawful.specs.Senses.{Sense, variable, constant, procedure, unknown, Declared, declared, Scope, senseIn, isUnknown, isConstant, fresh, hides, senseOf}
+use Rattle.syntax.specs.Code.{i-name, code}
+use Rattle.lawful.specs.Senses.{Sense, variable, constant, procedure, unknown, Declared, declared, Scope, senseIn, isUnknown, isConstant, hides, senseOf}
 use Rattle.lawful.specs.Says.{itemAt, Says}
 use Rattle.lawful.specs.Setting.{Finds}
 

@@ -1,11 +1,11 @@
 -- The variables of a declaration: what they add to their scope, and that their items are free of faults exactly where each is lawful.
-use Prim.Native.Nat.{ℕ, zero, suc, _+_, _-_, _*_, _≤_, _<_}
+use Prim.Native.Nat.{ℕ, suc, _+_, _-_, _*_, _≤_, _<_}
 use native.Mathlib.Omega.{arith}
 use native.Mathlib.Decide.{ℕ-discrete, decLt}
 use mathlib.Core.Path.{_≡_, refl, sym, ap, _∙_, subst}
 use mathlib.Core.Bool.{Bool, true, false, not}
 use mathlib.Core.Option.{Option, none, some}
-use mathlib.Core.Logic.{_⊎_, inl, inr}
+use mathlib.Core.Logic.{inl}
 use mathlib.Core.List.{List, [], _∷_, _++_, map, append-assoc, append-nil}
 use lib.ListN.{length, getD, length-append}
 use lib.Dec.{eqb, leb}
@@ -26,10 +26,10 @@ use Rattle.lawful.specs.Senses.{Sense, unknown, constant, procedure, declared, 
 use Rattle.lawful.specs.Units.{isArray, ofVariable, sized, variables}
 use Rattle.lawful.specs.Units as units
 use Rattle.lawful.specs.Says.{itemAt, Says}
-use Rattle.governing.proofs.Items.{valued, Low, type-code, All, all-append, all-size, all-value}
-use Rattle.governing.proofs.Standing.{Lies, lies-front, lies-back, lies-most, lies-all, long, known-at, code-is, valued-at}
-use Rattle.governing.proofs.Scopes.{Sure, Out, Scoped, sense-more, scoped-over, scoped-more}
-use Rattle.governing.proofs.Judging.{hs, ss, ts, fault, rule-none, fault-none, fault-mark, Clean, Judges, clean-join, clean-one, clean-empty, judges-true, judges-one, judges-both, judges-skip, judges-trail, rule-fresh, rule-size, rule-channel, rule-named, rule-field, last-here, last-skip, last-over}
+use Rattle.governing.proofs.Items.{valued, Low, type-code, all-append, all-size, all-value}
+use Rattle.governing.proofs.Standing.{Lies, lies-front, lies-back, lies-all, long, known-at, code-is, valued-at}
+use Rattle.governing.proofs.Scopes.{Sure, Scoped, sense-more, scoped-over, scoped-more}
+use Rattle.governing.proofs.Judging.{hs, fault, rule-none, fault-none, fault-mark, Clean, Judges, clean-join, clean-one, clean-empty, judges-true, judges-both, judges-skip, rule-fresh, rule-size, rule-channel, rule-named, rule-field, last-here, last-skip, last-over}
 
 -- ---- sets
 pub low-one : (c : ℕ) → Low c → among 1 c ≡ false
