@@ -234,7 +234,7 @@ module _ (m : Model) (cs vs : List ℕ) (S : Says m cs vs) where
             go (no p) (no q) (no r) (no s) = unit-other j (λ y. (let a = home-only j z (y ∙ (let w : u + 1 ≡ suc u = omega arith in w)) .1 in omega arith))
 
     -- ---- what searches find for the names of the statements, with the locals l, the globals g before them and those of the whole model
-    out-runs : (d : ℕ) (s : Sense) → Out cs vs H d (length cs) s → Runs cs H d s
+    out-runs : (d : ℕ) (s : Sense) → Out cs H d (length cs) s → Runs cs H d s
     unfolding bodyOf
     out-runs d (variable c a) o = let z = fourteen (getD cs d 0) (o .1) in thirteen (getD cs d 0) z
     out-runs d constant o = let z = o .1 in thirteen (getD cs d 0) (omega arith)
@@ -254,7 +254,7 @@ module _ (m : Model) (cs vs : List ℕ) (S : Says m cs vs) where
           string-inside = λ j x h c. inner-only j x h (λ q. q .string c) (λ q. omega arith) (λ q. omega arith);
           mark-inside = λ j x h c d. inner-only j x h (λ q. (let z = q .high in after-mark (getD cs j 0) z c d)) (λ q. omega arith) (λ q. omega arith);
           finds = λ j w x y q n. lookup-finds m cs vs H S l g (suc u) j w (locals j x y) (globals j x y) (omega arith) q (name j w (omega arith) q) n;
-          hidden = λ j w x y q n. out-known cs vs H (find cs vs H 1 (getD vs j 0) (suc u) j) j (senseIn l w) (locals j x y .gives j w (omega arith) q n);
+          hidden = λ j w x y q n. out-known cs H (find cs vs H 1 (getD vs j 0) (suc u) j) j (senseIn l w) (locals j x y .gives j w (omega arith) q n);
           runs = λ j w x y q n. out-runs (find cs vs H 1 (getD vs j 0) 0 (length cs)) (senseIn M w) (sm .gives j w (omega arith) q n);
           pidless = (is-unknown (senseIn l pid) nl, is-unknown (senseIn M pid) nm);
         }
@@ -332,8 +332,8 @@ module _ (m : Model) (cs vs : List ℕ) (S : Says m cs vs) where
         let B = both (apart (labelsOf q)) (allowed W false false q) in
         judges-skip m cs vs S b (suc b) (suc t) (both (declarations g l ds) B) (omega arith) (omega arith) (clean-one m cs vs S b (fault-mark m cs vs S b 227 (marks .0) (F .begin)))
         (judges-both m cs vs S (suc b) f (suc t) (declarations g l ds) B (omega arith) (omega arith) (D .judged nl)
-          (λ e. (let R = ruled q f t (suc u) W lying et (setting u b f t F (l ++ ofDeclarations ds) g M (labelsOf q) (D .scope) sg sm (D .pidless nl e) nm) refl before in
-            judges-trail m cs vs S f t (suc t) B (omega arith) (omega arith) (record { sound = R .0; complete = R .1 }) (clean-one m cs vs S t (fault-mark m cs vs S t 228 (marks .1) (F .ends))))))
+        (λ e. (let R = ruled q f t (suc u) W lying et (setting u b f t F (l ++ ofDeclarations ds) g M (labelsOf q) (D .scope) sg sm (D .pidless nl e) nm) refl before in
+        judges-trail m cs vs S f t (suc t) B (omega arith) (omega arith) (record { sound = R .0; complete = R .1 }) (clean-one m cs vs S t (fault-mark m cs vs S t 228 (marks .1) (F .ends))))))
       where
         sl2 : Scoped m cs vs (hs m cs vs S) S l (suc u) (suc b)
         sl2 = scoped-over m cs vs H S l (suc u) b (suc b) (omega arith) (λ j x z. inl (ap (λ n. among 1 (getD cs n 0)) (let w : j ≡ b = omega arith in w) ∙ ap (among 1) (F .begin) ∙ body-one)) sl

@@ -140,7 +140,7 @@ module _ (m : Model) (cs vs : List ℕ) (S : Says m cs vs) where
     process-done : (a : Activity) (w : Name) (gs : List Group) (ds : List Declaration) (q : Tree sequence) (n k e : ℕ) → xs ≡ front ++ (code-part (process a w gs (body ds q)) ++ rest) → Lies xs j (code-part (process a w gs (body ds q)))
         → e ≡ j + length (code-part (process a w gs (body ds q))) → suc (suc n) ≡ j + length (code-activity a w) → Begins k → j ≤ n → n < length xs → itemAt xs n ≡ i-name w → suc n < length xs → getD cs (suc n) 0 ≡ k
         → Clean m cs vs S j n → ((i : ℕ) → j ≤ i → i ≤ n → getD cs i 0 ≤ 71) → After m cs vs S e → Sc g 0 j → insideOf cs j ≡ 0 → count cs H 9 0 0 j ≡ c → count cs H 10 0 0 j ≡ d
-        → Done m cs vs S ruled g c d (process a w gs (body ds q)) j e
+        → Done m cs vs S g c d (process a w gs (body ds q)) j e
     process-done a w gs ds q n k e split y q0 en bg jn bn qn bu ck clean low after sc ins c9 c10 =
         let A = code-activity a w in
         let G = each code-group gs in
@@ -155,12 +155,12 @@ module _ (m : Model) (cs vs : List ℕ) (S : Says m cs vs) where
         let yg = lies-back xs A G j (suc (suc n)) en (lies-front xs j (A ++ G) X y) in
         let yb = lies-back xs (A ++ G) X j b (omega arith) y in
         let z : suc t ≡ e = omega arith in
-        subst (Done m cs vs S ruled g c d (process a w gs (body ds q)) j) z
+        subst (Done m cs vs S g c d (process a w gs (body ds q)) j) z
         (done-process m cs vs S ruled g c d a w gs ds q j n b f t k bg jn bn qn bu ck clean low refl refl refl yg yb
-          (statements-at (process a w gs (body ds q)) (A ++ G) ds q b f split refl (omega arith) refl) (λ r. after .0 (ap (λ i. getD cs i 0) (sym z) ∙ r)) sc ins c9 c10)
+        (statements-at (process a w gs (body ds q)) (A ++ G) ds q b f split refl (omega arith) refl) (λ r. after .0 (ap (λ i. getD cs i 0) (sym z) ∙ r)) sc ins c9 c10)
 
     pub part-done : (x : Part) (e : ℕ) → xs ≡ front ++ (code-part x ++ rest) → e ≡ j + length (code-part x) → After m cs vs S e → Sc g 0 j → insideOf cs j ≡ 0 → count cs H 9 0 0 j ≡ c → count cs H 10 0 0 j ≡ d
-        → Lies xs j (code-part x) → e ≤ length cs → Done m cs vs S ruled g c d x j e
+        → Lies xs j (code-part x) → e ≤ length cs → Done m cs vs S g c d x j e
     part-done (mtypes ws) e split q after sc ins c9 c10 y top = done-mtypes m cs vs S ruled g c d ws j e q y top after sc ins c9 c10
     part-done (global (declare t us)) e split q after sc ins c9 c10 y top = done-global m cs vs S ruled g c d t us j e q y top after sc ins c9 c10
     part-done (process idle w gs (body ds q)) e split eq after sc ins c9 c10 y top =
@@ -182,9 +182,9 @@ module _ (m : Model) (cs vs : List ℕ) (S : Says m cs vs) where
         let t = f + sizeIn q in
         let s3 = body-long ds q in
         let z : suc t ≡ e = omega arith in
-        subst (Done m cs vs S ruled g c d (init (body ds q)) j) z
+        subst (Done m cs vs S g c d (init (body ds q)) j) z
         (done-init m cs vs S ruled g c d ds q j b f t (y .0) (y .1) refl refl refl (y .2) (statements-at (init (body ds q)) (i-init ∷ []) ds q b f split refl (omega arith) refl)
-          (λ r. after .0 (ap (λ i. getD cs i 0) (sym z) ∙ r)) sc ins c9 c10)
+        (λ r. after .0 (ap (λ i. getD cs i 0) (sym z) ∙ r)) sc ins c9 c10)
 
   -- ---- all units
   pub record Through (g : Scope) (c d : ℕ) (n : Model) (j : ℕ) : Type 0 where
@@ -217,9 +217,9 @@ module _ (m : Model) (cs vs : List ℕ) (S : Says m cs vs) where
       record {
         scope = subst (λ l. Sc l 0 (length cs)) join (w .scope);
         judged = λ M sm nm ng.
-          judges-both m cs vs S j e (length cs) (both (firsts c d x) (partLawful M g x)) (walk M g2 (c + mtypesIn x) (d + initsIn x) n) (omega arith) (omega arith) (r .judged M sm nm ng)
-          (λ b. w .judged M sm nm (r .pidless M ng (both-true (firsts c d x) (partLawful M g x) b .1)));
+            judges-both m cs vs S j e (length cs) (both (firsts c d x) (partLawful M g x)) (walk M g2 (c + mtypesIn x) (d + initsIn x) n) (omega arith) (omega arith) (r .judged M sm nm ng)
+            (λ b. w .judged M sm nm (r .pidless M ng (both-true (firsts c d x) (partLawful M g x) b .1)));
         pidless = λ M ng b.
-          (let p = both-true (both (firsts c d x) (partLawful M g x)) (walk M g2 (c + mtypesIn x) (d + initsIn x) n) b in
-          subst Pidless join (w .pidless M (r .pidless M ng (both-true (firsts c d x) (partLawful M g x) (p .0) .1)) (p .1)));
+            (let p = both-true (both (firsts c d x) (partLawful M g x)) (walk M g2 (c + mtypesIn x) (d + initsIn x) n) b in
+            subst Pidless join (w .pidless M (r .pidless M ng (both-true (firsts c d x) (partLawful M g x) (p .0) .1)) (p .1)));
       }
