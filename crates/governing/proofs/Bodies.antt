@@ -1,32 +1,28 @@
 -- Units with a body: which items are in the body, how many parameters it has, what searches find for the names of its statements (`Setting`), and that its items are free of faults exactly where it is lawful.
-use Prim.Native.Nat.{ℕ, zero, suc, _+_, _-_, _≤_, _<_}
+use Prim.Native.Nat.{ℕ, suc, _+_, _-_, _≤_, _<_}
 use native.Mathlib.Omega.{arith}
 use native.Mathlib.Decide.{ℕ-discrete, decLt}
-use mathlib.Core.Path.{_≡_, refl, sym, ap, _∙_, subst}
-use mathlib.Core.Bool.{Bool, true, false, not}
+use mathlib.Core.Path.{_≡_, refl, sym, ap, _∙_}
+use mathlib.Core.Bool.{Bool, true, false}
 use mathlib.Core.Logic.{_⊎_, inl, inr}
-use mathlib.Core.List.{List, [], _∷_, _++_, map}
+use mathlib.Core.List.{List, [], _∷_, _++_}
 use lib.ListN.{length, getD, length-append, length-map}
-use lib.Dec.{eqb, ltb, leb}
 use borrow.Author.Tests.{ne-eqb, eq-eqb, lt-ltb, lt-leb}
-use Rattle.base.specs.Choice.{pick, both, either}
-use Rattle.base.specs.Lists.{same}
-use Rattle.base.proofs.Tests.{true-false, both-true}
+use Rattle.base.specs.Choice.{pick, both}
+use Rattle.base.proofs.Tests.{true-false}
 use Rattle.sheets.specs.Payload.{pid}
 use Rattle.sheets.specs.Walks.{sum}
 use Rattle.sheets.specs.Homes.{heads, insideOf}
 use Rattle.finding.specs.Sets.{among}
-use Rattle.finding.specs.Search.{find, lookup, one, count}
+use Rattle.finding.specs.Search.{find, one, count}
 use Rattle.rules.specs.Rules.{ruleOf, globalOf, bodyOf}
-use Rattle.syntax.specs.Tree.{Name, Model, sequence, Tree, Declaration, Group, group, Body, body}
+use Rattle.syntax.specs.Tree.{Name, Model, sequence, Tree, Declaration, Group, group, body}
 use Rattle.syntax.specs.Code.{Item, i-name, i-type, i-group, i-parameter, i-local, i-body, i-end-body, each, code-tree, code-declaration, code-parameter, code-group, code-body, code}
-use Rattle.entries.specs.Items.{codeOf}
-use Rattle.lawful.specs.Senses.{Sense, variable, constant, procedure, unknown, Scope, senseIn, isUnknown}
+use Rattle.lawful.specs.Senses.{Sense, variable, constant, procedure, unknown, Scope, senseIn}
 use Rattle.lawful.specs.Statements.{Place, labelsOf, apart, allowed}
 use Rattle.lawful.specs.Units.{ofParameter, ofGroup, ofGroups, ofDeclarations, declarations, bodyLawful}
 use Rattle.lawful.specs.Says.{itemAt, Says}
-use Rattle.lawful.specs.Setting.{Finds, Runs, Setting}
-use Rattle.nesting.specs.Full.{Full}
+use Rattle.lawful.specs.Setting.{Runs, Setting}
 use Rattle.acts.specs.Program.{sizeIn}
 use Rattle.acts.proofs.Stands.{Lying}
 use Rattle.fitness.proofs.Sums.{sum-split, sum-nones}
@@ -35,8 +31,8 @@ use Rattle.governing.proofs.Standing.{Lies, lies-front, lies-back, lies
 use Rattle.governing.proofs.Homes.{no-head, inside-head, inside-end, inside-over, home-inside, home-most, home-later}
 use Rattle.governing.proofs.Scopes.{Out, Scoped, out-known, scoped-over, lookup-finds}
 use Rattle.governing.proofs.Judging.{hs, fault-mark, Clean, Judges, clean-one, judges-both, judges-skip, judges-trail}
-use Rattle.governing.proofs.Variables.{Pidless, is-unknown, mark-clean, After}
-use Rattle.governing.proofs.Declarations.{type-low, after-declarations, declarations-judged}
+use Rattle.governing.proofs.Variables.{Pidless, is-unknown, After}
+use Rattle.governing.proofs.Declarations.{type-low, declarations-judged}
 
 spoken-one : (c : ℕ) → c ≤ 209 → among 1 c ≡ false
 unfolding among
@@ -238,7 +234,7 @@ module _ (m : Model) (cs vs : List ℕ) (S : Says m cs vs) where
             go (no p) (no q) (no r) (no s) = unit-other j (λ y. (let a = home-only j z (y ∙ (let w : u + 1 ≡ suc u = omega arith in w)) .1 in omega arith))
 
     -- ---- what searches find for the names of the statements, with the locals l, the globals g before them and those of the whole model
-    out-runs : (d : ℕ) (s : Sense) → Out cs vs H d (length cs) s → Runs cs H d s
+    out-runs : (d : ℕ) (s : Sense) → Out cs H d (length cs) s → Runs cs H d s
     unfolding bodyOf
     out-runs d (variable c a) o = let z = fourteen (getD cs d 0) (o .1) in thirteen (getD cs d 0) z
     out-runs d constant o = let z = o .1 in thirteen (getD cs d 0) (omega arith)
@@ -258,7 +254,7 @@ module _ (m : Model) (cs vs : List ℕ) (S : Says m cs vs) where
           string-inside = λ j x h c. inner-only j x h (λ q. q .string c) (λ q. omega arith) (λ q. omega arith);
           mark-inside = λ j x h c d. inner-only j x h (λ q. (let z = q .high in after-mark (getD cs j 0) z c d)) (λ q. omega arith) (λ q. omega arith);
           finds = λ j w x y q n. lookup-finds m cs vs H S l g (suc u) j w (locals j x y) (globals j x y) (omega arith) q (name j w (omega arith) q) n;
-          hidden = λ j w x y q n. out-known cs vs H (find cs vs H 1 (getD vs j 0) (suc u) j) j (senseIn l w) (locals j x y .gives j w (omega arith) q n);
+          hidden = λ j w x y q n. out-known cs H (find cs vs H 1 (getD vs j 0) (suc u) j) j (senseIn l w) (locals j x y .gives j w (omega arith) q n);
           runs = λ j w x y q n. out-runs (find cs vs H 1 (getD vs j 0) 0 (length cs)) (senseIn M w) (sm .gives j w (omega arith) q n);
           pidless = (is-unknown (senseIn l pid) nl, is-unknown (senseIn M pid) nm);
         }
@@ -293,8 +289,7 @@ module _ (m : Model) (cs vs : List ℕ) (S : Says m cs vs) where
   -- what is known of the statements of a body: crate `ruling`
   abbrev pub Statements : Type 0
   Statements =
-      (q : Tree sequence) (from to h : ℕ) (at : Place) → Full q → Lying xs 0 (code-tree q) from → to ≡ from + sizeIn q → to < length cs → getD cs to 0 ≡ 228 → Setting xs cs vs H h from to at → at .labels ≡ labelsOf q
-      → 1 ≤ from → (getD cs (from - 1) 0 ≡ 208 → ⊥)
+      (q : Tree sequence) (from to h : ℕ) (at : Place) → Lying xs 0 (code-tree q) from → to ≡ from + sizeIn q → Setting xs cs vs H h from to at → at .labels ≡ labelsOf q → (getD cs (from - 1) 0 ≡ 208 → ⊥)
       → (Clean m cs vs S from to → both (apart (labelsOf q)) (allowed at false false q) ≡ true) × (both (apart (labelsOf q)) (allowed at false false q) ≡ true → Clean m cs vs S from to)
 
   -- the frame of a unit, by its items
@@ -323,11 +318,11 @@ module _ (m : Model) (cs vs : List ℕ) (S : Says m cs vs) where
       }
 
   module _ (ruled : Statements) (u b f t : ℕ) (F : Frame u b f t) where
-    pub body-judged : (ds : List Declaration) (q : Tree sequence) (l g M : Scope) → Full q → Lying xs 0 (code-tree q) f → t ≡ f + sizeIn q → f ≡ suc b + length (each (code-declaration i-local) ds)
+    pub body-judged : (ds : List Declaration) (q : Tree sequence) (l g M : Scope) → Lying xs 0 (code-tree q) f → t ≡ f + sizeIn q → f ≡ suc b + length (each (code-declaration i-local) ds)
         → Lies xs (suc b) (each (code-declaration i-local) ds) → (getD cs (suc t) 0 ≡ 213 → ⊥) → Sc l (suc u) b → Sc g 0 (suc u) → Sc M 0 (length cs) → Pidless l → Pidless g → Pidless M
         → J b (suc t) (bodyLawful M g l (body ds q))
     unfolding bodyLawful
-    body-judged ds q l g M full lying et ef y after sl sg sm nl ng nm =
+    body-judged ds q l g M lying et ef y after sl sg sm nl ng nm =
         let i0 = F .parts in
         let i1 = F .inner in
         let i2 = F .last in
@@ -337,8 +332,8 @@ module _ (m : Model) (cs vs : List ℕ) (S : Says m cs vs) where
         let B = both (apart (labelsOf q)) (allowed W false false q) in
         judges-skip m cs vs S b (suc b) (suc t) (both (declarations g l ds) B) (omega arith) (omega arith) (clean-one m cs vs S b (fault-mark m cs vs S b 227 (marks .0) (F .begin)))
         (judges-both m cs vs S (suc b) f (suc t) (declarations g l ds) B (omega arith) (omega arith) (D .judged nl)
-          (λ e. (let R = ruled q f t (suc u) W full lying et top (F .ends) (setting u b f t F (l ++ ofDeclarations ds) g M (labelsOf q) (D .scope) sg sm (D .pidless nl e) nm) refl (omega arith) before in
-            judges-trail m cs vs S f t (suc t) B (omega arith) (omega arith) (record { sound = R .0; complete = R .1 }) (clean-one m cs vs S t (fault-mark m cs vs S t 228 (marks .1) (F .ends))))))
+        (λ e. (let R = ruled q f t (suc u) W lying et (setting u b f t F (l ++ ofDeclarations ds) g M (labelsOf q) (D .scope) sg sm (D .pidless nl e) nm) refl before in
+        judges-trail m cs vs S f t (suc t) B (omega arith) (omega arith) (record { sound = R .0; complete = R .1 }) (clean-one m cs vs S t (fault-mark m cs vs S t 228 (marks .1) (F .ends))))))
       where
         sl2 : Scoped m cs vs (hs m cs vs S) S l (suc u) (suc b)
         sl2 = scoped-over m cs vs H S l (suc u) b (suc b) (omega arith) (λ j x z. inl (ap (λ n. among 1 (getD cs n 0)) (let w : j ≡ b = omega arith in w) ∙ ap (among 1) (F .begin) ∙ body-one)) sl

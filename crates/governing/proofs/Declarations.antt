@@ -1,18 +1,16 @@
 -- Lists of declarations, of mtype names and of parameters: what they add to their scope, and that their items are free of faults exactly where they are lawful.
-use Prim.Native.Nat.{ℕ, zero, suc, _+_, _≤_, _<_}
+use Prim.Native.Nat.{ℕ, suc, _+_, _≤_, _<_}
 use native.Mathlib.Omega.{arith}
-use native.Mathlib.Decide.{ℕ-discrete}
 use mathlib.Core.Path.{_≡_, refl, sym, ap, _∙_, subst}
 use mathlib.Core.Bool.{Bool, true, false}
 use mathlib.Core.Option.{Option}
-use mathlib.Core.Logic.{_⊎_, inl, inr}
+use mathlib.Core.Logic.{inl}
 use mathlib.Core.List.{List, [], _∷_, _++_, map, append-assoc, append-nil}
 use lib.ListN.{length, getD, length-append}
 use lib.Dec.{eqb}
-use borrow.Author.Tests.{ne-eqb}
-use Rattle.base.specs.Choice.{pick, both}
+use Rattle.base.specs.Choice.{both}
 use Rattle.base.specs.Lists.{same}
-use Rattle.base.proofs.Tests.{true-false, both-true}
+use Rattle.base.proofs.Tests.{both-true}
 use Rattle.base.proofs.Lists.{same-eq}
 use Rattle.sheets.specs.Payload.{pid}
 use Rattle.finding.specs.Sets.{among}
@@ -20,16 +18,16 @@ use Rattle.finding.specs.Search.{lookup, last}
 use Rattle.rules.specs.Rules.{ruleOf}
 use Rattle.syntax.specs.Tree.{Name, Model, Value, Variable, Declaration, declare, Group, group}
 use Rattle.syntax.specs.Tree as tree
-use Rattle.syntax.specs.Code.{Item, i-name, i-type, i-local, i-global, i-group, i-parameter, each, code-variable, code-declaration, code-parameter, code-group, code}
+use Rattle.syntax.specs.Code.{Item, i-name, i-type, i-local, i-global, i-group, i-parameter, each, code-declaration, code-parameter, code-group, code}
 use Rattle.entries.specs.Items.{codeOf, Known}
-use Rattle.lawful.specs.Senses.{Sense, variable, constant, procedure, unknown, Declared, declared, Scope, senseIn, senseOf, isUnknown, isConstant, fresh, hides}
-use Rattle.lawful.specs.Units.{ofVariable, ofDeclaration, ofDeclarations, ofParameter, ofGroup, ofGroups, sized, valued, joins, localLawful, globalLawful, variables, declarations}
+use Rattle.lawful.specs.Senses.{Sense, variable, constant, procedure, unknown, declared, Scope, senseIn, senseOf, isUnknown, isConstant, fresh, hides}
+use Rattle.lawful.specs.Units.{ofVariable, ofDeclaration, ofDeclarations, ofGroup, ofGroups, sized, valued, joins, localLawful, globalLawful, variables, declarations}
 use Rattle.lawful.specs.Says.{itemAt, Says}
 use Rattle.governing.proofs.Items.{Low, type-code}
 use Rattle.governing.proofs.Standing.{Lies, lies-front, lies-back, long, known-at, code-is}
 use Rattle.governing.proofs.Scopes.{Out, Scoped, scoped-over, scoped-more, lookup-finds, lookup-pid, finds-constant}
-use Rattle.governing.proofs.Judging.{hs, Clean, Judges, clean-join, clean-empty, judges-true, judges-both, judges-skip, rule-fresh, last-here, last-skip}
-use Rattle.governing.proofs.Variables.{low-one, Pidless, is-unknown, fresh-pidless, mark-clean, type-clean, After, array-none, chan-is, Passed, all-variables-judged}
+use Rattle.governing.proofs.Judging.{hs, Judges, clean-join, clean-empty, judges-true, judges-both, judges-skip, rule-fresh, last-here, last-skip}
+use Rattle.governing.proofs.Variables.{low-one, Pidless, is-unknown, fresh-pidless, mark-clean, type-clean, After, array-none, chan-is, all-variables-judged}
 
 joins-append : (a b l : Scope) → joins l (a ++ b) ≡ both (joins l a) (joins (l ++ a) b)
 unfolding joins
@@ -100,7 +98,7 @@ module _ (m : Model) (cs vs : List ℕ) (S : Says m cs vs) where
 
   module _ (x : Item) (c h lo hi p : ℕ) (t : Sense) (coded : codeOf x ≡ c) (one : among 1 c ≡ true) (three : among 3 c ≡ false) (not : c ≡ 213 → ⊥) (certain : isUnknown t ≡ false)
       (home : (j : ℕ) → lo ≤ j → j < hi → getD H j 0 ≡ h) (top : hi ≤ length cs)
-      (fact : (k : ℕ) → getD cs (suc k) 0 ≡ c → last cs 3 (suc k) ≡ p → After m cs vs S (suc (suc k)) → Out cs vs H (suc k) (suc (suc k)) t) where
+      (fact : (k : ℕ) → getD cs (suc k) 0 ≡ c → last cs 3 (suc k) ≡ p → After m cs vs S (suc (suc k)) → Out cs H (suc k) (suc (suc k)) t) where
     pub names-judged : (ws : List Name) (l : Scope) (k e : ℕ) → e ≡ k + length (each (marked x) ws) → lo ≤ k → e ≤ hi → Lies xs k (each (marked x) ws) → last cs 3 k ≡ p → After m cs vs S e → Sc l h k
         → Named l h p (joins l (map (λ w. declared w t) ws)) k e (l ++ map (λ w. declared w t) ws)
     unfolding joins
@@ -131,7 +129,7 @@ module _ (m : Model) (cs vs : List ℕ) (S : Says m cs vs) where
           scope = subst (λ i. Sc i h e) join (rest .scope);
           kind = rest .kind;
           judged = judges-skip m cs vs S k (suc k) e (both (fresh l w) B) (omega arith) (omega arith) (mark-clean m cs vs S k 70 (i-name w) (y .0) (y .1) refl (marks .0))
-            (judges-both m cs vs S (suc k) k2 e (fresh l w) B (omega arith) (omega arith) (rule-fresh m cs vs S l h k w bk (y .1) am hx s1) (λ f. rest .judged));
+              (judges-both m cs vs S (suc k) k2 e (fresh l w) B (omega arith) (omega arith) (rule-fresh m cs vs S l h k w bk (y .1) am hx s1) (λ f. rest .judged));
           pidless = λ n v. (let g = both-true (fresh l w) B v in subst Pidless join (rest .pidless (fresh-pidless l w t (sc .sure) (g .0) n) (g .1)));
         }
       where
@@ -143,8 +141,8 @@ module _ (m : Model) (cs vs : List ℕ) (S : Says m cs vs) where
             (λ z. omega arith, λ z. not (sym cx ∙ z))
 
   -- ---- parameters
-  parameter-out : (t h p k : ℕ) → getD cs p 0 ≡ 130 + t → getD cs (suc k) 0 ≡ 222 → last cs 3 (suc k) ≡ suc (suc p) → After m cs vs S (suc (suc k)) → Out cs vs H (suc k) (suc (suc k)) (variable (eqb t 43) false)
-  parameter-out t h p k typed c l a = (omega arith, ap (among 14) c ∙ opens .8, chan-is m cs vs S (suc k) p t l typed, array-none m cs vs S k (a .1))
+  parameter-out : (t p k : ℕ) → getD cs p 0 ≡ 130 + t → getD cs (suc k) 0 ≡ 222 → last cs 3 (suc k) ≡ suc (suc p) → After m cs vs S (suc (suc k)) → Out cs H (suc k) (suc (suc k)) (variable (eqb t 43) false)
+  parameter-out t p k typed c l a = (omega arith, ap (among 14) c ∙ opens .8, chan-is m cs vs S (suc k) p t l typed, array-none m cs vs S k (a .1))
 
   pub after-groups : (gs : List Group) (k : ℕ) → Lies xs k (each code-group gs) → After m cs vs S (k + length (each code-group gs)) → After m cs vs S k
   after-groups [] k y a = subst (After m cs vs S) (let z : k + 0 ≡ k = omega arith in z) a
@@ -184,7 +182,7 @@ module _ (m : Model) (cs vs : List ℕ) (S : Says m cs vs) where
       let s2 : Sc l h k2 = scoped-over m cs vs H S l h (suc k) k2 (omega arith) (λ j g v. inl (ap (λ n. among 1 (getD cs n 0)) (let z : j ≡ suc k = omega arith in z) ∙ ap (among 1) cg ∙ opens .2)) s1 in
       let aft = after-groups gs k3 back (subst (After m cs vs S) (let z : e ≡ k3 + length G = omega arith in z) a) in
       let ps =
-      names-judged i-parameter 222 h lo hi (suc (suc k)) (variable (eqb t 43) false) refl (opens .6) (opens .7) (λ z. omega arith) refl home top (λ i u v r. parameter-out t h k i ct u v r) ws l k2 k3 refl (omega arith)
+      names-judged i-parameter 222 h lo hi (suc (suc k)) (variable (eqb t 43) false) refl (opens .6) (opens .7) (λ z. omega arith) refl home top (λ i u v r. parameter-out t k i ct u v r) ws l k2 k3 refl (omega arith)
       (omega arith) (front .2 .2) (last-here m cs vs S 3 (suc k) (ap (among 3) cg ∙ opens .5)) aft s2 in
       let rest = groups-judged h lo hi home top gs (l ++ ofGroup (group t ws)) k3 e (omega arith) (omega arith) d back a (ps .scope) in
       let join : (l ++ ofGroup (group t ws)) ++ ofGroups gs ≡ l ++ (ofGroup (group t ws) ++ ofGroups gs) = append-assoc l (ofGroup (group t ws)) (ofGroups gs) in
@@ -194,11 +192,11 @@ module _ (m : Model) (cs vs : List ℕ) (S : Says m cs vs) where
           scope = subst (λ i. Sc i h e) join (rest .1 .scope);
           kind = rest .1 .kind;
           judged = subst (λ i. J k e i) (sym cut)
-            (judges-skip m cs vs S k k2 e _ (omega arith) (omega arith)
+              (judges-skip m cs vs S k k2 e _ (omega arith) (omega arith)
               (clean-join m cs vs S k (suc k) k2 (type-clean m cs vs S k t (y .0) (y .1)) (mark-clean m cs vs S (suc k) 221 i-group (y .2 .0) (y .2 .1) refl (marks .3)))
               (judges-both m cs vs S k2 k3 e (joins l (ofGroup (group t ws))) (joins (l ++ ofGroup (group t ws)) (ofGroups gs)) (omega arith) (omega arith) (ps .judged) (λ u. rest .1 .judged)));
           pidless = λ n v. (let g = both-true (joins l (ofGroup (group t ws))) (joins (l ++ ofGroup (group t ws)) (ofGroups gs)) (sym cut ∙ v) in
-            subst Pidless join (rest .1 .pidless (ps .pidless n (g .0)) (g .1)));
+              subst Pidless join (rest .1 .pidless (ps .pidless n (g .0)) (g .1)));
         },
       )
 
@@ -225,7 +223,7 @@ module _ (m : Model) (cs vs : List ℕ) (S : Says m cs vs) where
   -- ---- a declaration, with its mark
   module _ (x : Item) (c t h lo hi : ℕ) (sense : Scope → Name → Sense) (f : Scope → Variable → Bool) (coded : codeOf x ≡ c) (one : among 1 c ≡ false) (three : among 3 c ≡ true) (ruled : ruleOf c ≡ 0)
       (F : (l : Scope) (w : Name) (s : Option ℕ) (v : Value) → f l (tree.variable w s v)
-        ≡ both (fresh l w) (both (sized s) (valued (sense (l ++ ofVariable t (tree.variable w s v) ∷ [])) v)))
+      ≡ both (fresh l w) (both (sized s) (valued (sense (l ++ ofVariable t (tree.variable w s v) ∷ [])) v)))
       (home : (j : ℕ) → lo ≤ j → j < hi → getD H j 0 ≡ h) (top : hi ≤ length cs)
       (look : (l : Scope) (j : ℕ) (w : Name) → lo ≤ j → j < hi → itemAt xs j ≡ i-name w → Sc l h j → Pidless l → eqb (getD cs (lookup cs vs H (getD vs j 0) h j) 0) 220 ≡ isConstant (sense l w)) where
     pub record Declares (l : Scope) (b : Bool) (k e : ℕ) (l2 : Scope) : Type 0 where
@@ -247,8 +245,8 @@ module _ (m : Model) (cs vs : List ℕ) (S : Says m cs vs) where
         record {
           scope = r .scope;
           judged = λ n.
-            judges-skip m cs vs S k k2 e (variables f t l us) (omega arith) (omega arith)
-            (clean-join m cs vs S k (suc k) k2 (type-clean m cs vs S k t (y .0) (y .1)) (mark-clean m cs vs S (suc k) c x (y .2 .0) (y .2 .1) coded ruled)) (r .judged n);
+              judges-skip m cs vs S k k2 e (variables f t l us) (omega arith) (omega arith)
+              (clean-join m cs vs S k (suc k) k2 (type-clean m cs vs S k t (y .0) (y .1)) (mark-clean m cs vs S (suc k) c x (y .2 .0) (y .2 .1) coded ruled)) (r .judged n);
           pidless = r .pidless;
         }
 
@@ -263,13 +261,13 @@ module _ (m : Model) (cs vs : List ℕ) (S : Says m cs vs) where
       (λ z. omega arith, λ z. omega arith)
 
   module _ (g : Scope) (h lo hi : ℕ) (home : (j : ℕ) → lo ≤ j → j < hi → getD H j 0 ≡ h) (top : hi ≤ length cs) (globals : (j : ℕ) → lo ≤ j → j < hi → Sc g 0 j) (outer : Pidless g) where
-    pub record Declared-all (l : Scope) (b : Bool) (k e : ℕ) (l2 : Scope) : Type 0 where
+    pub record Lists (l : Scope) (b : Bool) (k e : ℕ) (l2 : Scope) : Type 0 where
       pub scope : Sc l2 h e
       pub judged : Pidless l → J k e b
       pub pidless : Pidless l → b ≡ true → Pidless l2
 
     pub declarations-judged : (ds : List Declaration) (l : Scope) (k e : ℕ) → e ≡ k + length (each (code-declaration i-local) ds) → lo ≤ k → e ≤ hi → Lies xs k (each (code-declaration i-local) ds) → After m cs vs S e → Sc l h k
-        → Declared-all l (declarations g l ds) k e (l ++ ofDeclarations ds)
+        → Lists l (declarations g l ds) k e (l ++ ofDeclarations ds)
     unfolding declarations
     declarations-judged [] l k e q b d y a sc =
         let z : k ≡ e = omega arith in

@@ -1,15 +1,14 @@
 -- Which body each item is in: nothing changes but at the head of a unit and at the end of a body.
 use Prim.Native.Nat.{ℕ, zero, suc, _+_, _-_, _≤_, _<_}
 use native.Mathlib.Omega.{arith}
-use native.Mathlib.Decide.{ℕ-discrete}
 use mathlib.Core.Path.{_≡_, refl, sym, ap, _∙_, subst}
 use mathlib.Core.Bool.{Bool, true, false}
 use mathlib.Core.Logic.{_⊎_, inl, inr}
 use mathlib.Core.List.{List}
 use lib.ListN.{length, getD, replicate, length-replicate}
-use lib.Dec.{eqb, ltb}
-use borrow.Author.Tests.{ne-eqb, lt-ltb, le-ltb}
-use Rattle.base.specs.Choice.{pick, both}
+use lib.Dec.{eqb}
+use borrow.Author.Tests.{ne-eqb, le-ltb}
+use Rattle.base.specs.Choice.{pick}
 use Rattle.sheets.specs.Homes.{heads, insideOf, homeOf, homesOf}
 use Rattle.sheets.proofs.Meaning.{home-at}
 

@@ -2,13 +2,13 @@
 use Prim.Native.Nat.{ℕ, zero, suc, _+_, _-_, _*_, _≤_, _<_}
 use native.Mathlib.Omega.{arith}
 use native.Mathlib.Decide.{ℕ-discrete, decLt}
-use mathlib.Core.Path.{_≡_, refl, sym, ap, _∙_, subst}
+use mathlib.Core.Path.{_≡_, refl, sym, ap, _∙_}
 use mathlib.Core.Bool.{Bool, true, false, not}
 use mathlib.Core.Logic.{_⊎_, inl, inr}
 use mathlib.Core.List.{List}
 use lib.ListN.{length, getD, replicate}
 use lib.Dec.{eqb, ltb, leb}
-use borrow.Author.Tests.{ltb-true, lt-ltb, le-ltb, ne-eqb, eq-eqb, le-leb, lt-leb, leb-true, eqb-true}
+use borrow.Author.Tests.{lt-ltb, ne-eqb, eq-eqb, le-leb, lt-leb, leb-true, eqb-true}
 use Rattle.base.specs.Choice.{pick, both, either}
 use Rattle.base.specs.Lists.{same}
 use Rattle.base.proofs.Tests.{true-false, both-true, either-true}
@@ -20,7 +20,7 @@ use Rattle.finding.specs.Sets.{within, among}
 use Rattle.finding.specs.Search.{find, lookup, last, count}
 use Rattle.rules.specs.Rules.{badTwice, badNamed, badSecond, badSize, badField, ruleOf, badBy, bad}
 use Rattle.syntax.specs.Tree.{Name, Model}
-use Rattle.syntax.specs.Code.{Item, i-name, i-number, code}
+use Rattle.syntax.specs.Code.{i-name, i-number, code}
 use Rattle.lawful.specs.Senses.{Scope, senseIn, isUnknown, fresh}
 use Rattle.lawful.specs.Says.{itemAt, Says}
 use Rattle.governing.proofs.Scopes.{Scoped, out-known}
@@ -44,8 +44,18 @@ rule-declaring c e =
     let a = declaring-codes c e in
     let x = a .0 in
     let y = a .1 in
-    rw (ne-eqb c 72 (λ z. omega arith), le-leb 183 c (omega arith), lt-leb c 184 (omega arith), le-leb 189 c (omega arith), lt-leb c 195 (omega arith), ne-eqb c 199 (λ z. omega arith),
-      ne-eqb c 201 (λ z. omega arith), ne-eqb c 219 (a .2), ne-eqb c 226 (λ z. omega arith), ne-eqb c 188 (λ z. omega arith)) (rest (either (eqb c 212) (either (eqb c 220) (within 222 225 c))) _ e)
+    rw (
+      ne-eqb c 72 (λ z. omega arith),
+      le-leb 183 c (omega arith),
+      lt-leb c 184 (omega arith),
+      le-leb 189 c (omega arith),
+      lt-leb c 195 (omega arith),
+      ne-eqb c 199 (λ z. omega arith),
+      ne-eqb c 201 (λ z. omega arith),
+      ne-eqb c 219 (a .2),
+      ne-eqb c 226 (λ z. omega arith),
+      ne-eqb c 188 (λ z. omega arith),
+    ) (rest (either (eqb c 212) (either (eqb c 220) (within 222 225 c))) _ e)
   where
     rest : (b : Bool) (n : ℕ) → b ≡ true → pick b 8 n ≡ 8
     rest true n e = refl
@@ -54,10 +64,29 @@ rule-declaring c e =
 pub rule-none : (c : ℕ) → c < 176 → (c ≡ 72 → ⊥) → ruleOf c ≡ 0
 unfolding ruleOf
 rule-none c h n =
-    rw (ne-eqb c 72 n, lt-leb 183 c (omega arith), lt-leb 189 c (omega arith), ne-eqb c 199 (λ z. omega arith), ne-eqb c 201 (λ z. omega arith), ne-eqb c 219 (λ z. omega arith),
-      ne-eqb c 226 (λ z. omega arith), ne-eqb c 188 (λ z. omega arith), ne-eqb c 212 (λ z. omega arith), ne-eqb c 220 (λ z. omega arith), lt-leb 222 c (omega arith), ne-eqb c 198 (λ z. omega arith),
-      lt-leb 202 c (omega arith), ne-eqb c 213 (λ z. omega arith), ne-eqb c 216 (λ z. omega arith), ne-eqb c 217 (λ z. omega arith), ne-eqb c 218 (λ z. omega arith), lt-leb 176 c (omega arith),
-      ne-eqb c 187 (λ z. omega arith), ne-eqb c 185 (λ z. omega arith), ne-eqb c 196 (λ z. omega arith))
+    rw (
+      ne-eqb c 72 n,
+      lt-leb 183 c (omega arith),
+      lt-leb 189 c (omega arith),
+      ne-eqb c 199 (λ z. omega arith),
+      ne-eqb c 201 (λ z. omega arith),
+      ne-eqb c 219 (λ z. omega arith),
+      ne-eqb c 226 (λ z. omega arith),
+      ne-eqb c 188 (λ z. omega arith),
+      ne-eqb c 212 (λ z. omega arith),
+      ne-eqb c 220 (λ z. omega arith),
+      lt-leb 222 c (omega arith),
+      ne-eqb c 198 (λ z. omega arith),
+      lt-leb 202 c (omega arith),
+      ne-eqb c 213 (λ z. omega arith),
+      ne-eqb c 216 (λ z. omega arith),
+      ne-eqb c 217 (λ z. omega arith),
+      ne-eqb c 218 (λ z. omega arith),
+      lt-leb 176 c (omega arith),
+      ne-eqb c 187 (λ z. omega arith),
+      ne-eqb c 185 (λ z. omega arith),
+      ne-eqb c 196 (λ z. omega arith),
+    )
 
 module _ (m : Model) (cs vs : List ℕ) (S : Says m cs vs) where
   abbrev pub hs : List ℕ
@@ -138,7 +167,7 @@ module _ (m : Model) (cs vs : List ℕ) (S : Says m cs vs) where
   twice-is l h k w b q g s = rw (back k, S .pids k w (omega arith) q, g) (go (same w pid) refl)
     where
       found : same w pid ≡ false → ltb (find cs vs hs 1 (getD vs k 0) h (suc k)) (suc k) ≡ not (isUnknown (senseIn l w))
-      found n = out-known cs vs hs (find cs vs hs 1 (getD vs k 0) h (suc k)) (suc k) (senseIn l w) (s .gives k w (omega arith) q n)
+      found n = out-known cs hs (find cs vs hs 1 (getD vs k 0) h (suc k)) (suc k) (senseIn l w) (s .gives k w (omega arith) q n)
 
       last-step : (c : Bool) → _≡_ {A = ℕ} (pick (not c) 4 0) (pick c 0 4)
       last-step true = refl

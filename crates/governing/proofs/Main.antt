@@ -1,15 +1,14 @@
 -- NO ITEM OF A MODEL HAS A FAULT EXACTLY WHERE ITS TREE IS LAWFUL, given that this is so of the statements of each body.
 use Prim.Native.Nat.{ℕ, zero, suc, _+_, _≤_, _<_}
 use native.Mathlib.Omega.{arith}
-use mathlib.Core.Path.{_≡_, refl, sym, ap, _∙_}
+use mathlib.Core.Path.{_≡_, refl}
 use mathlib.Core.Bool.{Bool, true, false}
 use mathlib.Core.List.{List, []}
-use lib.ListN.{length, getD, replicate}
-use lib.Dec.{eqb, leb}
+use lib.ListN.{length, replicate}
+use lib.Dec.{leb}
 use borrow.Author.Tests.{leb-true, le-leb}
 use Rattle.base.specs.Choice.{both}
 use Rattle.base.proofs.Tests.{both-true}
-use Rattle.tokens.specs.Kinds.{Token}
 use Rattle.sheets.specs.Payload.{pid}
 use Rattle.sheets.specs.Walks.{sum}
 use Rattle.sheets.specs.Homes.{homesOf}
@@ -19,18 +18,16 @@ use Rattle.rules.specs.Rules.{bad}
 use Rattle.faults.specs.Faults.{joined, leastFrom, leastOf, checked}
 use Rattle.faults.specs.declared.Fault.the-variants.{None}
 use Rattle.syntax.specs.Tree.{Model}
-use Rattle.syntax.specs.Grammar.{Gram}
 use Rattle.lawful.specs.Senses.{senseIn, isUnknown}
 use Rattle.lawful.specs.Units.{ofModel, partsLawful, mtypesIn, initsIn, tally, modelLawful}
 use Rattle.lawful.specs.Says.{Says}
-use Rattle.nesting.proofs.Begun.{full-model}
 use Rattle.fitness.proofs.Known.{checked-free}
 use Rattle.governing.proofs.Homes.{inside-none}
 use Rattle.governing.proofs.Scopes.{scoped-start}
 use Rattle.governing.proofs.Judging.{hs, Clean, rule-pid}
 use Rattle.governing.proofs.Variables.{Pidless}
 use Rattle.governing.proofs.Bodies.{Statements}
-use Rattle.governing.proofs.Parts.{walk, walk-lawful, lawful-walk, Through, units-through}
+use Rattle.governing.proofs.Parts.{walk-lawful, lawful-walk, Through, units-through}
 
 no-pid : Pidless []
 unfolding senseIn
@@ -41,7 +38,7 @@ module _ (cs hs : List ℕ) where
   unfolding count sum
   count-start set = refl
 
-module _ (m : Model) (tokens : List Token) (gram : Gram tokens m) (cs vs : List ℕ) (S : Says m cs vs) (ruled : Statements m cs vs S) where
+module _ (m : Model) (cs vs : List ℕ) (S : Says m cs vs) (ruled : Statements m cs vs S) where
   abbrev homes : List ℕ
   homes = homesOf cs (replicate 8192 0)
 
@@ -52,7 +49,7 @@ module _ (m : Model) (tokens : List Token) (gram : Gram tokens m) (cs vs : List 
   heights = heightsOf cs starts (replicate 8192 0)
 
   through : Through m cs vs S [] 0 0 m 0
-  through = units-through m cs vs S ruled m [] 0 [] 0 0 refl refl (full-model gram) (scoped-start m cs vs homes S 0) (inside-none cs) (count-start cs homes 9) (count-start cs homes 10)
+  through = units-through m cs vs S ruled m [] 0 [] 0 0 refl refl (scoped-start m cs vs homes S 0) (inside-none cs) (count-start cs homes 9) (count-start cs homes 10)
 
   -- a model without faults declares no `_pid`
   pidless : Clean m cs vs S 0 (length cs) → Pidless (ofModel m)
@@ -95,9 +92,9 @@ unfolding checked leastOf
 free-checked cs vs toks h =
     least-none cs vs (homesOf cs (replicate 8192 0)) (startsOf cs (replicate 8192 0)) (heightsOf cs (startsOf cs (replicate 8192 0)) (replicate 8192 0)) toks (length cs) 0 (λ i a b. h i (omega arith))
 
-module _ (m : Model) (tokens : List Token) (gram : Gram tokens m) (cs vs : List ℕ) (S : Says m cs vs) (ruled : Statements m cs vs S) (toks : List ℕ) where
+module _ (m : Model) (cs vs : List ℕ) (S : Says m cs vs) (ruled : Statements m cs vs S) (toks : List ℕ) where
   pub checked-lawful : checked cs vs toks ≡ None → modelLawful m ≡ true
-  checked-lawful e = rules-lawful m tokens gram cs vs S ruled (checked-free cs vs toks e)
+  checked-lawful e = rules-lawful m cs vs S ruled (checked-free cs vs toks e)
 
   pub lawful-checked : modelLawful m ≡ true → checked cs vs toks ≡ None
-  lawful-checked e = free-checked cs vs toks (lawful-rules m tokens gram cs vs S ruled e)
+  lawful-checked e = free-checked cs vs toks (lawful-rules m cs vs S ruled e)

@@ -3,27 +3,25 @@ use Prim.Native.Nat.{ℕ, zero, suc, _+_, _≤_, _<_}
 use native.Mathlib.Omega.{arith}
 use native.Mathlib.Decide.{ℕ-discrete}
 use mathlib.Core.Path.{_≡_, refl, sym, ap, _∙_, subst}
-use mathlib.Core.Bool.{Bool, true, false}
+use mathlib.Core.Bool.{Bool, true}
 use mathlib.Core.List.{List, [], _∷_, _++_, append-assoc, append-nil}
 use lib.ListN.{length, getD, length-append}
-use lib.Dec.{eqb}
 use borrow.Author.Tests.{eq-eqb, eqb-true}
 use Rattle.base.specs.Choice.{both}
 use Rattle.base.proofs.Tests.{both-true}
 use Rattle.sheets.specs.Homes.{insideOf}
 use Rattle.finding.specs.Search.{count}
 use Rattle.rules.specs.Rules.{ruleOf}
-use Rattle.syntax.specs.Tree.{Name, Model, sequence, Tree, Declaration, declare, Group, Body, body, Activity, idle, once, times, Part, mtypes, global, process, init}
-use Rattle.syntax.specs.Code.{Item, i-name, i-number, i-type, i-mtypes, i-global, i-local, i-proctype, i-active, i-active-many, i-init, i-body, i-end-body, each, code-tree, code-declaration, code-group, code-body, code-activity, code-message, code-part, code}
+use Rattle.syntax.specs.Tree.{Name, Model, sequence, Tree, Declaration, declare, Group, body, Activity, idle, once, times, Part, mtypes, global, process, init}
+use Rattle.syntax.specs.Code.{Item, i-name, i-number, i-type, i-mtypes, i-global, i-local, i-proctype, i-active, i-active-many, i-init, i-body, i-end-body, each, code-tree, code-declaration, code-group, code-body, code-activity, code-part, code}
 use Rattle.entries.specs.Items.{Known}
 use Rattle.lawful.specs.Senses.{Scope}
 use Rattle.lawful.specs.Units.{ofPart, ofModel, partLawful, partsLawful, mtypesIn, initsIn, tally}
 use Rattle.lawful.specs.Says.{itemAt, Says}
-use Rattle.nesting.specs.Full.{Full, FullPart, FullModel}
 use Rattle.acts.specs.Program.{sizeIn, startIn}
 use Rattle.acts.proofs.Stands.{Lying, lying-behind, lying-before, lying-whole, lying-in, statements-lie}
 use Rattle.governing.proofs.Items.{type-code}
-use Rattle.governing.proofs.Standing.{Lies, lies-front, lies-back, lies-most, lies-whole, long, known-at, code-is}
+use Rattle.governing.proofs.Standing.{Lies, lies-front, lies-back, lies-whole, long, known-at, code-is}
 use Rattle.governing.proofs.Scopes.{Scoped}
 use Rattle.governing.proofs.Judging.{hs, Clean, Judges, clean-empty, judges-true, judges-both}
 use Rattle.governing.proofs.Variables.{Pidless, mark-clean, After}
@@ -141,9 +139,9 @@ module _ (m : Model) (cs vs : List ℕ) (S : Says m cs vs) where
 
     process-done : (a : Activity) (w : Name) (gs : List Group) (ds : List Declaration) (q : Tree sequence) (n k e : ℕ) → xs ≡ front ++ (code-part (process a w gs (body ds q)) ++ rest) → Lies xs j (code-part (process a w gs (body ds q)))
         → e ≡ j + length (code-part (process a w gs (body ds q))) → suc (suc n) ≡ j + length (code-activity a w) → Begins k → j ≤ n → n < length xs → itemAt xs n ≡ i-name w → suc n < length xs → getD cs (suc n) 0 ≡ k
-        → Clean m cs vs S j n → ((i : ℕ) → j ≤ i → i ≤ n → getD cs i 0 ≤ 71) → Full q → After m cs vs S e → Sc g 0 j → insideOf cs j ≡ 0 → count cs H 9 0 0 j ≡ c → count cs H 10 0 0 j ≡ d
-        → Done m cs vs S ruled g c d (process a w gs (body ds q)) j e
-    process-done a w gs ds q n k e split y q0 en bg jn bn qn bu ck clean low full after sc ins c9 c10 =
+        → Clean m cs vs S j n → ((i : ℕ) → j ≤ i → i ≤ n → getD cs i 0 ≤ 71) → After m cs vs S e → Sc g 0 j → insideOf cs j ≡ 0 → count cs H 9 0 0 j ≡ c → count cs H 10 0 0 j ≡ d
+        → Done m cs vs S g c d (process a w gs (body ds q)) j e
+    process-done a w gs ds q n k e split y q0 en bg jn bn qn bu ck clean low after sc ins c9 c10 =
         let A = code-activity a w in
         let G = each code-group gs in
         let X = code-body (body ds q) in
@@ -157,36 +155,36 @@ module _ (m : Model) (cs vs : List ℕ) (S : Says m cs vs) where
         let yg = lies-back xs A G j (suc (suc n)) en (lies-front xs j (A ++ G) X y) in
         let yb = lies-back xs (A ++ G) X j b (omega arith) y in
         let z : suc t ≡ e = omega arith in
-        subst (Done m cs vs S ruled g c d (process a w gs (body ds q)) j) z
+        subst (Done m cs vs S g c d (process a w gs (body ds q)) j) z
         (done-process m cs vs S ruled g c d a w gs ds q j n b f t k bg jn bn qn bu ck clean low refl refl refl yg yb
-          (statements-at (process a w gs (body ds q)) (A ++ G) ds q b f split refl (omega arith) refl) full (λ r. after .0 (ap (λ i. getD cs i 0) (sym z) ∙ r)) sc ins c9 c10)
+        (statements-at (process a w gs (body ds q)) (A ++ G) ds q b f split refl (omega arith) refl) (λ r. after .0 (ap (λ i. getD cs i 0) (sym z) ∙ r)) sc ins c9 c10)
 
-    pub part-done : (x : Part) (e : ℕ) → xs ≡ front ++ (code-part x ++ rest) → e ≡ j + length (code-part x) → FullPart x → After m cs vs S e → Sc g 0 j → insideOf cs j ≡ 0 → count cs H 9 0 0 j ≡ c → count cs H 10 0 0 j ≡ d
-        → Lies xs j (code-part x) → e ≤ length cs → Done m cs vs S ruled g c d x j e
-    part-done (mtypes ws) e split q full after sc ins c9 c10 y top = done-mtypes m cs vs S ruled g c d ws j e q y top after sc ins c9 c10
-    part-done (global (declare t us)) e split q full after sc ins c9 c10 y top = done-global m cs vs S ruled g c d t us j e q y top after sc ins c9 c10
-    part-done (process idle w gs (body ds q)) e split eq full after sc ins c9 c10 y top =
+    pub part-done : (x : Part) (e : ℕ) → xs ≡ front ++ (code-part x ++ rest) → e ≡ j + length (code-part x) → After m cs vs S e → Sc g 0 j → insideOf cs j ≡ 0 → count cs H 9 0 0 j ≡ c → count cs H 10 0 0 j ≡ d
+        → Lies xs j (code-part x) → e ≤ length cs → Done m cs vs S g c d x j e
+    part-done (mtypes ws) e split q after sc ins c9 c10 y top = done-mtypes m cs vs S ruled g c d ws j e q y top after sc ins c9 c10
+    part-done (global (declare t us)) e split q after sc ins c9 c10 y top = done-global m cs vs S ruled g c d t us j e q y top after sc ins c9 c10
+    part-done (process idle w gs (body ds q)) e split eq after sc ins c9 c10 y top =
         process-done idle w gs ds q j 223 e split y eq (omega arith) plainly (omega arith) (y .0) (y .1) (y .2 .0) (code-is m cs vs S (suc j) i-proctype (y .2 .0) (y .2 .1)) (clean-empty m cs vs S j j (omega arith))
-        (λ i u v. (let k : getD cs i 0 ≡ 70 = ap (λ n. getD cs n 0) (let z : i ≡ j = omega arith in z) ∙ code-is m cs vs S j (i-name w) (y .0) (y .1) in omega arith)) full after sc ins c9 c10
-    part-done (process once w gs (body ds q)) e split eq full after sc ins c9 c10 y top =
+        (λ i u v. (let k : getD cs i 0 ≡ 70 = ap (λ n. getD cs n 0) (let z : i ≡ j = omega arith in z) ∙ code-is m cs vs S j (i-name w) (y .0) (y .1) in omega arith)) after sc ins c9 c10
+    part-done (process once w gs (body ds q)) e split eq after sc ins c9 c10 y top =
         process-done once w gs ds q j 224 e split y eq (omega arith) once-more (omega arith) (y .0) (y .1) (y .2 .0) (code-is m cs vs S (suc j) i-active (y .2 .0) (y .2 .1)) (clean-empty m cs vs S j j (omega arith))
-        (λ i u v. (let k : getD cs i 0 ≡ 70 = ap (λ n. getD cs n 0) (let z : i ≡ j = omega arith in z) ∙ code-is m cs vs S j (i-name w) (y .0) (y .1) in omega arith)) full after sc ins c9 c10
-    part-done (process (times r) w gs (body ds q)) e split eq full after sc ins c9 c10 y top =
+        (λ i u v. (let k : getD cs i 0 ≡ 70 = ap (λ n. getD cs n 0) (let z : i ≡ j = omega arith in z) ∙ code-is m cs vs S j (i-name w) (y .0) (y .1) in omega arith)) after sc ins c9 c10
+    part-done (process (times r) w gs (body ds q)) e split eq after sc ins c9 c10 y top =
         process-done (times r) w gs ds q (suc j) 225 e split y eq (omega arith) many (omega arith) (y .2 .0) (y .2 .1) (y .2 .2 .0) (code-is m cs vs S (suc (suc j)) i-active-many (y .2 .2 .0) (y .2 .2 .1))
-        (mark-clean m cs vs S j 71 (i-number r) (y .0) (y .1) refl (marks .1)) (λ i u v. low i u v (ℕ-discrete i j)) full after sc ins c9 c10
+        (mark-clean m cs vs S j 71 (i-number r) (y .0) (y .1) refl (marks .1)) (λ i u v. low i u v (ℕ-discrete i j)) after sc ins c9 c10
       where
         low : (i : ℕ) → j ≤ i → i ≤ suc j → Dec (i ≡ j) → getD cs i 0 ≤ 71
         low i u v (yes z) = let k : getD cs i 0 ≡ 71 = ap (λ n. getD cs n 0) z ∙ code-is m cs vs S j (i-number r) (y .0) (y .1) in omega arith
         low i u v (no z) = let k : getD cs i 0 ≡ 70 = ap (λ n. getD cs n 0) (let z : i ≡ suc j = omega arith in z) ∙ code-is m cs vs S (suc j) (i-name w) (y .2 .0) (y .2 .1) in omega arith
-    part-done (init (body ds q)) e split eq full after sc ins c9 c10 y top =
+    part-done (init (body ds q)) e split eq after sc ins c9 c10 y top =
         let b = suc j in
         let f = suc b + length (each (code-declaration i-local) ds) in
         let t = f + sizeIn q in
         let s3 = body-long ds q in
         let z : suc t ≡ e = omega arith in
-        subst (Done m cs vs S ruled g c d (init (body ds q)) j) z
-        (done-init m cs vs S ruled g c d ds q j b f t (y .0) (y .1) refl refl refl (y .2) (statements-at (init (body ds q)) (i-init ∷ []) ds q b f split refl (omega arith) refl) full
-          (λ r. after .0 (ap (λ i. getD cs i 0) (sym z) ∙ r)) sc ins c9 c10)
+        subst (Done m cs vs S g c d (init (body ds q)) j) z
+        (done-init m cs vs S ruled g c d ds q j b f t (y .0) (y .1) refl refl refl (y .2) (statements-at (init (body ds q)) (i-init ∷ []) ds q b f split refl (omega arith) refl)
+        (λ r. after .0 (ap (λ i. getD cs i 0) (sym z) ∙ r)) sc ins c9 c10)
 
   -- ---- all units
   pub record Through (g : Scope) (c d : ℕ) (n : Model) (j : ℕ) : Type 0 where
@@ -194,34 +192,34 @@ module _ (m : Model) (cs vs : List ℕ) (S : Says m cs vs) where
     pub judged : (M : Scope) → Sc M 0 (length cs) → Pidless M → Pidless g → J j (length cs) (walk M g c d n)
     pub pidless : (M : Scope) → Pidless g → walk M g c d n ≡ true → Pidless (g ++ ofModel n)
 
-  pub units-through : (ruled : Statements m cs vs S) (n : Model) (front : List Item) (j : ℕ) (g : Scope) (c d : ℕ) → xs ≡ front ++ code n → j ≡ length front → FullModel n → Sc g 0 j → insideOf cs j ≡ 0
+  pub units-through : (ruled : Statements m cs vs S) (n : Model) (front : List Item) (j : ℕ) (g : Scope) (c d : ℕ) → xs ≡ front ++ code n → j ≡ length front → Sc g 0 j → insideOf cs j ≡ 0
       → count cs H 9 0 0 j ≡ c → count cs H 10 0 0 j ≡ d → Through g c d n j
   unfolding walk
-  units-through ruled [] front j g c d split at full sc ins c9 c10 =
+  units-through ruled [] front j g c d split at sc ins c9 c10 =
       let z : j ≡ length cs = at ∙ sym (ap length (split ∙ append-nil front)) ∙ sym (long m cs vs S) in
       record {
         scope = subst (Sc (g ++ []) 0) z (subst (λ l. Sc l 0 j) (sym (append-nil g)) sc);
         judged = λ M sm nm ng. judges-true m cs vs S j (length cs) (clean-empty m cs vs S j (length cs) (omega arith));
         pidless = λ M ng e. subst Pidless (sym (append-nil g)) ng;
       }
-  units-through ruled (x ∷ n) front j g c d split at full sc ins c9 c10 =
+  units-through ruled (x ∷ n) front j g c d split at sc ins c9 c10 =
       let X = code-part x in
       let e = j + length X in
       let y : Lies xs j (X ++ code n) = subst (λ i. Lies xs i (X ++ code n)) (sym at) (subst (λ i. Lies i (length front) (X ++ code n)) (sym split) (lies-whole front (X ++ code n))) in
       let s1 : length xs ≡ length front + length (X ++ code n) = ap length split ∙ length-append front (X ++ code n) in
       let s2 : length (X ++ code n) ≡ length X + length (code n) = length-append X (code n) in
       let lg = long m cs vs S in
-      let r = part-done ruled front (code n) j at g c d x e split refl (full .0) (after-units n e (lies-back xs X (code n) j e refl y) (omega arith)) sc ins c9 c10 (lies-front xs j X (code n) y) (omega arith) in
+      let r = part-done ruled front (code n) j at g c d x e split refl (after-units n e (lies-back xs X (code n) j e refl y) (omega arith)) sc ins c9 c10 (lies-front xs j X (code n) y) (omega arith) in
       let g2 = g ++ ofPart x in
       let s3 : length (front ++ X) ≡ length front + length X = length-append front X in
-      let w = units-through ruled n (front ++ X) e g2 (c + mtypesIn x) (d + initsIn x) (split ∙ sym (append-assoc front X (code n))) (omega arith) (full .1) (r .scope) (r .inside) (r .lists) (r .inits) in
+      let w = units-through ruled n (front ++ X) e g2 (c + mtypesIn x) (d + initsIn x) (split ∙ sym (append-assoc front X (code n))) (omega arith) (r .scope) (r .inside) (r .lists) (r .inits) in
       let join : g2 ++ ofModel n ≡ g ++ (ofPart x ++ ofModel n) = append-assoc g (ofPart x) (ofModel n) in
       record {
         scope = subst (λ l. Sc l 0 (length cs)) join (w .scope);
         judged = λ M sm nm ng.
-          judges-both m cs vs S j e (length cs) (both (firsts c d x) (partLawful M g x)) (walk M g2 (c + mtypesIn x) (d + initsIn x) n) (omega arith) (omega arith) (r .judged M sm nm ng)
-          (λ b. w .judged M sm nm (r .pidless M ng (both-true (firsts c d x) (partLawful M g x) b .1)));
+            judges-both m cs vs S j e (length cs) (both (firsts c d x) (partLawful M g x)) (walk M g2 (c + mtypesIn x) (d + initsIn x) n) (omega arith) (omega arith) (r .judged M sm nm ng)
+            (λ b. w .judged M sm nm (r .pidless M ng (both-true (firsts c d x) (partLawful M g x) b .1)));
         pidless = λ M ng b.
-          (let p = both-true (both (firsts c d x) (partLawful M g x)) (walk M g2 (c + mtypesIn x) (d + initsIn x) n) b in
-          subst Pidless join (w .pidless M (r .pidless M ng (both-true (firsts c d x) (partLawful M g x) (p .0) .1)) (p .1)));
+            (let p = both-true (both (firsts c d x) (partLawful M g x)) (walk M g2 (c + mtypesIn x) (d + initsIn x) n) b in
+            subst Pidless join (w .pidless M (r .pidless M ng (both-true (firsts c d x) (partLawful M g x) (p .0) .1)) (p .1)));
       }

@@ -1,26 +1,25 @@
 -- What searches find: the first declaration of a scope's name. A scope and the items below a place go together (`Scoped`); the scope grows with each item that declares a name.
 use Prim.Native.Nat.{ℕ, zero, suc, _+_, _-_, _≤_, _<_}
 use native.Mathlib.Omega.{arith}
-use native.Mathlib.Decide.{ℕ-discrete}
 use mathlib.Core.Path.{_≡_, refl, sym, ap, _∙_, subst}
 use mathlib.Core.Bool.{Bool, true, false, not}
 use mathlib.Core.Logic.{_⊎_, inl, inr}
 use mathlib.Core.List.{List, [], _∷_, _++_}
 use lib.ListN.{length, getD}
 use lib.Dec.{eqb, ltb}
-use borrow.Author.Tests.{ltb-true, ltb-false, lt-ltb, le-ltb, ne-eqb, eq-eqb}
-use Rattle.base.specs.Choice.{pick, both, either}
+use borrow.Author.Tests.{lt-ltb, le-ltb, ne-eqb, eq-eqb}
+use Rattle.base.specs.Choice.{pick, both}
 use Rattle.base.specs.Lists.{same}
 use Rattle.base.proofs.Tests.{true-false}
-use Rattle.base.proofs.Lists.{same-refl, same-eq}
+use Rattle.base.proofs.Lists.{same-refl}
 use Rattle.sheets.specs.Payload.{pid}
 use Rattle.sheets.specs.Walks.{first}
 use Rattle.finding.specs.Sets.{among}
 use Rattle.finding.specs.Search.{declares, find, lookup, count}
 use Rattle.rules.specs.Rules.{isArray, isChan}
 use Rattle.syntax.specs.Tree.{Name, Model}
-use Rattle.syntax.specs.Code.{Item, i-name, code}
-use Rattle.lawful.specs.Senses.{Sense, variable, constant, procedure, unknown, Declared, declared, Scope, senseIn, isUnknown, isConstant, fresh, hides, senseOf}
+use Rattle.syntax.specs.Code.{i-name, code}
+use Rattle.lawful.specs.Senses.{Sense, variable, constant, procedure, unknown, Declared, declared, Scope, senseIn, isUnknown, isConstant, hides, senseOf}
 use Rattle.lawful.specs.Says.{itemAt, Says}
 use Rattle.lawful.specs.Setting.{Finds}
 
@@ -103,6 +102,7 @@ module _ (cs vs hs : List ℕ) where
       go true = eq-eqb (getD hs j 0) h e
       go false = refl
 
+module _ (cs hs : List ℕ) where
   -- item d is what a search below item j gives for a name of this sense
   abbrev pub Out : ℕ → ℕ → Sense → Type 0
   Out d j (variable c a) = (d < j) × (among 14 (getD cs d 0) ≡ true) × (isChan cs d ≡ c) × (isArray cs d ≡ a)
@@ -131,7 +131,7 @@ module _ (m : Model) (cs vs hs : List ℕ) (S : Says m cs vs) where
   -- the scope l is what is declared in body h below item j
   pub record Scoped (l : Scope) (h j : ℕ) : Type 0 where
     pub sure : Sure l
-    pub gives : (k : ℕ) (w : Name) → k < length cs → itemAt (code m) k ≡ i-name w → same w pid ≡ false → Out cs vs hs (find cs vs hs 1 (getD vs k 0) h j) j (senseIn l w)
+    pub gives : (k : ℕ) (w : Name) → k < length cs → itemAt (code m) k ≡ i-name w → same w pid ≡ false → Out cs hs (find cs vs hs 1 (getD vs k 0) h j) j (senseIn l w)
     -- a `_pid` among them is declared by an item
     pub pids : isUnknown (senseIn l pid) ≡ false → (d : ℕ) × ((d < j) × (among 1 (getD cs d 0) ≡ true) × (eqb (getD vs (d - 1) 0) 0 ≡ true))
 
@@ -148,7 +148,7 @@ module _ (m : Model) (cs vs hs : List ℕ) (S : Says m cs vs) where
       record {
         sure = s .sure;
         gives = λ k w a b c. (let v = getD vs k 0 in let o = s .gives k w a b c in
-          on k w (senseIn l w) o (out-known cs vs hs (find cs vs hs 1 v h j) j (senseIn l w) o) (find-more cs vs hs v h j (no-zero k w a b c)) (skipped v n));
+            on k w (senseIn l w) o (out-known cs hs (find cs vs hs 1 v h j) j (senseIn l w) o) (find-more cs vs hs v h j (no-zero k w a b c)) (skipped v n));
         pids = λ e. (let p = s .pids e in (p .0, (let z = p .1 .0 in omega arith, p .1 .1, p .1 .2)));
       }
     where
@@ -156,12 +156,12 @@ module _ (m : Model) (cs vs hs : List ℕ) (S : Says m cs vs) where
       skipped v (inl e) = not-among cs vs hs v h j e
       skipped v (inr e) = not-home cs vs hs v h j e
 
-      on : (k : ℕ) (w : Name) (t : Sense) → Out cs vs hs (find cs vs hs 1 (getD vs k 0) h j) j t → ltb (find cs vs hs 1 (getD vs k 0) h j) j ≡ not (isUnknown t)
+      on : (k : ℕ) (w : Name) (t : Sense) → Out cs hs (find cs vs hs 1 (getD vs k 0) h j) j t → ltb (find cs vs hs 1 (getD vs k 0) h j) j ≡ not (isUnknown t)
           → find cs vs hs 1 (getD vs k 0) h (suc j) ≡ pick (ltb (find cs vs hs 1 (getD vs k 0) h j) j) (find cs vs hs 1 (getD vs k 0) h j) (pick (declares cs vs hs 1 (getD vs k 0) h j) j (suc j))
-          → declares cs vs hs 1 (getD vs k 0) h j ≡ false → Out cs vs hs (find cs vs hs 1 (getD vs k 0) h (suc j)) (suc j) t
-      on k w (variable c a) o e q d = out-further cs vs hs _ _ j (variable c a) refl (q ∙ rw e refl) o
-      on k w constant o e q d = out-further cs vs hs _ _ j constant refl (q ∙ rw e refl) o
-      on k w (procedure n) o e q d = out-further cs vs hs _ _ j (procedure n) refl (q ∙ rw e refl) o
+          → declares cs vs hs 1 (getD vs k 0) h j ≡ false → Out cs hs (find cs vs hs 1 (getD vs k 0) h (suc j)) (suc j) t
+      on k w (variable c a) o e q d = out-further cs hs _ _ j (variable c a) refl (q ∙ rw e refl) o
+      on k w constant o e q d = out-further cs hs _ _ j constant refl (q ∙ rw e refl) o
+      on k w (procedure n) o e q d = out-further cs hs _ _ j (procedure n) refl (q ∙ rw e refl) o
       on k w unknown o e q d = q ∙ rw (e, d) refl
 
   -- many items
@@ -175,28 +175,28 @@ module _ (m : Model) (cs vs hs : List ℕ) (S : Says m cs vs) where
 
   -- an item that declares a name, which stands before it
   pub scoped-more : (l : Scope) (h k : ℕ) (w : Name) (t : Sense) → suc k < length cs → itemAt (code m) k ≡ i-name w → among 1 (getD cs (suc k) 0) ≡ true → getD hs (suc k) 0 ≡ h
-      → isUnknown t ≡ false → Out cs vs hs (suc k) (suc (suc k)) t → Scoped l h (suc k) → Scoped (l ++ declared w t ∷ []) h (suc (suc k))
+      → isUnknown t ≡ false → Out cs hs (suc k) (suc (suc k)) t → Scoped l h (suc k) → Scoped (l ++ declared w t ∷ []) h (suc (suc k))
   scoped-more l h k w t b q a g u f s =
       record {
         sure = sure-more l (declared w t) (s .sure) u;
         gives = λ i x c d n.
-          (let v = getD vs i 0 in
-          let j = suc k in
-          let o = s .gives i x c d n in
-          subst (Out cs vs hs (find cs vs hs 1 v h (suc j)) (suc j)) (sym (sense-more l (declared w t) x (s .sure)))
-          (on i (senseIn l x) (same w x) o (out-known cs vs hs (find cs vs hs 1 v h j) j (senseIn l x) o) (find-more cs vs hs v h j (no-zero i x c d n))
+            (let v = getD vs i 0 in
+            let j = suc k in
+            let o = s .gives i x c d n in
+            subst (Out cs hs (find cs vs hs 1 v h (suc j)) (suc j)) (sym (sense-more l (declared w t) x (s .sure)))
+            (on i (senseIn l x) (same w x) o (out-known cs hs (find cs vs hs 1 v h j) j (senseIn l x) o) (find-more cs vs hs v h j (no-zero i x c d n))
             (declares-is cs vs hs v h j a g ∙ ap (λ y. eqb (getD vs y 0) v) (let z : suc k - 1 ≡ k = omega arith in z) ∙ S .names k i w x (omega arith) c q d)));
         pids = λ e. pid-there (same w pid) refl (senseIn l pid) refl (ap isUnknown (sym (sense-more l (declared w t) pid (s .sure))) ∙ e);
       }
     where
-      on : (i : ℕ) (y : Sense) (r : Bool) → Out cs vs hs (find cs vs hs 1 (getD vs i 0) h (suc k)) (suc k) y → ltb (find cs vs hs 1 (getD vs i 0) h (suc k)) (suc k) ≡ not (isUnknown y)
+      on : (i : ℕ) (y : Sense) (r : Bool) → Out cs hs (find cs vs hs 1 (getD vs i 0) h (suc k)) (suc k) y → ltb (find cs vs hs 1 (getD vs i 0) h (suc k)) (suc k) ≡ not (isUnknown y)
           → find cs vs hs 1 (getD vs i 0) h (suc (suc k))
-            ≡ pick (ltb (find cs vs hs 1 (getD vs i 0) h (suc k)) (suc k)) (find cs vs hs 1 (getD vs i 0) h (suc k)) (pick (declares cs vs hs 1 (getD vs i 0) h (suc k)) (suc k) (suc (suc k)))
-          → declares cs vs hs 1 (getD vs i 0) h (suc k) ≡ r → Out cs vs hs (find cs vs hs 1 (getD vs i 0) h (suc (suc k))) (suc (suc k)) (hides y (pick r t unknown))
-      on i (variable c a) r o e p d = out-further cs vs hs _ _ (suc k) (variable c a) refl (p ∙ rw e refl) o
-      on i constant r o e p d = out-further cs vs hs _ _ (suc k) constant refl (p ∙ rw e refl) o
-      on i (procedure n) r o e p d = out-further cs vs hs _ _ (suc k) (procedure n) refl (p ∙ rw e refl) o
-      on i unknown true o e p d = subst (λ x. Out cs vs hs x (suc (suc k)) t) (sym (p ∙ rw (e, d) refl)) f
+          ≡ pick (ltb (find cs vs hs 1 (getD vs i 0) h (suc k)) (suc k)) (find cs vs hs 1 (getD vs i 0) h (suc k)) (pick (declares cs vs hs 1 (getD vs i 0) h (suc k)) (suc k) (suc (suc k)))
+          → declares cs vs hs 1 (getD vs i 0) h (suc k) ≡ r → Out cs hs (find cs vs hs 1 (getD vs i 0) h (suc (suc k))) (suc (suc k)) (hides y (pick r t unknown))
+      on i (variable c a) r o e p d = out-further cs hs _ _ (suc k) (variable c a) refl (p ∙ rw e refl) o
+      on i constant r o e p d = out-further cs hs _ _ (suc k) constant refl (p ∙ rw e refl) o
+      on i (procedure n) r o e p d = out-further cs hs _ _ (suc k) (procedure n) refl (p ∙ rw e refl) o
+      on i unknown true o e p d = subst (λ x. Out cs hs x (suc (suc k)) t) (sym (p ∙ rw (e, d) refl)) f
       on i unknown false o e p d = p ∙ rw (e, d) refl
 
       pid-there : (r : Bool) → same w pid ≡ r → (y : Sense) → senseIn l pid ≡ y → isUnknown (hides y (pick r t unknown)) ≡ false
@@ -208,7 +208,7 @@ module _ (m : Model) (cs vs hs : List ℕ) (S : Says m cs vs) where
       pid-there false e unknown z p = absurd (true-false p)
 
   -- ---- what a name means, in body h with the locals l behind the globals g
-  out-finds : (d j : ℕ) (s : Sense) → getD cs j 0 ≡ 70 → Out cs vs hs d j s → Finds cs d s
+  out-finds : (d j : ℕ) (s : Sense) → getD cs j 0 ≡ 70 → Out cs hs d j s → Finds cs d s
   out-finds d j (variable c a) e o = (o .1, o .2, o .3)
   out-finds d j constant e o = o .1
   out-finds d j (procedure n) e o = o .1
@@ -223,9 +223,9 @@ module _ (m : Model) (cs vs hs : List ℕ) (S : Says m cs vs) where
   lookup-finds l g h k w s r b q c n =
       let v = getD vs k 0 in
       let o = s .gives k w b q n in
-      on (senseIn l w) o (out-known cs vs hs (find cs vs hs 1 v h k) k (senseIn l w) o)
+      on (senseIn l w) o (out-known cs hs (find cs vs hs 1 v h k) k (senseIn l w) o)
     where
-      on : (y : Sense) → Out cs vs hs (find cs vs hs 1 (getD vs k 0) h k) k y → ltb (find cs vs hs 1 (getD vs k 0) h k) k ≡ not (isUnknown y)
+      on : (y : Sense) → Out cs hs (find cs vs hs 1 (getD vs k 0) h k) k y → ltb (find cs vs hs 1 (getD vs k 0) h k) k ≡ not (isUnknown y)
           → Finds cs (pick (ltb (find cs vs hs 1 (getD vs k 0) h k) k) (find cs vs hs 1 (getD vs k 0) h k) (find cs vs hs 1 (getD vs k 0) 0 k)) (hides y (senseIn g w))
       on (variable x a) o e = rw e (out-finds _ k (variable x a) c o)
       on constant o e = rw e (out-finds _ k constant c o)

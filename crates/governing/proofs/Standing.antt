@@ -27,10 +27,6 @@ module _ (xs : List Item) where
   lies-back [] y k j e h = let q : k ≡ j = omega arith in subst (λ n. Lies xs n y) q h
   lies-back (a ∷ x) y k j e h = lies-back x y (suc k) j (omega arith) (h .2)
 
-  pub lies-most : (l : List Item) (k : ℕ) → k ≤ length xs → Lies xs k l → k + length l ≤ length xs
-  lies-most [] k b h = omega arith
-  lies-most (x ∷ l) k b h = let a = h .0 in let c = lies-most l (suc k) (omega arith) (h .2) in omega arith
-
   -- what all of them are
   pub lies-all : (p : Item → Bool) (l : List Item) (k : ℕ) → Lies xs k l → All p l → (j : ℕ) → k ≤ j → j < k + length l → p (itemAt xs j) ≡ true
   lies-all p [] k h a j b c = absurd (omega arith)
@@ -42,11 +38,12 @@ module _ (xs : List Item) where
 
 pub lies-whole : (f l : List Item) → Lies (f ++ l) (length f) l
 lies-whole f [] = tt
-lies-whole f (x ∷ l) =
-    (let a = length-append f (x ∷ l) in omega arith,
-    ap (λ n. itemAt (f ++ x ∷ l) n) (let z : length f ≡ length f + 0 = omega arith in z) ∙ getD-append-add f (x ∷ l) 0 i-plain,
-    subst (λ n. Lies (f ++ x ∷ l) n l) (let a = length-append f (x ∷ []) in let z : length (f ++ x ∷ []) ≡ suc (length f) = omega arith in z)
-      (subst (λ (y : List Item). Lies y (length (f ++ x ∷ [])) l) (append-assoc f (x ∷ []) l) (lies-whole (f ++ x ∷ []) l)))
+lies-whole f (x ∷ l) = (
+  let a = length-append f (x ∷ l) in omega arith,
+  ap (λ n. itemAt (f ++ x ∷ l) n) (let z : length f ≡ length f + 0 = omega arith in z) ∙ getD-append-add f (x ∷ l) 0 i-plain,
+  subst (λ n. Lies (f ++ x ∷ l) n l) (let a = length-append f (x ∷ []) in let z : length (f ++ x ∷ []) ≡ suc (length f) = omega arith in z)
+      (subst (λ (y : List Item). Lies y (length (f ++ x ∷ [])) l) (append-assoc f (x ∷ []) l) (lies-whole (f ++ x ∷ []) l)),
+)
 
 all-known : (l : List Item) → AllKnown l → (j : ℕ) → j < length l → Known (itemAt l j)
 all-known [] a j h = absurd (omega arith)

@@ -4,36 +4,34 @@ use native.Mathlib.Omega.{arith}
 use native.Mathlib.Decide.{ℕ-discrete, decLt}
 use mathlib.Core.Path.{_≡_, refl, sym, ap, _∙_, subst}
 use mathlib.Core.Bool.{Bool, true, false}
-use mathlib.Core.Logic.{_⊎_, inl, inr}
-use mathlib.Core.List.{List, [], _∷_, _++_, map, append-assoc, append-nil}
-use lib.ListN.{length, getD, length-append}
-use lib.Dec.{eqb, ltb, leb}
-use borrow.Author.Tests.{ne-eqb, eq-eqb}
-use Rattle.base.specs.Choice.{pick, both, either}
-use Rattle.base.proofs.Tests.{true-false, both-true, either-true}
-use Rattle.sheets.specs.Payload.{pid}
+use mathlib.Core.Logic.{inl, inr}
+use mathlib.Core.List.{List, [], _∷_, _++_, map, append-nil}
+use lib.ListN.{length, getD}
+use lib.Dec.{eqb}
+use borrow.Author.Tests.{ne-eqb}
+use Rattle.base.specs.Choice.{both, either}
+use Rattle.base.proofs.Tests.{true-false, both-true}
 use Rattle.sheets.specs.Walks.{sum}
 use Rattle.sheets.specs.Homes.{heads, insideOf}
 use Rattle.finding.specs.Sets.{among}
 use Rattle.finding.specs.Search.{last, one, count}
 use Rattle.rules.specs.Rules.{ruleOf}
-use Rattle.syntax.specs.Tree.{Name, Model, sequence, Tree, Declaration, declare, Variable, Group, Body, body, Activity, idle, once, times, Part, mtypes, global, process, init}
-use Rattle.syntax.specs.Code.{Item, i-name, i-number, i-type, i-mtypes, i-message, i-global, i-local, i-proctype, i-active, i-active-many, i-init, i-body, i-end-body, each, code-tree, code-declaration, code-group, code-body, code-activity, code-message, code-part, code}
-use Rattle.entries.specs.Items.{codeOf, Known}
-use Rattle.lawful.specs.Senses.{Sense, constant, procedure, Scope, declared, senseIn, isUnknown, fresh}
-use Rattle.lawful.specs.Units.{ofMessage, ofGroups, ofDeclaration, ofPart, ofModel, joins, variables, globalLawful, bodyLawful, partLawful, mtypesIn, initsIn}
+use Rattle.syntax.specs.Tree.{Name, Model, sequence, Tree, Declaration, declare, Variable, Group, body, Activity, Part, mtypes, global, process, init}
+use Rattle.syntax.specs.Code.{Item, i-name, i-mtypes, i-message, i-global, i-local, i-init, i-body, i-end-body, each, code-tree, code-declaration, code-group, code-body, code-message, code-part, code}
+use Rattle.entries.specs.Items.{codeOf}
+use Rattle.lawful.specs.Senses.{Sense, constant, procedure, Scope, declared, senseIn, fresh}
+use Rattle.lawful.specs.Units.{ofMessage, ofGroups, ofPart, joins, bodyLawful, partLawful, mtypesIn, initsIn}
 use Rattle.lawful.specs.Says.{itemAt, Says}
-use Rattle.nesting.specs.Full.{Full, FullBody, FullPart}
-use Rattle.acts.specs.Program.{sizeIn, startIn}
-use Rattle.acts.proofs.Stands.{Lying, lying-behind, lying-before, lying-whole, lying-in, statements-lie}
+use Rattle.acts.specs.Program.{sizeIn}
+use Rattle.acts.proofs.Stands.{Lying}
 use Rattle.fitness.proofs.Sums.{sum-next}
-use Rattle.governing.proofs.Items.{settled, type-code, all-declaration, global-settled, All, all-each}
-use Rattle.governing.proofs.Standing.{Lies, lies-front, lies-back, lies-most, lies-all, long, known-at, code-at, code-is, settled-at}
+use Rattle.governing.proofs.Items.{settled, all-declaration, global-settled, All, all-each}
+use Rattle.governing.proofs.Standing.{Lies, lies-front, lies-all, long, code-at, code-is, settled-at}
 use Rattle.governing.proofs.Homes.{no-head, inside-over, home-inside, home-of-head, home-most}
 use Rattle.governing.proofs.Scopes.{Out, Scoped, scoped-start, scoped-over, scoped-more}
-use Rattle.governing.proofs.Judging.{hs, fault-mark, Clean, Judges, clean-join, clean-one, clean-empty, judges-true, judges-both, judges-skip, rule-fresh, rule-mtypes, rule-init}
+use Rattle.governing.proofs.Judging.{hs, Clean, Judges, clean-join, judges-both, judges-skip, rule-fresh, rule-mtypes, rule-init}
 use Rattle.governing.proofs.Variables.{low-one, Pidless, fresh-pidless, mark-clean, After}
-use Rattle.governing.proofs.Declarations.{names-judged, after-groups, groups-judged, after-declarations, global-judged}
+use Rattle.governing.proofs.Declarations.{names-judged, groups-judged, after-declarations, global-judged}
 use Rattle.governing.proofs.Bodies.{Frame, frame-made, frame-behind, home-in, inside-after, parameters-counted, Statements, body-judged}
 
 -- ---- sets
@@ -130,10 +128,6 @@ module _ (m : Model) (cs vs : List ℕ) (S : Says m cs vs) where
   count-over : (set i e : ℕ) → i ≤ e → ((j : ℕ) → i ≤ j → j < e → among set (getD cs j 0) ≡ false) → count cs H set 0 0 e ≡ count cs H set 0 0 i
   count-over set i e b p = ap (count cs H set 0 0) (let z : e ≡ i + (e - i) = omega arith in z) ∙ count-far set (e - i) i (λ j x y. p j x (omega arith))
 
-  count-none : count cs H 9 0 0 0 ≡ 0
-  unfolding count sum
-  count-none = refl
-
   -- ---- items outside of bodies
   flat : (j e : ℕ) → insideOf cs j ≡ 0 → j ≤ e → e ≤ length cs → ((i : ℕ) → j ≤ i → i < e → getD cs i 0 ≤ 222) → ((i : ℕ) → j ≤ i → i < e → getD H i 0 ≡ 0) × (insideOf cs e ≡ 0)
   flat j e q b t l =
@@ -143,7 +137,7 @@ module _ (m : Model) (cs vs : List ℕ) (S : Says m cs vs) where
       far i x y = inside-over cs j i x (λ k u v. (let z = l k u (omega arith) in (no-head (getD cs k 0) z, λ w. omega arith))) ∙ q
 
   -- ---- what is known behind a unit
-  pub record Done (ruled : Statements m cs vs S) (g : Scope) (c d : ℕ) (x : Part) (j e : ℕ) : Type 0 where
+  pub record Done (g : Scope) (c d : ℕ) (x : Part) (j e : ℕ) : Type 0 where
     pub scope : Sc (g ++ ofPart x) 0 e
     pub inside : insideOf cs e ≡ 0
     pub lists : count cs H 9 0 0 e ≡ c + mtypesIn x
@@ -154,15 +148,15 @@ module _ (m : Model) (cs vs : List ℕ) (S : Says m cs vs) where
   module _ (ruled : Statements m cs vs S) (g : Scope) (c d : ℕ) where
     -- ---- mtype names
     pub done-mtypes : (ws : List Name) (j e : ℕ) → e ≡ j + length (code-part (mtypes ws)) → Lies xs j (code-part (mtypes ws)) → e ≤ length cs → After m cs vs S e → Sc g 0 j → insideOf cs j ≡ 0
-        → count cs H 9 0 0 j ≡ c → count cs H 10 0 0 j ≡ d → Done ruled g c d (mtypes ws) j e
+        → count cs H 9 0 0 j ≡ c → count cs H 10 0 0 j ≡ d → Done g c d (mtypes ws) j e
     done-mtypes ws j e q y top a sc ins c9 c10 =
         let cm = code-is m cs vs S j i-mtypes (y .0) (y .1) in
         let lg = long m cs vs S in
         let codes : (i : ℕ) → suc j ≤ i → i < e → (getD cs i 0 ≤ 220) × (getD cs i 0 ≡ 219 → ⊥) =
         λ i u v. (let k = message-code (itemAt xs i) (lies-all xs message (each code-message ws) (suc j) (y .2) (all-each message code-message message-all ws) i u (omega arith)) in
-          let z = code-at m cs vs S i (omega arith) in
-          let k0 = k .0 in
-          (omega arith, λ w. k .1 (sym z ∙ w))) in
+        let z = code-at m cs vs S i (omega arith) in
+        let k0 = k .0 in
+        (omega arith, λ w. k .1 (sym z ∙ w))) in
         let most : (i : ℕ) → j ≤ i → i < e → getD cs i 0 ≤ 222 = λ i u v. upto i u v cm codes (ℕ-discrete i j) in
         let fl = flat j e ins (omega arith) top most in
         let s1 : Sc g 0 (suc j) = scoped-over m cs vs H S g 0 j (suc j) (omega arith) (λ i u v. inl (ap (λ n. among 1 (getD cs n 0)) (let z : i ≡ j = omega arith in z) ∙ ap (among 1) cm ∙ sets .2)) sc in
@@ -190,7 +184,7 @@ module _ (m : Model) (cs vs : List ℕ) (S : Says m cs vs) where
 
     -- ---- a global declaration
     pub done-global : (t : ℕ) (us : List Variable) (j e : ℕ) → e ≡ j + length (code-part (global (declare t us))) → Lies xs j (code-part (global (declare t us))) → e ≤ length cs → After m cs vs S e → Sc g 0 j → insideOf cs j ≡ 0
-        → count cs H 9 0 0 j ≡ c → count cs H 10 0 0 j ≡ d → Done ruled g c d (global (declare t us)) j e
+        → count cs H 9 0 0 j ≡ c → count cs H 10 0 0 j ≡ d → Done g c d (global (declare t us)) j e
     done-global t us j e q y top a sc ins c9 c10 =
         let lg = long m cs vs S in
         let codes : (i : ℕ) → j ≤ i → i < e → getD cs i 0 ≤ 218 =
@@ -251,8 +245,8 @@ module _ (m : Model) (cs vs : List ℕ) (S : Says m cs vs) where
     pub done-process : (a : Activity) (w : Name) (gs : List Group) (ds : List Declaration) (q : Tree sequence) (j n b f t k : ℕ) → Begins k → j ≤ n → n < length xs → itemAt xs n ≡ i-name w → suc n < length xs → getD cs (suc n) 0 ≡ k
         → Clean m cs vs S j n → ((i : ℕ) → j ≤ i → i ≤ n → getD cs i 0 ≤ 71)
         → b ≡ suc (suc n) + length (each code-group gs) → f ≡ suc b + length (each (code-declaration i-local) ds) → t ≡ f + sizeIn q → Lies xs (suc (suc n)) (each code-group gs) → Lies xs b (code-body (body ds q))
-        → Lying xs 0 (code-tree q) f → Full q → (getD cs (suc t) 0 ≡ 213 → ⊥) → Sc g 0 j → insideOf cs j ≡ 0 → count cs H 9 0 0 j ≡ c → count cs H 10 0 0 j ≡ d → Done ruled g c d (process a w gs (body ds q)) j (suc t)
-    done-process a w gs ds q j n b f t k bg jn bn qn bu ck clean low eb ef et yg yb lying full after sc ins c9 c10 =
+        → Lying xs 0 (code-tree q) f → (getD cs (suc t) 0 ≡ 213 → ⊥) → Sc g 0 j → insideOf cs j ≡ 0 → count cs H 9 0 0 j ≡ c → count cs H 10 0 0 j ≡ d → Done g c d (process a w gs (body ds q)) j (suc t)
+    done-process a w gs ds q j n b f t k bg jn bn qn bu ck clean low eb ef et yg yb lying after sc ins c9 c10 =
         let u = suc n in
         let lg = long m cs vs S in
         let bh = begins-head bg in
@@ -266,7 +260,7 @@ module _ (m : Model) (cs vs : List ℕ) (S : Says m cs vs) where
         let sn : Sense = procedure (length (ofGroups gs)) in
         let hu = home-of-head cs (S .few) u (omega arith) (ap heads ck ∙ bh .0) in
         let am = ap (among 1) ck ∙ bh .1 in
-        let out : Out cs vs H u (suc u) sn = (omega arith, ap (among 13) ck ∙ bh .2, parameters-counted m cs vs S u b f t F gs yg eb) in
+        let out : Out cs H u (suc u) sn = (omega arith, ap (among 13) ck ∙ bh .2, parameters-counted m cs vs S u b f t F gs yg eb) in
         let g2 = g ++ declared w sn ∷ [] in
         let s2 : Sc g2 0 (suc u) = scoped-more m cs vs H S g 0 n w sn (omega arith) qn am hu refl out su in
         let yd = lies-front xs b (i-body ∷ each (code-declaration i-local) ds) (code-tree q) (lies-front xs b (i-body ∷ each (code-declaration i-local) ds ++ code-tree q) (i-end-body ∷ []) yb) in
@@ -284,12 +278,12 @@ module _ (m : Model) (cs vs : List ℕ) (S : Says m cs vs) where
           lists = omega arith;
           inits = omega arith;
           judged = λ M sm nm ng.
-            (let B = bodyLawful M g2 (ofGroups gs) (body ds q) in
-            judges-skip m cs vs S j u (suc t) (both (fresh g w) (both (joins [] (ofGroups gs)) B)) (omega arith) (omega arith)
-            (clean-join m cs vs S j n u clean (mark-clean m cs vs S n 70 (i-name w) bn qn refl (marks .0)))
-            (judges-both m cs vs S u (suc u) (suc t) (fresh g w) (both (joins [] (ofGroups gs)) B) (omega arith) (omega arith) (rule-fresh m cs vs S g 0 n w (omega arith) qn am hu su)
+              (let B = bodyLawful M g2 (ofGroups gs) (body ds q) in
+              judges-skip m cs vs S j u (suc t) (both (fresh g w) (both (joins [] (ofGroups gs)) B)) (omega arith) (omega arith)
+              (clean-join m cs vs S j n u clean (mark-clean m cs vs S n 70 (i-name w) bn qn refl (marks .0)))
+              (judges-both m cs vs S u (suc u) (suc t) (fresh g w) (both (joins [] (ofGroups gs)) B) (omega arith) (omega arith) (rule-fresh m cs vs S g 0 n w (omega arith) qn am hu su)
               (λ fr. judges-both m cs vs S (suc u) b (suc t) (joins [] (ofGroups gs)) B (omega arith) (omega arith) JG
-                (λ jo. body-judged m cs vs S ruled u b f t F ds q (ofGroups gs) g2 M full lying et ef (yd .2) after (ps .1 .scope) s2 sm (ps .1 .pidless no-pid jo) (fresh-pidless g w sn (sc .sure) fr ng) nm))));
+              (λ jo. body-judged m cs vs S ruled u b f t F ds q (ofGroups gs) g2 M lying et ef (yd .2) after (ps .1 .scope) s2 sm (ps .1 .pidless no-pid jo) (fresh-pidless g w sn (sc .sure) fr ng) nm))));
           pidless = λ M ng e. fresh-pidless g w sn (sc .sure) (both-true (fresh g w) _ e .0) ng;
         }
       where
@@ -301,9 +295,9 @@ module _ (m : Model) (cs vs : List ℕ) (S : Says m cs vs) where
         heading i x y (no z) ck p q low = let e = low i x (omega arith) in (λ r. omega arith, λ r. omega arith)
 
     pub done-init : (ds : List Declaration) (q : Tree sequence) (j b f t : ℕ) → j < length xs → itemAt xs j ≡ i-init → b ≡ suc j → f ≡ suc b + length (each (code-declaration i-local) ds) → t ≡ f + sizeIn q
-        → Lies xs b (code-body (body ds q)) → Lying xs 0 (code-tree q) f → Full q → (getD cs (suc t) 0 ≡ 213 → ⊥) → Sc g 0 j → insideOf cs j ≡ 0 → count cs H 9 0 0 j ≡ c → count cs H 10 0 0 j ≡ d
-        → Done ruled g c d (init (body ds q)) j (suc t)
-    done-init ds q j b f t bj qj eb ef et yb lying full after sc ins c9 c10 =
+        → Lies xs b (code-body (body ds q)) → Lying xs 0 (code-tree q) f → (getD cs (suc t) 0 ≡ 213 → ⊥) → Sc g 0 j → insideOf cs j ≡ 0 → count cs H 9 0 0 j ≡ c → count cs H 10 0 0 j ≡ d
+        → Done g c d (init (body ds q)) j (suc t)
+    done-init ds q j b f t bj qj eb ef et yb lying after sc ins c9 c10 =
         let ci = code-is m cs vs S j i-init bj qj in
         let lg = long m cs vs S in
         let F = frame-made m cs vs S [] ds q j b f t (ap heads ci) (omega arith) ef et tt yb bj in
@@ -325,8 +319,8 @@ module _ (m : Model) (cs vs : List ℕ) (S : Says m cs vs) where
           lists = omega arith;
           inits = omega arith;
           judged = λ M sm nm ng.
-            judges-both m cs vs S j (suc j) (suc t) (eqb d 0) (bodyLawful M g [] (body ds q)) (omega arith) (omega arith) (rule-init m cs vs S j d ci c10)
-            (λ z. subst (λ i. J i (suc t) (bodyLawful M g [] (body ds q))) eb
-              (body-judged m cs vs S ruled j b f t F ds q [] g M full lying et ef (yd .2) after (subst (Sc [] (suc j)) (sym eb) (frame-start j b f t F)) s1 sm no-pid ng nm));
+              judges-both m cs vs S j (suc j) (suc t) (eqb d 0) (bodyLawful M g [] (body ds q)) (omega arith) (omega arith) (rule-init m cs vs S j d ci c10)
+              (λ z. subst (λ i. J i (suc t) (bodyLawful M g [] (body ds q))) eb
+              (body-judged m cs vs S ruled j b f t F ds q [] g M lying et ef (yd .2) after (subst (Sc [] (suc j)) (sym eb) (frame-start j b f t F)) s1 sm no-pid ng nm));
           pidless = λ M ng e. subst Pidless (sym (append-nil g)) ng;
         }

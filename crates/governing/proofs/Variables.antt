@@ -1,11 +1,11 @@
 -- The variables of a declaration: what they add to their scope, and that their items are free of faults exactly where each is lawful.
-use Prim.Native.Nat.{ℕ, zero, suc, _+_, _-_, _*_, _≤_, _<_}
+use Prim.Native.Nat.{ℕ, suc, _+_, _-_, _*_, _≤_, _<_}
 use native.Mathlib.Omega.{arith}
 use native.Mathlib.Decide.{ℕ-discrete, decLt}
 use mathlib.Core.Path.{_≡_, refl, sym, ap, _∙_, subst}
 use mathlib.Core.Bool.{Bool, true, false, not}
 use mathlib.Core.Option.{Option, none, some}
-use mathlib.Core.Logic.{_⊎_, inl, inr}
+use mathlib.Core.Logic.{inl}
 use mathlib.Core.List.{List, [], _∷_, _++_, map, append-assoc, append-nil}
 use lib.ListN.{length, getD, length-append}
 use lib.Dec.{eqb, leb}
@@ -26,10 +26,10 @@ use Rattle.lawful.specs.Senses.{Sense, unknown, constant, procedure, declared, 
 use Rattle.lawful.specs.Units.{isArray, ofVariable, sized, variables}
 use Rattle.lawful.specs.Units as units
 use Rattle.lawful.specs.Says.{itemAt, Says}
-use Rattle.governing.proofs.Items.{valued, Low, type-code, All, all-append, all-size, all-value}
-use Rattle.governing.proofs.Standing.{Lies, lies-front, lies-back, lies-most, lies-all, long, known-at, code-is, valued-at}
-use Rattle.governing.proofs.Scopes.{Sure, Out, Scoped, sense-more, scoped-over, scoped-more}
-use Rattle.governing.proofs.Judging.{hs, ss, ts, fault, rule-none, fault-none, fault-mark, Clean, Judges, clean-join, clean-one, clean-empty, judges-true, judges-one, judges-both, judges-skip, judges-trail, rule-fresh, rule-size, rule-channel, rule-named, rule-field, last-here, last-skip, last-over}
+use Rattle.governing.proofs.Items.{valued, Low, type-code, all-append, all-size, all-value}
+use Rattle.governing.proofs.Standing.{Lies, lies-front, lies-back, lies-all, long, known-at, code-is, valued-at}
+use Rattle.governing.proofs.Scopes.{Sure, Scoped, sense-more, scoped-over, scoped-more}
+use Rattle.governing.proofs.Judging.{hs, fault, rule-none, fault-none, fault-mark, Clean, Judges, clean-join, clean-one, clean-empty, judges-true, judges-both, judges-skip, rule-fresh, rule-size, rule-channel, rule-named, rule-field, last-here, last-skip, last-over}
 
 -- ---- sets
 pub low-one : (c : ℕ) → Low c → among 1 c ≡ false
@@ -54,9 +54,9 @@ sets : (among 1 70 ≡ false) × (among 3 70 ≡ false) × (among 1 212 ≡ true
 unfolding among
 sets = (refl, refl, refl, refl, refl, refl, refl)
 
-rulesNone : (ruleOf 70 ≡ 0) × (ruleOf 71 ≡ 0) × (ruleOf 214 ≡ 0) × (ruleOf 215 ≡ 0) × (ruleOf 178 ≡ 0) × (ruleOf 179 ≡ 0)
+marks : (ruleOf 70 ≡ 0) × (ruleOf 71 ≡ 0) × (ruleOf 214 ≡ 0) × (ruleOf 215 ≡ 0) × (ruleOf 178 ≡ 0) × (ruleOf 179 ≡ 0)
 unfolding ruleOf
-rulesNone = (refl, refl, refl, refl, refl, refl)
+marks = (refl, refl, refl, refl, refl, refl)
 
 chan-code : (t : ℕ) → eqb (130 + t) 173 ≡ eqb t 43
 chan-code t = go (ℕ-discrete t 43)
@@ -141,7 +141,7 @@ module _ (m : Model) (cs vs : List ℕ) (S : Says m cs vs) where
           judges-to k (suc (suc k) + length (each code-field ks)) (k + suc (suc (length (each code-field ks)))) (leb (i + 1 + length ks) 4) (leb (i + suc (length ks)) 4) (omega arith)
           (ap (λ x. leb x 4) (let z : i + 1 + length ks ≡ i + suc (length ks) = omega arith in z))
           (judges-skip m cs vs S k (suc (suc k)) (suc (suc k) + length (each code-field ks)) (leb (i + 1 + length ks) 4) (omega arith) (omega arith)
-            (clean-join m cs vs S k (suc k) (suc (suc k)) (type-clean k t (h .0) (h .1)) (clean-one m cs vs S (suc k) f)) (r (omega arith)))
+          (clean-join m cs vs S k (suc k) (suc (suc k)) (type-clean k t (h .0) (h .1)) (clean-one m cs vs S (suc k) f)) (r (omega arith)))
       go (no l) r =
           let f : fault m cs vs S (suc k) ≡ 5 = ruled ∙ ap (λ x. pick x 5 0) (eq-eqb i 4 (omega arith)) in
           record {
@@ -157,29 +157,29 @@ module _ (m : Model) (cs vs : List ℕ) (S : Says m cs vs) where
       → ((w : Name) → k < length xs → itemAt xs k ≡ i-name w → k < k + length (code-value v) → eqb (getD cs (lookup cs vs H (getD vs k 0) h k) 0) 220 ≡ isConstant (sense w))
       → J k (k + length (code-value v)) (units.valued sense v)
   value-judged unset k h sense l o n = judges-true m cs vs S k (k + 0) (clean-empty m cs vs S k (k + 0) (omega arith))
-  value-judged (set-number x) k h sense l o n = two k (mark-clean k 71 (i-number x) (l .0) (l .1) refl (rulesNone .1)) (mark-clean (suc k) 214 i-value (l .2 .0) (l .2 .1) refl (rulesNone .2))
-  value-judged (set-minus x) k h sense l o n = two k (mark-clean k 71 (i-number x) (l .0) (l .1) refl (rulesNone .1)) (mark-clean (suc k) 215 i-minus (l .2 .0) (l .2 .1) refl (rulesNone .3))
-  value-judged set-true k h sense l o n = two k (mark-clean k 178 i-true (l .0) (l .1) refl (rulesNone .4)) (mark-clean (suc k) 214 i-value (l .2 .0) (l .2 .1) refl (rulesNone .2))
-  value-judged set-false k h sense l o n = two k (mark-clean k 179 i-false (l .0) (l .1) refl (rulesNone .5)) (mark-clean (suc k) 214 i-value (l .2 .0) (l .2 .1) refl (rulesNone .2))
+  value-judged (set-number x) k h sense l o n = two k (mark-clean k 71 (i-number x) (l .0) (l .1) refl (marks .1)) (mark-clean (suc k) 214 i-value (l .2 .0) (l .2 .1) refl (marks .2))
+  value-judged (set-minus x) k h sense l o n = two k (mark-clean k 71 (i-number x) (l .0) (l .1) refl (marks .1)) (mark-clean (suc k) 215 i-minus (l .2 .0) (l .2 .1) refl (marks .3))
+  value-judged set-true k h sense l o n = two k (mark-clean k 178 i-true (l .0) (l .1) refl (marks .4)) (mark-clean (suc k) 214 i-value (l .2 .0) (l .2 .1) refl (marks .2))
+  value-judged set-false k h sense l o n = two k (mark-clean k 179 i-false (l .0) (l .1) refl (marks .5)) (mark-clean (suc k) 214 i-value (l .2 .0) (l .2 .1) refl (marks .2))
   value-judged (set-name w) k h sense l o n =
       judges-to k (suc (suc k)) (k + 2) (eqb (getD cs (lookup cs vs H (getD vs k 0) h k) 0) 220) (isConstant (sense w)) (omega arith) (n w (l .0) (l .1) (omega arith))
-      (judges-skip m cs vs S k (suc k) (suc (suc k)) (eqb (getD cs (lookup cs vs H (getD vs k 0) h k) 0) 220) (omega arith) (omega arith) (mark-clean k 70 (i-name w) (l .0) (l .1) refl (rulesNone .0))
-        (rule-named m cs vs S k h (code-is m cs vs S (suc k) i-named (l .2 .0) (l .2 .1)) (o (suc k) (omega arith) (omega arith))))
+      (judges-skip m cs vs S k (suc k) (suc (suc k)) (eqb (getD cs (lookup cs vs H (getD vs k 0) h k) 0) 220) (omega arith) (omega arith) (mark-clean k 70 (i-name w) (l .0) (l .1) refl (marks .0))
+      (rule-named m cs vs S k h (code-is m cs vs S (suc k) i-named (l .2 .0) (l .2 .1)) (o (suc k) (omega arith) (omega arith))))
   value-judged (set-channel x ks) k h sense l o n =
       let c = code-is m cs vs S (suc k) i-channel (l .2 .0) (l .2 .1) in
       judges-to k (suc (suc k) + length (each code-field ks)) (k + suc (suc (length (each code-field ks)))) (both (both (leb 1 x) (leb x 8)) (leb (0 + length ks) 4)) _ (omega arith)
       (ap (λ y. both (both (leb 1 x) (leb x 8)) (leb y 4)) (let z : 0 + length ks ≡ length ks = omega arith in z))
-      (judges-skip m cs vs S k (suc k) (suc (suc k) + length (each code-field ks)) _ (omega arith) (omega arith) (mark-clean k 71 (i-number x) (l .0) (l .1) refl (rulesNone .1))
-        (judges-both m cs vs S (suc k) (suc (suc k)) (suc (suc k) + length (each code-field ks)) (both (leb 1 x) (leb x 8)) (leb (0 + length ks) 4) (omega arith) (omega arith)
-          (rule-channel m cs vs S k x (below (suc k) (l .2 .0)) (l .1) c)
-          (λ u. fields ks (suc k) 0 (suc (suc k)) (l .2 .2) (omega arith) (last-here m cs vs S 16 (suc k) (ap (among 16) c ∙ sets .5)) (omega arith))))
+      (judges-skip m cs vs S k (suc k) (suc (suc k) + length (each code-field ks)) _ (omega arith) (omega arith) (mark-clean k 71 (i-number x) (l .0) (l .1) refl (marks .1))
+      (judges-both m cs vs S (suc k) (suc (suc k)) (suc (suc k) + length (each code-field ks)) (both (leb 1 x) (leb x 8)) (leb (0 + length ks) 4) (omega arith) (omega arith)
+      (rule-channel m cs vs S k x (below (suc k) (l .2 .0)) (l .1) c)
+      (λ u. fields ks (suc k) 0 (suc (suc k)) (l .2 .2) (omega arith) (last-here m cs vs S 16 (suc k) (ap (among 16) c ∙ sets .5)) (omega arith))))
 
   size-judged : (s : Option ℕ) (k : ℕ) → Lies xs k (code-size s) → J k (k + length (code-size s)) (sized s)
   size-judged none k l = judges-true m cs vs S k (k + 0) (clean-empty m cs vs S k (k + 0) (omega arith))
   size-judged (some n) k l =
       judges-to k (suc (suc k)) (k + 2) (both (leb 1 n) (leb n 32)) (both (leb 1 n) (leb n 32)) (omega arith) refl
-      (judges-skip m cs vs S k (suc k) (suc (suc k)) (both (leb 1 n) (leb n 32)) (omega arith) (omega arith) (mark-clean k 71 (i-number n) (l .0) (l .1) refl (rulesNone .1))
-        (rule-size m cs vs S k n (below (suc k) (l .2 .0)) (l .1) (code-is m cs vs S (suc k) i-size (l .2 .0) (l .2 .1))))
+      (judges-skip m cs vs S k (suc k) (suc (suc k)) (both (leb 1 n) (leb n 32)) (omega arith) (omega arith) (mark-clean k 71 (i-number n) (l .0) (l .1) refl (marks .1))
+      (rule-size m cs vs S k n (below (suc k) (l .2 .0)) (l .1) (code-is m cs vs S (suc k) i-size (l .2 .0) (l .2 .1))))
 
   -- ---- is it an array, is it a chan
   -- no size stands at an item or behind it
@@ -218,7 +218,6 @@ module _ (m : Model) (cs vs : List ℕ) (S : Says m cs vs) where
       (F : (l : Scope) (w : Name) (s : Option ℕ) (v : Value) → f l (variable w s v) ≡ both (fresh l w) (both (sized s) (units.valued (sense (l ++ ofVariable t (variable w s v) ∷ [])) v)))
       (home : (j : ℕ) → lo ≤ j → j < hi → getD H j 0 ≡ h) (top : hi ≤ length cs) (typed : getD cs p 0 ≡ 130 + t)
       (look : (l : Scope) (j : ℕ) (w : Name) → lo ≤ j → j < hi → itemAt xs j ≡ i-name w → Sc l h j → Pidless l → eqb (getD cs (lookup cs vs H (getD vs j 0) h j) 0) 220 ≡ isConstant (sense l w)) where
-
     -- what stands behind a variable
     pub record Passed (l : Scope) (b : Bool) (k e : ℕ) (l2 : Scope) : Type 0 where
       pub scope : Sc l2 h e
@@ -232,18 +231,18 @@ module _ (m : Model) (cs vs : List ℕ) (S : Says m cs vs) where
         record {
           scope = scope-at e (omega arith) (omega arith);
           kind = last-over m cs vs S 3 (suc (suc k)) e (omega arith) (λ j g u. low-three (getD cs j 0) (lows j g u)) ∙ last-skip m cs vs S 3 (suc k) (ap (among 3) cd ∙ sets .3) ∙ kind1;
-          judged = λ n. (let zz = sizes in subst (λ x. J k e x) (sym (F l w s v))
-            (judges-skip m cs vs S k (suc k) e _ (omega arith) (omega arith) (mark-clean k 70 (i-name w) (y .0) (y .1) refl (rulesNone .0))
+          judged = λ n. (let z = sizes in subst (λ x. J k e x) (sym (F l w s v))
+              (judges-skip m cs vs S k (suc k) e _ (omega arith) (omega arith) (mark-clean k 70 (i-name w) (y .0) (y .1) refl (marks .0))
               (judges-both m cs vs S (suc k) (suc (suc k)) e (fresh l w) _ (omega arith) (omega arith) (rule-fresh m cs vs S l h k w (below (suc k) (y .2 .0)) (y .1) (ap (among 1) cd ∙ sets .2) hd sc1)
-                (λ fr. judges-both m cs vs S (suc (suc k)) k2 e (sized s) _ (omega arith) (omega arith) (size-judged s (suc (suc k)) (lies-front xs (suc (suc k)) (code-size s) (code-value v) (y .2 .2)))
-                  (λ sz. judges-to k2 (k2 + length (code-value v)) e _ _ (omega arith) refl
-                    (value-judged v k2 h (sense l2) (lies-back xs (code-size s) (code-value v) (suc (suc k)) k2 refl (y .2 .2)) (λ j g u. home j (omega arith) (omega arith))
-                      (λ x g u r. look l2 k2 x (omega arith) (omega arith) u (scope-at k2 (omega arith) (omega arith)) (fresh-pidless l w tt2 (sc .sure) fr n))))))));
-          pidless = λ n u. fresh-pidless l w tt2 (sc .sure) (both-true (fresh l w) _ (sym (F l w s v) ∙ u) .0) n;
+              (λ fr. judges-both m cs vs S (suc (suc k)) k2 e (sized s) _ (omega arith) (omega arith) (size-judged s (suc (suc k)) (lies-front xs (suc (suc k)) (code-size s) (code-value v) (y .2 .2)))
+              (λ sz. judges-to k2 (k2 + length (code-value v)) e _ _ (omega arith) refl
+              (value-judged v k2 h (sense l2) (lies-back xs (code-size s) (code-value v) (suc (suc k)) k2 refl (y .2 .2)) (λ j g u. home j (omega arith) (omega arith))
+              (λ x g u r. look l2 k2 x (omega arith) (omega arith) u (scope-at k2 (omega arith) (omega arith)) (fresh-pidless l w own (sc .sure) fr n))))))));
+          pidless = λ n u. fresh-pidless l w own (sc .sure) (both-true (fresh l w) _ (sym (F l w s v) ∙ u) .0) n;
         }
       where
-        tt2 : Sense
-        tt2 = senses.variable (eqb t 43) (isArray s)
+        own : Sense
+        own = senses.variable (eqb t 43) (isArray s)
 
         l2 : Scope
         l2 = l ++ declared w (senses.variable (eqb t 43) (isArray s)) ∷ []
@@ -284,7 +283,7 @@ module _ (m : Model) (cs vs : List ℕ) (S : Says m cs vs) where
 
         sc2 : Sc l2 h (suc (suc k))
         sc2 =
-            scoped-more m cs vs H S l h k w tt2 (below (suc k) (y .2 .0)) (y .1) (ap (among 1) cd ∙ sets .2) hd refl
+            scoped-more m cs vs H S l h k w own (below (suc k) (y .2 .0)) (y .1) (ap (among 1) cd ∙ sets .2) hd refl
             (omega arith, ap (among 14) cd ∙ sets .4, chan-is (suc k) p t kind1 typed, array-is s v k (y .2 .2) after) sc1
 
         scope-at : (i : ℕ) → suc (suc k) ≤ i → i ≤ e → Sc l2 h i
@@ -304,7 +303,7 @@ module _ (m : Model) (cs vs : List ℕ) (S : Says m cs vs) where
     all-variables-judged [] l k e q b d y c a sc =
         let z : k ≡ e = omega arith in
         record {
-          scope = subst (Sc (l ++ [])  h) z (subst (λ x. Sc x h k) (sym (append-nil l)) sc);
+          scope = subst (Sc (l ++ []) h) z (subst (λ x. Sc x h k) (sym (append-nil l)) sc);
           kind = subst (λ x. last cs 3 x ≡ suc (suc p)) z c;
           judged = λ n. judges-true m cs vs S k e (clean-empty m cs vs S k e (omega arith));
           pidless = λ n u. subst Pidless (sym (append-nil l)) n;
