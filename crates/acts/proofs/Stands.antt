@@ -88,3 +88,13 @@ statement-lies {m} {u} {j} {a} {h} s =
     let k = s .at in
     lying-in (code m) (code-tree (statementsOf b)) (code-tree a) 0 (startIn b k) j
     (lying-in (code m) (code-body b) (code-tree (statementsOf b)) 0 k (startIn b k) (body-lies (s .held)) (statements-lie b k)) (within-lies (s .inside))
+
+-- ---- parts of what lies: the first of them, those behind them, those between two others
+pub lying-front : (l x y : List Item) (i j : ℕ) → Lying l i (x ++ y) j → Lying l i x j
+lying-front l x y i j p = lying-in l (x ++ y) x i j j p (lying-before x y x j j (lying-whole x j))
+
+pub lying-back : (l x y : List Item) (i j k : ℕ) → k ≡ j + length x → Lying l i (x ++ y) j → Lying l i y k
+lying-back l x y i j k e p = lying-in l (x ++ y) y i j k p (lying-behind x y y j k k e (lying-whole y k))
+
+pub lying-between : (l : List Item) (x : Item) (m : List Item) (y : Item) (i j : ℕ) → Lying l i (x ∷ (m ++ (y ∷ []))) j → Lying l i m (j + 1)
+lying-between l x m y i j p = lying-front l m (y ∷ []) i (j + 1) (lying-back l (x ∷ []) (m ++ (y ∷ [])) i j (j + 1) refl p)

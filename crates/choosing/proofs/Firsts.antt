@@ -18,9 +18,9 @@ use Rattle.accepting.specs.Meaning.{Accepts}
 use Rattle.expressions.specs.Held.{Held}
 use Rattle.expressions.proofs.Items.{T, held-front, held-back}
 use Rattle.acts.specs.Program.{sizeIn}
-use Rattle.acts.proofs.Stands.{Lying}
+use Rattle.acts.proofs.Stands.{Lying, lying-front}
 use Rattle.choosing.specs.Told.{Plain}
-use Rattle.choosing.proofs.Places.{lying-front, xs, held-there, proper-there}
+use Rattle.choosing.proofs.Places.{xs, held-there, proper-there}
 
 module _ (U : List ℕ) where
   -- ---- the first item

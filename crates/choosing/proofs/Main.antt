@@ -23,14 +23,14 @@ use Rattle.expressions.proofs.Main.{items-long}
 use Rattle.acts.specs.Stage.{Ways}
 use Rattle.acts.specs.Program.{Within, itself, in-if, in-do, unlabelled, behind-label, in-first, in-rest, in-option, in-others, Holds, in-process, in-init, later, endIn, statementsOf, Statement, Ending}
 use Rattle.acts.specs.Offers.{offers}
-use Rattle.acts.proofs.Stands.{Lying, body-lies, statement-lies}
+use Rattle.acts.proofs.Stands.{Lying, body-lies, statement-lies, lying-back, lying-between}
 use Rattle.nesting.specs.Full.{Full, FullBody, FullModel}
 use Rattle.nesting.proofs.Begun.{full-model}
 use Rattle.choosing.specs.Depth.{depth, optionsIn, ShallowBody, ShallowModel}
 use Rattle.choosing.proofs.Shallow.{shallow-model}
 use Rattle.choosing.proofs.Counted.{few-options}
 use Rattle.choosing.proofs.Walks.{walked}
-use Rattle.choosing.proofs.Places.{lying-back, lying-between, xs, held-there, inside-there}
+use Rattle.choosing.proofs.Places.{xs, held-there, inside-there}
 use Rattle.choosing.proofs.Texts.{told}
 
 -- ---- what holds of a model holds of its bodies, and of their statements

@@ -23,18 +23,6 @@ use Rattle.nesting.specs.Balanced.{Begun, Balanced}
 use Rattle.nesting.proofs.Matches.{Opener, Match}
 use Rattle.nesting.proofs.Main.{all-at, linked-to}
 
--- the first of them alone
-pub lying-front : (l x y : List Item) (i j : ℕ) → Lying l i (x ++ y) j → Lying l i x j
-lying-front l x y i j p = record { front = p .front; rest = y ++ p .rest; split = p .split ∙ ap (p .front ++_) (append-assoc x y (p .rest)); place = p .place }
-
--- those behind them
-pub lying-back : (l x y : List Item) (i j k : ℕ) → k ≡ j + length x → Lying l i (x ++ y) j → Lying l i y k
-lying-back l x y i j k e p = lying-in l (x ++ y) y i j k p (lying-behind x y y j k k e (lying-whole y k))
-
--- those between two others
-pub lying-between : (l : List Item) (x : Item) (m : List Item) (y : Item) (i j : ℕ) → Lying l i (x ∷ (m ++ (y ∷ []))) j → Lying l i m (j + 1)
-lying-between l x m y i j p = lying-front l m (y ∷ []) i (j + 1) (lying-back l (x ∷ []) (m ++ (y ∷ [])) i j (j + 1) refl p)
-
 module _ (t : List ℕ) (a : Accepts t) where
   abbrev pub xs : List Item
   xs = code (a .tree)

@@ -14,14 +14,14 @@ use Rattle.offering.specs.Offers.{firstOf}
 use Rattle.accepting.specs.Meaning.{Accepts}
 use Rattle.expressions.proofs.Items.{T}
 use Rattle.acts.specs.Program.{sizeIn, enter}
-use Rattle.acts.proofs.Stands.{Lying}
+use Rattle.acts.proofs.Stands.{Lying, lying-front, lying-back, lying-between}
 use Rattle.nesting.specs.Full.{Starts, Full}
 use Rattle.nesting.proofs.Begun.{sequence-begun}
 use Rattle.nesting.proofs.Matches.{is-if, is-do, is-option}
 use Rattle.nesting.proofs.Trees.{tree-balanced}
 use Rattle.choosing.specs.Told.{Plain, Told}
 use Rattle.choosing.proofs.Counted.{few-options}
-use Rattle.choosing.proofs.Places.{lying-front, lying-back, lying-between, xs, held-there, known-there, linked-there}
+use Rattle.choosing.proofs.Places.{xs, held-there, known-there, linked-there}
 use Rattle.choosing.proofs.Firsts.{exp-plain, code-plain, rest-first, action-second}
 
 closes-if : isClosing 0 205 ≡ true

@@ -1,4 +1,5 @@
--- Units with a body: which items are in the body, how many parameters it has, what searches find for the names of its statements (`Setting`), and that its items are free of faults exactly where it is lawful.
+-- Units with a body: which items are in the body, how many parameters it has, what searches find for the names of its statements (`Setting`), and that its items are free of
+-- faults exactly where it is lawful.
 use Prim.Native.Nat.{ℕ, suc, _+_, _-_, _≤_, _<_}
 use native.Mathlib.Omega.{arith}
 use native.Mathlib.Decide.{ℕ-discrete, decLt}
@@ -168,7 +169,8 @@ module _ (m : Model) (cs vs : List ℕ) (S : Says m cs vs) where
     unfolding one
     unit-one j e g = rw (ap (among 6) e ∙ six, eq-eqb (getD H j 0) (u + 1) g)
 
-    count-parameters : (ws : List Name) (k : ℕ) → Lies xs k (each code-parameter ws) → suc u ≤ k → k + length (each code-parameter ws) ≤ b → sum unit k (length (each code-parameter ws)) ≡ length ws
+    count-parameters : (ws : List Name) (k : ℕ) → Lies xs k (each code-parameter ws) → suc u ≤ k → k + length (each code-parameter ws) ≤ b
+        → sum unit k (length (each code-parameter ws)) ≡ length ws
     unfolding sum
     count-parameters [] k y g h = refl
     count-parameters (w ∷ ws) k y g h =
@@ -177,12 +179,15 @@ module _ (m : Model) (cs vs : List ℕ) (S : Says m cs vs) where
         let e = F .inner in
         let i = F .last in
         let a0 = unit-none k (not-six (getD cs k 0) (λ z. omega arith)) in
-        let a1 : unit (k + 1) ≡ 1 = ap unit (let z : k + 1 ≡ suc k = omega arith in z) ∙ unit-one (suc k) d (home-in (suc k) (omega arith) (omega arith) ∙ (let z : suc u ≡ u + 1 = omega arith in z)) in
+        let a1 : unit (k + 1) ≡ 1 = ap unit (let z : k + 1 ≡ suc k = omega arith in z) ∙ unit-one (suc k) d (home-in (suc k) (omega arith) (omega arith) ∙
+        (let z : suc u ≡ u + 1 = omega arith in z)) in
         let r : sum unit (k + 1 + 1) (length (each code-parameter ws)) ≡ length ws =
-        ap (λ n. sum unit n (length (each code-parameter ws))) (let z : k + 1 + 1 ≡ suc (suc k) = omega arith in z) ∙ count-parameters ws (suc (suc k)) (y .2 .2) (omega arith) (omega arith) in
+        ap (λ n. sum unit n (length (each code-parameter ws))) (let z : k + 1 + 1 ≡ suc (suc k) = omega arith in z) ∙ count-parameters ws (suc (suc k)) (y .2 .2) (omega arith)
+        (omega arith) in
         omega arith
 
-    count-groups : (gs : List Group) (k : ℕ) → Lies xs k (each code-group gs) → suc u ≤ k → k + length (each code-group gs) ≤ b → sum unit k (length (each code-group gs)) ≡ length (ofGroups gs)
+    count-groups : (gs : List Group) (k : ℕ) → Lies xs k (each code-group gs) → suc u ≤ k → k + length (each code-group gs) ≤ b
+        → sum unit k (length (each code-group gs)) ≡ length (ofGroups gs)
     unfolding sum
     count-groups [] k y g h = refl
     count-groups (group n ws ∷ gs) k y g h =
@@ -199,7 +204,8 @@ module _ (m : Model) (cs vs : List ℕ) (S : Says m cs vs) where
         let a1 : unit (k + 1) ≡ 0 = ap unit (let z : k + 1 ≡ suc k = omega arith in z) ∙ unit-none (suc k) (not-six (getD cs (suc k) 0) (λ z. omega arith)) in
         let a2 = count-parameters ws (suc (suc k)) (front .2 .2) (omega arith) (omega arith) in
         let a3 = count-groups gs k3 back (omega arith) (omega arith) in
-        let whole : sum unit k (length (i-type n ∷ i-group ∷ P ++ G)) ≡ sum unit k (suc (suc (length P + length G))) = ap (sum unit k) (let z : length (i-type n ∷ i-group ∷ P ++ G) ≡ suc (suc (length P + length G)) = omega arith in z) in
+        let whole : sum unit k (length (i-type n ∷ i-group ∷ P ++ G)) ≡ sum unit k (suc (suc (length P + length G))) = ap (sum unit k)
+        (let z : length (i-type n ∷ i-group ∷ P ++ G) ≡ suc (suc (length P + length G)) = omega arith in z) in
         let cut : sum unit (k + 1 + 1) (length P + length G) ≡ sum unit (suc (suc k)) (length P) + sum unit k3 (length G) =
         ap (λ i. sum unit i (length P + length G)) (let z : k + 1 + 1 ≡ suc (suc k) = omega arith in z) ∙ sum-split unit (length P) (length G) (suc (suc k)) in
         let l1 : length (ofGroup (group n ws) ++ ofGroups gs) ≡ length (ofGroup (group n ws)) + length (ofGroups gs) = length-append (ofGroup (group n ws)) (ofGroups gs) in
@@ -217,7 +223,8 @@ module _ (m : Model) (cs vs : List ℕ) (S : Says m cs vs) where
         let cut1 : sum unit 0 (n - 0) ≡ sum unit 0 (suc u) + sum unit (0 + suc u) (n - suc u) =
         ap (sum unit 0) (let z : n - 0 ≡ suc u + (n - suc u) = omega arith in z) ∙ sum-split unit (suc u) (n - suc u) 0 in
         let cut2 : sum unit (0 + suc u) (n - suc u) ≡ sum unit (suc u) g + sum unit (suc u + g) (n - b) =
-        ap (λ i. sum unit i (n - suc u)) (let z : 0 + suc u ≡ suc u = omega arith in z) ∙ ap (sum unit (suc u)) (let z : n - suc u ≡ g + (n - b) = omega arith in z) ∙ sum-split unit g (n - b) (suc u) in
+        ap (λ i. sum unit i (n - suc u)) (let z : 0 + suc u ≡ suc u = omega arith in z) ∙ ap (sum unit (suc u)) (let z : n - suc u ≡ g + (n - b) = omega arith in z)
+        ∙ sum-split unit g (n - b) (suc u) in
         let s1 : sum unit 0 (suc u) ≡ 0 = sum-nones unit (suc u) 0 (λ j x z. unit-other j (λ q. (let a = home-most cs (S .few) j (omega arith) in omega arith))) in
         let s2 = count-groups gs (suc u) y (omega arith) (omega arith) in
         let s3 : sum unit (suc u + g) (n - b) ≡ 0 = sum-nones unit (n - b) (suc u + g) (λ j x z. body-none j (omega arith) (omega arith)) in
@@ -289,7 +296,8 @@ module _ (m : Model) (cs vs : List ℕ) (S : Says m cs vs) where
   -- what is known of the statements of a body: crate `ruling`
   abbrev pub Statements : Type 0
   Statements =
-      (q : Tree sequence) (from to h : ℕ) (at : Place) → Lying xs 0 (code-tree q) from → to ≡ from + sizeIn q → Setting xs cs vs H h from to at → at .labels ≡ labelsOf q → (getD cs (from - 1) 0 ≡ 208 → ⊥)
+      (q : Tree sequence) (from to h : ℕ) (at : Place) → Lying xs 0 (code-tree q) from → to ≡ from + sizeIn q → Setting xs cs vs H h from to at → at .labels ≡ labelsOf q →
+      (getD cs (from - 1) 0 ≡ 208 → ⊥)
       → (Clean m cs vs S from to → both (apart (labelsOf q)) (allowed at false false q) ≡ true) × (both (apart (labelsOf q)) (allowed at false false q) ≡ true → Clean m cs vs S from to)
 
   -- the frame of a unit, by its items
@@ -327,16 +335,19 @@ module _ (m : Model) (cs vs : List ℕ) (S : Says m cs vs) where
         let i1 = F .inner in
         let i2 = F .last in
         let top = F .top in
-        let D = declarations-judged m cs vs S g (suc u) (suc u) (suc t) (λ j x z. home-in u b f t F j x (omega arith)) (omega arith) (λ j x z. globals j x (omega arith)) ng ds l (suc b) f ef (omega arith) (omega arith) y (frame-behind u b f t F after) sl2 in
+        let D = declarations-judged m cs vs S g (suc u) (suc u) (suc t) (λ j x z. home-in u b f t F j x (omega arith)) (omega arith) (λ j x z. globals j x (omega arith)) ng ds l
+        (suc b) f ef (omega arith) (omega arith) y (frame-behind u b f t F after) sl2 in
         let W : Place = record { locals = l ++ ofDeclarations ds; globals = g; model = M; labels = labelsOf q } in
         let B = both (apart (labelsOf q)) (allowed W false false q) in
         judges-skip m cs vs S b (suc b) (suc t) (both (declarations g l ds) B) (omega arith) (omega arith) (clean-one m cs vs S b (fault-mark m cs vs S b 227 (marks .0) (F .begin)))
         (judges-both m cs vs S (suc b) f (suc t) (declarations g l ds) B (omega arith) (omega arith) (D .judged nl)
         (λ e. (let R = ruled q f t (suc u) W lying et (setting u b f t F (l ++ ofDeclarations ds) g M (labelsOf q) (D .scope) sg sm (D .pidless nl e) nm) refl before in
-        judges-trail m cs vs S f t (suc t) B (omega arith) (omega arith) (record { sound = R .0; complete = R .1 }) (clean-one m cs vs S t (fault-mark m cs vs S t 228 (marks .1) (F .ends))))))
+        judges-trail m cs vs S f t (suc t) B (omega arith) (omega arith) (record { sound = R .0; complete = R .1 })
+        (clean-one m cs vs S t (fault-mark m cs vs S t 228 (marks .1) (F .ends))))))
       where
         sl2 : Scoped m cs vs (hs m cs vs S) S l (suc u) (suc b)
-        sl2 = scoped-over m cs vs H S l (suc u) b (suc b) (omega arith) (λ j x z. inl (ap (λ n. among 1 (getD cs n 0)) (let w : j ≡ b = omega arith in w) ∙ ap (among 1) (F .begin) ∙ body-one)) sl
+        sl2 = scoped-over m cs vs H S l (suc u) b (suc b) (omega arith) (λ j x z. inl (ap (λ n. among 1 (getD cs n 0)) (let w : j ≡ b = omega arith in w) ∙ ap (among 1) (F .begin)
+            ∙ body-one)) sl
 
         globals : (j : ℕ) → suc u ≤ j → j ≤ t → Scoped m cs vs (hs m cs vs S) S g 0 j
         globals j x z = scoped-over m cs vs H S g 0 (suc u) j x (λ i a c. inr (λ w. (let r = home-in u b f t F i a (omega arith) in omega arith))) sg

@@ -61,7 +61,8 @@ marks : (ruleOf 70 ≡ 0) × (ruleOf 210 ≡ 0) × (ruleOf 211 ≡ 0) × (ruleOf
 unfolding ruleOf
 marks = (refl, refl, refl, refl)
 
-opens : (among 1 210 ≡ false) × (among 1 211 ≡ false) × (among 1 221 ≡ false) × (among 3 210 ≡ true) × (among 3 211 ≡ true) × (among 3 221 ≡ true) × (among 1 222 ≡ true) × (among 3 222 ≡ false) × (among 14 222 ≡ true)
+opens : (among 1 210 ≡ false) × (among 1 211 ≡ false) × (among 1 221 ≡ false) × (among 3 210 ≡ true) × (among 3 211 ≡ true)
+    × (among 3 221 ≡ true) × (among 1 222 ≡ true) × (among 3 222 ≡ false) × (among 14 222 ≡ true)
 unfolding among
 opens = (refl, refl, refl, refl, refl, refl, refl, refl, refl)
 
@@ -99,7 +100,8 @@ module _ (m : Model) (cs vs : List ℕ) (S : Says m cs vs) where
   module _ (x : Item) (c h lo hi p : ℕ) (t : Sense) (coded : codeOf x ≡ c) (one : among 1 c ≡ true) (three : among 3 c ≡ false) (not : c ≡ 213 → ⊥) (certain : isUnknown t ≡ false)
       (home : (j : ℕ) → lo ≤ j → j < hi → getD H j 0 ≡ h) (top : hi ≤ length cs)
       (fact : (k : ℕ) → getD cs (suc k) 0 ≡ c → last cs 3 (suc k) ≡ p → After m cs vs S (suc (suc k)) → Out cs H (suc k) (suc (suc k)) t) where
-    pub names-judged : (ws : List Name) (l : Scope) (k e : ℕ) → e ≡ k + length (each (marked x) ws) → lo ≤ k → e ≤ hi → Lies xs k (each (marked x) ws) → last cs 3 k ≡ p → After m cs vs S e → Sc l h k
+    pub names-judged : (ws : List Name) (l : Scope) (k e : ℕ) → e ≡ k + length (each (marked x) ws) → lo ≤ k → e ≤ hi → Lies xs k (each (marked x) ws) → last cs 3 k ≡ p
+        → After m cs vs S e → Sc l h k
         → Named l h p (joins l (map (λ w. declared w t) ws)) k e (l ++ map (λ w. declared w t) ws)
     unfolding joins
     names-judged [] l k e q b d y u a sc =
@@ -116,7 +118,8 @@ module _ (m : Model) (cs vs : List ℕ) (S : Says m cs vs) where
         let kx = last-skip m cs vs S 3 k (ap (among 3) cn ∙ name-three) ∙ u in
         let k2 = suc (suc k) in
         let aft = behind ws k2 (y .2 .2) (subst (After m cs vs S) (let z : e ≡ k2 + length (each (marked x) ws) = omega arith in z) a) in
-        let s1 : Sc l h (suc k) = scoped-over m cs vs H S l h k (suc k) (omega arith) (λ j g v. inl (ap (λ n. among 1 (getD cs n 0)) (let z : j ≡ k = omega arith in z) ∙ ap (among 1) cn ∙ name-set)) sc in
+        let s1 : Sc l h (suc k) = scoped-over m cs vs H S l h k (suc k) (omega arith) (λ j g v. inl (ap (λ n. among 1 (getD cs n 0)) (let z : j ≡ k = omega arith in z) ∙ ap
+        (among 1) cn ∙ name-set)) sc in
         let bk : suc k < length cs = (let z = long m cs vs S in let g = y .2 .0 in omega arith) in
         let am = ap (among 1) cx ∙ one in
         let hx = home (suc k) (omega arith) (omega arith) in
@@ -141,7 +144,8 @@ module _ (m : Model) (cs vs : List ℕ) (S : Says m cs vs) where
             (λ z. omega arith, λ z. not (sym cx ∙ z))
 
   -- ---- parameters
-  parameter-out : (t p k : ℕ) → getD cs p 0 ≡ 130 + t → getD cs (suc k) 0 ≡ 222 → last cs 3 (suc k) ≡ suc (suc p) → After m cs vs S (suc (suc k)) → Out cs H (suc k) (suc (suc k)) (variable (eqb t 43) false)
+  parameter-out : (t p k : ℕ) → getD cs p 0 ≡ 130 + t → getD cs (suc k) 0 ≡ 222 → last cs 3 (suc k) ≡ suc (suc p) → After m cs vs S (suc (suc k))
+      → Out cs H (suc k) (suc (suc k)) (variable (eqb t 43) false)
   parameter-out t p k typed c l a = (omega arith, ap (among 14) c ∙ opens .8, chan-is m cs vs S (suc k) p t l typed, array-none m cs vs S k (a .1))
 
   pub after-groups : (gs : List Group) (k : ℕ) → Lies xs k (each code-group gs) → After m cs vs S (k + length (each code-group gs)) → After m cs vs S k
@@ -154,7 +158,8 @@ module _ (m : Model) (cs vs : List ℕ) (S : Says m cs vs) where
       let d = code-is m cs vs S k (i-type t) (y .0) (y .1) in
       (λ z. omega arith, λ z. omega arith)
 
-  pub groups-judged : (h lo hi : ℕ) → ((j : ℕ) → lo ≤ j → j < hi → getD H j 0 ≡ h) → hi ≤ length cs → (gs : List Group) (l : Scope) (k e : ℕ) → e ≡ k + length (each code-group gs) → lo ≤ k → e ≤ hi
+  pub groups-judged : (h lo hi : ℕ) → ((j : ℕ) → lo ≤ j → j < hi → getD H j 0 ≡ h) → hi ≤ length cs → (gs : List Group) (l : Scope) (k e : ℕ) → e ≡ k + length (each code-group gs)
+      → lo ≤ k → e ≤ hi
       → Lies xs k (each code-group gs) → After m cs vs S e → Sc l h k → (p : ℕ) × Named l h p (joins l (ofGroups gs)) k e (l ++ ofGroups gs)
   unfolding joins
   groups-judged h lo hi home top [] l k e q b d y a sc =
@@ -178,11 +183,14 @@ module _ (m : Model) (cs vs : List ℕ) (S : Says m cs vs) where
       let low = type-low k t (y .0) (y .1) in
       let ct = code-is m cs vs S k (i-type t) (y .0) (y .1) in
       let cg = code-is m cs vs S (suc k) i-group (y .2 .0) (y .2 .1) in
-      let s1 : Sc l h (suc k) = scoped-over m cs vs H S l h k (suc k) (omega arith) (λ j g v. inl (ap (λ n. among 1 (getD cs n 0)) (let z : j ≡ k = omega arith in z) ∙ low-one (getD cs k 0) low)) sc in
-      let s2 : Sc l h k2 = scoped-over m cs vs H S l h (suc k) k2 (omega arith) (λ j g v. inl (ap (λ n. among 1 (getD cs n 0)) (let z : j ≡ suc k = omega arith in z) ∙ ap (among 1) cg ∙ opens .2)) s1 in
+      let s1 : Sc l h (suc k) = scoped-over m cs vs H S l h k (suc k) (omega arith) (λ j g v. inl (ap (λ n. among 1 (getD cs n 0)) (let z : j ≡ k = omega arith in z) ∙ low-one
+      (getD cs k 0) low)) sc in
+      let s2 : Sc l h k2 = scoped-over m cs vs H S l h (suc k) k2 (omega arith) (λ j g v. inl (ap (λ n. among 1 (getD cs n 0)) (let z : j ≡ suc k = omega arith in z) ∙ ap
+      (among 1) cg ∙ opens .2)) s1 in
       let aft = after-groups gs k3 back (subst (After m cs vs S) (let z : e ≡ k3 + length G = omega arith in z) a) in
       let ps =
-      names-judged i-parameter 222 h lo hi (suc (suc k)) (variable (eqb t 43) false) refl (opens .6) (opens .7) (λ z. omega arith) refl home top (λ i u v r. parameter-out t k i ct u v r) ws l k2 k3 refl (omega arith)
+      names-judged i-parameter 222 h lo hi (suc (suc k)) (variable (eqb t 43) false) refl (opens .6) (opens .7) (λ z. omega arith) refl home top
+      (λ i u v r. parameter-out t k i ct u v r) ws l k2 k3 refl (omega arith)
       (omega arith) (front .2 .2) (last-here m cs vs S 3 (suc k) (ap (among 3) cg ∙ opens .5)) aft s2 in
       let rest = groups-judged h lo hi home top gs (l ++ ofGroup (group t ws)) k3 e (omega arith) (omega arith) d back a (ps .scope) in
       let join : (l ++ ofGroup (group t ws)) ++ ofGroups gs ≡ l ++ (ofGroup (group t ws) ++ ofGroups gs) = append-assoc l (ofGroup (group t ws)) (ofGroups gs) in
@@ -194,7 +202,8 @@ module _ (m : Model) (cs vs : List ℕ) (S : Says m cs vs) where
           judged = subst (λ i. J k e i) (sym cut)
               (judges-skip m cs vs S k k2 e _ (omega arith) (omega arith)
               (clean-join m cs vs S k (suc k) k2 (type-clean m cs vs S k t (y .0) (y .1)) (mark-clean m cs vs S (suc k) 221 i-group (y .2 .0) (y .2 .1) refl (marks .3)))
-              (judges-both m cs vs S k2 k3 e (joins l (ofGroup (group t ws))) (joins (l ++ ofGroup (group t ws)) (ofGroups gs)) (omega arith) (omega arith) (ps .judged) (λ u. rest .1 .judged)));
+              (judges-both m cs vs S k2 k3 e (joins l (ofGroup (group t ws))) (joins (l ++ ofGroup (group t ws)) (ofGroups gs)) (omega arith) (omega arith) (ps .judged)
+              (λ u. rest .1 .judged)));
           pidless = λ n v. (let g = both-true (joins l (ofGroup (group t ws))) (joins (l ++ ofGroup (group t ws)) (ofGroups gs)) (sym cut ∙ v) in
               subst Pidless join (rest .1 .pidless (ps .pidless n (g .0)) (g .1)));
         },
@@ -212,36 +221,44 @@ module _ (m : Model) (cs vs : List ℕ) (S : Says m cs vs) where
       go : (x : Bool) → same w pid ≡ x → eqb (getD cs (lookup cs vs H (getD vs j 0) h j) 0) 220 ≡ isConstant (senseOf l g w)
       go true e =
           let z = same-eq w pid e in
-          ap (λ i. eqb (getD cs i 0) 220) (lookup-pid m cs vs H S h j b (q ∙ ap i-name z)) ∙ ap (λ c. eqb c 220) cn ∙ sym (ap (λ v. isConstant (senseOf l g v)) z ∙ ap isConstant (sense-pid l g n o))
+          ap (λ i. eqb (getD cs i 0) 220) (lookup-pid m cs vs H S h j b (q ∙ ap i-name z)) ∙ ap (λ c. eqb c 220) cn ∙ sym
+          (ap (λ v. isConstant (senseOf l g v)) z ∙ ap isConstant (sense-pid l g n o))
       go false e = finds-constant cs (lookup cs vs H (getD vs j 0) h j) (senseOf l g w) (lookup-finds m cs vs H S l g h j w s r b q cn e)
 
   -- outside of bodies
-  named-global : (l : Scope) (j : ℕ) (w : Name) → j < length cs → itemAt xs j ≡ i-name w → Sc l 0 j → Pidless l → eqb (getD cs (lookup cs vs H (getD vs j 0) 0 j) 0) 220 ≡ isConstant (senseOf [] l w)
+  named-global : (l : Scope) (j : ℕ) (w : Name) → j < length cs → itemAt xs j ≡ i-name w → Sc l 0 j → Pidless l
+      → eqb (getD cs (lookup cs vs H (getD vs j 0) 0 j) 0) 220 ≡ isConstant (senseOf [] l w)
   unfolding senseOf senseIn
   named-global l j w b q s n = named-local l l 0 j w b q s s n n ∙ ap isConstant (hides-itself (senseIn l w))
 
   -- ---- a declaration, with its mark
-  module _ (x : Item) (c t h lo hi : ℕ) (sense : Scope → Name → Sense) (f : Scope → Variable → Bool) (coded : codeOf x ≡ c) (one : among 1 c ≡ false) (three : among 3 c ≡ true) (ruled : ruleOf c ≡ 0)
+  module _ (x : Item) (c t h lo hi : ℕ) (sense : Scope → Name → Sense) (f : Scope → Variable → Bool) (coded : codeOf x ≡ c) (one : among 1 c ≡ false) (three : among 3 c ≡ true)
+      (ruled : ruleOf c ≡ 0)
       (F : (l : Scope) (w : Name) (s : Option ℕ) (v : Value) → f l (tree.variable w s v)
       ≡ both (fresh l w) (both (sized s) (valued (sense (l ++ ofVariable t (tree.variable w s v) ∷ [])) v)))
       (home : (j : ℕ) → lo ≤ j → j < hi → getD H j 0 ≡ h) (top : hi ≤ length cs)
-      (look : (l : Scope) (j : ℕ) (w : Name) → lo ≤ j → j < hi → itemAt xs j ≡ i-name w → Sc l h j → Pidless l → eqb (getD cs (lookup cs vs H (getD vs j 0) h j) 0) 220 ≡ isConstant (sense l w)) where
+      (look : (l : Scope) (j : ℕ) (w : Name) → lo ≤ j → j < hi → itemAt xs j ≡ i-name w → Sc l h j → Pidless l → eqb (getD cs (lookup cs vs H (getD vs j 0) h j) 0) 220 ≡ isConstant
+      (sense l w)) where
     pub record Declares (l : Scope) (b : Bool) (k e : ℕ) (l2 : Scope) : Type 0 where
       pub scope : Sc l2 h e
       pub judged : Pidless l → J k e b
       pub pidless : Pidless l → b ≡ true → Pidless l2
 
-    pub declaration-judged : (us : List Variable) (l : Scope) (k e : ℕ) → e ≡ k + length (code-declaration x (declare t us)) → lo ≤ k → e ≤ hi → Lies xs k (code-declaration x (declare t us)) → After m cs vs S e → Sc l h k
+    pub declaration-judged : (us : List Variable) (l : Scope) (k e : ℕ) → e ≡ k + length (code-declaration x (declare t us)) → lo ≤ k → e ≤ hi
+        → Lies xs k (code-declaration x (declare t us)) → After m cs vs S e → Sc l h k
         → Declares l (variables f t l us) k e (l ++ ofDeclaration (declare t us))
     declaration-judged us l k e q b d y a sc =
         let k2 = suc (suc k) in
         let low = type-low k t (y .0) (y .1) in
         let ct = code-is m cs vs S k (i-type t) (y .0) (y .1) in
         let cx = code-is m cs vs S (suc k) x (y .2 .0) (y .2 .1) ∙ coded in
-        let s1 : Sc l h (suc k) = scoped-over m cs vs H S l h k (suc k) (omega arith) (λ j g v. inl (ap (λ n. among 1 (getD cs n 0)) (let z : j ≡ k = omega arith in z) ∙ low-one (getD cs k 0) low)) sc in
-        let s2 : Sc l h k2 = scoped-over m cs vs H S l h (suc k) k2 (omega arith) (λ j g v. inl (ap (λ n. among 1 (getD cs n 0)) (let z : j ≡ suc k = omega arith in z) ∙ ap (among 1) cx ∙ one)) s1 in
+        let s1 : Sc l h (suc k) = scoped-over m cs vs H S l h k (suc k) (omega arith) (λ j g v. inl (ap (λ n. among 1 (getD cs n 0)) (let z : j ≡ k = omega arith in z) ∙ low-one
+        (getD cs k 0) low)) sc in
+        let s2 : Sc l h k2 = scoped-over m cs vs H S l h (suc k) k2 (omega arith) (λ j g v. inl (ap (λ n. among 1 (getD cs n 0)) (let z : j ≡ suc k = omega arith in z) ∙ ap
+        (among 1) cx ∙ one)) s1 in
         let r =
-        all-variables-judged m cs vs S t h lo hi k sense f F home top ct look us l k2 e (omega arith) (omega arith) d (y .2 .2) (last-here m cs vs S 3 (suc k) (ap (among 3) cx ∙ three)) a s2 in
+        all-variables-judged m cs vs S t h lo hi k sense f F home top ct look us l k2 e (omega arith) (omega arith) d (y .2 .2)
+        (last-here m cs vs S 3 (suc k) (ap (among 3) cx ∙ three)) a s2 in
         record {
           scope = r .scope;
           judged = λ n.
@@ -251,7 +268,8 @@ module _ (m : Model) (cs vs : List ℕ) (S : Says m cs vs) where
         }
 
   -- ---- the declarations of a body
-  pub after-declarations : (ds : List Declaration) (k : ℕ) → Lies xs k (each (code-declaration i-local) ds) → After m cs vs S (k + length (each (code-declaration i-local) ds)) → After m cs vs S k
+  pub after-declarations : (ds : List Declaration) (k : ℕ) → Lies xs k (each (code-declaration i-local) ds) → After m cs vs S (k + length (each (code-declaration i-local) ds))
+      → After m cs vs S k
   after-declarations [] k y a = subst (After m cs vs S) (let z : k + 0 ≡ k = omega arith in z) a
   after-declarations (declare t us ∷ ds) k y a =
       let c = code-is m cs vs S (suc k) i-local (y .2 .0) (y .2 .1) in
@@ -266,7 +284,8 @@ module _ (m : Model) (cs vs : List ℕ) (S : Says m cs vs) where
       pub judged : Pidless l → J k e b
       pub pidless : Pidless l → b ≡ true → Pidless l2
 
-    pub declarations-judged : (ds : List Declaration) (l : Scope) (k e : ℕ) → e ≡ k + length (each (code-declaration i-local) ds) → lo ≤ k → e ≤ hi → Lies xs k (each (code-declaration i-local) ds) → After m cs vs S e → Sc l h k
+    pub declarations-judged : (ds : List Declaration) (l : Scope) (k e : ℕ) → e ≡ k + length (each (code-declaration i-local) ds) → lo ≤ k → e ≤ hi
+        → Lies xs k (each (code-declaration i-local) ds) → After m cs vs S e → Sc l h k
         → Lists l (declarations g l ds) k e (l ++ ofDeclarations ds)
     unfolding declarations
     declarations-judged [] l k e q b d y a sc =
@@ -284,7 +303,8 @@ module _ (m : Model) (cs vs : List ℕ) (S : Says m cs vs) where
         let back = lies-back xs X E k k2 refl y in
         let f : Scope → Variable → Bool = λ l x. localLawful g l t x in
         let one =
-        declaration-judged i-local 210 t h lo hi (λ l. senseOf l g) f refl (opens .0) (opens .3) (marks .1) (λ l w s v. refl) home top (λ l j w i u v s n. named-local g l h j w (omega arith) v s (globals j i u) n outer) us l k k2 refl b
+        declaration-judged i-local 210 t h lo hi (λ l. senseOf l g) f refl (opens .0) (opens .3) (marks .1) (λ l w s v. refl) home top
+        (λ l j w i u v s n. named-local g l h j w (omega arith) v s (globals j i u) n outer) us l k k2 refl b
         (omega arith) (lies-front xs k X E y) (after-declarations ds k2 back (subst (After m cs vs S) (let z : e ≡ k2 + length E = omega arith in z) a)) sc in
         let l2 = l ++ ofDeclaration (declare t us) in
         let rest = declarations-judged ds l2 k2 e (omega arith) (omega arith) d back a (one .scope) in
@@ -296,11 +316,14 @@ module _ (m : Model) (cs vs : List ℕ) (S : Says m cs vs) where
         }
 
   -- ---- a global declaration
-  pub global-judged : (t lo hi : ℕ) → ((j : ℕ) → lo ≤ j → j < hi → getD H j 0 ≡ 0) → hi ≤ length cs → (us : List Variable) (l : Scope) (k e : ℕ) → e ≡ k + length (code-declaration i-global (declare t us)) → lo ≤ k → e ≤ hi
+  pub global-judged : (t lo hi : ℕ) → ((j : ℕ) → lo ≤ j → j < hi → getD H j 0 ≡ 0) → hi ≤ length cs → (us : List Variable) (l : Scope) (k e : ℕ)
+      → e ≡ k + length (code-declaration i-global (declare t us)) → lo ≤ k → e ≤ hi
       → Lies xs k (code-declaration i-global (declare t us)) → After m cs vs S e → Sc l 0 k
-      → Sc (l ++ ofDeclaration (declare t us)) 0 e × (Pidless l → J k e (variables (λ l x. globalLawful l t x) t l us)) × (Pidless l → variables (λ l x. globalLawful l t x) t l us ≡ true → Pidless (l ++ ofDeclaration (declare t us)))
+      → Sc (l ++ ofDeclaration (declare t us)) 0 e × (Pidless l → J k e (variables (λ l x. globalLawful l t x) t l us)) × (Pidless l
+      → variables (λ l x. globalLawful l t x) t l us ≡ true → Pidless (l ++ ofDeclaration (declare t us)))
   global-judged t lo hi home top us l k e q b d y a sc =
       let f : Scope → Variable → Bool = λ l x. globalLawful l t x in
       let r =
-      declaration-judged i-global 211 t 0 lo hi (λ l. senseOf [] l) f refl (opens .1) (opens .4) (marks .2) (λ l w s v. refl) home top (λ l j w i u v s n. named-global l j w (omega arith) v s n) us l k e q b d y a sc in
+      declaration-judged i-global 211 t 0 lo hi (λ l. senseOf [] l) f refl (opens .1) (opens .4) (marks .2) (λ l w s v. refl) home top
+      (λ l j w i u v s n. named-global l j w (omega arith) v s n) us l k e q b d y a sc in
       (r .scope, r .judged, r .pidless)

@@ -100,7 +100,8 @@ calm c = either (ltb c 72) (either (within 168 175 c) (either (within 178 179 c)
 unfoldable fair : Item → Bool
 fair x =
     both (pick (spoken x) (leb (codeOf x) 209) true)
-    (both (pick (valued x) (low (codeOf x)) true) (both (pick (declaring x) (calm (codeOf x)) true) (both (pick (eqb (class x) 5) (within 168 175 (codeOf x)) true) (pick (settled x) (leb (codeOf x) 218) true))))
+    (both (pick (valued x) (low (codeOf x)) true) (both (pick (declaring x) (calm (codeOf x)) true) (both (pick (eqb (class x) 5) (within 168 175 (codeOf x)) true)
+    (pick (settled x) (leb (codeOf x) 218) true))))
 
 unfoldable fairs : List Item → Bool
 fairs [] = true
@@ -257,7 +258,8 @@ all-received exactly-false = (refl, (refl, tt))
 pub all-tree : {k : Sort} (x : Tree k) → All spoken (code-tree x)
 unfolding spoken class
 all-tree (express e) = all-append spoken (code-exp e) (i-express ∷ []) (all-exp e) (refl, tt)
-all-tree (assign r e) = all-append spoken (code-exp r ++ i-target ∷ code-exp e) (i-assign ∷ []) (all-append spoken (code-exp r) (i-target ∷ code-exp e) (all-exp r) (refl, all-exp e)) (refl, tt)
+all-tree (assign r e) = all-append spoken (code-exp r ++ i-target ∷ code-exp e) (i-assign ∷ []) (all-append spoken (code-exp r) (i-target ∷ code-exp e) (all-exp r)
+    (refl, all-exp e)) (refl, tt)
 all-tree (increment r) = all-append spoken (code-exp r) (i-increment ∷ []) (all-exp r) (refl, tt)
 all-tree (decrement r) = all-append spoken (code-exp r) (i-decrement ∷ []) (all-exp r) (refl, tt)
 all-tree (send r es) =

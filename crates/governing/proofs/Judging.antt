@@ -246,7 +246,8 @@ module _ (m : Model) (cs vs : List ℕ) (S : Says m cs vs) where
 
   last-far : (set n i : ℕ) → ((j : ℕ) → i ≤ j → j < i + n → among set (getD cs j 0) ≡ false) → last cs set (i + n) ≡ last cs set i
   last-far set zero i p = ap (last cs set) (let z : i + 0 ≡ i = omega arith in z)
-  last-far set (suc n) i p = ap (last cs set) (let z : i + suc n ≡ suc (i + n) = omega arith in z) ∙ last-skip set (i + n) (p (i + n) (omega arith) (omega arith)) ∙ last-far set n i (λ j a b. p j a (omega arith))
+  last-far set (suc n) i p = ap (last cs set) (let z : i + suc n ≡ suc (i + n) = omega arith in z) ∙ last-skip set (i + n) (p (i + n) (omega arith) (omega arith)) ∙ last-far set n i
+      (λ j a b. p j a (omega arith))
 
   pub last-over : (set i e : ℕ) → i ≤ e → ((j : ℕ) → i ≤ j → j < e → among set (getD cs j 0) ≡ false) → last cs set e ≡ last cs set i
   last-over set i e b p = ap (last cs set) (let z : e ≡ i + (e - i) = omega arith in z) ∙ last-far set (e - i) i (λ j c d. p j c (omega arith))

@@ -87,10 +87,12 @@ module _ (cs vs hs ss ts toks : List ℕ) where
   least-none (suc n) j h = rw (h j (omega arith) (omega arith)) (least-none n (j + 1) (λ i a b. h i (omega arith) (omega arith)))
 
 free-checked : (cs vs toks : List ℕ)
-    → ((j : ℕ) → j < length cs → bad cs vs (homesOf cs (replicate 8192 0)) (startsOf cs (replicate 8192 0)) (heightsOf cs (startsOf cs (replicate 8192 0)) (replicate 8192 0)) j ≡ 0) → checked cs vs toks ≡ None
+    → ((j : ℕ) → j < length cs → bad cs vs (homesOf cs (replicate 8192 0)) (startsOf cs (replicate 8192 0)) (heightsOf cs (startsOf cs (replicate 8192 0)) (replicate 8192 0)) j ≡ 0)
+    → checked cs vs toks ≡ None
 unfolding checked leastOf
 free-checked cs vs toks h =
-    least-none cs vs (homesOf cs (replicate 8192 0)) (startsOf cs (replicate 8192 0)) (heightsOf cs (startsOf cs (replicate 8192 0)) (replicate 8192 0)) toks (length cs) 0 (λ i a b. h i (omega arith))
+    least-none cs vs (homesOf cs (replicate 8192 0)) (startsOf cs (replicate 8192 0)) (heightsOf cs (startsOf cs (replicate 8192 0)) (replicate 8192 0)) toks (length cs) 0
+    (λ i a b. h i (omega arith))
 
 module _ (m : Model) (cs vs : List ℕ) (S : Says m cs vs) (ruled : Statements m cs vs S) (toks : List ℕ) where
   pub checked-lawful : checked cs vs toks ≡ None → modelLawful m ≡ true

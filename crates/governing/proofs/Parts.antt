@@ -128,17 +128,21 @@ module _ (m : Model) (cs vs : List ℕ) (S : Says m cs vs) where
 
   module _ (ruled : Statements m cs vs S) (front rest : List Item) (j : ℕ) (at : j ≡ length front) (g : Scope) (c d : ℕ) where
     -- where the statements of a unit stand
-    statements-at : (x : Part) (y : List Item) (ds : List Declaration) (q : Tree sequence) (b f : ℕ) → xs ≡ front ++ (code-part x ++ rest) → code-part x ≡ y ++ code-body (body ds q) → b ≡ j + length y
+    statements-at : (x : Part) (y : List Item) (ds : List Declaration) (q : Tree sequence) (b f : ℕ) → xs ≡ front ++ (code-part x ++ rest) → code-part x ≡ y ++ code-body (body ds q)
+        → b ≡ j + length y
         → f ≡ suc b + length (each (code-declaration i-local) ds) → Lying xs 0 (code-tree q) f
     statements-at x y ds q b f split e eb ef =
         let B = body ds q in
         let X = code-body B in
         let l1 : Lying (code-part x ++ rest) j X b = subst (λ i. Lying (i ++ rest) j X b) (sym e) (lying-before (y ++ X) rest X j b (lying-behind y X X j b b eb (lying-whole X b))) in
         let l2 : Lying xs 0 X b = subst (λ i. Lying i 0 X b) (sym split) (lying-behind front (code-part x ++ rest) X 0 j b (omega arith) l1) in
-        subst (Lying xs 0 (code-tree q)) (let z : b + 1 + length (each (code-declaration i-local) ds) ≡ f = omega arith in z) (lying-in xs X (code-tree q) 0 b (startIn B b) l2 (statements-lie B b))
+        subst (Lying xs 0 (code-tree q)) (let z : b + 1 + length (each (code-declaration i-local) ds) ≡ f = omega arith in z)
+        (lying-in xs X (code-tree q) 0 b (startIn B b) l2 (statements-lie B b))
 
-    process-done : (a : Activity) (w : Name) (gs : List Group) (ds : List Declaration) (q : Tree sequence) (n k e : ℕ) → xs ≡ front ++ (code-part (process a w gs (body ds q)) ++ rest) → Lies xs j (code-part (process a w gs (body ds q)))
-        → e ≡ j + length (code-part (process a w gs (body ds q))) → suc (suc n) ≡ j + length (code-activity a w) → Begins k → j ≤ n → n < length xs → itemAt xs n ≡ i-name w → suc n < length xs → getD cs (suc n) 0 ≡ k
+    process-done : (a : Activity) (w : Name) (gs : List Group) (ds : List Declaration) (q : Tree sequence) (n k e : ℕ)
+        → xs ≡ front ++ (code-part (process a w gs (body ds q)) ++ rest) → Lies xs j (code-part (process a w gs (body ds q)))
+        → e ≡ j + length (code-part (process a w gs (body ds q))) → suc (suc n) ≡ j + length (code-activity a w) → Begins k → j ≤ n → n < length xs → itemAt xs n ≡ i-name w
+        → suc n < length xs → getD cs (suc n) 0 ≡ k
         → Clean m cs vs S j n → ((i : ℕ) → j ≤ i → i ≤ n → getD cs i 0 ≤ 71) → After m cs vs S e → Sc g 0 j → insideOf cs j ≡ 0 → count cs H 9 0 0 j ≡ c → count cs H 10 0 0 j ≡ d
         → Done m cs vs S g c d (process a w gs (body ds q)) j e
     process-done a w gs ds q n k e split y q0 en bg jn bn qn bu ck clean low after sc ins c9 c10 =
@@ -159,18 +163,22 @@ module _ (m : Model) (cs vs : List ℕ) (S : Says m cs vs) where
         (done-process m cs vs S ruled g c d a w gs ds q j n b f t k bg jn bn qn bu ck clean low refl refl refl yg yb
         (statements-at (process a w gs (body ds q)) (A ++ G) ds q b f split refl (omega arith) refl) (λ r. after .0 (ap (λ i. getD cs i 0) (sym z) ∙ r)) sc ins c9 c10)
 
-    pub part-done : (x : Part) (e : ℕ) → xs ≡ front ++ (code-part x ++ rest) → e ≡ j + length (code-part x) → After m cs vs S e → Sc g 0 j → insideOf cs j ≡ 0 → count cs H 9 0 0 j ≡ c → count cs H 10 0 0 j ≡ d
+    pub part-done : (x : Part) (e : ℕ) → xs ≡ front ++ (code-part x ++ rest) → e ≡ j + length (code-part x) → After m cs vs S e → Sc g 0 j → insideOf cs j ≡ 0
+        → count cs H 9 0 0 j ≡ c → count cs H 10 0 0 j ≡ d
         → Lies xs j (code-part x) → e ≤ length cs → Done m cs vs S g c d x j e
     part-done (mtypes ws) e split q after sc ins c9 c10 y top = done-mtypes m cs vs S ruled g c d ws j e q y top after sc ins c9 c10
     part-done (global (declare t us)) e split q after sc ins c9 c10 y top = done-global m cs vs S ruled g c d t us j e q y top after sc ins c9 c10
     part-done (process idle w gs (body ds q)) e split eq after sc ins c9 c10 y top =
-        process-done idle w gs ds q j 223 e split y eq (omega arith) plainly (omega arith) (y .0) (y .1) (y .2 .0) (code-is m cs vs S (suc j) i-proctype (y .2 .0) (y .2 .1)) (clean-empty m cs vs S j j (omega arith))
+        process-done idle w gs ds q j 223 e split y eq (omega arith) plainly (omega arith) (y .0) (y .1) (y .2 .0) (code-is m cs vs S (suc j) i-proctype (y .2 .0) (y .2 .1))
+        (clean-empty m cs vs S j j (omega arith))
         (λ i u v. (let k : getD cs i 0 ≡ 70 = ap (λ n. getD cs n 0) (let z : i ≡ j = omega arith in z) ∙ code-is m cs vs S j (i-name w) (y .0) (y .1) in omega arith)) after sc ins c9 c10
     part-done (process once w gs (body ds q)) e split eq after sc ins c9 c10 y top =
-        process-done once w gs ds q j 224 e split y eq (omega arith) once-more (omega arith) (y .0) (y .1) (y .2 .0) (code-is m cs vs S (suc j) i-active (y .2 .0) (y .2 .1)) (clean-empty m cs vs S j j (omega arith))
+        process-done once w gs ds q j 224 e split y eq (omega arith) once-more (omega arith) (y .0) (y .1) (y .2 .0) (code-is m cs vs S (suc j) i-active (y .2 .0) (y .2 .1))
+        (clean-empty m cs vs S j j (omega arith))
         (λ i u v. (let k : getD cs i 0 ≡ 70 = ap (λ n. getD cs n 0) (let z : i ≡ j = omega arith in z) ∙ code-is m cs vs S j (i-name w) (y .0) (y .1) in omega arith)) after sc ins c9 c10
     part-done (process (times r) w gs (body ds q)) e split eq after sc ins c9 c10 y top =
-        process-done (times r) w gs ds q (suc j) 225 e split y eq (omega arith) many (omega arith) (y .2 .0) (y .2 .1) (y .2 .2 .0) (code-is m cs vs S (suc (suc j)) i-active-many (y .2 .2 .0) (y .2 .2 .1))
+        process-done (times r) w gs ds q (suc j) 225 e split y eq (omega arith) many (omega arith) (y .2 .0) (y .2 .1) (y .2 .2 .0)
+        (code-is m cs vs S (suc (suc j)) i-active-many (y .2 .2 .0) (y .2 .2 .1))
         (mark-clean m cs vs S j 71 (i-number r) (y .0) (y .1) refl (marks .1)) (λ i u v. low i u v (ℕ-discrete i j)) after sc ins c9 c10
       where
         low : (i : ℕ) → j ≤ i → i ≤ suc j → Dec (i ≡ j) → getD cs i 0 ≤ 71
@@ -209,10 +217,12 @@ module _ (m : Model) (cs vs : List ℕ) (S : Says m cs vs) where
       let s1 : length xs ≡ length front + length (X ++ code n) = ap length split ∙ length-append front (X ++ code n) in
       let s2 : length (X ++ code n) ≡ length X + length (code n) = length-append X (code n) in
       let lg = long m cs vs S in
-      let r = part-done ruled front (code n) j at g c d x e split refl (after-units n e (lies-back xs X (code n) j e refl y) (omega arith)) sc ins c9 c10 (lies-front xs j X (code n) y) (omega arith) in
+      let r = part-done ruled front (code n) j at g c d x e split refl (after-units n e (lies-back xs X (code n) j e refl y) (omega arith)) sc ins c9 c10
+      (lies-front xs j X (code n) y) (omega arith) in
       let g2 = g ++ ofPart x in
       let s3 : length (front ++ X) ≡ length front + length X = length-append front X in
-      let w = units-through ruled n (front ++ X) e g2 (c + mtypesIn x) (d + initsIn x) (split ∙ sym (append-assoc front X (code n))) (omega arith) (r .scope) (r .inside) (r .lists) (r .inits) in
+      let w = units-through ruled n (front ++ X) e g2 (c + mtypesIn x) (d + initsIn x) (split ∙ sym (append-assoc front X (code n))) (omega arith) (r .scope) (r .inside) (r .lists)
+      (r .inits) in
       let join : g2 ++ ofModel n ≡ g ++ (ofPart x ++ ofModel n) = append-assoc g (ofPart x) (ofModel n) in
       record {
         scope = subst (λ l. Sc l 0 (length cs)) join (w .scope);

@@ -66,7 +66,8 @@ module _ (cs vs hs : List ℕ) where
   unfolding find
   find-more v h j e =
       rw e
-      (subst (λ k. first (declares cs vs hs 1 v h) 0 (suc j) ≡ pick (ltb (first (declares cs vs hs 1 v h) 0 j) k) (first (declares cs vs hs 1 v h) 0 j) (pick (declares cs vs hs 1 v h k) k (suc k)))
+      (subst (λ k. first (declares cs vs hs 1 v h) 0 (suc j) ≡ pick (ltb (first (declares cs vs hs 1 v h) 0 j) k) (first (declares cs vs hs 1 v h) 0 j)
+      (pick (declares cs vs hs 1 v h k) k (suc k)))
       (let z : 0 + j ≡ j = omega arith in z) (first-more (declares cs vs hs 1 v h) j 0))
 
   find-pid : (v h j : ℕ) → eqb v 0 ≡ true → find cs vs hs 1 v h j ≡ j
@@ -168,7 +169,8 @@ module _ (m : Model) (cs vs hs : List ℕ) (S : Says m cs vs) where
   scoped-far : (n : ℕ) (l : Scope) (h i : ℕ) → ((j : ℕ) → i ≤ j → j < i + n → (among 1 (getD cs j 0) ≡ false) ⊎ (getD hs j 0 ≡ h → ⊥)) → Scoped l h i → Scoped l h (i + n)
   scoped-far zero l h i p s = subst (Scoped l h) (let z : i ≡ i + 0 = omega arith in z) s
   scoped-far (suc n) l h i p s =
-      subst (Scoped l h) (let z : suc (i + n) ≡ i + suc n = omega arith in z) (scoped-skip l h (i + n) (p (i + n) (omega arith) (omega arith)) (scoped-far n l h i (λ j a b. p j a (omega arith)) s))
+      subst (Scoped l h) (let z : suc (i + n) ≡ i + suc n = omega arith in z) (scoped-skip l h (i + n) (p (i + n) (omega arith) (omega arith))
+      (scoped-far n l h i (λ j a b. p j a (omega arith)) s))
 
   pub scoped-over : (l : Scope) (h i e : ℕ) → i ≤ e → ((j : ℕ) → i ≤ j → j < e → (among 1 (getD cs j 0) ≡ false) ⊎ (getD hs j 0 ≡ h → ⊥)) → Scoped l h i → Scoped l h e
   scoped-over l h i e b p s = subst (Scoped l h) (let z : i + (e - i) ≡ e = omega arith in z) (scoped-far (e - i) l h i (λ j c d. p j c (omega arith)) s)

@@ -107,7 +107,8 @@ module _ (m : Model) (cs vs : List ℕ) (S : Says m cs vs) where
   count-next : (set j : ℕ) → count cs H set 0 0 (suc j) ≡ count cs H set 0 0 j + one cs H set 0 j
   unfolding count
   count-next set j =
-      ap (sum (one cs H set 0) 0) (let z : suc j - 0 ≡ j + 1 = omega arith in z) ∙ sum-next (one cs H set 0) j ∙ ap (λ n. sum (one cs H set 0) 0 n + one cs H set 0 j) (let z : j ≡ j - 0 = omega arith in z)
+      ap (sum (one cs H set 0) 0) (let z : suc j - 0 ≡ j + 1 = omega arith in z) ∙ sum-next (one cs H set 0) j ∙ ap (λ n. sum (one cs H set 0) 0 n + one cs H set 0 j)
+      (let z : j ≡ j - 0 = omega arith in z)
 
   one-none : (set j : ℕ) → among set (getD cs j 0) ≡ false → one cs H set 0 j ≡ 0
   unfolding one
@@ -147,7 +148,8 @@ module _ (m : Model) (cs vs : List ℕ) (S : Says m cs vs) where
 
   module _ (ruled : Statements m cs vs S) (g : Scope) (c d : ℕ) where
     -- ---- mtype names
-    pub done-mtypes : (ws : List Name) (j e : ℕ) → e ≡ j + length (code-part (mtypes ws)) → Lies xs j (code-part (mtypes ws)) → e ≤ length cs → After m cs vs S e → Sc g 0 j → insideOf cs j ≡ 0
+    pub done-mtypes : (ws : List Name) (j e : ℕ) → e ≡ j + length (code-part (mtypes ws)) → Lies xs j (code-part (mtypes ws)) → e ≤ length cs → After m cs vs S e → Sc g 0 j
+        → insideOf cs j ≡ 0
         → count cs H 9 0 0 j ≡ c → count cs H 10 0 0 j ≡ d → Done g c d (mtypes ws) j e
     done-mtypes ws j e q y top a sc ins c9 c10 =
         let cm = code-is m cs vs S j i-mtypes (y .0) (y .1) in
@@ -159,9 +161,11 @@ module _ (m : Model) (cs vs : List ℕ) (S : Says m cs vs) where
         (omega arith, λ w. k .1 (sym z ∙ w))) in
         let most : (i : ℕ) → j ≤ i → i < e → getD cs i 0 ≤ 222 = λ i u v. upto i u v cm codes (ℕ-discrete i j) in
         let fl = flat j e ins (omega arith) top most in
-        let s1 : Sc g 0 (suc j) = scoped-over m cs vs H S g 0 j (suc j) (omega arith) (λ i u v. inl (ap (λ n. among 1 (getD cs n 0)) (let z : i ≡ j = omega arith in z) ∙ ap (among 1) cm ∙ sets .2)) sc in
+        let s1 : Sc g 0 (suc j) = scoped-over m cs vs H S g 0 j (suc j) (omega arith) (λ i u v. inl (ap (λ n. among 1 (getD cs n 0)) (let z : i ≡ j = omega arith in z) ∙ ap
+        (among 1) cm ∙ sets .2)) sc in
         let r =
-        names-judged m cs vs S i-message 220 0 j e (last cs 3 (suc j)) constant refl (sets .3) (sets .4) (λ z. omega arith) refl (fl .0) top (λ k u v w. (omega arith, u)) ws g (suc j) e (omega arith) (omega arith) (omega arith) (y .2)
+        names-judged m cs vs S i-message 220 0 j e (last cs 3 (suc j)) constant refl (sets .3) (sets .4) (λ z. omega arith) refl (fl .0) top (λ k u v w. (omega arith, u)) ws g
+        (suc j) e (omega arith) (omega arith) (omega arith) (y .2)
         refl a s1 in
         record {
           scope = r .scope;
@@ -183,12 +187,14 @@ module _ (m : Model) (cs vs : List ℕ) (S : Says m cs vs) where
         upto i u v cm codes (no z) = let w = codes i (omega arith) v .0 in omega arith
 
     -- ---- a global declaration
-    pub done-global : (t : ℕ) (us : List Variable) (j e : ℕ) → e ≡ j + length (code-part (global (declare t us))) → Lies xs j (code-part (global (declare t us))) → e ≤ length cs → After m cs vs S e → Sc g 0 j → insideOf cs j ≡ 0
+    pub done-global : (t : ℕ) (us : List Variable) (j e : ℕ) → e ≡ j + length (code-part (global (declare t us))) → Lies xs j (code-part (global (declare t us))) → e ≤ length cs
+        → After m cs vs S e → Sc g 0 j → insideOf cs j ≡ 0
         → count cs H 9 0 0 j ≡ c → count cs H 10 0 0 j ≡ d → Done g c d (global (declare t us)) j e
     done-global t us j e q y top a sc ins c9 c10 =
         let lg = long m cs vs S in
         let codes : (i : ℕ) → j ≤ i → i < e → getD cs i 0 ≤ 218 =
-        λ i u v. settled-at m cs vs S i (omega arith) (lies-all xs settled (code-declaration i-global (declare t us)) j y (all-declaration i-global global-settled (declare t us)) i u (omega arith)) .0 in
+        λ i u v. settled-at m cs vs S i (omega arith) (lies-all xs settled (code-declaration i-global (declare t us)) j y
+        (all-declaration i-global global-settled (declare t us)) i u (omega arith)) .0 in
         let fl = flat j e ins (omega arith) top (λ i u v. (let w = codes i u v in omega arith)) in
         let r = global-judged m cs vs S t j e (fl .0) top us g j e q (omega arith) (omega arith) y a sc in
         record {
@@ -242,10 +248,13 @@ module _ (m : Model) (cs vs : List ℕ) (S : Says m cs vs) where
           let top = F .top in
           scoped-over m cs vs H S [] (suc u) 0 (suc u) (omega arith) (λ i x y. inr (λ z. (let k = home-most cs (S .few) i (omega arith) in omega arith))) (scoped-start m cs vs H S (suc u))
 
-    pub done-process : (a : Activity) (w : Name) (gs : List Group) (ds : List Declaration) (q : Tree sequence) (j n b f t k : ℕ) → Begins k → j ≤ n → n < length xs → itemAt xs n ≡ i-name w → suc n < length xs → getD cs (suc n) 0 ≡ k
+    pub done-process : (a : Activity) (w : Name) (gs : List Group) (ds : List Declaration) (q : Tree sequence) (j n b f t k : ℕ) → Begins k → j ≤ n → n < length xs
+        → itemAt xs n ≡ i-name w → suc n < length xs → getD cs (suc n) 0 ≡ k
         → Clean m cs vs S j n → ((i : ℕ) → j ≤ i → i ≤ n → getD cs i 0 ≤ 71)
-        → b ≡ suc (suc n) + length (each code-group gs) → f ≡ suc b + length (each (code-declaration i-local) ds) → t ≡ f + sizeIn q → Lies xs (suc (suc n)) (each code-group gs) → Lies xs b (code-body (body ds q))
-        → Lying xs 0 (code-tree q) f → (getD cs (suc t) 0 ≡ 213 → ⊥) → Sc g 0 j → insideOf cs j ≡ 0 → count cs H 9 0 0 j ≡ c → count cs H 10 0 0 j ≡ d → Done g c d (process a w gs (body ds q)) j (suc t)
+        → b ≡ suc (suc n) + length (each code-group gs) → f ≡ suc b + length (each (code-declaration i-local) ds) → t ≡ f + sizeIn q → Lies xs (suc (suc n)) (each code-group gs)
+        → Lies xs b (code-body (body ds q))
+        → Lying xs 0 (code-tree q) f → (getD cs (suc t) 0 ≡ 213 → ⊥) → Sc g 0 j → insideOf cs j ≡ 0 → count cs H 9 0 0 j ≡ c → count cs H 10 0 0 j ≡ d
+        → Done g c d (process a w gs (body ds q)) j (suc t)
     done-process a w gs ds q j n b f t k bg jn bn qn bu ck clean low eb ef et yg yb lying after sc ins c9 c10 =
         let u = suc n in
         let lg = long m cs vs S in
@@ -263,10 +272,12 @@ module _ (m : Model) (cs vs : List ℕ) (S : Says m cs vs) where
         let out : Out cs H u (suc u) sn = (omega arith, ap (among 13) ck ∙ bh .2, parameters-counted m cs vs S u b f t F gs yg eb) in
         let g2 = g ++ declared w sn ∷ [] in
         let s2 : Sc g2 0 (suc u) = scoped-more m cs vs H S g 0 n w sn (omega arith) qn am hu refl out su in
-        let yd = lies-front xs b (i-body ∷ each (code-declaration i-local) ds) (code-tree q) (lies-front xs b (i-body ∷ each (code-declaration i-local) ds ++ code-tree q) (i-end-body ∷ []) yb) in
+        let yd = lies-front xs b (i-body ∷ each (code-declaration i-local) ds) (code-tree q) (lies-front xs b (i-body ∷ each (code-declaration i-local) ds ++ code-tree q)
+        (i-end-body ∷ []) yb) in
         let ab : After m cs vs S b =
         ((λ z. (let e = F .begin in omega arith)), after-declarations m cs vs S ds (suc b) (yd .2) (subst (After m cs vs S) ef (frame-behind m cs vs S u b f t F after)) .0) in
-        let ps = groups-judged m cs vs S (suc u) (suc u) b (λ i x y. home-in m cs vs S u b f t F i x (omega arith)) (omega arith) gs [] (suc u) b eb (omega arith) (omega arith) yg ab (frame-start u b f t F) in
+        let ps = groups-judged m cs vs S (suc u) (suc u) b (λ i x y. home-in m cs vs S u b f t F i x (omega arith)) (omega arith) gs [] (suc u) b eb (omega arith)
+        (omega arith) yg ab (frame-start u b f t F) in
         let JG : J (suc u) b (joins [] (ofGroups gs)) = ps .1 .judged in
         let n9 = count-over 9 j (suc u) (omega arith) (λ i x y. not-nine (getD cs i 0) (heading i x (omega arith) (ℕ-discrete i u) ck (bh .3) (bh .4) low .0)) in
         let n10 = count-over 10 j (suc u) (omega arith) (λ i x y. not-ten (getD cs i 0) (heading i x (omega arith) (ℕ-discrete i u) ck (bh .3) (bh .4) low .1)) in
@@ -283,18 +294,21 @@ module _ (m : Model) (cs vs : List ℕ) (S : Says m cs vs) where
               (clean-join m cs vs S j n u clean (mark-clean m cs vs S n 70 (i-name w) bn qn refl (marks .0)))
               (judges-both m cs vs S u (suc u) (suc t) (fresh g w) (both (joins [] (ofGroups gs)) B) (omega arith) (omega arith) (rule-fresh m cs vs S g 0 n w (omega arith) qn am hu su)
               (λ fr. judges-both m cs vs S (suc u) b (suc t) (joins [] (ofGroups gs)) B (omega arith) (omega arith) JG
-              (λ jo. body-judged m cs vs S ruled u b f t F ds q (ofGroups gs) g2 M lying et ef (yd .2) after (ps .1 .scope) s2 sm (ps .1 .pidless no-pid jo) (fresh-pidless g w sn (sc .sure) fr ng) nm))));
+              (λ jo. body-judged m cs vs S ruled u b f t F ds q (ofGroups gs) g2 M lying et ef (yd .2) after (ps .1 .scope) s2 sm (ps .1 .pidless no-pid jo)
+              (fresh-pidless g w sn (sc .sure) fr ng) nm))));
           pidless = λ M ng e. fresh-pidless g w sn (sc .sure) (both-true (fresh g w) _ e .0) ng;
         }
       where
         low-none : (x : ℕ) → x ≤ 71 → among 1 x ≡ false
         low-none x h = low-one x (record { most = omega arith; string = λ z. omega arith; high = λ z. omega arith })
 
-        heading : (i : ℕ) → j ≤ i → i ≤ suc n → Dec (i ≡ suc n) → getD cs (suc n) 0 ≡ k → (k ≡ 219 → ⊥) → (k ≡ 226 → ⊥) → ((i : ℕ) → j ≤ i → i ≤ n → getD cs i 0 ≤ 71) → (getD cs i 0 ≡ 219 → ⊥) × (getD cs i 0 ≡ 226 → ⊥)
+        heading : (i : ℕ) → j ≤ i → i ≤ suc n → Dec (i ≡ suc n) → getD cs (suc n) 0 ≡ k → (k ≡ 219 → ⊥) → (k ≡ 226 → ⊥) → ((i : ℕ) → j ≤ i → i ≤ n → getD cs i 0 ≤ 71)
+            → (getD cs i 0 ≡ 219 → ⊥) × (getD cs i 0 ≡ 226 → ⊥)
         heading i x y (yes z) ck p q low = let e : getD cs i 0 ≡ k = ap (λ n. getD cs n 0) z ∙ ck in (λ r. p (sym e ∙ r), λ r. q (sym e ∙ r))
         heading i x y (no z) ck p q low = let e = low i x (omega arith) in (λ r. omega arith, λ r. omega arith)
 
-    pub done-init : (ds : List Declaration) (q : Tree sequence) (j b f t : ℕ) → j < length xs → itemAt xs j ≡ i-init → b ≡ suc j → f ≡ suc b + length (each (code-declaration i-local) ds) → t ≡ f + sizeIn q
+    pub done-init : (ds : List Declaration) (q : Tree sequence) (j b f t : ℕ) → j < length xs → itemAt xs j ≡ i-init → b ≡ suc j
+        → f ≡ suc b + length (each (code-declaration i-local) ds) → t ≡ f + sizeIn q
         → Lies xs b (code-body (body ds q)) → Lying xs 0 (code-tree q) f → (getD cs (suc t) 0 ≡ 213 → ⊥) → Sc g 0 j → insideOf cs j ≡ 0 → count cs H 9 0 0 j ≡ c → count cs H 10 0 0 j ≡ d
         → Done g c d (init (body ds q)) j (suc t)
     done-init ds q j b f t bj qj eb ef et yb lying after sc ins c9 c10 =
@@ -306,9 +320,12 @@ module _ (m : Model) (cs vs : List ℕ) (S : Says m cs vs) where
         let i2 = F .last in
         let top = F .top in
         let hj = home-of-head cs (S .few) j (omega arith) (ap heads ci) in
-        let s1 : Sc g 0 (suc j) = scoped-over m cs vs H S g 0 j (suc j) (omega arith) (λ i x y. inl (ap (λ n. among 1 (getD cs n 0)) (let z : i ≡ j = omega arith in z) ∙ ap (among 1) ci ∙ sets .5)) sc in
-        let yd = lies-front xs b (i-body ∷ each (code-declaration i-local) ds) (code-tree q) (lies-front xs b (i-body ∷ each (code-declaration i-local) ds ++ code-tree q) (i-end-body ∷ []) yb) in
-        let n9 = count-over 9 j (suc j) (omega arith) (λ i x y. not-nine (getD cs i 0) (λ z. (let e : getD cs i 0 ≡ 226 = ap (λ n. getD cs n 0) (let w : i ≡ j = omega arith in w) ∙ ci in omega arith))) in
+        let s1 : Sc g 0 (suc j) = scoped-over m cs vs H S g 0 j (suc j) (omega arith) (λ i x y. inl (ap (λ n. among 1 (getD cs n 0)) (let z : i ≡ j = omega arith in z) ∙ ap
+        (among 1) ci ∙ sets .5)) sc in
+        let yd = lies-front xs b (i-body ∷ each (code-declaration i-local) ds) (code-tree q) (lies-front xs b (i-body ∷ each (code-declaration i-local) ds ++ code-tree q)
+        (i-end-body ∷ []) yb) in
+        let n9 = count-over 9 j (suc j) (omega arith) (λ i x y. not-nine (getD cs i 0) (λ z. (let e : getD cs i 0 ≡ 226 = ap (λ n. getD cs n 0) (let w : i ≡ j = omega arith in w)
+        ∙ ci in omega arith))) in
         let n10 = count-next 10 j in
         let o10 = one-here 10 j (ap (among 10) ci ∙ sets .1) hj in
         let m9 = frame-nine j b f t F in

@@ -118,7 +118,8 @@ module _ (m : Model) (cs vs : List ℕ) (S : Says m cs vs) where
 
   -- ---- the types of a channel's messages
   fields : (ks : List ℕ) (c i k : ℕ) → Lies xs k (each code-field ks) → k ≡ c + 1 + 2 * i → last cs 16 k ≡ suc c → i ≤ 4 → J k (k + length (each code-field ks)) (leb (i + length ks) 4)
-  fields [] c i k h e q b = judges-to k k (k + 0) true (leb (i + 0) 4) (omega arith) (sym (le-leb (i + 0) 4 (omega arith))) (judges-true m cs vs S k k (clean-empty m cs vs S k k (omega arith)))
+  fields [] c i k h e q b = judges-to k k (k + 0) true (leb (i + 0) 4) (omega arith) (sym (le-leb (i + 0) 4 (omega arith)))
+      (judges-true m cs vs S k k (clean-empty m cs vs S k k (omega arith)))
   fields (t ∷ ks) c i k h e q b = go (decLt i 4) (fields ks c (i + 1) (suc (suc k)) (h .2 .2) (omega arith) (last-skip m cs vs S 16 (suc k) (ap (among 16) field ∙ sets .6) ∙ was))
     where
       field : getD cs (suc k) 0 ≡ 218
@@ -163,7 +164,8 @@ module _ (m : Model) (cs vs : List ℕ) (S : Says m cs vs) where
   value-judged set-false k h sense l o n = two k (mark-clean k 179 i-false (l .0) (l .1) refl (marks .5)) (mark-clean (suc k) 214 i-value (l .2 .0) (l .2 .1) refl (marks .2))
   value-judged (set-name w) k h sense l o n =
       judges-to k (suc (suc k)) (k + 2) (eqb (getD cs (lookup cs vs H (getD vs k 0) h k) 0) 220) (isConstant (sense w)) (omega arith) (n w (l .0) (l .1) (omega arith))
-      (judges-skip m cs vs S k (suc k) (suc (suc k)) (eqb (getD cs (lookup cs vs H (getD vs k 0) h k) 0) 220) (omega arith) (omega arith) (mark-clean k 70 (i-name w) (l .0) (l .1) refl (marks .0))
+      (judges-skip m cs vs S k (suc k) (suc (suc k)) (eqb (getD cs (lookup cs vs H (getD vs k 0) h k) 0) 220) (omega arith) (omega arith)
+      (mark-clean k 70 (i-name w) (l .0) (l .1) refl (marks .0))
       (rule-named m cs vs S k h (code-is m cs vs S (suc k) i-named (l .2 .0) (l .2 .1)) (o (suc k) (omega arith) (omega arith))))
   value-judged (set-channel x ks) k h sense l o n =
       let c = code-is m cs vs S (suc k) i-channel (l .2 .0) (l .2 .1) in
@@ -199,7 +201,8 @@ module _ (m : Model) (cs vs : List ℕ) (S : Says m cs vs) where
   unfolding rules.isArray
   array-some k a b = rw ((let z : suc k + 1 ≡ suc (suc k) = omega arith in z), (let z : suc k + 2 ≡ suc (suc (suc k)) = omega arith in z)) (rw (a, b) refl)
 
-  array-is : (s : Option ℕ) (v : Value) (k : ℕ) → Lies xs (suc (suc k)) (code-size s ++ code-value v) → After (suc (suc k) + length (code-size s ++ code-value v)) → rules.isArray cs (suc k) ≡ isArray s
+  array-is : (s : Option ℕ) (v : Value) (k : ℕ) → Lies xs (suc (suc k)) (code-size s ++ code-value v) → After (suc (suc k) + length (code-size s ++ code-value v))
+      → rules.isArray cs (suc k) ≡ isArray s
   array-is (some n) v k l a = array-some k (code-is m cs vs S (suc (suc k)) (i-number n) (l .0) (l .1)) (code-is m cs vs S (suc (suc (suc k))) i-size (l .2 .0) (l .2 .1))
   array-is none unset k l a = array-none k (subst (λ x. getD cs (suc x) 0 ≡ 213 → ⊥) (let z : suc (suc k) + 0 ≡ suc (suc k) = omega arith in z) (a .1))
   array-is none (set-number x) k l a = array-none k (λ z. (let c = code-is m cs vs S (suc (suc (suc k))) i-value (l .2 .0) (l .2 .1) in omega arith))
@@ -217,7 +220,8 @@ module _ (m : Model) (cs vs : List ℕ) (S : Says m cs vs) where
   module _ (t h lo hi p : ℕ) (sense : Scope → Name → Sense) (f : Scope → Variable → Bool)
       (F : (l : Scope) (w : Name) (s : Option ℕ) (v : Value) → f l (variable w s v) ≡ both (fresh l w) (both (sized s) (units.valued (sense (l ++ ofVariable t (variable w s v) ∷ [])) v)))
       (home : (j : ℕ) → lo ≤ j → j < hi → getD H j 0 ≡ h) (top : hi ≤ length cs) (typed : getD cs p 0 ≡ 130 + t)
-      (look : (l : Scope) (j : ℕ) (w : Name) → lo ≤ j → j < hi → itemAt xs j ≡ i-name w → Sc l h j → Pidless l → eqb (getD cs (lookup cs vs H (getD vs j 0) h j) 0) 220 ≡ isConstant (sense l w)) where
+      (look : (l : Scope) (j : ℕ) (w : Name) → lo ≤ j → j < hi → itemAt xs j ≡ i-name w → Sc l h j → Pidless l → eqb (getD cs (lookup cs vs H (getD vs j 0) h j) 0) 220 ≡ isConstant
+      (sense l w)) where
     -- what stands behind a variable
     pub record Passed (l : Scope) (b : Bool) (k e : ℕ) (l2 : Scope) : Type 0 where
       pub scope : Sc l2 h e
@@ -225,7 +229,8 @@ module _ (m : Model) (cs vs : List ℕ) (S : Says m cs vs) where
       pub judged : Pidless l → J k e b
       pub pidless : Pidless l → b ≡ true → Pidless l2
 
-    one-variable : (w : Name) (s : Option ℕ) (v : Value) (l : Scope) (k e : ℕ) → e ≡ k + length (code-variable (variable w s v)) → lo ≤ k → e ≤ hi → Lies xs k (code-variable (variable w s v)) → last cs 3 k ≡ suc (suc p)
+    one-variable : (w : Name) (s : Option ℕ) (v : Value) (l : Scope) (k e : ℕ) → e ≡ k + length (code-variable (variable w s v)) → lo ≤ k → e ≤ hi
+        → Lies xs k (code-variable (variable w s v)) → last cs 3 k ≡ suc (suc p)
         → After e → Sc l h k → Passed l (f l (variable w s v)) k e (l ++ ofVariable t (variable w s v) ∷ [])
     one-variable w s v l k e q b d y c a sc =
         record {
@@ -233,8 +238,10 @@ module _ (m : Model) (cs vs : List ℕ) (S : Says m cs vs) where
           kind = last-over m cs vs S 3 (suc (suc k)) e (omega arith) (λ j g u. low-three (getD cs j 0) (lows j g u)) ∙ last-skip m cs vs S 3 (suc k) (ap (among 3) cd ∙ sets .3) ∙ kind1;
           judged = λ n. (let z = sizes in subst (λ x. J k e x) (sym (F l w s v))
               (judges-skip m cs vs S k (suc k) e _ (omega arith) (omega arith) (mark-clean k 70 (i-name w) (y .0) (y .1) refl (marks .0))
-              (judges-both m cs vs S (suc k) (suc (suc k)) e (fresh l w) _ (omega arith) (omega arith) (rule-fresh m cs vs S l h k w (below (suc k) (y .2 .0)) (y .1) (ap (among 1) cd ∙ sets .2) hd sc1)
-              (λ fr. judges-both m cs vs S (suc (suc k)) k2 e (sized s) _ (omega arith) (omega arith) (size-judged s (suc (suc k)) (lies-front xs (suc (suc k)) (code-size s) (code-value v) (y .2 .2)))
+              (judges-both m cs vs S (suc k) (suc (suc k)) e (fresh l w) _ (omega arith) (omega arith) (rule-fresh m cs vs S l h k w (below (suc k) (y .2 .0)) (y .1)
+              (ap (among 1) cd ∙ sets .2) hd sc1)
+              (λ fr. judges-both m cs vs S (suc (suc k)) k2 e (sized s) _ (omega arith) (omega arith) (size-judged s (suc (suc k))
+              (lies-front xs (suc (suc k)) (code-size s) (code-value v) (y .2 .2)))
               (λ sz. judges-to k2 (k2 + length (code-value v)) e _ _ (omega arith) refl
               (value-judged v k2 h (sense l2) (lies-back xs (code-size s) (code-value v) (suc (suc k)) k2 refl (y .2 .2)) (λ j g u. home j (omega arith) (omega arith))
               (λ x g u r. look l2 k2 x (omega arith) (omega arith) u (scope-at k2 (omega arith) (omega arith)) (fresh-pidless l w own (sc .sure) fr n))))))));
@@ -297,7 +304,8 @@ module _ (m : Model) (cs vs : List ℕ) (S : Says m cs vs) where
         let d = code-is m cs vs S (suc k) i-declared (y .2 .0) (y .2 .1) in
         (λ z. omega arith, λ z. omega arith)
 
-    pub all-variables-judged : (us : List Variable) (l : Scope) (k e : ℕ) → e ≡ k + length (each code-variable us) → lo ≤ k → e ≤ hi → Lies xs k (each code-variable us) → last cs 3 k ≡ suc (suc p)
+    pub all-variables-judged : (us : List Variable) (l : Scope) (k e : ℕ) → e ≡ k + length (each code-variable us) → lo ≤ k → e ≤ hi → Lies xs k (each code-variable us)
+        → last cs 3 k ≡ suc (suc p)
         → After e → Sc l h k → Passed l (variables f t l us) k e (l ++ map (ofVariable t) us)
     unfolding variables
     all-variables-judged [] l k e q b d y c a sc =

@@ -13,8 +13,8 @@ use Rattle.accepting.specs.Meaning.{Accepts}
 use Rattle.expressions.specs.Names.{codesAt}
 use Rattle.expressions.proofs.Operators.{known-front, known-back}
 use Rattle.acts.specs.Program.{Holds, in-process, in-init, later, startIn}
-use Rattle.acts.proofs.Stands.{Lying, lying-behind, lying-before, lying-whole, body-lies}
-use Rattle.placing.proofs.Lists.{lying-front, lying-back, lying-at}
+use Rattle.acts.proofs.Stands.{Lying, lying-behind, lying-before, lying-whole, body-lies, lying-front, lying-back}
+use Rattle.placing.proofs.Lists.{lying-at}
 use Rattle.placing.proofs.Labels.{Bare, bare-each, bare-at, bare-declaration, bare-type}
 
 bare-parameter : (w : Name) → Bare (code-parameter w)

@@ -39,9 +39,9 @@ use Rattle.following.proofs.Begins.{mark, none, dull-skip, statement-from}
 use Rattle.following.proofs.Main.{text-unit}
 use Rattle.acts.specs.Stage.{Ways}
 use Rattle.acts.specs.Program.{sizeIn, Holds, labelIn, startIn, endIn, statementsOf, Statement}
-use Rattle.acts.proofs.Stands.{Lying, within-lies, body-lies, statements-lie, lying-in}
+use Rattle.acts.proofs.Stands.{Lying, within-lies, body-lies, statements-lie, lying-in, lying-back}
 use Rattle.acts.proofs.Labels.{Labelled, Search, label-found, marked, Behind, labelled-lies}
-use Rattle.placing.proofs.Lists.{lying-back, lying-at, lying-ends}
+use Rattle.placing.proofs.Lists.{lying-at, lying-ends}
 use Rattle.placing.proofs.Labels.{label-there}
 use Rattle.placing.proofs.Names.{said-names}
 use Rattle.placing.proofs.Heads.{holds-between, lying-known, label-late}

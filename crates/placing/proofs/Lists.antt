@@ -14,13 +14,6 @@ use Rattle.expressions.proofs.Codes.{codes-are}
 use Rattle.expressions.proofs.Main.{items-long}
 use Rattle.acts.proofs.Stands.{Lying, lying-whole, lying-behind, lying-before, lying-in}
 
--- ---- parts
-pub lying-front : (l x y : List Item) (i j : ℕ) → Lying l i (x ++ y) j → Lying l i x j
-lying-front l x y i j p = lying-in l (x ++ y) x i j j p (lying-before x y x j j (lying-whole x j))
-
-pub lying-back : (l x y : List Item) (i j k : ℕ) → k ≡ j + length x → Lying l i (x ++ y) j → Lying l i y k
-lying-back l x y i j k e p = lying-in l (x ++ y) y i j k p (lying-behind x y y j k k e (lying-whole y k))
-
 -- ---- codes
 module _ (t : List ℕ) (a : Accepts t) where
   pub lying-at : (l : List Item) (j : ℕ) → Lying (code (a .tree)) 0 l j → At (codesAt t a) j l

@@ -12,8 +12,8 @@ use Rattle.places.specs.Places.{isPlace}
 use Rattle.accepting.specs.Meaning.{Accepts}
 use Rattle.acts.specs.Program.{sizeIn, enter, Within, itself, in-if, in-do, unlabelled, behind-label, in-first, in-rest, in-option, in-others}
 use Rattle.placing.specs.Stated.{Found}
-use Rattle.placing.proofs.Lists.{lying-front, lying-back}
 use Rattle.placing.proofs.Quiet.{C, L, Quiet, Lone, quiet-then, closing-plain, lead-plain, leaf-parts, label-dull, assign-dull, set-run-dull, end-dull, item-quiet, leaf-quiet, pair-lone, each-quiet, expression-quiet, argument-quiet, received-quiet, spread, alone-lone, lone-one, named-lone}
+use Rattle.acts.proofs.Stands.{lying-front, lying-back}
 
 module _ (t : List ℕ) (a : Accepts t) where
   abbrev X : List Item

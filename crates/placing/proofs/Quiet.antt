@@ -14,8 +14,8 @@ use Rattle.entries.specs.Items as items
 use Rattle.places.specs.Places.{isPart, isMark, isAlone, isLead, isPlace}
 use Rattle.accepting.specs.Meaning.{Accepts}
 use Rattle.expressions.specs.Names.{codesAt}
-use Rattle.acts.proofs.Stands.{Lying}
-use Rattle.placing.proofs.Lists.{lying-front, lying-back, lying-at}
+use Rattle.acts.proofs.Stands.{Lying, lying-front, lying-back}
+use Rattle.placing.proofs.Lists.{lying-at}
 use Rattle.placing.proofs.Phrases.{none-at, part-says, next-mark, first-place, no-place}
 
 -- ---- codes: neither part of an expression nor alone; and no statement's mark either
