@@ -3,7 +3,7 @@ use Prim.Native.Nat.{ℕ, suc, _+_, _≤_, _<_}
 use native.Mathlib.Omega.{arith}
 use mathlib.Core.Path.{_≡_, refl, sym as inv, ap, subst, _∙_}
 use mathlib.Core.Bool.{true}
-use mathlib.Core.List.{List, [], _∷_, _++_, append-assoc}
+use mathlib.Core.List.{List, _∷_, _++_}
 use lib.ListN.{length, length-append}
 use Rattle.syntax.specs.Tree.{Shape, Exp}
 use Rattle.syntax.specs.Code.{Item, code-exp, code}
@@ -17,8 +17,9 @@ use Rattle.accepting.specs.Meaning.{Accepts}
 use Rattle.expressions.specs.Held.{Held}
 use Rattle.expressions.specs.Names.{codesAt}
 use Rattle.expressions.proofs.Items.{T, part-held}
+use Rattle.expressions.proofs.Main.{items-long}
 use Rattle.expressions.proofs.Operators.{known-front, known-back, text-proper}
-use Rattle.acts.proofs.Stands.{Lying, lying-behind, lying-whole, lying-in}
+use Rattle.acts.proofs.Stands.{Lying}
 use Rattle.nesting.specs.Balanced.{Begun, Balanced}
 use Rattle.nesting.proofs.Matches.{Opener, Match}
 use Rattle.nesting.proofs.Main.{all-at, linked-to}
@@ -39,6 +40,9 @@ module _ (t : List ℕ) (a : Accepts t) where
 
     pub inside-there : i + length x ≤ length xs
     inside-there = omega (arith, at-place, ap length (l .split), length-append (l .front) (x ++ l .rest), length-append x (l .rest))
+
+    pub ends-there : i + length x ≤ length (codesAt t a)
+    ends-there = omega (arith, inside-there, items-long t a)
 
     pub known-there : AllKnown x
     known-there = known-front x (l .rest) (known-back (l .front) (x ++ l .rest) (subst AllKnown (l .split) (accepted-known t (a .parts) (a .tree) (a .reads) (a .gram))))

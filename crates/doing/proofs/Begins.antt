@@ -31,8 +31,10 @@ use Rattle.fitness.specs.Facts.{homes, starts}
 use Rattle.fitness.proofs.Tables.{text-held}
 use Rattle.fitness.proofs.Known.{text-facts}
 use Rattle.fitness.proofs.Links.{link-is}
+use Rattle.acts.proofs.Stands.{lying-back}
+use Rattle.choosing.proofs.Places.{at-there, ends-there}
 use Rattle.doing.specs.Stages.{unitAt}
-use Rattle.doing.proofs.Parts.{Here, here-codes, here-long, here-lies, first-code, back-lies}
+use Rattle.doing.proofs.Parts.{Here, here-lies, first-code}
 use Rattle.doing.proofs.Marks.{all-parts, leaf-alone, link-mark}
 use Rattle.doing.proofs.Phrases.{proper, linked-there}
 use Rattle.doing.proofs.Lists.{leaf-there}
@@ -92,28 +94,28 @@ module _ (t : List ℕ) (a : Accepts t) where
   pub name-mark : (w : Name) (x : Item) (z : List Item) (j : ℕ) → Here t a (i-name w ∷ x ∷ z) j → isMark (items.codeOf x) ≡ true → markOf (tablesText t) j ≡ j + 1
   unfolding markOf
   name-mark w x z j p m =
-      let c = here-codes t a (i-name w ∷ x ∷ z) j p in
+      let c = at-there t a (i-name w ∷ x ∷ z) j p in
       let e : j + 1 ≡ suc j = omega arith in
       rw (first-code t a (i-name w) (x ∷ z) j p, name-alone)
-      (link-mark t a j (j + 1) (omega arith) (omega (arith, here-long t a (i-name w ∷ x ∷ z) j p)) (ap classOf (c .0) ∙ name-class) (λ y u v. absurd (omega arith))
+      (link-mark t a j (j + 1) (omega arith) (omega (arith, ends-there t a (i-name w ∷ x ∷ z) j p)) (ap classOf (c .0) ∙ name-class) (λ y u v. absurd (omega arith))
       (ap (λ n. isMark (getD C n 0)) e ∙ ap isMark (c .1 .0) ∙ m))
 
   -- a target links to the mark behind it
   pub target-assign : (e : Expr) (m : ℕ) → Here t a (i-target ∷ (code-exp e ++ i-assign ∷ [])) m → linkOf (tablesText t) m ≡ m + 1 + sizeIn e
   target-assign e m p =
       let X = code-exp e in
-      let q = back-lies xs (i-target ∷ []) (X ++ i-assign ∷ []) 0 m (m + 1) refl p in
-      let h = here-codes t a (X ++ i-assign ∷ []) (m + 1) q in
-      link-mark t a m (m + 1 + sizeIn e) (omega arith) (omega (arith, here-long t a (X ++ i-assign ∷ []) (m + 1) q, length-append X (i-assign ∷ [])))
-      (ap classOf (here-codes t a (i-target ∷ (X ++ i-assign ∷ [])) m p .0) ∙ target-class)
+      let q = lying-back xs (i-target ∷ []) (X ++ i-assign ∷ []) 0 m (m + 1) refl p in
+      let h = at-there t a (X ++ i-assign ∷ []) (m + 1) q in
+      link-mark t a m (m + 1 + sizeIn e) (omega arith) (omega (arith, ends-there t a (X ++ i-assign ∷ []) (m + 1) q, length-append X (i-assign ∷ [])))
+      (ap classOf (at-there t a (i-target ∷ (X ++ i-assign ∷ [])) m p .0) ∙ target-class)
       (λ y u v. all-parts C X (m + 1) y (phrase-inside e (proper t a e i-assign [] (m + 1) q)) (at-front C (m + 1) X (i-assign ∷ []) h) (omega arith) v)
-      (ap isMark (here-codes t a (i-assign ∷ []) (m + 1 + sizeIn e) (back-lies xs X (i-assign ∷ []) 0 (m + 1) (m + 1 + sizeIn e) refl q) .0) ∙ assign-mark)
+      (ap isMark (at-there t a (i-assign ∷ []) (m + 1 + sizeIn e) (lying-back xs X (i-assign ∷ []) 0 (m + 1) (m + 1 + sizeIn e) refl q) .0) ∙ assign-mark)
 
   pub target-run : (w : Name) (l : List Item) (m : ℕ) → Here t a (i-target ∷ i-name w ∷ i-set-run ∷ l) m → linkOf (tablesText t) m ≡ m + 2
   target-run w l m p =
-      let c = here-codes t a (i-target ∷ i-name w ∷ i-set-run ∷ l) m p in
+      let c = at-there t a (i-target ∷ i-name w ∷ i-set-run ∷ l) m p in
       let e : m + 2 ≡ suc (suc m) = omega arith in
-      link-mark t a m (m + 2) (omega arith) (omega (arith, here-long t a (i-target ∷ i-name w ∷ i-set-run ∷ l) m p)) (ap classOf (c .0) ∙ target-class)
+      link-mark t a m (m + 2) (omega arith) (omega (arith, ends-there t a (i-target ∷ i-name w ∷ i-set-run ∷ l) m p)) (ap classOf (c .0) ∙ target-class)
       (λ y u v. let z : y ≡ suc m = omega arith in ap (λ n. isMark (getD C n 0)) z ∙ ap isMark (c .1 .0) ∙ name-part) (ap (λ n. isMark (getD C n 0)) e ∙ ap isMark (c .1 .1 .0) ∙ set-run-mark)
 
   -- ---- a run links to its proctype
@@ -140,7 +142,7 @@ module _ (t : List ℕ) (a : Accepts t) where
   pub run-unit : (w : Name) (x : Item) (l : List Item) (i : ℕ) → Here t a (i-name w ∷ x ∷ l) i → (items.codeOf x ≡ 202) ⊎ (items.codeOf x ≡ 203) → linkOf (tablesText t) (i + 1) ≡ unitAt t a w
   run-unit w x l i p v =
       let K = text-facts t a in
-      let n = here-long t a (i-name w ∷ x ∷ l) i p in
+      let n = ends-there t a (i-name w ∷ x ∷ l) i p in
       let k = link-is C (saidAt t a) (i + 1) (K .few) (omega arith) in
       let f = K .few in
       let u = unit-most w in
@@ -151,7 +153,7 @@ module _ (t : List ℕ) (a : Accepts t) where
       ∙ (let y : min 4294967295 (unitAt t a w) ≡ unitAt t a w = omega arith in y)
     where
       c : getD C (i + 1) 0 ≡ items.codeOf x
-      c = let y : i + 1 ≡ suc i = omega arith in ap (λ n. getD C n 0) y ∙ here-codes t a (i-name w ∷ x ∷ l) i p .1 .0
+      c = let y : i + 1 ≡ suc i = omega arith in ap (λ n. getD C n 0) y ∙ at-there t a (i-name w ∷ x ∷ l) i p .1 .0
 
       coded : (items.codeOf x ≡ 202) ⊎ (items.codeOf x ≡ 203) → (getD C (i + 1) 0 ≡ 202) ⊎ (getD C (i + 1) 0 ≡ 203)
       coded (inl e) = inl (c ∙ e)

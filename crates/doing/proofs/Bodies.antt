@@ -17,10 +17,11 @@ use Rattle.expressions.proofs.Operators.{text-proper}
 use Rattle.acts.specs.Stage.{Ways}
 use Rattle.acts.specs.Tables.{stageOf}
 use Rattle.acts.specs.Program.{Within, Holds, startIn, statementsOf, Statement}
-use Rattle.acts.proofs.Stands.{within-lies, body-lies, lying-in, statements-lie}
+use Rattle.acts.proofs.Stands.{within-lies, body-lies, lying-in, statements-lie, lying-front, lying-back}
+use Rattle.choosing.proofs.Places.{at-there}
 use Rattle.doing.specs.Stages.{unitAt, stageAt}
 use Rattle.doing.proofs.Meant.{Quiet, quiet-join, decl-same}
-use Rattle.doing.proofs.Parts.{Here, here-codes, front-lies, back-lies}
+use Rattle.doing.proofs.Parts.{Here}
 use Rattle.doing.proofs.Lists.{quiet-mark}
 
 module _ (t : List ℕ) (a : Accepts t) where
@@ -42,11 +43,11 @@ module _ (t : List ℕ) (a : Accepts t) where
       let n = length-append x y in
       let z : i + length x + length y ≡ i + length (x ++ y) = omega arith in
       subst (Quiet t a i) z
-      (quiet-join t a i (i + length x) (i + length x + length y) (f i (front-lies xs x y 0 i p)) (g (i + length x) (back-lies xs x y 0 i (i + length x) refl p)))
+      (quiet-join t a i (i + length x) (i + length x + length y) (f i (lying-front xs x y 0 i p)) (g (i + length x) (lying-back xs x y 0 i (i + length x) refl p)))
 
   calm-exp : {k : Shape} (e : Exp k) → Calm (code-exp e)
   calm-exp e i p y u v =
-      let l = low-at (codesAt t a) (code-exp e) i y (phrase-inside e (text-proper t a e (p .front) (p .rest) (p .split))) (here-codes t a (code-exp e) i p) u v in omega arith
+      let l = low-at (codesAt t a) (code-exp e) i y (phrase-inside e (text-proper t a e (p .front) (p .rest) (p .split))) (at-there t a (code-exp e) i p) u v in omega arith
 
   -- an expression and its mark
   calm-phrase : {k : Shape} (e : Exp k) (x : Item) → items.codeOf x < 212 → Calm (code-exp e ++ x ∷ [])

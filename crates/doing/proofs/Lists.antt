@@ -19,9 +19,11 @@ use Rattle.meaning.specs.Eval.{eval}
 use Rattle.meaning.specs.Scenes.{sceneOf, sizeIn}
 use Rattle.expressions.specs.Names.{codesAt, declAt}
 use Rattle.fitness.proofs.Tables.{text-held}
+use Rattle.acts.proofs.Stands.{lying-back}
+use Rattle.choosing.proofs.Places.{at-there, ends-there}
 use Rattle.doing.specs.Walked.{Passed, Compared, Agreed, Got, no-more, one-more}
 use Rattle.doing.proofs.Meant.{Quiet, quiet-join}
-use Rattle.doing.proofs.Parts.{Here, here-codes, here-long, first-code, back-lies}
+use Rattle.doing.proofs.Parts.{Here, first-code}
 use Rattle.doing.proofs.Marks.{Leaf, begins-leaf, leaf-no-end}
 use Rattle.doing.proofs.Phrases.{behind-argument, behind-equal, refers-into, quiet-there, linked-there, works, number-works, true-works, false-works, refers-linked, refers-located}
 
@@ -38,27 +40,27 @@ module _ (t : List ℕ) (a : Accepts t) where
 
   pub quiet-mark : (x : Item) (l : List Item) (m : ℕ) → Here t a (x ∷ l) m → items.codeOf x < 212 → Quiet t a m (m + 1)
   quiet-mark x l m p h y u v =
-      let z : y ≡ m = omega arith in let e : getD (codesAt t a) y 0 ≡ items.codeOf x = ap (λ n. getD (codesAt t a) n 0) z ∙ here-codes t a (x ∷ l) m p .0 in omega arith
+      let z : y ≡ m = omega arith in let e : getD (codesAt t a) y 0 ≡ items.codeOf x = ap (λ n. getD (codesAt t a) n 0) z ∙ at-there t a (x ∷ l) m p .0 in omega arith
 
   -- a phrase and its mark declare nothing
   pub quiet-phrase : (j i : ℕ) → Quiet t a j i → {k : Shape} (e : Exp k) (x : Item) (z : List Item) → Here t a (code-exp e ++ x ∷ z) i → items.codeOf x < 212 → Quiet t a j (i + sizeIn e + 1)
   quiet-phrase j i q e x z p h =
       quiet-join t a j i (i + sizeIn e + 1) q
-      (quiet-join t a i (i + sizeIn e) (i + sizeIn e + 1) (quiet-there t a e x z i p) (quiet-mark x z (i + sizeIn e) (back-lies xs (code-exp e) (x ∷ z) 0 i (i + sizeIn e) refl p) h))
+      (quiet-join t a i (i + sizeIn e) (i + sizeIn e + 1) (quiet-there t a e x z i p) (quiet-mark x z (i + sizeIn e) (lying-back xs (code-exp e) (x ∷ z) 0 i (i + sizeIn e) refl p) h))
 
   -- the item behind it
   pub mark-code : {k : Shape} (e : Exp k) (x : Item) (z : List Item) (i : ℕ) → Here t a (code-exp e ++ x ∷ z) i → codeOf (tablesText t) (i + sizeIn e) ≡ items.codeOf x
-  mark-code e x z i p = first-code t a x z (i + sizeIn e) (back-lies xs (code-exp e) (x ∷ z) 0 i (i + sizeIn e) refl p)
+  mark-code e x z i p = first-code t a x z (i + sizeIn e) (lying-back xs (code-exp e) (x ∷ z) 0 i (i + sizeIn e) refl p)
 
   pub behind-there : {k : Shape} (e : Exp k) (x : Item) (z : List Item) (i : ℕ) → Here t a (code-exp e ++ x ∷ z) i → Here t a z (i + sizeIn e + 1)
-  behind-there e x z i p = back-lies xs (x ∷ []) z 0 (i + sizeIn e) (i + sizeIn e + 1) refl (back-lies xs (code-exp e) (x ∷ z) 0 i (i + sizeIn e) refl p)
+  behind-there e x z i p = lying-back xs (x ∷ []) z 0 (i + sizeIn e) (i + sizeIn e + 1) refl (lying-back xs (code-exp e) (x ∷ z) 0 i (i + sizeIn e) refl p)
 
   pub leaf-there : {k : Shape} (e : Exp k) (z : List Item) (i : ℕ) → Here t a (code-exp e ++ z) i → Leaf (codeOf (tablesText t) i)
   leaf-there e z i p =
-      let q = here-long t a (code-exp e ++ z) i p in
+      let q = ends-there t a (code-exp e ++ z) i p in
       let s = some-items e in
       subst Leaf (sym (text-held t a .codes i (omega (arith, length-append (code-exp e) z))))
-      (begins-leaf (codesAt t a) i e (at-front (codesAt t a) i (code-exp e) z (here-codes t a (code-exp e ++ z) i p)))
+      (begins-leaf (codesAt t a) i e (at-front (codesAt t a) i (code-exp e) z (at-there t a (code-exp e ++ z) i p)))
 
   -- ---- arguments
   pub arguments-there : (es : List Expr) (j b z : ℕ) → j ≤ b → Quiet t a j b → Here t a (each code-argument es ++ i-end ∷ []) b → z ≡ b + length (each code-argument es)

@@ -1,35 +1,20 @@
 -- Parts of the items that stand at a place of an accepted text's tree stand there too; what the tables hold of each.
-use Prim.Native.Nat.{ℕ, _+_, _≤_, _<_}
+use Prim.Native.Nat.{ℕ, _+_, _<_}
 use native.Mathlib.Omega.{arith}
-use mathlib.Core.Path.{_≡_, sym, ap, subst, _∙_}
-use mathlib.Core.List.{List, _∷_, _++_, map, map-append, append-assoc}
-use lib.ListN.{length, getD, length-map, length-append, List·getD-append}
+use mathlib.Core.Path.{_≡_, ap, _∙_}
+use mathlib.Core.List.{List, _∷_, _++_}
+use lib.ListN.{length, getD, List·getD-append}
 use lib.Seq.{getD-append-add}
 use Rattle.syntax.specs.Code.{Item, i-plain, code}
 use Rattle.entries.specs.Items as items
-use Rattle.phrases.specs.Phrases.{At}
-use Rattle.phrases.proofs.Inside.{stands}
 use Rattle.tables.specs.Access.{codeOf}
 use Rattle.judging.specs.Judging.{tablesText}
 use Rattle.accepting.specs.Meaning.{Accepts}
 use Rattle.expressions.specs.Names.{codesAt}
-use Rattle.expressions.proofs.Codes.{codes-are}
-use Rattle.expressions.proofs.Main.{items-long}
 use Rattle.expressions.proofs.Names.{Lies, lies-all}
 use Rattle.fitness.proofs.Tables.{text-held}
 use Rattle.acts.proofs.Stands.{Lying}
-
-pub front-lies : (l x y : List Item) (i j : ℕ) → Lying l i (x ++ y) j → Lying l i x j
-front-lies l x y i j p = record { front = p .front; rest = y ++ p .rest; split = p .split ∙ ap (p .front ++_) (append-assoc x y (p .rest)); place = p .place }
-
-pub back-lies : (l x y : List Item) (i j k : ℕ) → k ≡ j + length x → Lying l i (x ++ y) j → Lying l i y k
-back-lies l x y i j k e p =
-    record {
-      front = p .front ++ x;
-      rest = p .rest;
-      split = p .split ∙ ap (p .front ++_) (append-assoc x y (p .rest)) ∙ sym (append-assoc (p .front) x (y ++ p .rest));
-      place = let a = p .place in let b = length-append (p .front) x in omega arith;
-    }
+use Rattle.choosing.proofs.Places.{at-there, ends-there}
 
 module _ (t : List ℕ) (a : Accepts t) where
   abbrev xs : List Item
@@ -38,14 +23,6 @@ module _ (t : List ℕ) (a : Accepts t) where
   -- these items stand in the tree's code from item i on
   abbrev pub Here : List Item → ℕ → Type 0
   Here l i = Lying (code (a .tree)) 0 l i
-
-  pub here-codes : (l : List Item) (i : ℕ) → Here l i → At (codesAt t a) i l
-  here-codes l i p =
-      subst (λ (c : List ℕ). At c i l) (sym (codes-are t a ∙ ap (map items.codeOf) (p .split) ∙ map-append items.codeOf (p .front) (l ++ p .rest)))
-      (stands (map items.codeOf (p .front)) l (p .rest) i (let e = p .place in let f = length-map (p .front) items.codeOf in omega arith))
-
-  pub here-long : (l : List Item) (i : ℕ) → Here l i → i + length l ≤ length (codesAt t a)
-  here-long l i p = let e = p .place in omega (arith, items-long t a, ap length (p .split), length-append (p .front) (l ++ p .rest), length-append l (p .rest))
 
   pub here-lies : (l : List Item) (i : ℕ) → Here l i → Lies (code (a .tree)) i l
   here-lies l i p =
@@ -57,7 +34,7 @@ module _ (t : List ℕ) (a : Accepts t) where
   -- the first of them
   module _ (x : Item) (l : List Item) (i : ℕ) (p : Here (x ∷ l) i) where
     pub first-inside : i < length (codesAt t a)
-    first-inside = omega (arith, here-long (x ∷ l) i p)
+    first-inside = omega (arith, ends-there t a (x ∷ l) i p)
 
     pub first-code : codeOf (tablesText t) i ≡ items.codeOf x
-    first-code = text-held t a .codes i first-inside ∙ here-codes (x ∷ l) i p .0
+    first-code = text-held t a .codes i first-inside ∙ at-there t a (x ∷ l) i p .0

@@ -42,8 +42,10 @@ use Rattle.expressions.proofs.Declared.{no-fault}
 use Rattle.expressions.proofs.Operators.{text-proper}
 use Rattle.expressions.proofs.Whole.{text-arrays, text-height, text-evaluates}
 use Rattle.acts.specs.Arguments.{nameOf}
+use Rattle.acts.proofs.Stands.{lying-back}
+use Rattle.choosing.proofs.Places.{at-there, ends-there}
 use Rattle.doing.proofs.Meant.{Quiet, decl-same}
-use Rattle.doing.proofs.Parts.{Here, here-codes, here-long, here-lies, back-lies}
+use Rattle.doing.proofs.Parts.{Here, here-lies}
 use Rattle.doing.proofs.Marks.{all-parts, begins-leaf, leaf-class, link-mark}
 
 -- ---- what stands behind expressions and references
@@ -134,13 +136,13 @@ module _ (t : List ℕ) (a : Accepts t) where
 
   module _ (w : Name) (x : Item) (z : List Item) (i : ℕ) (p : Here t a (code-exp (plain w) ++ x ∷ z) i) where
     low : (y : ℕ) → i ≤ y → y < i + 2 → getD C y 0 < 183
-    low y u v = low-at C (code-exp (plain w)) i y (phrase-inside (plain w) tt) (at-front C i (code-exp (plain w)) (x ∷ z) (here-codes t a (code-exp (plain w) ++ x ∷ z) i p)) u v
+    low y u v = low-at C (code-exp (plain w)) i y (phrase-inside (plain w) tt) (at-front C i (code-exp (plain w)) (x ∷ z) (at-there t a (code-exp (plain w) ++ x ∷ z) i p)) u v
 
     stood : At C i (code-exp (plain w))
-    stood = at-front C i (code-exp (plain w)) (x ∷ z) (here-codes t a (code-exp (plain w) ++ x ∷ z) i p)
+    stood = at-front C i (code-exp (plain w)) (x ∷ z) (at-there t a (code-exp (plain w) ++ x ∷ z) i p)
 
     long : i + 3 ≤ length C
-    long = omega (arith, here-long t a (code-exp (plain w) ++ x ∷ z) i p)
+    long = omega (arith, ends-there t a (code-exp (plain w) ++ x ∷ z) i p)
 
     name-is : getD xs i i-plain ≡ i-name w
     name-is = here-lies t a (code-exp (plain w) ++ x ∷ z) i p .0
@@ -159,7 +161,7 @@ module _ (t : List ℕ) (a : Accepts t) where
         phrase-starts C blank (plain w) tt i (i + 1) stood (codes-few t a) (omega (arith, codes-few t a, length-replicate 8192 zero)) (omega (arith, long)) (omega arith) in
         let ho : getD o (i + 1) 0 ≡ insideOf C i = home-same t a i (i + 1) (omega arith) (omega (arith, long, items-long t a)) (λ y u b. low y u (omega arith)) in
         let y : i + 1 + 1 ≡ suc (suc i) = omega arith in
-        let ro : getD C (i + 1 + 1) 0 ≡ items.codeOf x = ap (λ n. getD C n 0) y ∙ here-codes t a (code-exp (plain w) ++ x ∷ z) i p .1 .1 .0 in
+        let ro : getD C (i + 1 + 1) 0 ≡ items.codeOf x = ap (λ n. getD C n 0) y ∙ at-there t a (code-exp (plain w) ++ x ∷ z) i p .1 .1 .0 in
         sym (λ k. badUse C v o (st k) (ho k) (roleOf (ro k)) false) ∙ sym (plain-rule C v o S (heightsOf C S blank) (i + 1) plain-code) ∙ no-fault t a (i + 1) (omega (arith, long))
 
     plain-declared : (roleOf (items.codeOf x) ≡ 0 → ⊥) → meantAt t a i w < i
@@ -194,7 +196,7 @@ module _ (t : List ℕ) (a : Accepts t) where
     proper = text-proper t a e (p .front) (x ∷ (z ++ p .rest)) split
 
     stood-there : At C i (code-exp e)
-    stood-there = at-front C i (code-exp e) (x ∷ z) (here-codes t a (code-exp e ++ x ∷ z) i p)
+    stood-there = at-front C i (code-exp e) (x ∷ z) (at-there t a (code-exp e ++ x ∷ z) i p)
 
     -- none of its items declares
     pub quiet-there : Quiet t a i (i + sizeIn e)
@@ -209,9 +211,9 @@ module _ (t : List ℕ) (a : Accepts t) where
     linked-there m =
         let s = some-items e in
         let q : length (code-exp e ++ x ∷ z) ≡ sizeIn e + suc (length z) = length-append (code-exp e) (x ∷ z) in
-        link-mark t a i (i + sizeIn e) (omega arith) (omega (arith, here-long t a (code-exp e ++ x ∷ z) i p)) (leaf-class (begins-leaf C i e stood-there))
+        link-mark t a i (i + sizeIn e) (omega arith) (omega (arith, ends-there t a (code-exp e ++ x ∷ z) i p)) (leaf-class (begins-leaf C i e stood-there))
         (λ y u v. all-parts C (code-exp e) i y (phrase-inside e proper) stood-there (omega arith) v)
-        (ap isMark (here-codes t a (x ∷ z) (i + sizeIn e) (back-lies xs (code-exp e) (x ∷ z) 0 i (i + sizeIn e) refl p) .0) ∙ m)
+        (ap isMark (at-there t a (x ∷ z) (i + sizeIn e) (lying-back xs (code-exp e) (x ∷ z) 0 i (i + sizeIn e) refl p) .0) ∙ m)
 
   reference-linked : (r : Ref) (x : Item) (z : List Item) (i : ℕ) (p : Here t a (code-exp r ++ x ∷ z) i) → (roleOf (items.codeOf x) ≡ 0 → ⊥) → Linked T (declAt t a i) r i
   unfolding Linked Named

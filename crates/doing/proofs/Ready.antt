@@ -26,13 +26,13 @@ use Rattle.expressions.specs.Names.{declAt}
 use Rattle.acts.specs.Stage.{Stage}
 use Rattle.acts.specs.Arguments.{Reach, channel, astray, reach, agrees}
 use Rattle.acts.specs.Ready.{passes, sendable, receivable, ready}
-use Rattle.acts.proofs.Stands.{Lying}
+use Rattle.acts.proofs.Stands.{Lying, lying-back}
 use Rattle.doing.specs.Stages.{unitAt, stageAt}
 use Rattle.doing.specs.Walked.{Got}
 use Rattle.doing.proofs.Gathers.{count-is}
 use Rattle.doing.proofs.Receives.{got-count, matches-is}
 use Rattle.doing.proofs.Channels.{recordOf, Arrived, message-is, reach-few}
-use Rattle.doing.proofs.Parts.{Here, first-code, back-lies}
+use Rattle.doing.proofs.Parts.{Here, first-code}
 use Rattle.doing.proofs.Phrases.{Refers, behind-express, refers-target, refers-increment, refers-decrement, works}
 use Rattle.doing.proofs.Lists.{mark-code}
 use Rattle.doing.proofs.Begins.{marks, alones, alone-mark, phrase-mark, name-mark}
@@ -177,7 +177,7 @@ module _ (t : List ℕ) (a : Accepts t) where
     ready-at skip h = alone-ready i-skip [] true h (alones .0) (by-skip T s p late j j)
     ready-at (goto w) h =
         at-mark (j + 1) (name-mark t a w i-goto [] j h (marks .2)) ∙ by-goto T s p late j (j + 1)
-        (first-code t a i-goto [] (j + 1) (back-lies (code (a .tree)) (i-name w ∷ []) (i-goto ∷ []) 0 j (j + 1) refl h))
+        (first-code t a i-goto [] (j + 1) (lying-back (code (a .tree)) (i-name w ∷ []) (i-goto ∷ []) 0 j (j + 1) refl h))
     ready-at break h = alone-ready i-break [] true h (alones .1) (by-break T s p late j j)
     ready-at timeout h = alone-ready i-timeout [] late h (alones .2) (by-timeout T s p late j j)
     ready-at else h = alone-ready i-else [] false h (alones .3) (by-else T s p late j j)

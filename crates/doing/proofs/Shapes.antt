@@ -22,10 +22,12 @@ use Rattle.meaning.specs.Scenes.{sizeIn, locate}
 use Rattle.expressions.specs.Names.{declAt}
 use Rattle.acts.specs.Arguments.{nameOf}
 use Rattle.acts.specs.Program as tree
+use Rattle.acts.proofs.Stands.{lying-back}
+use Rattle.choosing.proofs.Places.{at-there}
 use Rattle.doing.specs.Stages.{unitAt}
 use Rattle.doing.specs.Walked.{Passed, Got}
 use Rattle.doing.proofs.Meant.{Quiet, quiet-join}
-use Rattle.doing.proofs.Parts.{Here, here-codes, first-inside, first-code, back-lies}
+use Rattle.doing.proofs.Parts.{Here, first-inside, first-code}
 use Rattle.doing.proofs.Phrases.{Refers, refers-target, refers-send, refers-receive, refers-linked, refers-located}
 use Rattle.doing.proofs.Units.{opened, few-passed}
 use Rattle.doing.proofs.Lists.{quiet-mark, quiet-phrase, mark-code, behind-there, arguments-there, received-there}
@@ -70,7 +72,7 @@ module _ (t : List ℕ) (a : Accepts t) where
       → (items.codeOf x ≡ 228 → ⊥)
       → Passed T decl es (m + 1) z → length es ≤ 32
   few-there x l m es decl z p i o n r =
-      let c = here-codes t a (x ∷ l) m p .0 in
+      let c = at-there t a (x ∷ l) m p .0 in
       let k = opened t a m (first-inside t a x l m p) (ap inner c ∙ i) (λ e. n (sym c ∙ e)) (ap opens (first-code t a x l m p) ∙ o) in
       few-passed T decl (k .0) r 32 (m + 1) refl (k .1)
 
@@ -111,7 +113,7 @@ module _ (t : List ℕ) (a : Accepts t) where
       let n : length (E ++ i-end ∷ []) ≡ length E + 1 = length-append E (i-end ∷ []) in
       let k =
       arguments-there t a es j (j + 1) (j + tree.sizeIn (print w es) - 1) (omega arith) (quiet-mark t a (i-text w) (E ++ i-end ∷ []) j p (omega arith))
-      (back-lies xs (i-text w ∷ []) (E ++ i-end ∷ []) 0 j (j + 1) refl p) (omega arith) in
+      (lying-back xs (i-text w ∷ []) (E ++ i-end ∷ []) 0 j (j + 1) refl p) (omega arith) in
       record {
         mark = alone-mark t a (i-text w) (E ++ i-end ∷ []) j p text-alone;
         coded = first-code t a (i-text w) (E ++ i-end ∷ []) j p;
@@ -130,8 +132,8 @@ module _ (t : List ℕ) (a : Accepts t) where
   running w es j p =
       let E = each code-argument es in
       let n : length (E ++ i-end ∷ []) ≡ length E + 1 = length-append E (i-end ∷ []) in
-      let q = back-lies xs (i-name w ∷ []) (i-run ∷ (E ++ i-end ∷ [])) 0 j (j + 1) refl p in
-      let r = back-lies xs (i-run ∷ []) (E ++ i-end ∷ []) 0 (j + 1) (j + 1 + 1) refl q in
+      let q = lying-back xs (i-name w ∷ []) (i-run ∷ (E ++ i-end ∷ [])) 0 j (j + 1) refl p in
+      let r = lying-back xs (i-run ∷ []) (E ++ i-end ∷ []) 0 (j + 1) (j + 1 + 1) refl q in
       let k =
       arguments-there t a es j (j + 1 + 1) (j + tree.sizeIn (run w es) - 1) (omega arith)
       (quiet-join t a j (j + 1) (j + 1 + 1) (quiet-mark t a (i-name w) (i-run ∷ (E ++ i-end ∷ [])) j p (omega arith)) (quiet-mark t a i-run (E ++ i-end ∷ []) (j + 1) q (omega arith))) r
@@ -156,10 +158,10 @@ module _ (t : List ℕ) (a : Accepts t) where
       let h = subst (λ l. Here t a l j) (append-assoc R (i-target ∷ i-name w ∷ i-set-run ∷ E) (i-end ∷ [])) p in
       let n : length ((R ++ i-target ∷ i-name w ∷ i-set-run ∷ E) ++ i-end ∷ []) ≡ sizeIn r + 3 + length E + 1 =
       omega (arith, length-append (R ++ i-target ∷ i-name w ∷ i-set-run ∷ E) (i-end ∷ []), length-append R (i-target ∷ i-name w ∷ i-set-run ∷ E)) in
-      let g = back-lies xs R (i-target ∷ i-name w ∷ i-set-run ∷ Y) 0 j m refl h in
-      let q = back-lies xs (i-target ∷ []) (i-name w ∷ i-set-run ∷ Y) 0 m (m + 1) refl g in
-      let o = back-lies xs (i-name w ∷ []) (i-set-run ∷ Y) 0 (m + 1) (m + 2) (omega arith) q in
-      let v = back-lies xs (i-set-run ∷ []) Y 0 (m + 2) (m + 2 + 1) refl o in
+      let g = lying-back xs R (i-target ∷ i-name w ∷ i-set-run ∷ Y) 0 j m refl h in
+      let q = lying-back xs (i-target ∷ []) (i-name w ∷ i-set-run ∷ Y) 0 m (m + 1) refl g in
+      let o = lying-back xs (i-name w ∷ []) (i-set-run ∷ Y) 0 (m + 1) (m + 2) (omega arith) q in
+      let v = lying-back xs (i-set-run ∷ []) Y 0 (m + 2) (m + 2 + 1) refl o in
       let d : m + 1 + 1 ≡ m + 2 = omega arith in
       let u =
       quiet-join t a j (m + 1) (m + 2) (quiet-phrase t a j j (none-yet j) r i-target (i-name w ∷ i-set-run ∷ Y) h (omega arith))

@@ -22,10 +22,10 @@ use Rattle.expressions.specs.Names.{declAt}
 use Rattle.acts.specs.Stage.{Ways}
 use Rattle.acts.specs.Tables.{Leads}
 use Rattle.acts.specs.Effect.{goOn, effect}
-use Rattle.acts.proofs.Stands.{Lying}
+use Rattle.acts.proofs.Stands.{Lying, lying-back}
 use Rattle.doing.specs.Stages.{unitAt, stageAt}
 use Rattle.doing.proofs.Meant.{Quiet}
-use Rattle.doing.proofs.Parts.{Here, first-code, back-lies}
+use Rattle.doing.proofs.Parts.{Here, first-code}
 use Rattle.doing.proofs.Phrases.{behind-express, behind-assign, behind-assert, refers-target, refers-increment, refers-decrement, works}
 use Rattle.doing.proofs.Lists.{quiet-phrase, mark-code, behind-there}
 use Rattle.doing.proofs.Begins.{marks, alones, alone-mark, phrase-mark, name-mark, target-assign}
@@ -140,7 +140,7 @@ module _ (t : List ℕ) (a : Accepts t) where
         let o = reference-there t a r i-target y j refers-target g in
         let q = behind-there t a r i-target y j g in
         let z : j + length ((R ++ i-target ∷ X) ++ i-assign ∷ []) - 1 ≡ k = omega (arith, length-append (R ++ i-target ∷ X) (i-assign ∷ []), length-append R (i-target ∷ X)) in
-        at-mark m (o .mark) ∙ by-assign T p j m s k (o .coded) (target-assign t a e m (back-lies (code (a .tree)) R (i-target ∷ y) 0 j m refl g)) (mark-code t a e i-assign [] (m + 1) q)
+        at-mark m (o .mark) ∙ by-assign T p j m s k (o .coded) (target-assign t a e m (lying-back (code (a .tree)) R (i-target ∷ y) 0 j m refl g)) (mark-code t a e i-assign [] (m + 1) q)
         ∙ assigned-is T (declAt t a j) s p (unitAt t a) r j m (o .located s p) (o .declared) e k (h .next)
         (works t a j (m + 1) (omega arith) (quiet-phrase t a j j none-yet r i-target y g (omega arith)) e i-assign [] q behind-assign s p) (ap (linkOf T) (sym z) ∙ l)
     takes-at (increment r) f h l =
@@ -176,7 +176,7 @@ module _ (t : List ℕ) (a : Accepts t) where
     takes-at skip f h l = let z : j ≡ j + 1 - 1 = omega arith in alone-takes i-skip (h .next) f (alones .0) (ap (linkOf T) z ∙ l) (by-skip T p j j s)
     takes-at (goto w) f h l =
         at-mark (j + 1) (name-mark t a w i-goto [] j f (marks .2)) ∙ by-goto T p j (j + 1) s
-        (first-code t a i-goto [] (j + 1) (back-lies (code (a .tree)) (i-name w ∷ []) (i-goto ∷ []) 0 j (j + 1) refl f))
+        (first-code t a i-goto [] (j + 1) (lying-back (code (a .tree)) (i-name w ∷ []) (i-goto ∷ []) 0 j (j + 1) refl f))
         ∙ ap (λ k. goOn (stageAt t a s p j) k s) l
     takes-at break f h l = alone-takes i-break (h .out) f (alones .1) l (by-break T p j j s)
     takes-at timeout f h l = let z : j ≡ j + 1 - 1 = omega arith in alone-takes i-timeout (h .next) f (alones .2) (ap (linkOf T) z ∙ l) (by-timeout T p j j s)

@@ -2,19 +2,16 @@
 use Prim.Native.Nat.{ℕ, suc, _+_, _≤_, _<_}
 use native.Mathlib.Omega.{arith}
 use native.Mathlib.Decide.{decLt, ℕ-discrete}
-use mathlib.Core.Path.{_≡_, refl, ap, _∙_, subst}
+use mathlib.Core.Path.{_≡_, refl, ap, _∙_}
 use mathlib.Core.List.{List, [], _∷_, _++_}
 use lib.ListN.{length, getD}
 use Rattle.syntax.specs.Tree.{Name, Declaration, Group, group, Body, body, Model}
 use Rattle.syntax.specs.Code.{Item, i-local, i-init, i-body, i-end-body, each, code-tree, code-declaration, code-parameter, code-group, code-body, code-activity, code-part, code}
-use Rattle.entries.specs.Items.{AllKnown}
-use Rattle.holdings.proofs.Accepted.{accepted-known}
 use Rattle.accepting.specs.Meaning.{Accepts}
 use Rattle.expressions.specs.Names.{codesAt}
-use Rattle.expressions.proofs.Operators.{known-front, known-back}
 use Rattle.acts.specs.Program.{Holds, in-process, in-init, later, startIn}
 use Rattle.acts.proofs.Stands.{Lying, lying-behind, lying-before, lying-whole, body-lies, lying-front, lying-back}
-use Rattle.placing.proofs.Lists.{lying-at}
+use Rattle.choosing.proofs.Places.{at-there, known-there}
 use Rattle.placing.proofs.Labels.{Bare, bare-each, bare-at, bare-declaration, bare-type}
 
 bare-parameter : (w : Name) → Bare (code-parameter w)
@@ -49,9 +46,6 @@ module _ (t : List ℕ) (a : Accepts t) where
   abbrev X : List Item
   X = code (a .tree)
 
-  pub lying-known : (l : List Item) (j : ℕ) → Lying X 0 l j → AllKnown l
-  lying-known l j p = known-front l (p .rest) (known-back (p .front) (l ++ p .rest) (subst AllKnown (p .split) (accepted-known t (a .parts) (a .tree) (a .reads) (a .gram))))
-
   -- an item of a unit that is no parameter's, not its `body` and no declaration's stands among its statements or behind them
   pub stands-late : {u k : ℕ} (b : Body) (p : Holds (a .tree) 0 u b k) (x : ℕ) → u < x
       → ((gs : List Group) → Lying X 0 (each code-group gs) (suc u) → x < suc u + length (each code-group gs) → ⊥)
@@ -70,14 +64,14 @@ module _ (t : List ℕ) (a : Accepts t) where
 
       go : Dec (x < k) → Dec (x ≡ k) → Dec (x < startIn (body ds q) k) → startIn (body ds q) k ≤ x
       go (yes y) z w = absurd (f (r .groups) (r .lies) (let v = r .ends in omega arith))
-      go (no y) (yes z) w = absurd (h (ap (λ n. getD (codesAt t a) n 0) z ∙ lying-at t a (i-body ∷ D) k heads .0))
+      go (no y) (yes z) w = absurd (h (ap (λ n. getD (codesAt t a) n 0) z ∙ at-there t a (i-body ∷ D) k heads .0))
       go (no y) (no z) (yes w) = absurd (d ds (lying-back X (i-body ∷ []) D 0 k (k + 1) refl heads) (omega arith) w)
       go (no y) (no z) (no w) = omega arith
 
   -- a label item of a unit stands among its statements
   module _ (x : ℕ) (e : getD (codesAt t a) x 0 ≡ 188) where
     free : (l : List Item) (j : ℕ) → Bare l → Lying X 0 l j → j ≤ x → x < j + length l → ⊥
-    free l j b p g h = bare-at (codesAt t a) l j x b (lying-known l j p) (lying-at t a l j p) g h e
+    free l j b p g h = bare-at (codesAt t a) l j x b (known-there t a l j p) (at-there t a l j p) g h e
 
     pub label-late : {u k : ℕ} (b : Body) → Holds (a .tree) 0 u b k → u < x → startIn b k ≤ x
     label-late {u} {k} b p g =

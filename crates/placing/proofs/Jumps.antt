@@ -41,10 +41,10 @@ use Rattle.acts.specs.Stage.{Ways}
 use Rattle.acts.specs.Program.{sizeIn, Holds, labelIn, startIn, endIn, statementsOf, Statement}
 use Rattle.acts.proofs.Stands.{Lying, within-lies, body-lies, statements-lie, lying-in, lying-back}
 use Rattle.acts.proofs.Labels.{Labelled, Search, label-found, marked, Behind, labelled-lies}
-use Rattle.placing.proofs.Lists.{lying-at, lying-ends}
+use Rattle.choosing.proofs.Places.{at-there, known-there, ends-there}
 use Rattle.placing.proofs.Labels.{label-there}
 use Rattle.placing.proofs.Names.{said-names}
-use Rattle.placing.proofs.Heads.{holds-between, lying-known, label-late}
+use Rattle.placing.proofs.Heads.{holds-between, label-late}
 
 -- ---- what a search for a label says
 module _ (cs vs hs : List ℕ) where
@@ -143,7 +143,7 @@ module _ (t : List ℕ) (a : Accepts t) where
   unit-of {u} {k} b p =
       let r = text-unit t a p in
       let e = holds-between p .ends in
-      let l = lying-ends t a (code-body b) k (body-lies p) in
+      let l = ends-there t a (code-body b) k (body-lies p) in
       let some = body-some b in
       (subst (u <_) (inv (H .items)) (omega arith), r .2, r .3)
 
@@ -162,7 +162,7 @@ module _ (t : List ℕ) (a : Accepts t) where
 
     -- ---- a label item of the unit is a label of the tree
     label-of : (l : ℕ) → u < l → l < endIn b k → getD C l 0 ≡ 188 → (w : Name) × Labelled w q from (l + 1)
-    label-of l g h e = label-there C q from l (lying-known t a (code-tree q) from all) (lying-at t a (code-tree q) from all) (label-late t a l e b p g) (let z = end-is b k in omega arith) e
+    label-of l g h e = label-there C q from l (known-there t a (code-tree q) from all) (at-there t a (code-tree q) from all) (label-late t a l e b p g) (let z = end-is b k in omega arith) e
 
     -- where its statement stands
     module _ (w : Name) (j : ℕ) (m : Labelled w q from j) where
@@ -179,7 +179,7 @@ module _ (t : List ℕ) (a : Accepts t) where
           ap (λ (y : List Item). getD y (r .at) i-plain) (lies .split) ∙ ap (λ n. getD (f ++ (marked w (r .act) ++ lies .rest)) n i-plain) z ∙ getD-append-seam f (i-name w) (i-label ∷ code-tree (r .act) ++ lies .rest) i-plain
 
       label-code-there : getD C (r .at + 1) 0 ≡ 188
-      label-code-there = ap (λ n. getD C n 0) (let z : r .at + 1 ≡ suc (r .at) = omega arith in z) ∙ lying-at t a (marked w (r .act)) (r .at) lies .1 .0
+      label-code-there = ap (λ n. getD C n 0) (let z : r .at + 1 ≡ suc (r .at) = omega arith in z) ∙ at-there t a (marked w (r .act)) (r .at) lies .1 .0
 
       act-ends : r .at + 2 + sizeIn (r .act) ≤ endIn b k
       act-ends =
@@ -201,10 +201,10 @@ module _ (t : List ℕ) (a : Accepts t) where
           let act = lying-back X (i-label ∷ []) (code-tree (r .act)) 0 l (l + 1) refl back in
           let o = act-ends in
           let long = body-long b k in
-          let most = lying-ends t a (code-body b) k (body-lies p) in
-          let m = lying-at t a (i-label ∷ code-tree (r .act)) l back in
+          let most = ends-there t a (code-body b) k (body-lies p) in
+          let m = at-there t a (i-label ∷ code-tree (r .act)) l back in
           dull-skip C (mark {x = i-label} label-quiet none) l (m .0, tt) (omega arith)
-          ∙ statement-from C (bare (r .act)) (lying-known t a (code-tree (r .act)) (l + 1) act) (l + 1) (lying-at t a (code-tree (r .act)) (l + 1) act) (omega arith)
+          ∙ statement-from C (bare (r .act)) (known-there t a (code-tree (r .act)) (l + 1) act) (l + 1) (at-there t a (code-tree (r .act)) (l + 1) act) (omega arith)
           (ap (λ i. isMark (getD C i 0)) (let z : l + 1 - 1 ≡ l = omega arith in z) ∙ ap isMark (m .0) ∙ label-marks) .0
           ∙ (let z = r .two in let y : l + 1 ≡ j = omega arith in y)
 
@@ -241,10 +241,10 @@ module _ (t : List ℕ) (a : Accepts t) where
         ap (λ (y : List Item). getD y j i-plain) (lies-here .split) ∙ ap (λ i. getD (f ++ (code-tree (goto w) ++ lies-here .rest)) i i-plain) z ∙ getD-append-seam f (i-name w) (i-goto ∷ lies-here .rest) i-plain
 
     code-here : getD C (j + 1) 0 ≡ 198
-    code-here = ap (λ i. getD C i 0) (let z : j + 1 ≡ suc j = omega arith in z) ∙ lying-at t a (code-tree (goto w)) j lies-here .1 .0
+    code-here = ap (λ i. getD C i 0) (let z : j + 1 ≡ suc j = omega arith in z) ∙ at-there t a (code-tree (goto w)) j lies-here .1 .0
 
     there : j + 1 < length C
-    there = let m = lying-ends t a (code-tree (goto w)) j lies-here in omega arith
+    there = let m = ends-there t a (code-tree (goto w)) j lies-here in omega arith
 
     -- the label that is found
     abbrev l : ℕ
@@ -306,7 +306,7 @@ module _ (t : List ℕ) (a : Accepts t) where
         home = unit-home T C S H K u (r .at + 1) n i
 
         before : r .at + 1 < length C
-        before = let x = inside-there b (s .held) w p m .1 in let y = body-long b k in let z = lying-ends t a (code-body b) k (body-lies (s .held)) in omega arith
+        before = let x = inside-there b (s .held) w p m .1 in let y = body-long b k in let z = ends-there t a (code-body b) k (body-lies (s .held)) in omega arith
 
         says : getD S (r .at + 1 - 1) 0 ≡ getD S (j + 1 - 1) 0
         says =

@@ -1,4 +1,3 @@
-pub mod Lists
 pub mod Phrases
 pub mod Quiet
 pub mod Places

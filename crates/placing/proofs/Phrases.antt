@@ -24,7 +24,7 @@ use Rattle.fitness.proofs.Firsts.{first-is, first-most}
 use Rattle.expressions.specs.Names.{codesAt}
 use Rattle.expressions.proofs.Operators.{text-proper}
 use Rattle.acts.proofs.Stands.{Lying}
-use Rattle.placing.proofs.Lists.{lying-at, lying-ends}
+use Rattle.choosing.proofs.Places.{at-there, ends-there}
 
 -- ---- codes of expressions
 part-low : (c : ℕ) → 70 ≤ c → c ≤ 71 → isPart c ≡ true
@@ -149,7 +149,7 @@ module _ (t : List ℕ) (a : Accepts t) where
   -- the expression e stands from item k on, and an item of code c, a mark, stands behind it
   module _ {s : Shape} (e : Exp s) (k c : ℕ) (lies : Lying (code (a .tree)) 0 (code-exp e) k) (behind : getD C (k + length (code-exp e)) 0 ≡ c) (marks : isMark c ≡ true) where
     pub expression-parts : (x : ℕ) → k ≤ x → x < k + length (code-exp e) → isPart (getD C x 0) ≡ true
-    expression-parts x b d = all-parts C (code-exp e) k x (phrase-inside e (text-proper t a e (lies .front) (lies .rest) (lies .split))) (lying-at t a (code-exp e) k lies) b d
+    expression-parts x b d = all-parts C (code-exp e) k x (phrase-inside e (text-proper t a e (lies .front) (lies .rest) (lies .split))) (at-there t a (code-exp e) k lies) b d
 
     mark-there : 1 ≤ length (code-exp e) → markOf C k ≡ k + length (code-exp e)
     unfolding markFrom
@@ -166,7 +166,7 @@ module _ (t : List ℕ) (a : Accepts t) where
         go (yes q) =
             let f = first-is p (length C - (k + 1)) (k + 1) in
             let b = f .from in
-            let n = lying-ends t a (code-exp e) k lies in
+            let n = ends-there t a (code-exp e) k lies in
             absurd (part-marks (getD C (first p (k + 1) (length C - (k + 1))) 0) (expression-parts (first p (k + 1) (length C - (k + 1))) (omega arith) q) (f .holds (omega arith)))
 
     -- a place among its items is the first of them

@@ -15,7 +15,7 @@ use Rattle.places.specs.Places.{isPart, isMark, isAlone, isLead, isPlace}
 use Rattle.accepting.specs.Meaning.{Accepts}
 use Rattle.expressions.specs.Names.{codesAt}
 use Rattle.acts.proofs.Stands.{Lying, lying-front, lying-back}
-use Rattle.placing.proofs.Lists.{lying-at}
+use Rattle.choosing.proofs.Places.{at-there}
 use Rattle.placing.proofs.Phrases.{none-at, part-says, next-mark, first-place, no-place}
 
 -- ---- codes: neither part of an expression nor alone; and no statement's mark either
@@ -102,7 +102,7 @@ module _ (t : List ℕ) (a : Accepts t) where
 
   -- ---- single items
   code-at : (y : Item) (l : List Item) (j : ℕ) → L (y ∷ l) j → getD C j 0 ≡ items.codeOf y
-  code-at y l j p = lying-at t a (y ∷ l) j p .0
+  code-at y l j p = at-there t a (y ∷ l) j p .0
 
   pub item-quiet : (y : Item) (j : ℕ) → L (y ∷ []) j → Plain (items.codeOf y) → Quiet j 1
   item-quiet y j p c x b d h = none-at C x (items.codeOf y) (ap (λ n. getD C n 0) (let z : x ≡ j = omega arith in z) ∙ code-at y [] j p) (c .0) (c .1) h
@@ -116,7 +116,7 @@ module _ (t : List ℕ) (a : Accepts t) where
           let w : x ≡ j = omega arith in
           let q : getD C x 0 ≡ items.codeOf y = ap (λ n. getD C n 0) w ∙ code-at y (z ∷ []) j p in
           let m = part-says C x (ap isPart q ∙ c) h .1 in
-          let g : getD C (x + 1) 0 ≡ items.codeOf z = ap (λ n. getD C n 0) (let u : x + 1 ≡ suc j = omega arith in u) ∙ lying-at t a (y ∷ z ∷ []) j p .1 .0 in
+          let g : getD C (x + 1) 0 ≡ items.codeOf z = ap (λ n. getD C n 0) (let u : x + 1 ≡ suc j = omega arith in u) ∙ at-there t a (y ∷ z ∷ []) j p .1 .0 in
           true-false (inv m ∙ ap (λ n. isLead (getD C n 0)) (next-mark C x (ap isMark g ∙ marks (items.codeOf z) (d .0))) ∙ ap isLead g ∙ d .1)
 
   -- ---- an expression and the mark behind it

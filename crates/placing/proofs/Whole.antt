@@ -34,11 +34,11 @@ use Rattle.following.proofs.Begins.{Dull, none, mark, said, dull-each, dull-ski
 use Rattle.following.proofs.Main.{text-unit}
 use Rattle.acts.specs.Program.{labelIn, Holds, startIn, endIn, statementsOf, Ending}
 use Rattle.acts.proofs.Stands.{Lying, body-lies, statements-lie, lying-in, lying-whole}
+use Rattle.choosing.proofs.Places.{at-there, known-there, ends-there}
 use Rattle.placing.specs.Stated.{Stated, Head}
-use Rattle.placing.proofs.Lists.{lying-at, lying-ends}
 use Rattle.placing.proofs.Phrases.{none-at}
 use Rattle.placing.proofs.Places.{places-in}
-use Rattle.placing.proofs.Heads.{lying-known, stands-late}
+use Rattle.placing.proofs.Heads.{stands-late}
 use Rattle.placing.proofs.Units.{head-in}
 use Rattle.placing.proofs.Jumps.{end-is}
 
@@ -94,7 +94,7 @@ module _ (t : List ℕ) (a : Accepts t) where
       let c = H .codes u h in
       let n1 = n .1 in
       let n2 = n .2 in
-      head-in C (a .tree) 0 u (accepted-known t (a .parts) (a .tree) (a .reads) (a .gram)) (lying-at t a X 0 (lying-whole X 0)) (omega arith) (omega (arith, items-long t a)) (omega arith) (omega arith)
+      head-in C (a .tree) 0 u (accepted-known t (a .parts) (a .tree) (a .reads) (a .gram)) (at-there t a X 0 (lying-whole X 0)) (omega arith) (omega (arith, items-long t a)) (omega arith) (omega arith)
 
   -- what is a place by the tables is one by the items
   place-says : (u q : ℕ) → Unit T u → Inside T u q → placeAt T q ≡ true → isPlace C q ≡ true
@@ -121,7 +121,7 @@ module _ (t : List ℕ) (a : Accepts t) where
   -- no place stands before the statements of a unit
   module _ (x : ℕ) (e : isPlace C x ≡ true) where
     free : {l : List Item} (j : ℕ) → (AllKnown l → Dull l) → Lying X 0 l j → j ≤ x → x < j + length l → ⊥
-    free {l} j d p g h = dull-none C (d (lying-known t a l j p)) j x (lying-at t a l j p) (lying-ends t a l j p) g h e
+    free {l} j d p g h = dull-none C (d (known-there t a l j p)) j x (at-there t a l j p) (ends-there t a l j p) g h e
 
     place-late : {u k : ℕ} (b : Body) → Holds (a .tree) 0 u b k → u < x → startIn b k ≤ x
     place-late {u} {k} b p g =
