@@ -1,6 +1,6 @@
 -- Which part of a normal text is shown as a statement: the token that it begins with and the token that it ends with, found from one token k of it, over the kinds of
--- the tokens. It begins behind the last `{` `;` `:` or `::` before k, and ends before the first `}` `;` `::` `fi` or `od` from k on that stands in no selection opened
--- since k: in a normal text `;` alone parts statements. Kinds are numbered in specs/Kinds.antt of `tokens`.
+-- the tokens. It begins behind the last `{` `;` `:` or `::` before k, and ends before the first `}` `;` `::` `fi` or `od` from k on that neither stands in nor closes a
+-- selection opened from k on: in a normal text `;` alone parts statements. Kinds are numbered in specs/Kinds.antt of `tokens`.
 use Prim.Native.Nat.{ℕ, _+_, _-_, min}
 use mathlib.Core.Bool.{Bool}
 use mathlib.Core.List.{List, [], _∷_}
