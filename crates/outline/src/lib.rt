@@ -1,4 +1,8 @@
 // The text of one statement within a normal text, found by the token of its place. A step is a statement without others in it, and in a normal text `;` alone parts statements.
+ghost use mathlib.Core.Path.{_≡_};
+ghost use Rattle.lexis.specs.Answers.{lexing};
+ghost use Rattle.outline.specs.Statements.{isFront, isBack, depthBehind, firstToken, tokenBehind, placeOf, statementOf};
+ghost use Rattle.outline.specs.Tokens.{Shown};
 use display::part;
 use grammar::Parsed;
 use lexis::Lexed;
@@ -10,7 +14,9 @@ pub fn fill(
     starts: &mut [u32],
     ends: &mut [u32],
     toks: &mut [u32],
-) -> usize {
+) -> usize
+    ensures { λ r. ⌜ Shown (lexing (now (text .entry)) (now (kinds .entry)) (now (starts .entry)) (now (ends .entry))) r (now (kinds .entry)) (now (kinds .exit)) (now (starts .entry)) (now (starts .exit)) (now (ends .entry)) (now (ends .exit)) (now (toks .entry)) (now (toks .exit)) ⌝ }
+{
     let a = lexis::lex(text, kinds, starts, ends);
     match a {
         Lexed::Tokens(n) => {
@@ -28,7 +34,9 @@ pub fn fill(
 }
 
 // Does a statement begin behind it? `{` `;` `:` `::`
-fn is_front(kind: u8) -> bool {
+fn is_front(kind: u8) -> bool
+    ensures { λ r. ⌜ r ≡ isFront kind ⌝ }
+{
     match kind {
         25 => true,
         28..=30 => true,
@@ -37,7 +45,9 @@ fn is_front(kind: u8) -> bool {
 }
 
 // Does a statement end before it? `}` `;` `::` `fi` `od`
-fn is_back(kind: u8) -> bool {
+fn is_back(kind: u8) -> bool
+    ensures { λ r. ⌜ r ≡ isBack kind ⌝ }
+{
     match kind {
         26 => true,
         28 => true,
@@ -49,7 +59,9 @@ fn is_back(kind: u8) -> bool {
 }
 
 // The first token of the statement that token k is of, where none but marks and keywords stand before k in it.
-fn first_token(kinds: &[u8], k: usize) -> usize {
+fn first_token(kinds: &[u8], k: usize) -> usize
+    ensures { λ r. ⌜ r ≡ firstToken (now (kinds .entry)) k ⌝ }
+{
     let mut i = base::least(k, kinds.len());
     while i > 0 {
         if is_front(kinds[i - 1]) {
@@ -61,7 +73,9 @@ fn first_token(kinds: &[u8], k: usize) -> usize {
 }
 
 // How many selections are open behind a token, where `depth` are before it: `if` and `do`, `fi` and `od`.
-fn depth_behind(kind: u8, depth: usize) -> usize {
+fn depth_behind(kind: u8, depth: usize) -> usize
+    ensures { λ r. ⌜ r ≡ depthBehind kind depth ⌝ }
+{
     match kind {
         49 => base::least(depth, 8) + 1,
         55 => base::least(depth, 8) + 1,
@@ -72,7 +86,9 @@ fn depth_behind(kind: u8, depth: usize) -> usize {
 }
 
 // The token behind the statement that token k is of.
-fn token_behind(kinds: &[u8], k: usize) -> usize {
+fn token_behind(kinds: &[u8], k: usize) -> usize
+    ensures { λ r. ⌜ r ≡ tokenBehind (now (kinds .entry)) k ⌝ }
+{
     let mut i = base::least(k, kinds.len());
     let mut depth: usize = 0;
     while i < kinds.len() {
@@ -89,7 +105,9 @@ fn token_behind(kinds: &[u8], k: usize) -> usize {
 }
 
 // Where the statement of token k begins in the text.
-pub fn place(kinds: &[u8], starts: &[u32], k: usize) -> usize {
+pub fn place(kinds: &[u8], starts: &[u32], k: usize) -> usize
+    ensures { λ r. ⌜ r ≡ placeOf (now (kinds .entry)) (now (starts .entry)) k ⌝ }
+{
     sheets::word_at(starts, first_token(kinds, k))
 }
 
@@ -100,7 +118,9 @@ pub fn statement<'a>(
     starts: &[u32],
     ends: &[u32],
     k: usize,
-) -> &'a [u8] {
+) -> &'a [u8]
+    ensures { λ r. ⌜ now r ≡ statementOf (now (text .entry)) (now (kinds .entry)) (now (starts .entry)) (now (ends .entry)) k ⌝ }
+{
     let last = sheets::minus(token_behind(kinds, k), 1);
     part(text, place(kinds, starts, k), sheets::word_at(ends, last))
 }
