@@ -345,21 +345,21 @@ run-of-no-proctype : (says (run x []) ≡ false) × (says (run m []) ≡ false) 
 unfolding judging
 run-of-no-proctype = (refl, refl, refl, refl)
 
-printf-arguments : (says (print (bytes "\"\"") ([])) ≡ true) × (says (print (bytes "\"%d\"") (num 1 ∷ [])) ≡ true) × (says (print (bytes "\"%d %d\"") (num 1 ∷ num 2 ∷ [])) ≡ true)
-    × (says (print (bytes "\"%d\"") ([])) ≡ false) × (says (print (bytes "\"%d\"") (num 1 ∷ num 2 ∷ [])) ≡ false) × (says (print (bytes "\"\"") (num 1 ∷ [])) ≡ false)
-    × (says (print (bytes "\"%d %d\"") (num 1 ∷ [])) ≡ false)
+printf-arguments : (says (print (bytes "") ([])) ≡ true) × (says (print (bytes "%d") (num 1 ∷ [])) ≡ true) × (says (print (bytes "%d %d") (num 1 ∷ num 2 ∷ [])) ≡ true)
+    × (says (print (bytes "%d") ([])) ≡ false) × (says (print (bytes "%d") (num 1 ∷ num 2 ∷ [])) ≡ false) × (says (print (bytes "") (num 1 ∷ [])) ≡ false)
+    × (says (print (bytes "%d %d") (num 1 ∷ [])) ≡ false)
 unfolding judging
 printf-arguments = (refl, refl, refl, refl, refl, refl, refl)
 
 -- "`%` in a format not followed by `d` or `%`"
-printf-percent : (says (print (bytes "\"%%\"") ([])) ≡ true) × (says (print (bytes "\"%%d\"") ([])) ≡ true) × (says (print (bytes "\"%%%d\"") (num 1 ∷ [])) ≡ true)
-    × (says (print (bytes "\"%x\"") ([])) ≡ false) × (says (print (bytes "\"%\"") ([])) ≡ false) × (says (print (bytes "\"%%%\"") ([])) ≡ false)
-    × (says (print (bytes "\"%x%d\"") (num 1 ∷ [])) ≡ false) × (says (print (bytes "\"%%d\"") (num 1 ∷ [])) ≡ false)
+printf-percent : (says (print (bytes "%%") ([])) ≡ true) × (says (print (bytes "%%d") ([])) ≡ true) × (says (print (bytes "%%%d") (num 1 ∷ [])) ≡ true)
+    × (says (print (bytes "%x") ([])) ≡ false) × (says (print (bytes "%") ([])) ≡ false) × (says (print (bytes "%%%") ([])) ≡ false)
+    × (says (print (bytes "%x%d") (num 1 ∷ [])) ≡ false) × (says (print (bytes "%%d") (num 1 ∷ [])) ≡ false)
 unfolding judging
 printf-percent = (refl, refl, refl, refl, refl, refl, refl, refl)
 
 -- five arguments are a ceiling (6), no rule
-printf-five : says (print (bytes "\"%d%d%d%d%d\"") (num 1 ∷ num 2 ∷ num 3 ∷ num 4 ∷ num 5 ∷ [])) ≡ true
+printf-five : says (print (bytes "%d%d%d%d%d") (num 1 ∷ num 2 ∷ num 3 ∷ num 4 ∷ num 5 ∷ [])) ≡ true
 unfolding judging
 printf-five = refl
 
