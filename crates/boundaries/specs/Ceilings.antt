@@ -2,13 +2,13 @@
 -- starts". True where a model keeps within them. They count and do not look at names, so that one name does for all.
 use Prim.Native.Nat.{ℕ, zero, suc}
 use mathlib.Core.Path.{_≡_, refl}
-use mathlib.Core.Bool.{Bool, true, false}
+use mathlib.Core.Bool.{true, false}
 use mathlib.Core.Option.{none, some}
-use mathlib.Core.List.{List, [], _∷_, _++_}
+use mathlib.Core.List.{[], _∷_}
 use lib.ListN.{replicate}
 use Rattle.tokens.specs.Kinds.{bytes}
 use Rattle.syntax.specs.Tree.{Name, num, action, sequence, Tree, print, skip, else, select, loop, bare, labelled, end, then, over, option}
-use Rattle.syntax.specs.Tree.{Value, unset, set-number, set-channel, Declaration, declare, group, body, Activity, idle, once, times, Part, mtypes, global, process, init, Model}
+use Rattle.syntax.specs.Tree.{unset, set-number, set-channel, Declaration, declare, group, body, Activity, idle, once, times, Part, mtypes, global, process, init, Model}
 use Rattle.syntax.specs.Tree as tree
 use Rattle.lawful.specs.Ceilings.{modest}
 
@@ -118,7 +118,7 @@ unfolding modest
 processes-16 = (refl, refl, refl, refl, refl)
 
 no-process-starts : (modest (proctype once ∷ []) ≡ true) × (modest (proctype idle ∷ rest ∷ []) ≡ true) × (modest (proctype (times 1) ∷ []) ≡ true)
-    × (modest (proctype idle ∷ []) ≡ false) × (modest (proctype (times 0) ∷ []) ≡ false) × (modest (global (scalars 1) ∷ []) ≡ false) × (modest ([]) ≡ false)
+    × (modest (proctype idle ∷ []) ≡ false) × (modest (proctype (times 0) ∷ []) ≡ false) × (modest (global (scalars 1) ∷ []) ≡ false) × (modest [] ≡ false)
 unfolding modest
 no-process-starts = (refl, refl, refl, refl, refl, refl, refl)
 

@@ -17,8 +17,8 @@ use Rattle.value.specs.declared.Answer.the-variants.{Value, Fails}
 use Rattle.statements.specs.declared.Taken.the-variants.{Done, Refuted, Faulted, Idle}
 use Rattle.statements.specs.Statements.{Result}
 use Rattle.printing.specs.Printing.{digits, escaped, written, opened, counted}
-use Rattle.syntax.specs.Tree.{Name, Expr, plain, indexed, num, tru, get, len, unary, binary, choice, Received, into, equal, exactly, exactly-true, exactly-false}
-use Rattle.syntax.specs.Tree.{action, sequence, options, Tree, express, assign, increment, decrement, send, receive, assert, print, skip, goto, break, timeout, else, run, set-run, select, loop, bare, labelled, end, then, over, option}
+use Rattle.syntax.specs.Tree.{Name, Expr, plain, indexed, num, get, len, unary, binary, choice, into, equal, exactly, exactly-true, exactly-false}
+use Rattle.syntax.specs.Tree.{action, sequence, Tree, express, assign, increment, decrement, send, receive, assert, print, skip, goto, break, timeout, else, run, set-run, select, loop, bare, labelled, end, then, over, option}
 use Rattle.meaning.specs.Eval.{eval}
 use Rattle.acts.specs.Stage.{Stage, Ways}
 use Rattle.acts.specs.Arguments.{values, agrees, targets}
@@ -294,7 +294,9 @@ unfolding moving
 steps-by-one = (refl, refl, refl)
 
 -- "keep the low 32 bits": the most number and one more
-increment-wraps : (effect (stage true (state (pos 2147483647) (pos 0) (pos 0) 0)) ways (state (pos 2147483647) (pos 0) (pos 0) 0) (increment (plain i)) ≡ (Done, at 9 (state (negℤ (pos 2147483648)) (pos 0) (pos 0) 0)))
+increment-wraps :
+    effect (stage true (state (pos 2147483647) (pos 0) (pos 0) 0)) ways (state (pos 2147483647) (pos 0) (pos 0) 0) (increment (plain i))
+    ≡ (Done, at 9 (state (negℤ (pos 2147483648)) (pos 0) (pos 0) 0))
 unfolding moving
 increment-wraps = refl
 
@@ -327,24 +329,24 @@ yes = one (express (num 1))
 abbrev offered : Tree action → List ℕ
 offered s = offers (λ x j. ready (stage true (with 0)) false x) s 10
 
-options-in-text-order : (offered (select (option (yes) (option (no) (option (yes) over)))) ≡ 12 ∷ 20 ∷ []) × (offered (loop (option (no) (option (no) over))) ≡ [])
-    × (offered (loop (option (no) (option (one else) over))) ≡ 16 ∷ [])
+options-in-text-order : (offered (select (option yes (option no (option yes over)))) ≡ 12 ∷ 20 ∷ []) × (offered (loop (option no (option no over))) ≡ [])
+    × (offered (loop (option no (option (one else) over))) ≡ 16 ∷ [])
 unfolding moving
 options-in-text-order = (refl, refl, refl)
 
 -- a selection as an option's first statement: its steps are the option's, flat
-nested-flat : offered (select (option (one (select (option (yes) (option (no) (option (yes) over))))) (option (yes) over))) ≡ 14 ∷ 22 ∷ 28 ∷ []
+nested-flat : offered (select (option (one (select (option yes (option no (option yes over))))) (option yes over))) ≡ 14 ∷ 22 ∷ 28 ∷ []
 unfolding moving
 nested-flat = refl
 
 -- the inner `else` is judged in the inner selection and makes the outer option executable
-inner-else : (offered (select (option (one (select (option (no) (option (one else) over)))) (option (one else) over))) ≡ 18 ∷ [])
-    × (offered (select (option (one (select (option (no) (option (one else) over)))) (option (yes) over))) ≡ 18 ∷ 23 ∷ [])
+inner-else : (offered (select (option (one (select (option no (option (one else) over)))) (option (one else) over))) ≡ 18 ∷ [])
+    × (offered (select (option (one (select (option no (option (one else) over)))) (option yes over))) ≡ 18 ∷ 23 ∷ [])
 unfolding moving
 inner-else = (refl, refl)
 
-outer-else : (offered (select (option (one (select (option (no) over))) (option (one else) over))) ≡ 20 ∷ [])
-    × (offered (select (option (one (select (option (yes) over))) (option (one else) over))) ≡ 14 ∷ [])
+outer-else : (offered (select (option (one (select (option no over))) (option (one else) over))) ≡ 20 ∷ [])
+    × (offered (select (option (one (select (option yes over))) (option (one else) over))) ≡ 14 ∷ [])
 unfolding moving
 outer-else = (refl, refl)
 
@@ -361,24 +363,24 @@ behind-a-label : offered (select (option (then (labelled L skip) end) over)) ≡
 unfolding moving
 behind-a-label = refl
 
--- ## "an ended option leads past `fi`, or back to `do`": `do::1;break::else od;L:if::skip fi`, whose items begin at item 2, in a body that ends at item 20
---   2 do 3 option 4 number 5 express 6 break 7 end-option 8 option 9 else 10 end-option 11 od 12 name 13 label 14 if 15 option 16 skip 17 end-option 18 fi
+-- ## "an ended option leads past `fi`, or back to `do`": `do::1;break::else od;L:if::skip fi`, whose items begin at item 2, in a body that ends at item 19
+--   2 do 3 option 4 number 5 express 6 break 7 end-option 8 option 9 else 10 end-option 11 od 12 name 13 label 14 if 15 option 16 skip 17 end-option 18 fi 19 end-body
 abbrev program : Tree sequence
 program =
     then (bare (loop (option (then (bare (express (num 1))) (one break)) (option (one else) over))))
     (then (labelled L (select (option (one skip) over))) end)
 
 -- the expression leads to `break`, that behind `od`, behind the label; `else` back to `do`; `skip` past `fi`, where the body ends
-to-break : Within sequence program 2 20 0 (express (num 1)) 4 6 14
+to-break : Within sequence program 2 19 0 (express (num 1)) 4 6 14
 to-break = in-first (unlabelled (in-do (in-option (in-first (unlabelled itself)))))
 
-past-od : Within sequence program 2 20 0 break 6 2 14
+past-od : Within sequence program 2 19 0 break 6 2 14
 past-od = in-first (unlabelled (in-do (in-option (in-rest (in-first (unlabelled itself))))))
 
-back-to-do : Within sequence program 2 20 0 else 9 2 14
+back-to-do : Within sequence program 2 19 0 else 9 2 14
 back-to-do = in-first (unlabelled (in-do (in-others (in-option (in-first (unlabelled itself))))))
 
-past-fi : Within sequence program 2 20 0 skip 16 20 0
+past-fi : Within sequence program 2 19 0 skip 16 19 0
 past-fi = in-rest (in-first (behind-label (in-if (in-option (in-first (unlabelled itself))))))
 
 label-place : (labelIn L program 2 0 ≡ 14) × (labelIn p program 2 0 ≡ 0)

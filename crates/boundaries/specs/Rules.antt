@@ -9,9 +9,9 @@ use lib.ListN.{replicate}
 use Rattle.base.specs.Lists.{same}
 use Rattle.sheets.specs.Payload.{pid, formatFrom}
 use Rattle.tokens.specs.Kinds.{bytes}
-use Rattle.syntax.specs.Tree.{Name, Expr, Ref, plain, indexed, num, get, len, unary, binary, choice, Received, into, equal, exactly}
-use Rattle.syntax.specs.Tree.{action, sequence, options, Tree, express, assign, increment, decrement, send, receive, assert, print, skip, goto, break, timeout, else, run, set-run, select, loop, bare, labelled, end, then, over, option}
-use Rattle.syntax.specs.Tree.{Value, unset, set-number, set-name, set-channel, Declaration, declare, group, body, idle, once, Part, mtypes, global, process, init, Model}
+use Rattle.syntax.specs.Tree.{Name, Expr, plain, indexed, num, get, len, unary, binary, choice, into, equal, exactly}
+use Rattle.syntax.specs.Tree.{action, sequence, Tree, express, assign, increment, decrement, send, receive, print, skip, goto, break, else, run, set-run, select, loop, bare, labelled, end, then, over, option}
+use Rattle.syntax.specs.Tree.{Value, unset, set-name, set-channel, Declaration, declare, group, body, idle, once, Part, mtypes, global, process, init}
 use Rattle.syntax.specs.Tree as tree
 use Rattle.lawful.specs.Senses.{senseIn, fresh, senseOf}
 use Rattle.lawful.specs.Expressions.{usable, named, lawful}
@@ -150,15 +150,15 @@ unfolding judging
 two-proctypes = (refl, refl)
 
 -- ## "a local hides any of them from its own name on", a parameter too; two locals of one name are one too many
-local-hides-a-chan : (bodied ([]) (one (send (plain c) (num 1 ∷ []))) ≡ true) × (bodied (scalar c ∷ []) (one (send (plain c) (num 1 ∷ []))) ≡ false)
+local-hides-a-chan : (bodied [] (one (send (plain c) (num 1 ∷ []))) ≡ true) × (bodied (scalar c ∷ []) (one (send (plain c) (num 1 ∷ []))) ≡ false)
 unfolding judging
 local-hides-a-chan = (refl, refl)
 
-local-hides-an-mtype-name : (bodied (scalar m ∷ []) (one (assign (plain m) (num 1))) ≡ true) × (bodied ([]) (one (assign (plain m) (num 1))) ≡ false)
+local-hides-an-mtype-name : (bodied (scalar m ∷ []) (one (assign (plain m) (num 1))) ≡ true) × (bodied [] (one (assign (plain m) (num 1))) ≡ false)
 unfolding judging
 local-hides-an-mtype-name = (refl, refl)
 
-local-hides-an-array : (bodied (scalar a ∷ []) (one (assign (plain a) (num 1))) ≡ true) × (bodied ([]) (one (assign (plain a) (num 1))) ≡ false)
+local-hides-an-array : (bodied (scalar a ∷ []) (one (assign (plain a) (num 1))) ≡ true) × (bodied [] (one (assign (plain a) (num 1))) ≡ false)
 unfolding judging
 local-hides-an-array = (refl, refl)
 
@@ -171,17 +171,17 @@ parameter-and-local : (modelLawful (process once p (group int (x ∷ []) ∷ [])
 unfolding judging
 parameter-and-local = (refl, refl)
 
-two-parameters : (modelLawful (process once p (group int (x ∷ y ∷ []) ∷ []) (body ([]) (one (skip))) ∷ []) ≡ true)
-    × (modelLawful (process once p (group int (x ∷ x ∷ []) ∷ []) (body ([]) (one (skip))) ∷ []) ≡ false)
+two-parameters : (modelLawful (process once p (group int (x ∷ y ∷ []) ∷ []) (body [] (one (skip))) ∷ []) ≡ true)
+    × (modelLawful (process once p (group int (x ∷ x ∷ []) ∷ []) (body [] (one (skip))) ∷ []) ≡ false)
 unfolding judging
 two-parameters = (refl, refl)
 
-own-parameter-hides-the-proctype : (modelLawful (process once p (group int (p ∷ []) ∷ []) (body ([]) (one (assign (plain p) (num 1)))) ∷ []) ≡ true)
-    × (modelLawful (process once p (group int (p ∷ []) ∷ []) (body ([]) (one (run p (num 1 ∷ [])))) ∷ []) ≡ false)
+own-parameter-hides-the-proctype : (modelLawful (process once p (group int (p ∷ []) ∷ []) (body [] (one (assign (plain p) (num 1)))) ∷ []) ≡ true)
+    × (modelLawful (process once p (group int (p ∷ []) ∷ []) (body [] (one (run p (num 1 ∷ [])))) ∷ []) ≡ false)
 unfolding judging
 own-parameter-hides-the-proctype = (refl, refl)
 
--- "from its own name on": local `mtype y=m` has the mtype name, local `mtype m=m` itself; outside, that name is declared twice
+-- "from its own name on": local `mtype y=m` has the mtype name, local `mtype m=m` itself, and behind local `int m` the name is a variable
 own-value : (bodied (name mtype y none (set-name m) ∷ []) (one (skip)) ≡ true) × (bodied (name mtype m none (set-name m) ∷ []) (one (skip)) ≡ false)
     × (bodied (scalar m ∷ name mtype y none (set-name m) ∷ []) (one (skip)) ≡ false)
 unfolding judging
@@ -214,7 +214,7 @@ pid-as-operand : (asks (var pid) ≡ true) × (says (assign (plain x) (var pid))
 unfolding judging
 pid-as-operand = (refl, refl, refl, refl)
 
-pid-declared : (outside (scalar pid) ≡ false) × (inside (scalar pid) ≡ false) × (modelLawful (process once p (group int (pid ∷ []) ∷ []) (body ([]) (one (skip))) ∷ []) ≡ false)
+pid-declared : (outside (scalar pid) ≡ false) × (inside (scalar pid) ≡ false) × (modelLawful (process once p (group int (pid ∷ []) ∷ []) (body [] (one (skip))) ∷ []) ≡ false)
     × (modelLawful (mtypes (pid ∷ []) ∷ rest ∷ []) ≡ false) × (modelLawful (process once pid [] (body [] (one skip)) ∷ []) ≡ false)
     × (bodied [] (then (labelled pid skip) end) ≡ false)
 unfolding judging
@@ -272,7 +272,7 @@ chan-has-length : (asks (len (plain c)) ≡ true) × (asks (len (indexed d (num 
 unfolding judging
 chan-has-length = (refl, refl, refl, refl, refl)
 
--- a chan is a variable as any other; "Field counts of messages are never judged when reading"
+-- a chan is a variable as any other, and how many fields a message has is no rule of the text: "wrong field count at run time"
 chan-as-variable : (says (assign (plain c) (num 1)) ≡ true) × (asks (var c) ≡ true) × (says (send (plain c) (num 1 ∷ num 2 ∷ [])) ≡ true)
 unfolding judging
 chan-as-variable = (refl, refl, refl)
@@ -331,8 +331,8 @@ run-of-a-later-proctype : (says (run q []) ≡ true) × (says (run q (num 1 ∷ 
 unfolding judging
 run-of-a-later-proctype = (refl, refl)
 
-run-of-itself : (modelLawful (process once p (group int (x ∷ []) ∷ []) (body ([]) (one (run p (num 1 ∷ [])))) ∷ []) ≡ true)
-    × (modelLawful (process once p (group int (x ∷ []) ∷ []) (body ([]) (one (run p []))) ∷ []) ≡ false)
+run-of-itself : (modelLawful (process once p (group int (x ∷ []) ∷ []) (body [] (one (run p (num 1 ∷ [])))) ∷ []) ≡ true)
+    × (modelLawful (process once p (group int (x ∷ []) ∷ []) (body [] (one (run p []))) ∷ []) ≡ false)
 unfolding judging
 run-of-itself = (refl, refl)
 
@@ -345,15 +345,15 @@ run-of-no-proctype : (says (run x []) ≡ false) × (says (run m []) ≡ false) 
 unfolding judging
 run-of-no-proctype = (refl, refl, refl, refl)
 
-printf-arguments : (says (print (bytes "") ([])) ≡ true) × (says (print (bytes "%d") (num 1 ∷ [])) ≡ true) × (says (print (bytes "%d %d") (num 1 ∷ num 2 ∷ [])) ≡ true)
-    × (says (print (bytes "%d") ([])) ≡ false) × (says (print (bytes "%d") (num 1 ∷ num 2 ∷ [])) ≡ false) × (says (print (bytes "") (num 1 ∷ [])) ≡ false)
+printf-arguments : (says (print (bytes "") []) ≡ true) × (says (print (bytes "%d") (num 1 ∷ [])) ≡ true) × (says (print (bytes "%d %d") (num 1 ∷ num 2 ∷ [])) ≡ true)
+    × (says (print (bytes "%d") []) ≡ false) × (says (print (bytes "%d") (num 1 ∷ num 2 ∷ [])) ≡ false) × (says (print (bytes "") (num 1 ∷ [])) ≡ false)
     × (says (print (bytes "%d %d") (num 1 ∷ [])) ≡ false)
 unfolding judging
 printf-arguments = (refl, refl, refl, refl, refl, refl, refl)
 
 -- "`%` in a format not followed by `d` or `%`"
-printf-percent : (says (print (bytes "%%") ([])) ≡ true) × (says (print (bytes "%%d") ([])) ≡ true) × (says (print (bytes "%%%d") (num 1 ∷ [])) ≡ true)
-    × (says (print (bytes "%x") ([])) ≡ false) × (says (print (bytes "%") ([])) ≡ false) × (says (print (bytes "%%%") ([])) ≡ false)
+printf-percent : (says (print (bytes "%%") []) ≡ true) × (says (print (bytes "%%d") []) ≡ true) × (says (print (bytes "%%%d") (num 1 ∷ [])) ≡ true)
+    × (says (print (bytes "%x") []) ≡ false) × (says (print (bytes "%") []) ≡ false) × (says (print (bytes "%%%") []) ≡ false)
     × (says (print (bytes "%x%d") (num 1 ∷ [])) ≡ false) × (says (print (bytes "%%d") (num 1 ∷ [])) ≡ false)
 unfolding judging
 printf-percent = (refl, refl, refl, refl, refl, refl, refl, refl)

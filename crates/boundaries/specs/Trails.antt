@@ -1,10 +1,10 @@
 -- Worked examples of forms of trails, runs and replays (crates `records`, `runs` and `trails`), computed from the bytes of small models: document 01, "Trail lines", "Verdicts" and rows 10 to 12 of
 -- "What is answered". Form beside the examples of crate `records`.
-use Prim.Native.Nat.{ℕ, _+_}
+use Prim.Native.Nat.{ℕ}
 use mathlib.Core.Path.{_≡_, refl}
 use mathlib.Core.List.{List, [], _∷_}
 use lib.ListN.{replicate}
-use lib.IntN.{ℤ, pos}
+use lib.IntN.{ℤ}
 use Rattle.base.specs.Lists.{same}
 use Rattle.tokens.specs.Kinds.{bytes}
 use Rattle.spellings.specs.Find.{find}
@@ -16,7 +16,7 @@ use Rattle.executing.specs.Executing.{isAlways}
 use Rattle.offering.specs.Offers.{firstOf, eachOption, pickAt}
 use Rattle.statements.specs.Statements.{expressed, asserted}
 use Rattle.moving.specs.Moving.{stepAt, nthOf, nthIn, numbered, listFrom, listOf}
-use Rattle.records.specs.Forms.{Form, form, spoiled, formFrom, formOf}
+use Rattle.records.specs.Forms.{form, spoiled, formFrom, formOf}
 use Rattle.runs.specs.Runs.{turnOf, runFrom}
 use Rattle.runs.specs.declared.Ending.{Ending}
 use Rattle.runs.specs.declared.Ending.the-variants as ending
@@ -97,7 +97,6 @@ unfolding forming
 trail-bytes = (refl, refl)
 
 -- ## runs: "takes first offered steps until none is, one fails or an unsigned limit is met; the count .. is the number of steps taken, a failing one included"
--- `endings` of each limit: how the run ends, and its count
 run-asserts : ends (bytes "init{assert(0);skip}") (0 ∷ 1 ∷ 2 ∷ []) ≡ ((ending.Open, 0) ∷ (ending.Assert, 1) ∷ (ending.Assert, 1) ∷ [])
 unfolding reads moves replaying
 run-asserts = refl
@@ -138,8 +137,10 @@ claims : answers (bytes "init{assert(0)}") (bytes "S\t0\t1\nV\tassert\n" ∷ byt
 unfolding reads moves replaying forming
 claims = refl
 
--- no such k, no such process, a step behind the failed one, "form of the whole trail before any step"
-not-offered : answers (bytes "init{assert(0)}") (bytes "S\t0\t0\nV\tassert\n" ∷ bytes "S\t0\t2\nV\tassert\n" ∷ bytes "S\t1\t1\nV\tassert\n" ∷ bytes "S\t0\t1\nS\t0\t1\nV\tassert\n" ∷ bytes "S\t0\t2\nV\n" ∷ [])
+-- no such k, no such process, a step behind the failed one; "form .., then steps"
+not-offered :
+    answers (bytes "init{assert(0)}")
+    (bytes "S\t0\t0\nV\tassert\n" ∷ bytes "S\t0\t2\nV\tassert\n" ∷ bytes "S\t1\t1\nV\tassert\n" ∷ bytes "S\t0\t1\nS\t0\t1\nV\tassert\n" ∷ bytes "S\t0\t2\nV\n" ∷ [])
     ≡ (Refused 11 1 ∷ Refused 11 1 ∷ Refused 11 1 ∷ Refused 11 2 ∷ Refused 10 2 ∷ [])
 unfolding reads moves replaying forming
 not-offered = refl
@@ -162,3 +163,18 @@ second-option : answers (bytes "init{if::assert(0)::skip fi}") (bytes "S\t0\t2\n
     ≡ (Accepted 3 ∷ Accepted 1 ∷ Refused 11 1 ∷ [])
 unfolding reads moves replaying forming
 second-option = refl
+
+-- ## "replay's 11 and 12 leave the state reached before the refused record", and a failing step leaves the state before it: two trails of a model that leave the same
+abbrev Alike : List ℕ → List ℤ → List ℕ → List ℕ → Type 0
+Alike t s x y = replayForm t (formOf x) s .1 ≡ replayForm t (formOf y) s .1
+
+abbrev AlikeFrom : List ℕ → List ℕ → List ℕ → Type 0
+AlikeFrom t x y = Alike t (initial t) x y
+
+failed-step-leaves : AlikeFrom (tablesText (bytes "init{assert(0)}")) (bytes "S\t0\t1\nV\tassert\n") (bytes "V\topen\n")
+unfolding reads moves replaying forming
+failed-step-leaves = refl
+
+refused-step-leaves : AlikeFrom (tablesText (bytes "init{skip}")) (bytes "S\t0\t1\nS\t0\t1\nV\topen\n") (bytes "S\t0\t1\nV\tfinished\n")
+unfolding reads moves replaying forming
+refused-step-leaves = refl
