@@ -11,10 +11,15 @@ use Rattle.spellings.specs.Find.{find}
 use Rattle.lexemes.specs.Spans.{span, decimalFrom}
 use Rattle.value.specs.declared.Fault.the-variants.{Divide}
 use Rattle.judging.specs.Judging.{tablesText}
+use Rattle.rules.specs.Rules.{globalOf, badRun, bodyOf, badPassing, badCount, badEnd}
 use Rattle.places.specs.Places.{shallower, openOf, pastOption, pastLoop}
-use Rattle.executing.specs.Executing.{isAlways}
+use Rattle.starting.specs.Starting.{channelMade}
+use Rattle.executing.specs.Channels.{fieldsOf, argumentsFrom, comparedAt, agreesOf, matchesFrom}
+use Rattle.executing.specs.Executing.{isAlways, channelsFrom, fitsOf}
 use Rattle.offering.specs.Offers.{firstOf, eachOption, pickAt}
-use Rattle.statements.specs.Statements.{expressed, asserted}
+use Rattle.messages.specs.Messages.{gatherEnd, gatherList, aimEnd, aimList, appended, removed, delivered}
+use Rattle.statements.specs.Statements.{expressed, asserted, sent, receivedFrom, received}
+use Rattle.effects.specs.Effects.{parameterSet, called, ran}
 use Rattle.moving.specs.Moving.{stepAt, nthOf, nthIn, numbered, listFrom, listOf}
 use Rattle.records.specs.Forms.{form, spoiled, formFrom, formOf}
 use Rattle.runs.specs.Runs.{turnOf, runFrom}
@@ -35,6 +40,14 @@ unfoldable replaying : Unit {0}
 unfolding
     shallower openOf pastOption pastLoop isAlways firstOf eachOption pickAt expressed asserted stepAt nthOf nthIn numbered listFrom listOf turnOf runFrom judged recordedOf reachedOf replayFrom
 replaying = tt
+
+-- messages and further processes
+unfoldable meeting : Unit {0}
+unfolding
+    globalOf badRun bodyOf badPassing badCount badEnd
+    channelMade fieldsOf argumentsFrom comparedAt agreesOf matchesFrom channelsFrom fitsOf gatherEnd gatherList aimEnd aimList appended removed delivered
+    sent receivedFrom received parameterSet called ran
+meeting = tt
 
 -- how the automatic run of tables ends from a state, and after how many steps, with each of these limits
 abbrev endings : List ℕ → List ℤ → List ℕ → List (Ending × ℕ)
@@ -129,6 +142,26 @@ run-of-two = refl
 run-of-timeout : ends (bytes "active proctype p(){timeout;assert(0)} init{skip}") (1 ∷ 2 ∷ 3 ∷ []) ≡ ((ending.Open, 1) ∷ (ending.Open, 2) ∷ (ending.Assert, 3) ∷ [])
 unfolding reads moves replaying
 run-of-timeout = refl
+
+-- "`run` when a process and its channels still fit": the 16th process, and no 17th
+run-to-16-processes : ends (bytes "active[14]proctype p(){0}proctype q(){0}init{run q();run q()}") (1 ∷ 2 ∷ []) ≡ ((ending.Blocked, 1) ∷ (ending.Blocked, 1) ∷ [])
+unfolding reads moves replaying meeting
+run-to-16-processes = refl
+
+-- "a send when the channel is not full; a receive when it is not empty"
+full-channel : ends (bytes "chan c=[1]of{byte};init{c!1;c!2}") (1 ∷ 2 ∷ []) ≡ ((ending.Blocked, 1) ∷ (ending.Blocked, 1) ∷ [])
+unfolding reads moves replaying meeting
+full-channel = refl
+
+empty-channel : ends (bytes "chan c=[1]of{byte};init{c!1;c?1;c?1}") (1 ∷ 2 ∷ 3 ∷ []) ≡ ((ending.Open, 1) ∷ (ending.Blocked, 2) ∷ (ending.Blocked, 2) ∷ [])
+unfolding reads moves replaying meeting
+empty-channel = refl
+
+-- "Sent values are cast to field types": 300 in byte 44
+cast-when-sent : (ends (bytes "chan c=[1]of{byte};init{c!300;c?44}") (2 ∷ []) ≡ ((ending.Finished, 2) ∷ []))
+    × (ends (bytes "chan c=[1]of{byte};init{c!300;c?300}") (2 ∷ []) ≡ ((ending.Blocked, 1) ∷ []))
+unfolding reads moves replaying meeting
+cast-when-sent = (refl, refl)
 
 -- ## replays: rows 11 and 12, "A step after a failed assertion or fault is 11"; verdicts by their numbers, assert 1, fault 2, finished 3, blocked 4, open 5
 -- the trail of document 01, and with other verdicts
