@@ -1,0 +1,4 @@
+pub mod Rules
+pub mod Ceilings
+pub mod Moves
+pub mod Trails
