@@ -1,4 +1,2 @@
-pub mod Rules
-pub mod Ceilings
 pub mod Moves
 pub mod Trails

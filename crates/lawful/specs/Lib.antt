@@ -5,3 +5,5 @@ pub mod Units
 pub mod Ceilings
 pub mod Says
 pub mod Setting
+pub mod Examples
+pub mod Ceiled
