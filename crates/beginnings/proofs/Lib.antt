@@ -1,3 +1,5 @@
 pub mod Walks
 pub mod Items
 pub mod Values
+pub mod Units
+pub mod Begins

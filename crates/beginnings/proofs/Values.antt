@@ -34,7 +34,7 @@ module _ (t : List ℕ) where
   pub clear-code : (k c : ℕ) → codeOf t (suc k) ≡ c → (213 ≤ c → c ≤ 217 → ⊥) → Clear k
   clear-code k c e h a b = let z = second k c e in h (omega arith) (omega arith)
 
-  clear-here : (k n : ℕ) → n ≡ 0 → Clear (k + n) → Clear k
+  pub clear-here : (k n : ℕ) → n ≡ 0 → Clear (k + n) → Clear k
   clear-here k n e c = subst Clear (let z : k + n ≡ k = omega arith in z) c
 
   -- ---- one value
