@@ -5,3 +5,5 @@ pub mod Units
 pub mod Begins
 pub mod Offsets
 pub mod Called
+pub mod Parts
+pub mod Initial

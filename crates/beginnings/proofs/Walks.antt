@@ -1,5 +1,5 @@
 -- Laws of walks over items that stand one behind the other: a walk over them all is one over each part in turn, and items at which nothing is done change nothing. `t` are tables.
-use Prim.Native.Nat.{ℕ, zero, suc, _+_, _<_}
+use Prim.Native.Nat.{ℕ, zero, suc, _+_, _≤_, _<_}
 use native.Mathlib.Omega.{arith}
 use mathlib.Core.Path.{_≡_, refl, sym, ap, _∙_}
 use mathlib.Core.List.{List, [], _∷_, _++_}
@@ -11,6 +11,7 @@ use Rattle.entries.specs.Items.{Known, AllKnown}
 use Rattle.tables.specs.Access.{codeOf}
 use Rattle.frames.specs.Walks.{walk}
 use Rattle.expressions.specs.Held.{Held}
+use Rattle.beginnings.specs.Beginnings.{repeated}
 
 module _ (f : ℕ → List ℤ → List ℤ) where
   pub walk-none : (j : ℕ) (s : List ℤ) → walk f j 0 s ≡ s
@@ -60,3 +61,13 @@ module _ (f : ℕ → List ℤ → List ℤ) where
     pub muted-each : {A : Type 0} (g : A → List Item) → ((a : A) → Muted (g a)) → (l : List A) → Muted (each g l)
     muted-each g h [] = tt
     muted-each g h (a ∷ l) = muted-both (g a) (each g l) (h a) (muted-each g h l)
+
+-- ---- by their places
+pub walk-idle : (f : ℕ → List ℤ → List ℤ) (n j : ℕ) (s : List ℤ) → ((i : ℕ) (x : List ℤ) → j ≤ i → i < j + n → f i x ≡ x) → walk f j n s ≡ s
+walk-idle f zero j s h = walk-none f j s
+walk-idle f (suc n) j s h = walk-one f j n s ∙ ap (walk f (suc j) n) (h j s (omega arith) (omega arith)) ∙ walk-idle f n (suc j) s (λ i x a b. h i x (omega arith) (omega arith))
+
+-- ---- the same again and again
+pub walk-repeated : (g r : List ℤ → List ℤ) → ((s : List ℤ) → g s ≡ r s) → (n j : ℕ) (s : List ℤ) → walk (λ k x. g x) j n s ≡ repeated r n s
+walk-repeated g r h zero j s = walk-none (λ k x. g x) j s
+walk-repeated g r h (suc n) j s = walk-one (λ k x. g x) j n s ∙ walk-repeated g r h n (suc j) (g s) ∙ ap (repeated r n) (h s)

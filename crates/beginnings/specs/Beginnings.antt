@@ -23,6 +23,25 @@ abbrev pub repeated : (List ℤ → List ℤ) → ℕ → List ℤ → List ℤ
 repeated f zero s = s
 repeated f (suc n) s = repeated f n (f s)
 
+-- "Storing keeps low bits", and "every element of an array gets it"
+abbrev pub everywhere : ℕ → ℕ → ℤ → List ℤ → List ℤ
+everywhere l p v s = filled l p (castOf (typeOf l) v) s
+
+abbrev pub namesOf : Group → List Name
+namesOf (group k ws) = ws
+
+-- how many processes of a proctype start; no more than fit
+abbrev pub startsIn : Activity → ℕ
+startsIn idle = 0
+startsIn once = 1
+startsIn (times n) = min processesMost n
+
+-- the item that begins a proctype, with its name before it
+abbrev pub headIn : Activity → ℕ → ℕ
+headIn idle i = i + 1
+headIn once i = i + 1
+headIn (times n) i = i + 2
+
 module _ (t : List ℕ) where
   -- ## variables
   -- the value whose items begin at item k; of a name, the number of the mtype name
@@ -34,10 +53,6 @@ module _ (t : List ℕ) where
   valueIn set-false k = pos 0
   valueIn (set-name w) k = kept (linkOf t (linkOf t (k + 1)))
   valueIn (set-channel n ks) k = pos 0
-
-  -- "Storing keeps low bits", and "every element of an array gets it"
-  abbrev pub everywhere : ℕ → ℕ → ℤ → List ℤ → List ℤ
-  everywhere l p v s = filled l p (castOf (typeOf l) v) s
 
   -- the variable l gets the value whose items begin at item k; a channel is made first, and its number is the value
   abbrev pub valuedIn : ℕ → ℕ → Value → ℕ → List ℤ → List ℤ
@@ -82,9 +97,6 @@ module _ (t : List ℕ) where
   namesIn p l n (w ∷ ws) i s =
       namesIn p l (n + 1) ws (i + 2) (set s (slotOf (linkOf t (i + 1)) p 0) (castOf (typeOf (linkOf t (i + 1))) (getD l n (pos 0))))
 
-  abbrev pub namesOf : Group → List Name
-  namesOf (group k ws) = ws
-
   -- a type and its mark stand before the names
   abbrev pub groupsIn : ℕ → List ℤ → ℕ → List Group → ℕ → List ℤ → List ℤ
   groupsIn p l n [] i s = s
@@ -104,18 +116,6 @@ module _ (t : List ℕ) where
   abbrev pub globalsIn : Model → ℕ → List ℤ → List ℤ
   globalsIn [] i s = s
   globalsIn (x ∷ m) i s = globalsIn m (i + length (code-part x)) (globalIn x i s)
-
-  -- how many processes of a proctype start; no more than fit
-  abbrev pub startsIn : Activity → ℕ
-  startsIn idle = 0
-  startsIn once = 1
-  startsIn (times n) = min processesMost n
-
-  -- the item that begins a proctype, with its name before it
-  abbrev pub headIn : Activity → ℕ → ℕ
-  headIn idle i = i + 1
-  headIn once i = i + 1
-  headIn (times n) i = i + 2
 
   abbrev pub startedIn : Part → ℕ → List ℤ → List ℤ
   startedIn (mtypes ws) i s = s
