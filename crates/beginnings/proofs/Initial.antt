@@ -203,3 +203,97 @@ module _ (t : List ℕ) (a : Accepts t) where
       let len = length-append P (code m) in
       over-both (globalMade T) P (code m) i s ∙ ap (over (globalMade T) (code m) e) (r .0)
       ∙ globals-over m e (globalIn T x i s) (lying-back X P (code m) 0 i e refl p) (omega arith) (λ u k b h. g u k b (later h)) (r .1)
+
+  -- ---- processes
+  inner-else : (c : ℕ) → c < 223 → Mute (unitStarted T) T c
+  inner-else c h = started-else T c (λ o. omega arith) (λ o. omega arith) (λ o. omega arith)
+
+  -- none begins at an item of a body
+  body-muted : (b : Body) → Muted (unitStarted T) T (code-body b)
+  body-muted (body ds q) =
+      let f = unitStarted T in
+      let D = each (code-declaration i-local) ds in
+      let Q = code-tree q in
+      muted-both f T (i-body ∷ D ++ Q) (i-end-body ∷ [])
+      (muted-both f T (i-body ∷ D) Q (λ k. started-else T 227 (λ o. omega arith) (λ o. omega arith) (λ o. omega arith), muted-inner f T inner-else D (inner-declarations ds)) (muted-inner f T inner-else Q (inner-tree q)))
+      (λ k. started-else T 228 (λ o. omega arith) (λ o. omega arith) (λ o. omega arith), tt)
+
+  -- the items up to the one that begins a proctype
+  head-started : (x : Activity) (w : Name) (i : ℕ) (s : List ℤ) (r : List ℤ → List ℤ) → Held T i (code-activity x w) → ((y : List ℤ) → processMade T (headIn x i) y ≡ r y)
+      → over (unitStarted T) (code-activity x w) i s ≡ repeated r (startsIn x) s
+  head-started idle w i s r h e =
+      walk-one f i 1 s ∙ ap (walk f (suc i) 1) (inner-else 70 (omega arith) i s (h .0)) ∙ walk-one f (suc i) 0 s ∙ walk-none f (suc (suc i)) (f (suc i) s)
+      ∙ started-else T 223 (λ o. omega arith) (λ o. omega arith) (λ o. omega arith) (suc i) s (h .2 .0)
+    where
+      f : ℕ → List ℤ → List ℤ
+      f = unitStarted T
+  head-started once w i s r h e =
+      walk-one f i 1 s ∙ ap (walk f (suc i) 1) (inner-else 70 (omega arith) i s (h .0)) ∙ walk-one f (suc i) 0 s ∙ walk-none f (suc (suc i)) (f (suc i) s) ∙ started-one T (suc i) s (h .2 .0)
+      ∙ ap (λ j. processMade T j s) (let z : suc i ≡ i + 1 = omega arith in z) ∙ e s
+    where
+      f : ℕ → List ℤ → List ℤ
+      f = unitStarted T
+  head-started (times n) w i s r h e =
+      walk-one f i 2 s ∙ ap (walk f (suc i) 2) (inner-else 71 (omega arith) i s (h .0)) ∙ walk-one f (suc i) 1 s ∙ ap (walk f (suc (suc i)) 1) (inner-else 70 (omega arith) (suc i) s (h .2 .0))
+      ∙ walk-one f (suc (suc i)) 0 s ∙ walk-none f (suc (suc (suc i))) (f (suc (suc i)) s)
+      ∙ started-many T (suc (suc i)) n s (h .2 .2 .0) (ap (numberOf T) (let z : suc (suc i) - 2 ≡ i = omega arith in z) ∙ h .1 refl .0)
+      ∙ ap (λ j. walk (λ k x. processMade T j x) 0 (min processesMost n) s) (let z : suc (suc i) ≡ i + 2 = omega arith in z) ∙ walk-repeated (processMade T (i + 2)) r e (min processesMost n) 0 s
+    where
+      f : ℕ → List ℤ → List ℤ
+      f = unitStarted T
+
+  started-part : (x : Part) (m : Model) (i : ℕ) (s : List ℤ) → Lying X 0 (code-part x ++ code m) i → ((u k : ℕ) (b : Body) → Holds (x ∷ m) i u b k → Holds (a .tree) 0 u b k)
+      → over (unitStarted T) (code-part x) i s ≡ startedIn T x i s
+  started-part (mtypes ws) m i s p g =
+      let P = code-part (mtypes ws) in
+      let l = lying-front X P (code m) 0 i p in
+      over-muted (unitStarted T) T P i s (muted-inner (unitStarted T) T inner-else P (inner-mtypes ws)) (lying-known t a P i l) (here t a P i l)
+  started-part (global d) m i s p g =
+      let P = code-declaration i-global d in
+      let l = lying-front X P (code m) 0 i p in
+      over-muted (unitStarted T) T P i s (muted-inner (unitStarted T) T inner-else P (inner-global d)) (lying-known t a P i l) (here t a P i l)
+  started-part (process x w gs b) m i s p g =
+      let f = unitStarted T in
+      let A = code-activity x w in
+      let G = each code-group gs in
+      let B = code-body b in
+      let u = headIn x i in
+      let k = suc u + length G in
+      let h = g u k b (in-process (head-is x w i) refl) in
+      let l = subst (λ (y : List Item). Lying X 0 y i) (append-assoc A G B) (lying-front X (A ++ G ++ B) (code m) 0 i p) in
+      let lA = lying-front X A (G ++ B) 0 i l in
+      let lB = lying-back X A (G ++ B) 0 i (i + length A) refl l in
+      ap (λ o. walk f i o s) (ap length (append-assoc A G B)) ∙ over-both f A (G ++ B) i s
+      ∙ over-muted f T (G ++ B) (i + length A) (over f A i s) (muted-both f T G B (muted-inner f T inner-else G (inner-groups gs)) (body-muted b)) (lying-known t a (G ++ B) (i + length A) lB)
+      (here t a (G ++ B) (i + length A) lB)
+      ∙ head-started x w i s (beginsIn T u b k) (here t a A i lA) (text-begins t a h)
+  started-part (init b) m i s p g =
+      let f = unitStarted T in
+      let B = code-body b in
+      let h = g i (i + 1) b (in-init refl) in
+      let l = lying-front X (i-init ∷ B) (code m) 0 i p in
+      let lB = lying-back X (i-init ∷ []) B 0 i (suc i) (omega arith) l in
+      walk-one f i (length B) s ∙ over-muted f T B (suc i) (f i s) (body-muted b) (lying-known t a B (suc i) lB) (here t a B (suc i) lB) ∙ started-init T i s (here t a (i-init ∷ B) i l .0)
+      ∙ text-begins t a h s
+
+  started-over : (m : Model) (i : ℕ) (s : List ℤ) → Lying X 0 (code m) i → ((u k : ℕ) (b : Body) → Holds m i u b k → Holds (a .tree) 0 u b k) → over (unitStarted T) (code m) i s ≡ allStarted T m i s
+  started-over [] i s p g = walk-none (unitStarted T) i s
+  started-over (x ∷ m) i s p g =
+      let P = code-part x in
+      let e = i + length P in
+      over-both (unitStarted T) P (code m) i s ∙ ap (over (unitStarted T) (code m) e) (started-part x m i s p g)
+      ∙ started-over m e (startedIn T x i s) (lying-back X P (code m) 0 i e refl p) (λ u k b h. g u k b (later h))
+
+  -- ---- the whole
+  all-items : scanned T ≡ length X
+  unfolding scanned
+  all-items = let e = text-held t a .items in let f = text-held t a .few in let n = items-long t a in omega arith
+
+  -- the initial state is the tree's
+  pub text-initial : (s : List ℤ) → initialOf (tablesText t) s ≡ initialIn (tablesText t) (a .tree) s
+  unfolding initialOf
+  text-initial s =
+      let l = lying-whole X 0 in
+      ap (λ n. walk (unitStarted T) 0 n (walk (globalMade T) 0 n (cleared s))) all-items
+      ∙ ap (over (unitStarted T) X 0) (globals-over (a .tree) 0 (cleared s) l (omega arith) (λ u k b h. h) (inside-first C))
+      ∙ started-over (a .tree) 0 (globalsIn T (a .tree) 0 (cleared s)) l (λ u k b h. h)
