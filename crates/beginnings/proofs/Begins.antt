@@ -1,5 +1,5 @@
 -- A PROCESS BEGINS AS THE TREE SAYS: for every unit of an accepted text, the process that the tables make is the tree's, at its first statement and with its variables.
-use Prim.Native.Nat.{ℕ, suc, _+_, _-_, _≤_, _<_}
+use Prim.Native.Nat.{ℕ, suc, _+_, _-_, _<_}
 use native.Mathlib.Omega.{arith}
 use mathlib.Core.Path.{_≡_, refl, ap, _∙_, subst}
 use mathlib.Core.List.{List, [], _∷_, _++_, append-assoc}
@@ -9,22 +9,20 @@ use lib.Dec.{ltb}
 use borrow.Author.Tests.{ne-eqb}
 use Rattle.base.specs.Choice.{pick}
 use Rattle.syntax.specs.Tree.{Name, Group, group, Body, body}
-use Rattle.syntax.specs.Code.{Item, i-type, i-local, i-body, i-end-body, each, code-tree, code-declaration, code-parameter, code-group, code-body, code}
+use Rattle.syntax.specs.Code.{Item, i-type, i-local, i-body, i-end-body, each, code-tree, code-declaration, code-parameter, code-group, code}
 use Rattle.entries.specs.Items as items
-use Rattle.entries.specs.Items.{AllKnown}
 use Rattle.tables.specs.Access.{codeOf, linkOf}
 use Rattle.accepting.specs.Meaning.{Accepts}
 use Rattle.judging.specs.Judging.{tablesText}
 use Rattle.frames.specs.Layout.{kept, processesMost, processAt, processesOf}
 use Rattle.frames.specs.Walks.{walk}
-use Rattle.starting.specs.Starting.{declared, entered, unitLength, processMade}
-use Rattle.expressions.specs.Held.{Held}
+use Rattle.starting.specs.Starting.{declared, entered, processMade}
 use Rattle.acts.specs.Program.{enter, Holds, startIn, endIn}
 use Rattle.acts.proofs.Stands.{Lying, body-lies}
 use Rattle.placing.proofs.Lists.{lying-front, lying-back}
-use Rattle.placing.proofs.Heads.{Between, holds-between, lying-known}
+use Rattle.placing.proofs.Heads.{holds-between, lying-known}
 use Rattle.following.proofs.Main.{text-unit, text-enter}
-use Rattle.beginnings.specs.Beginnings.{localsIn, setOut, beginsIn}
+use Rattle.beginnings.specs.Beginnings.{localsIn, beginsIn}
 use Rattle.beginnings.proofs.Walks.{walk-from, over, Mute, Muted, over-muted, muted-each}
 use Rattle.beginnings.proofs.Items.{type-below, Below, below-tree}
 use Rattle.beginnings.proofs.Values.{Makes, Clear, locals-over}
@@ -56,9 +54,10 @@ module _ (t : List ℕ) (p : ℕ) where
   enters-parameter w = (λ k. enters-else 70 (λ e. omega arith) (λ e. omega arith), (λ k. enters-else 222 (λ e. omega arith) (λ e. omega arith), tt))
 
   enters-group : (g : Group) → Muted (entered t p) t (code-group g)
-  enters-group (group n ws) =
-      (λ k. let h = type-below n k in enters-else (items.codeOf (i-type n)) (λ e. omega arith) (λ e. omega arith),
-      (λ k. enters-else 221 (λ e. omega arith) (λ e. omega arith), muted-each (entered t p) t code-parameter enters-parameter ws))
+  enters-group (group n ws) = (
+    λ k. let h = type-below n k in enters-else (items.codeOf (i-type n)) (λ e. omega arith) (λ e. omega arith),
+    (λ k. enters-else 221 (λ e. omega arith) (λ e. omega arith), muted-each (entered t p) t code-parameter enters-parameter ws),
+  )
 
 -- items below 210
 pub muted-below : (f : ℕ → List ℤ → List ℤ) (t : List ℕ) → ((c : ℕ) → c < 210 → Mute f t c) → (l : List Item) → Below l → Muted f t l

@@ -1,7 +1,7 @@
 -- A PROCESS BEGINS WITH ITS ARGUMENTS AS THE TREE SAYS: for every unit of an accepted text, each parameter gets the argument of its own position.
 use Prim.Native.Nat.{ℕ, suc, _+_, _-_, _/_, _≤_, _<_}
 use native.Mathlib.Omega.{arith}
-use mathlib.Core.Path.{_≡_, refl, ap, _∙_, subst}
+use mathlib.Core.Path.{_≡_, refl, ap, _∙_}
 use mathlib.Core.Option.{Option, none, some}
 use mathlib.Core.List.{List, [], _∷_, _++_}
 use lib.ListN.{length, getD, set, length-append}
@@ -18,19 +18,19 @@ use Rattle.value.specs.Types.{castOf}
 use Rattle.frames.specs.Layout.{processesOf}
 use Rattle.frames.specs.Walks.{walk}
 use Rattle.evaluating.specs.Variables.{typeOf, slotOf}
-use Rattle.starting.specs.Starting.{unitLength, processMade}
+use Rattle.starting.specs.Starting.{unitLength}
 use Rattle.effects.specs.Effects.{parameterSet, called}
 use Rattle.keeping.specs.Well.{Unit}
 use Rattle.expressions.specs.Held.{Held}
 use Rattle.expressions.proofs.Items.{held-front, held-back}
-use Rattle.expressions.proofs.Operators.{known-front, known-back}
+use Rattle.expressions.proofs.Operators.{known-back}
 use Rattle.fitness.proofs.Tables.{codesAt, text-held}
 use Rattle.acts.specs.Program.{Holds, startIn, endIn}
 use Rattle.acts.proofs.Stands.{body-lies}
 use Rattle.placing.proofs.Lists.{lying-ends}
 use Rattle.placing.proofs.Heads.{Between, lying-known}
 use Rattle.following.proofs.Main.{text-unit}
-use Rattle.beginnings.specs.Beginnings.{beginsIn, namesIn, namesOf, groupsIn, calledIn}
+use Rattle.beginnings.specs.Beginnings.{beginsIn, namesIn, groupsIn, calledIn}
 use Rattle.beginnings.proofs.Walks.{walk-one, walk-from, over, over-both, Mute, Muted, over-muted, muted-both, muted-each}
 use Rattle.beginnings.proofs.Items.{type-below, below-tree}
 use Rattle.beginnings.proofs.Units.{here, unit-over, body-ends, unit-long}
@@ -117,13 +117,13 @@ module _ (t : List ℕ) (a : Accepts t) where
         let b3 : before t a u U (suc (suc i)) ≡ n + 1 = omega arith in
         let o1 : linkOf T (suc i) / 1024 ≡ n = omega arith in
         let R = names-over ws (n + 1) (suc (suc i)) (set s (slotOf (linkOf T (suc i)) p 0) (castOf (typeOf (linkOf T (suc i))) (getD l n (pos 0)))) (omega arith) (omega arith) (omega arith) (h .2 .2)
-        (λ o. z (ap (codeOf T) r ∙ o)) b3 in
-        let R1 = R .1 in
-        (walk-one f i (suc (length L)) s ∙ ap (walk f (suc i) (suc (length L))) (sets-else T p l 70 (λ o. omega arith) i s (h .0)) ∙ walk-one f (suc i) (length L) s
-        ∙ ap (over f L (suc (suc i))) (sets-parameter T p l (suc i) n s (h .2 .0) o1) ∙ R .0
-        ∙ ap (λ x. namesIn T p l (n + 1) ws x (set s (slotOf (linkOf T (suc i)) p 0) (castOf (typeOf (linkOf T (suc i))) (getD l n (pos 0))))) q
-        ∙ ap (λ x. namesIn T p l (n + 1) ws (i + 2) (set s (slotOf (linkOf T x) p 0) (castOf (typeOf (linkOf T x)) (getD l n (pos 0))))) j,
-        ap (before t a u U) r ∙ R .1 ∙ (let q : n + 1 + length ws ≡ n + suc (length ws) = omega arith in q))
+        (λ o. z (ap (codeOf T) r ∙ o)) b3 in (
+          walk-one f i (suc (length L)) s ∙ ap (walk f (suc i) (suc (length L))) (sets-else T p l 70 (λ o. omega arith) i s (h .0)) ∙ walk-one f (suc i) (length L) s
+              ∙ ap (over f L (suc (suc i))) (sets-parameter T p l (suc i) n s (h .2 .0) o1) ∙ R .0
+              ∙ ap (λ x. namesIn T p l (n + 1) ws x (set s (slotOf (linkOf T (suc i)) p 0) (castOf (typeOf (linkOf T (suc i))) (getD l n (pos 0))))) q
+              ∙ ap (λ x. namesIn T p l (n + 1) ws (i + 2) (set s (slotOf (linkOf T x) p 0) (castOf (typeOf (linkOf T x)) (getD l n (pos 0))))) j,
+          ap (before t a u U) r ∙ R .1 ∙ (let q : n + 1 + length ws ≡ n + suc (length ws) = omega arith in q),
+        )
 
     groups-over : (gs : List Group) (n i : ℕ) (s : List ℤ) → u < i → i + length (each code-group gs) ≤ e → n ≤ i → AllKnown (each code-group gs) → Held T i (each code-group gs)
         → (codeOf T (i + length (each code-group gs)) ≡ 71 → ⊥) → before t a u U i ≡ n → over f (each code-group gs) i s ≡ groupsIn T p l n gs i s
@@ -139,13 +139,11 @@ module _ (t : List ℕ) (a : Accepts t) where
         let hL = held-back T G L i E refl h in
         let tb = type-below c (k .0) in
         let i2 : suc (suc i) ≡ i + 2 = omega arith in
-        let e2 : suc (suc i) + length N ≡ E = omega arith in
         let r : i + length (G ++ L) ≡ E + length L = omega arith in
         let x = first-group T gs E hL (λ o. z (ap (codeOf T) r ∙ o)) in
         let b1 = before-else t a u U i (items.codeOf (i-type c)) (omega arith) (h .0) (λ o. omega arith) (λ o. omega arith) in
         let b2 = before-else t a u U (suc i) 221 (omega arith) (h .2 .0) (λ o. omega arith) (λ o. omega arith) in
         let R = names-over ws n (suc (suc i)) s (omega arith) (omega arith) (omega arith) (hG .2 .2) (λ o. x (ap (codeOf T) (let q : E ≡ suc (suc i) + length N = omega arith in q) ∙ o)) (omega arith) in
-        let R1 = R .1 in
         let b3 : before t a u U E ≡ n + length ws = ap (before t a u U) (let q : E ≡ suc (suc i) + length N = omega arith in q) ∙ R .1 in
         let room = enough ws in
         over-both f G L i s
@@ -178,7 +176,6 @@ module _ (t : List ℕ) (a : Accepts t) where
         let K = locals-lie t a ds q h in
         let L = statements-lie t a ds q h in
         let U : Unit T u = (omega arith, c .2, c .3) in
-        let z : suc u + length G ≡ k = omega arith in
         unit-over t a f ds q r s
         ∙ over-muted f T Q (startIn (body ds q) k) _ (muted-below f T (λ c g. sets-else T p l c (λ o. omega arith)) Q (below-tree q)) (lying-known t a Q (startIn (body ds q) k) L)
         (here t a Q (startIn (body ds q) k) L)

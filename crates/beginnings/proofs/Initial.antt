@@ -1,20 +1,18 @@
 -- THE INITIAL STATE IS THE TREE'S: for every accepted text, what the tables make of a state is all zeros, then the globals, then the processes, as the tree has them.
-use Prim.Native.Nat.{ℕ, zero, suc, _+_, _-_, _/_, _%_, _≤_, _<_, min}
+use Prim.Native.Nat.{ℕ, suc, _+_, _-_, _/_, _%_, _≤_, _<_, min}
 use native.Mathlib.Omega.{arith}
 use native.Mathlib.Decide.{ℕ-discrete}
 use mathlib.Core.Path.{_≡_, refl, sym as inv, ap, _∙_, subst}
 use mathlib.Core.Bool.{Bool, true, false}
-use mathlib.Core.Logic.{inl}
 use mathlib.Core.List.{List, [], _∷_, _++_, append-assoc}
-use lib.ListN.{length, getD, length-append}
+use lib.ListN.{length, length-append}
 use lib.IntN.{ℤ}
 use lib.Dec.{eqb}
 use borrow.Author.Tests.{ne-eqb}
 use Rattle.base.specs.Choice.{pick}
-use Rattle.syntax.specs.Tree.{Name, Group, Body, body, Activity, idle, once, times, Part, mtypes, global, process, init, Model}
-use Rattle.syntax.specs.Code.{Item, i-name, i-number, i-global, i-local, i-init, i-body, i-end-body, each, code-tree, code-declaration, code-group, code-body, code-activity, code-message, code-part, code}
+use Rattle.syntax.specs.Tree.{Name, Body, body, Activity, idle, once, times, Part, mtypes, global, process, init, Model}
+use Rattle.syntax.specs.Code.{Item, i-global, i-local, i-init, i-body, i-end-body, each, code-tree, code-declaration, code-group, code-body, code-activity, code-message, code-part, code}
 use Rattle.entries.specs.Items as items
-use Rattle.entries.specs.Items.{AllKnown}
 use Rattle.sheets.specs.Homes.{insideOf}
 use Rattle.tables.specs.Access.{itemsOf, codeOf, linkOf, numberOf}
 use Rattle.accepting.specs.Meaning.{Accepts}
@@ -155,9 +153,11 @@ module _ (t : List ℕ) (a : Accepts t) where
         low = λ c h. global-else T c (λ o. omega arith);
         marks = λ c x y o. global-else T c o;
         makes = λ j s x y c. global-there T j s c (global-flag t a j (omega arith) c (inside-none C P i j (inner-global d) k A z x (omega arith)));
-      } in
-      (declaration-over T (globalMade T) 0 i e M i-global (omega arith) (omega arith) d i s (omega arith) (omega arith) k (here t a P i l)
-      (clear-next t a m e (lying-known t a (code m) e R) (here t a (code m) e R) (omega arith)), inside-none C P i e (inner-global d) k A z (omega arith) (omega arith))
+      } in (
+        declaration-over T (globalMade T) 0 i e M i-global (omega arith) (omega arith) d i s (omega arith) (omega arith) k (here t a P i l)
+            (clear-next t a m e (lying-known t a (code m) e R) (here t a (code m) e R) (omega arith)),
+        inside-none C P i e (inner-global d) k A z (omega arith) (omega arith),
+      )
   globals-part (process x w gs b) m i s p n g z =
       let A = code-activity x w in
       let G = each code-group gs in
@@ -174,10 +174,12 @@ module _ (t : List ℕ) (a : Accepts t) where
       let n3 = length-append G B in
       let n4 = length-append A (G ++ B) in
       let j : i + length A ≡ suc u = omega arith in
-      let e : suc (endIn b k) ≡ i + length (A ++ G ++ B) = omega arith in
-      (ap (λ o. walk (globalMade T) i o s) (ap length (append-assoc A G B)) ∙ over-both (globalMade T) A (G ++ B) i s
-      ∙ ap (over (globalMade T) (G ++ B) (i + length A)) (over-muted (globalMade T) T A i s (activity x w) (lying-known t a A i lA) (here t a A i lA))
-      ∙ ap (λ o. over (globalMade T) (G ++ B) o s) j ∙ unit-idle h (length (G ++ B)) s (omega arith), ap (insideOf C) (inv e) ∙ unit-ended h)
+      let e : suc (endIn b k) ≡ i + length (A ++ G ++ B) = omega arith in (
+        ap (λ o. walk (globalMade T) i o s) (ap length (append-assoc A G B)) ∙ over-both (globalMade T) A (G ++ B) i s
+            ∙ ap (over (globalMade T) (G ++ B) (i + length A)) (over-muted (globalMade T) T A i s (activity x w) (lying-known t a A i lA) (here t a A i lA))
+            ∙ ap (λ o. over (globalMade T) (G ++ B) o s) j ∙ unit-idle h (length (G ++ B)) s (omega arith),
+        ap (insideOf C) (inv e) ∙ unit-ended h,
+      )
     where
       activity : (x : Activity) (w : Name) → Muted (globalMade T) T (code-activity x w)
       activity idle w = (λ k. global-else T 70 (λ o. omega arith), (λ k. global-else T 223 (λ o. omega arith), tt))
@@ -189,9 +191,10 @@ module _ (t : List ℕ) (a : Accepts t) where
       let h = g i k b (in-init refl) in
       let l = lying-front X (i-init ∷ B) (code m) 0 i p in
       let v = body-ends t a b k in
-      let e : suc (endIn b k) ≡ i + length (i-init ∷ B) = omega arith in
-      (walk-one (globalMade T) i (length B) s ∙ ap (walk (globalMade T) (suc i) (length B)) (global-else T 226 (λ o. omega arith) i s (here t a (i-init ∷ B) i l .0)) ∙ unit-idle h (length B) s (omega arith),
-      ap (insideOf C) (inv e) ∙ unit-ended h)
+      let e : suc (endIn b k) ≡ i + length (i-init ∷ B) = omega arith in (
+        walk-one (globalMade T) i (length B) s ∙ ap (walk (globalMade T) (suc i) (length B)) (global-else T 226 (λ o. omega arith) i s (here t a (i-init ∷ B) i l .0)) ∙ unit-idle h (length B) s (omega arith),
+        ap (insideOf C) (inv e) ∙ unit-ended h,
+      )
 
   globals-over : (m : Model) (i : ℕ) (s : List ℤ) → Lying X 0 (code m) i → i + length (code m) ≡ length X → ((u k : ℕ) (b : Body) → Holds m i u b k → Holds (a .tree) 0 u b k) → insideOf C i ≡ 0
       → over (globalMade T) (code m) i s ≡ globalsIn T m i s

@@ -1,9 +1,9 @@
 -- The parameters of a unit have its first numbers, in text order: as many numbers are before a parameter as there are parameters before it.
 use Prim.Native.Nat.{ℕ, suc, _+_, _/_, _≤_, _<_, min}
 use native.Mathlib.Omega.{arith}
-use mathlib.Core.Path.{_≡_, refl, sym as inv, ap, _∙_, subst}
+use mathlib.Core.Path.{_≡_, refl, sym as inv, ap, _∙_}
 use mathlib.Core.Bool.{Bool, true, false}
-use mathlib.Core.Logic.{_⊎_, inl, inr}
+use mathlib.Core.Logic.{inr}
 use mathlib.Core.List.{List}
 use lib.ListN.{length, getD}
 use lib.Dec.{eqb}
@@ -15,7 +15,7 @@ use Rattle.finding.specs.Sets.{among}
 use Rattle.rules.specs.Rules.{isArray}
 use Rattle.ceilings.specs.Ceilings.{numbersAt}
 use Rattle.links.specs.Links.{offsetAt}
-use Rattle.tables.specs.Access.{itemsOf, codeOf, linkOf}
+use Rattle.tables.specs.Access.{codeOf, linkOf}
 use Rattle.judging.specs.Judging.{tablesText}
 use Rattle.accepting.specs.Meaning.{Accepts}
 use Rattle.keeping.specs.Well.{Unit, Inside}
@@ -26,7 +26,7 @@ use Rattle.fitness.proofs.Known.{text-facts}
 use Rattle.fitness.proofs.Units.{span-of}
 use Rattle.fitness.proofs.Homes.{body-inside}
 use Rattle.fitness.proofs.Sums.{sum-next, sum-zero}
-use Rattle.fitness.proofs.Variables.{Slot, slot-of, unit-home}
+use Rattle.fitness.proofs.Variables.{slot-of, unit-home}
 
 -- ---- the set of what declares a variable
 not-end : among 14 228 ≡ false

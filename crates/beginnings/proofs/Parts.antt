@@ -2,17 +2,16 @@
 use Prim.Native.Nat.{ℕ, suc, _+_, _/_, _%_, _≤_, _<_}
 use native.Mathlib.Omega.{arith}
 use native.Mathlib.Decide.{ℕ-discrete}
-use mathlib.Core.Path.{_≡_, refl, sym as inv, ap, _∙_, subst}
-use mathlib.Core.Bool.{false}
+use mathlib.Core.Path.{_≡_, refl, sym as inv, ap, _∙_}
 use mathlib.Core.Logic.{inl}
-use mathlib.Core.List.{List, [], _∷_, _++_}
+use mathlib.Core.List.{List, [], _∷_}
 use lib.ListN.{length, getD}
-use borrow.Author.Tests.{ne-eqb, le-ltb, lt-ltb}
-use Rattle.syntax.specs.Tree.{Name, Declaration, declare, Body, body, Activity, idle, once, times, mtypes, global, process, init, Model}
-use Rattle.syntax.specs.Code.{Item, i-global, each, code-variable, code-declaration, code-message, code-part, code}
+use borrow.Author.Tests.{ne-eqb, le-ltb}
+use Rattle.syntax.specs.Tree.{Name, Declaration, declare, body, idle, once, times, mtypes, global, process, init, Model}
+use Rattle.syntax.specs.Code.{Item, i-global, code-variable, code-declaration, code-message, code-part, code}
 use Rattle.entries.specs.Items as items
 use Rattle.entries.specs.Items.{AllKnown}
-use Rattle.sheets.specs.Homes.{heads, insideOf, homeOf}
+use Rattle.sheets.specs.Homes.{insideOf, homeOf}
 use Rattle.phrases.specs.Phrases.{At}
 use Rattle.tables.specs.Access.{codeOf, linkOf}
 use Rattle.judging.specs.Judging.{tablesText}

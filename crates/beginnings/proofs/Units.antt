@@ -1,17 +1,16 @@
 -- A unit of an accepted text's tree in its tables: what stands from its first item to its end, what is behind it, and a walk over all that.
-use Prim.Native.Nat.{ℕ, suc, _+_, _-_, _≤_, _<_, min}
+use Prim.Native.Nat.{ℕ, suc, _+_, _-_, _≤_, _<_}
 use native.Mathlib.Omega.{arith}
 use mathlib.Core.Path.{_≡_, refl, sym as inv, ap, _∙_, subst}
-use mathlib.Core.Logic.{_⊎_, inl, inr}
 use mathlib.Core.List.{List, [], _∷_, _++_, append-assoc}
 use lib.ListN.{length, length-append}
 use lib.IntN.{ℤ}
 use borrow.Author.Tests.{le-ltb}
 use Rattle.syntax.specs.Tree.{Name, Declaration, declare, Body, body, Activity, idle, once, times, Part, mtypes, global, process, init, Model}
-use Rattle.syntax.specs.Code.{Item, i-type, i-local, i-global, i-init, i-body, i-end-body, each, code-tree, code-declaration, code-group, code-body, code-activity, code-part, code}
+use Rattle.syntax.specs.Code.{Item, i-local, i-init, i-body, i-end-body, each, code-tree, code-declaration, code-group, code-body, code-activity, code-part, code}
 use Rattle.entries.specs.Items as items
 use Rattle.entries.specs.Items.{AllKnown}
-use Rattle.tables.specs.Access.{itemsOf, codeOf, linkOf}
+use Rattle.tables.specs.Access.{itemsOf, codeOf}
 use Rattle.tables.specs.Trees.{tablesIn}
 use Rattle.accepting.specs.Meaning.{Accepts, linksAt}
 use Rattle.accepting.proofs.Tables.{text-tables}
@@ -19,7 +18,6 @@ use Rattle.judging.specs.Judging.{tablesText}
 use Rattle.frames.specs.Walks.{walk}
 use Rattle.starting.specs.Starting.{unitLength}
 use Rattle.expressions.specs.Held.{Held}
-use Rattle.expressions.specs.Names.{codesAt}
 use Rattle.expressions.proofs.Items.{part-held}
 use Rattle.expressions.proofs.Main.{items-long}
 use Rattle.fitness.proofs.Tables.{text-held}
@@ -28,7 +26,7 @@ use Rattle.acts.proofs.Stands.{Lying, lying-behind, lying-whole}
 use Rattle.placing.proofs.Lists.{lying-front, lying-back, lying-ends}
 use Rattle.placing.proofs.Heads.{Between, lying-known}
 use Rattle.following.proofs.Main.{text-unit}
-use Rattle.beginnings.proofs.Walks.{walk-one, walk-both, walk-from, over}
+use Rattle.beginnings.proofs.Walks.{walk-one, walk-both, over}
 use Rattle.beginnings.proofs.Items.{type-below, Below}
 use Rattle.beginnings.proofs.Values.{Clear, clear-code, clear-here}
 
@@ -81,10 +79,7 @@ module _ (t : List ℕ) where
   first-part : (x : Part) (l : List Item) (j : ℕ) → AllKnown (code-part x ++ l) → Held t j (code-part x ++ l) → Plain (codeOf t j)
   first-part (mtypes ws) l j k h a b = let z = h .0 in omega arith
   first-part (global (declare n xs)) l j k h a b = let z = h .0 in let y = type-below n (k .0) in omega arith
-  first-part (process x w gs d) l j k h a b =
-      let A = code-activity x w in
-      let G = each code-group gs in
-      first-activity x w (G ++ code-body d ++ l) j (subst (Held t j) whole h) a b
+  first-part (process x w gs d) l j k h a b = first-activity x w (each code-group gs ++ code-body d ++ l) j (subst (Held t j) whole h) a b
     where
       whole : code-activity x w ++ each code-group gs ++ code-body d ++ l ≡ code-activity x w ++ (each code-group gs ++ code-body d ++ l)
       whole =
@@ -105,9 +100,6 @@ module _ (t : List ℕ) where
 module _ (t : List ℕ) (a : Accepts t) where
   abbrev X : List Item
   X = code (a .tree)
-
-  abbrev T : List ℕ
-  T = tablesText t
 
   pub here : (l : List Item) (j : ℕ) → Lying X 0 l j → Held (tablesText t) j l
   here l j p =

@@ -9,7 +9,7 @@ use lib.ListN.{length, length-append}
 use lib.IntN.{ℤ}
 use borrow.Author.Tests.{ne-eqb}
 use Rattle.syntax.specs.Tree.{Value, unset, set-number, set-minus, set-true, set-false, set-name, set-channel, Variable, variable, Declaration, declare}
-use Rattle.syntax.specs.Code.{Item, i-name, i-type, i-declared, i-local, each, code-field, code-size, code-value, code-variable, code-declaration}
+use Rattle.syntax.specs.Code.{Item, i-type, i-local, each, code-field, code-size, code-value, code-variable, code-declaration}
 use Rattle.entries.specs.Items as items
 use Rattle.entries.specs.Items.{AllKnown}
 use Rattle.tables.specs.Access.{codeOf, linkOf}

@@ -3,13 +3,12 @@
 -- start at 0". `t` are the tables of the model, which say of each declaring item where its variable's numbers are; s is the state before, p the number of a process, i the item at which a thing begins.
 use Prim.Native.Nat.{ℕ, zero, suc, _+_, min}
 use mathlib.Core.List.{List, [], _∷_}
-use mathlib.Core.Option.{Option}
 use lib.ListN.{length, getD, set}
 use lib.IntN.{ℤ, pos}
 use lib.Dec.{ltb}
 use Rattle.base.specs.Choice.{pick}
 use Rattle.syntax.specs.Tree.{Name, Value, unset, set-number, set-minus, set-true, set-false, set-name, set-channel, Variable, variable, Declaration, declare, Group, group, Body, body, Activity, idle, once, times, Part, mtypes, global, process, init, Model}
-use Rattle.syntax.specs.Code.{i-local, i-global, each, code-size, code-variable, code-declaration, code-group, code-activity, code-part}
+use Rattle.syntax.specs.Code.{i-local, each, code-size, code-variable, code-declaration, code-group, code-part}
 use Rattle.tables.specs.Access.{linkOf}
 use Rattle.value.specs.Types.{castOf}
 use Rattle.value.specs.Operators.{unaryOf}
@@ -44,7 +43,7 @@ headIn (times n) i = i + 2
 
 module _ (t : List ℕ) where
   -- ## variables
-  -- the value whose items begin at item k; of a name, the number of the mtype name
+  -- the value whose items begin at item k; of a name, the number of the mtype name. A channel gives its own number, below
   abbrev pub valueIn : Value → ℕ → ℤ
   valueIn unset k = pos 0
   valueIn (set-number n) k = kept n
