@@ -217,9 +217,10 @@ module _ (t : List ℕ) (a : Accepts t) where
       let f = unitStarted T in
       let D = each (code-declaration i-local) ds in
       let Q = code-tree q in
+      let B : Mute f T 227 = started-else T 227 (λ o. omega arith) (λ o. omega arith) (λ o. omega arith) in
+      let E : Mute f T 228 = started-else T 228 (λ o. omega arith) (λ o. omega arith) (λ o. omega arith) in
       muted-both f T (i-body ∷ D ++ Q) (i-end-body ∷ [])
-      (muted-both f T (i-body ∷ D) Q (λ k. started-else T 227 (λ o. omega arith) (λ o. omega arith) (λ o. omega arith), muted-inner f T inner-else D (inner-declarations ds)) (muted-inner f T inner-else Q (inner-tree q)))
-      (λ k. started-else T 228 (λ o. omega arith) (λ o. omega arith) (λ o. omega arith), tt)
+      (muted-both f T (i-body ∷ D) Q (λ k. B, muted-inner f T inner-else D (inner-declarations ds)) (muted-inner f T inner-else Q (inner-tree q))) (λ k. E, tt)
 
   -- the items up to the one that begins a proctype
   head-started : (x : Activity) (w : Name) (i : ℕ) (s : List ℤ) (r : List ℤ → List ℤ) → Held T i (code-activity x w) → ((y : List ℤ) → processMade T (headIn x i) y ≡ r y)

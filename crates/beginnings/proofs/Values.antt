@@ -1,5 +1,5 @@
--- Variables as declarations have them: a walk over the items of declarations makes their variables in text order, each with the value that stands behind it. `t` are tables, f what is done at an
--- item, p the number of a process.
+-- Variables as declarations have them: a walk over the items of declarations makes their variables in text order, each with the value that stands behind it. `t` are tables, f what is
+-- done at an item, p the number of a process.
 use Prim.Native.Nat.{ℕ, suc, _+_, _≤_, _<_}
 use native.Mathlib.Omega.{arith}
 use mathlib.Core.Path.{_≡_, refl, sym, ap, _∙_, subst}
@@ -42,7 +42,13 @@ module _ (t : List ℕ) where
   unfolding variableMade valueOf literalOf
   made l p unset k s h c =
       let d = clear-here k 0 refl c in
-      rw (ne-eqb (codeOf t (k + 1)) 217 (λ e. d (omega arith) (omega arith)), ne-eqb (codeOf t (k + 1)) 214 (λ e. d (omega arith) (omega arith)), ne-eqb (codeOf t (k + 1)) 215 (λ e. d (omega arith) (omega arith)), ne-eqb (codeOf t (k + 1)) 216 (λ e. d (omega arith) (omega arith)))
+      let m : (n : ℕ) → 213 ≤ n → n ≤ 217 → codeOf t (k + 1) ≡ n → ⊥ = λ n x y e. d (omega arith) (omega arith) in
+      rw (
+        ne-eqb (codeOf t (k + 1)) 217 (m 217 (omega arith) (omega arith)),
+        ne-eqb (codeOf t (k + 1)) 214 (m 214 (omega arith) (omega arith)),
+        ne-eqb (codeOf t (k + 1)) 215 (m 215 (omega arith) (omega arith)),
+        ne-eqb (codeOf t (k + 1)) 216 (m 216 (omega arith) (omega arith)),
+      )
   made l p (set-number n) k s h c = rw (second k 214 (h .2 .0), h .0, h .1 refl .0)
   made l p (set-minus n) k s h c = rw (second k 215 (h .2 .0), h .0, h .1 refl .0)
   made l p set-true k s h c = rw (second k 214 (h .2 .0), h .0)
@@ -60,7 +66,8 @@ module _ (t : List ℕ) where
   no-size (set-channel n ks) k h c e = let z = second k 217 (h .2 .0) in omega arith
 
   -- where it stands
-  value-at : (z : Option ℕ) (v : Value) (d : ℕ) → Held t (suc d) (code-size z ++ code-value v) → Clear (suc d + length (code-size z) + length (code-value v)) → valueAt t d ≡ suc d + length (code-size z)
+  value-at : (z : Option ℕ) (v : Value) (d : ℕ) → Held t (suc d) (code-size z ++ code-value v) → Clear (suc d + length (code-size z) + length (code-value v))
+      → valueAt t d ≡ suc d + length (code-size z)
   unfolding valueAt
   value-at none v d h c =
       let x : d + 2 ≡ suc d + 1 = omega arith in

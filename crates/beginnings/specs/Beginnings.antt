@@ -1,6 +1,7 @@
--- Processes that begin, and the initial state, said of trees: document 01, "How it moves", "Variables start at 0 or their value; every element of an array gets it. mtype names count from 1 in list
--- order. Channels count from 1 as made, globals first", "Processes start in text order (`init` included) at 0; a new one takes the next number", and of parameters "those of an `active` process
--- start at 0". `t` are the tables of the model, which say of each declaring item where its variable's numbers are; s is the state before, p the number of a process, i the item at which a thing begins.
+-- Processes that begin, and the initial state, said of trees: document 01, "How it moves", "Variables start at 0 or their value; every element of an array gets it. mtype names count
+-- from 1 in list order. Channels count from 1 as made, globals first", "Processes start in text order (`init` included) at 0; a new one takes the next number", and of parameters "those
+-- of an `active` process start at 0". `t` are the tables of the model, whose links say of each declaring item where the numbers of its variable are (docs/TABLES.md, "Links"); s is the
+-- state before, p the number of a process, i the item at which a thing begins.
 use Prim.Native.Nat.{ℕ, zero, suc, _+_, min}
 use mathlib.Core.List.{List, [], _∷_}
 use lib.ListN.{length, getD, set}
