@@ -1,13 +1,12 @@
 -- Which expressions are lawful: their names stand for what they are used as, and they are not too high. Document 01, "A channel operand is a chan variable", rows 2, 4 and 5 of "What is
 -- answered" ("name unknown .. of the wrong kind", "bad index use", "height"). `sense` says what a name stands for where the expression stands.
-use Prim.Native.Nat.{ℕ}
 use mathlib.Core.Bool.{Bool, true, false, not}
 use lib.Dec.{leb}
 use Rattle.base.specs.Choice.{pick, both}
 use Rattle.base.specs.Lists.{same}
 use Rattle.sheets.specs.Payload.{pid}
 use Rattle.phrases.specs.Phrases.{height}
-use Rattle.syntax.specs.Tree.{Name, Expr, Ref, Shape, Exp, plain, indexed, num, tru, fls, get, len, unary, binary, choice}
+use Rattle.syntax.specs.Tree.{Name, Expr, Shape, Exp, plain, indexed, num, tru, fls, get, len, unary, binary, choice}
 use Rattle.lawful.specs.Senses.{Sense, variable, constant, procedure, unknown}
 
 -- what a reference is for

@@ -2,7 +2,7 @@
 -- `xs` are the items, `cs` their codes, `vs` what their tokens say, `hs` the bodies that they are in, h the number of this body (specs/Homes.antt of `sheets`).
 use Prim.Native.Nat.{ℕ, _≤_, _<_}
 use mathlib.Core.Path.{_≡_}
-use mathlib.Core.Bool.{Bool, true, false, not}
+use mathlib.Core.Bool.{true, false, not}
 use mathlib.Core.List.{List}
 use lib.ListN.{length, getD}
 use lib.Dec.{ltb}
@@ -14,7 +14,7 @@ use Rattle.rules.specs.Rules.{isArray, isChan, globalOf, bodyOf}
 use Rattle.syntax.specs.Tree.{Name}
 use Rattle.syntax.specs.Code.{Item, i-name}
 use Rattle.lawful.specs.Senses.{Sense, variable, constant, procedure, unknown, isUnknown, senseIn, senseOf}
-use Rattle.lawful.specs.Statements.{Place, has}
+use Rattle.lawful.specs.Statements.{Place}
 use Rattle.lawful.specs.Says.{itemAt}
 
 -- item d is what a name of this sense finds; an unknown one finds no declaration of a variable or an mtype name

@@ -8,9 +8,9 @@ use lib.Dec.{eqb, leb}
 use Rattle.base.specs.Choice.{pick, both, either}
 use Rattle.base.specs.Lists.{same}
 use Rattle.sheets.specs.Payload.{pid, formatOf}
-use Rattle.syntax.specs.Tree.{Name, Expr, Received, into, equal, exactly, exactly-true, exactly-false, Sort, action, statement, sequence, options, Tree, express, assign, increment, decrement, send, receive, assert, print, skip, goto, break, timeout, else, run, set-run, select, loop, bare, labelled, end, then, over, option}
+use Rattle.syntax.specs.Tree.{Name, Received, into, equal, exactly, exactly-true, exactly-false, Sort, Tree, express, assign, increment, decrement, send, receive, assert, print, skip, goto, break, timeout, else, run, set-run, select, loop, bare, labelled, end, then, over, option}
 use Rattle.lawful.specs.Senses.{Sense, variable, constant, procedure, unknown, Scope, isUnknown, senseIn, senseOf}
-use Rattle.lawful.specs.Expressions.{Role, operand, channel, target, received, lawful, whole}
+use Rattle.lawful.specs.Expressions.{channel, target, received, lawful, whole}
 
 -- where a body's statements stand: its own names, the globals declared before it, all globals of the model, and its labels
 pub record Place : Type 0 where

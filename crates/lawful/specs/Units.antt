@@ -6,11 +6,11 @@ use mathlib.Core.Option.{Option, none, some}
 use mathlib.Core.List.{List, [], _∷_, _++_, map}
 use lib.ListN.{length}
 use lib.Dec.{eqb, leb}
-use Rattle.base.specs.Choice.{pick, both}
+use Rattle.base.specs.Choice.{both}
 use Rattle.syntax.specs.Tree.{Name, Value, unset, set-number, set-minus, set-true, set-false, set-name, set-channel, Declaration, declare, Group, group, Body, body, Part, mtypes, global, process, init, Model}
 use Rattle.syntax.specs.Tree as tree
 use Rattle.lawful.specs.Senses.{Sense, variable, constant, procedure, Declared, declared, Scope, fresh, isConstant, senseOf}
-use Rattle.lawful.specs.Statements.{Place, labelsOf, apart, allowed}
+use Rattle.lawful.specs.Statements.{labelsOf, apart, allowed}
 
 -- ## what is declared
 -- type 43 is chan

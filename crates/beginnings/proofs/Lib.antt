@@ -1,0 +1,9 @@
+pub mod Walks
+pub mod Items
+pub mod Values
+pub mod Units
+pub mod Begins
+pub mod Offsets
+pub mod Called
+pub mod Parts
+pub mod Initial
