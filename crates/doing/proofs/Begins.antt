@@ -135,7 +135,7 @@ module _ (t : List ℕ) (a : Accepts t) where
       go true = omega arith
       go false = omega (arith, first-most (declares C (saidAt t a) (homesAt t a) 1 n 0) 0 (length C))
 
-  global-unit : (w : Name) (i : ℕ) → i < length xs → getD xs i i-plain ≡ i-name w → globalOf C (saidAt t a) (homes C) i ≡ unitAt t a w
+  pub global-unit : (w : Name) (i : ℕ) → i < length xs → getD xs i i-plain ≡ i-name w → globalOf C (saidAt t a) (homes C) i ≡ unitAt t a w
   unfolding globalOf unitAt
   global-unit w i h e = ap (λ n. find C (saidAt t a) (homesAt t a) 1 n 0 (length C)) (sym (first-said t a w i h e))
 

@@ -1,1 +1,2 @@
 pub mod Motion
+pub mod Proctypes

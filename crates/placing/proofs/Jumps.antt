@@ -48,7 +48,7 @@ use Rattle.placing.proofs.Heads.{holds-between, label-late}
 
 -- ---- what a search for a label says
 module _ (cs vs hs : List ℕ) where
-  declares-name : (set w h d : ℕ) → declares cs vs hs set w h d ≡ true → getD vs (d - 1) 0 ≡ w
+  pub declares-name : (set w h d : ℕ) → declares cs vs hs set w h d ≡ true → getD vs (d - 1) 0 ≡ w
   unfolding declares
   declares-name set w h d = go (among set (getD cs d 0))
     where
@@ -61,7 +61,7 @@ module _ (cs vs hs : List ℕ) where
   label-declares w h d c e g = rw (c, eq-eqb (getD vs (d - 1) 0) w e, eq-eqb (getD hs d 0) h g)
 
   -- a search that finds something is not for `_pid`, and finds the first
-  find-some : (set w h to : ℕ) → find cs vs hs set w h to < to → (w ≡ 0 → ⊥) × (find cs vs hs set w h to ≡ first (declares cs vs hs set w h) 0 to)
+  pub find-some : (set w h to : ℕ) → find cs vs hs set w h to < to → (w ≡ 0 → ⊥) × (find cs vs hs set w h to ≡ first (declares cs vs hs set w h) 0 to)
   unfolding find
   find-some set w h to = go (eqb w 0) refl
     where
