@@ -1,8 +1,10 @@
 // How answers are shown: bytes escaped where they cannot be printed, and a part of a text under its line.
-ghost use Prim.Native.Nat.{_≤_, min};
+ghost use Prim.Native.Nat.{_≤_, _-_, min};
 ghost use mathlib.Core.Path.{_≡_};
-ghost use lib.ListN.{length};
+ghost use lib.ListN.{length, getD};
+ghost use lib.Dec.{eqb};
 ghost use Rattle.sheets.specs.Payload.{piece};
+ghost use Rattle.sheets.specs.Walks.{first};
 use libc::STDOUT_FILENO;
 
 pub fn put(s: &[u8]) {
@@ -86,7 +88,7 @@ pub fn part(text: &[u8], a: usize, e: usize) -> &[u8]
 
 // The place of the first such byte from a place on, or the end.
 pub fn seek(line: &[u8], from: usize, b: u8) -> usize
-    ensures { λ r. ⌜ (min from (length (now (line .entry))) ≤ r) × (r ≤ length (now (line .entry))) ⌝ }
+    ensures { λ r. ⌜ (min from (length (now (line .entry))) ≤ r) × (r ≤ length (now (line .entry))) × (r ≡ first (λ k. eqb (getD (now (line .entry)) k 0) b) (min from (length (now (line .entry)))) (length (now (line .entry)) - min from (length (now (line .entry))))) ⌝ }
 {
     let mut k = base::least(from, line.len());
     while k < line.len() {

@@ -3,13 +3,13 @@
 use Prim.Native.Nat.{ℕ, _+_, _*_}
 use mathlib.Core.Bool.{Bool, true}
 use mathlib.Core.Option.{Option, none, some}
-use mathlib.Core.List.{List, [], _∷_}
 use lib.ListN.{length}
 use lib.Dec.{leb}
 use Rattle.base.specs.Choice.{both}
 use Rattle.syntax.specs.Tree.{Value, unset, set-number, set-minus, set-true, set-false, set-name, set-channel, Declaration, declare, Group, group, Body, body, Activity, idle, once, times, Part, mtypes, global, process, init, Model}
 use Rattle.syntax.specs.Tree as tree
 use Rattle.syntax.specs.Tree.{Sort, Tree, express, assign, increment, decrement, send, receive, assert, print, skip, goto, break, timeout, else, run, set-run, select, loop, bare, labelled, end, then, over, option}
+use Rattle.lawful.specs.Statements.{all}
 use Rattle.lawful.specs.Units.{tally}
 
 -- every statement, `if`, `do` and `else` included; options, labels and declarations are none
@@ -149,11 +149,7 @@ channelsOf (global d) = madeByDeclaration d
 channelsOf (process a w gs b) = startedBy a * madeByBody b
 channelsOf (init b) = madeByBody b
 
-abbrev pub every : {A : Type 0} → (A → Bool) → List A → Bool
-every f [] = true
-every f (a ∷ l) = both (f a) (every f l)
-
 unfoldable pub modest : Model → Bool
 modest m =
     both (both (both (leb (tally statementsOf m) 512) (leb (tally messagesOf m) 64)) (both (leb (tally proctypesOf m) 16) (leb (tally globalsOf m) 64)))
-    (both (every light m) (both (both (leb 1 (tally startsOf m)) (leb (tally startsOf m) 16)) (leb (tally channelsOf m) 16)))
+    (both (all light m) (both (both (leb 1 (tally startsOf m)) (leb (tally startsOf m) 16)) (leb (tally channelsOf m) 16)))

@@ -18,7 +18,8 @@ use Rattle.sheets.specs.Homes.{insideOf, homeOf, homesOf}
 use Rattle.sheets.proofs.Meaning.{home-at}
 use Rattle.ceilings.specs.Ceilings.{one, numbersAt, numbers, startsAt, makesAt, wideAt, heavyAt, weight, total, anyPassed, passed}
 use Rattle.lawful.specs.Units.{tally}
-use Rattle.lawful.specs.Ceilings.{statementsOf, messagesOf, proctypesOf, globalsOf, light, startsOf, channelsOf, every, modest}
+use Rattle.lawful.specs.Statements.{all}
+use Rattle.lawful.specs.Ceilings.{statementsOf, messagesOf, proctypesOf, globalsOf, light, startsOf, channelsOf, modest}
 use Rattle.lawful.specs.Says.{Says}
 use Rattle.saying.proofs.Standing.{weigh, sum-weigh, Lain, model-lain}
 use Rattle.saying.proofs.Counts.{mass-at, statements-model, messages-model, proctypes-model}
@@ -80,9 +81,9 @@ crossed true true false d = refl
 crossed true false false d = refl
 crossed false b c d = refl
 
-all-light : (m : Model) → both (every spare m) (every tight m) ≡ every light m
+all-light : (m : Model) → both (all spare m) (all tight m) ≡ all light m
 all-light [] = refl
-all-light (p ∷ m) = crossed (spare p) (every spare m) (tight p) (every tight m) ∙ ap₂ both (light-is p) (all-light m)
+all-light (p ∷ m) = crossed (spare p) (all spare m) (tight p) (all tight m) ∙ ap₂ both (light-is p) (all-light m)
 
 inside-start : (cs : List ℕ) → insideOf cs 0 ≡ 0
 unfolding insideOf
@@ -131,11 +132,11 @@ module _ (m : Model) (cs vs : List ℕ) (S : Says m cs vs) where
   unfolding total weight
   channels-are = whole (makesAt cs vs hs) ∙ model-sum cs vs hs homed (makesAt cs vs hs) channelsOf (channels-part cs vs hs homed) m 0 lain (inside-start cs) ends
 
-  widths-are : eqb (total cs vs hs 6) 0 ≡ every tight m
+  widths-are : eqb (total cs vs hs 6) 0 ≡ all tight m
   unfolding total weight
   widths-are = ap (λ n. eqb n 0) (whole (wideAt cs hs)) ∙ model-none cs vs hs homed (wideAt cs hs) tight (wide-part cs vs hs homed) m 0 lain (inside-start cs) ends
 
-  weights-are : eqb (total cs vs hs 7) 0 ≡ every spare m
+  weights-are : eqb (total cs vs hs 7) 0 ≡ all spare m
   unfolding total weight
   weights-are = ap (λ n. eqb n 0) (whole (heavyAt cs vs hs)) ∙ model-none cs vs hs homed (heavyAt cs vs hs) spare (heavy-part cs vs hs homed) m 0 lain (inside-start cs) ends
 

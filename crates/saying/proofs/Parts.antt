@@ -13,7 +13,7 @@ use Rattle.syntax.specs.Tree.{Name, sequence, Tree, Declaration, declare, Group
 use Rattle.syntax.specs.Code.{Item, i-local, i-init, i-body, i-end-body, each, code-tree, code-declaration, code-group, code-body, code-activity, code-message, code-part, code}
 use Rattle.sheets.specs.Homes.{heads, insideOf, homeOf}
 use Rattle.lawful.specs.Units.{tally}
-use Rattle.lawful.specs.Ceilings.{every}
+use Rattle.lawful.specs.Statements.{all}
 use Rattle.saying.proofs.Codes.{every-lift, type-low, InDeclaration, global-codes, InMessages, messages-codes}
 use Rattle.saying.proofs.Standing.{weigh, weigh-append, Lain, lain-front, lain-back, Stood, Inner, settled}
 use Rattle.saying.proofs.Bodies.{Housed, housed, weigh-body}
@@ -156,7 +156,7 @@ module _ (cs vs hs : List ℕ) where
 
     -- all are none
     pub model-none : (f : ℕ → ℕ) (F : Part → Bool) → ((p : Part) (i : ℕ) → Standing p i → eqb (weigh f i (code-part p)) 0 ≡ F p)
-        → (m : Model) (i : ℕ) → Lain cs vs i (code m) → insideOf cs i ≡ 0 → i + length (code m) ≡ length cs → eqb (weigh f i (code m)) 0 ≡ every F m
+        → (m : Model) (i : ℕ) → Lain cs vs i (code m) → insideOf cs i ≡ 0 → i + length (code m) ≡ length cs → eqb (weigh f i (code m)) 0 ≡ all F m
     model-none f F h [] i s o e = refl
     model-none f F h (p ∷ m) i s o e =
         let k = i + length (code-part p) in
