@@ -1,4 +1,4 @@
-// The automatic run, which writes what its steps print as it goes: the same run as that of `runs`.
+// The automatic run, which shows what its steps print as it goes: the same run as that of `runs`.
 ghost use mathlib.Core.Path.{_≡_};
 ghost use Rattle.runs.specs.Runs.{turnOf, runFrom, shown};
 use display::part;
@@ -8,15 +8,20 @@ use runs::Ending;
 use runs::Ran;
 use statements::Taken;
 
+// The most bytes that the printed text of a step takes as it is shown: a margin and four bytes for each.
+const SHOWN_MOST: usize = 768;
+
 // After so many steps, always, a run shows that it is alive.
 const STEPS_BETWEEN: u32 = 1000000;
 
-// Writes what a step printed; line[0] keeps the last byte that was written.
+// Shows what a step printed; line[0] is 10 where a line begins, and keeps the last byte that was printed.
 fn put_printed(printed: &[u8], n: usize, line: &mut [u8]) {
     let text = part(printed, 0, n);
-    put(text);
     if text.len() > 0 {
         if line.len() > 0 {
+            let mut out = [0u8; SHOWN_MOST];
+            let w = show_printed::put_text(text, line[0] == 10, &mut out, 0);
+            put(part(&out, 0, w));
             line[0] = text[text.len() - 1];
         }
     }
@@ -46,7 +51,7 @@ fn show_progress(n: u32) {
     }
 }
 
-// The run from a state on; line[0] is the last byte that was written.
+// The run from a state on; line[0] is 10 where a line begins.
 pub fn run(t: &[u32], s: &mut [i32], limit: u32, line: &mut [u8]) -> Ran
     ensures { λ r. ⌜ (r, now (s .exit)) ≡ shown (runFrom (now (t .entry)) limit (now (s .entry))) ⌝ }
 {

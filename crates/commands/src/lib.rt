@@ -1,4 +1,8 @@
-// The commands on the tables of an accepted model; the last line of each is its answer.
+// The commands on the tables of an accepted model; the last line of each is its answer. Each returns the status that a command with this answer ends with: 0 where nothing is wrong, 1 for a
+// refusal, a failed assertion, a fault or a blocked state, 2 for an error.
+ghost use mathlib.Core.Path.{_≡_};
+ghost use Prim.Native.Nat.{_≤_};
+ghost use Rattle.commands.specs.Statuses as statuses;
 use display::part;
 use display::put;
 use display::put_bytes;
@@ -73,8 +77,32 @@ fn list_offers(
     n as usize
 }
 
+// The verdict of a state in which n steps are offered.
+fn put_verdict_of(v: Verdict, n: usize) -> u8
+    ensures { λ r. ⌜ r ≡ statuses.verdictStatus v ⌝ }
+{
+    match v {
+        Verdict::Finished => {
+            put(b"finished\n");
+            0
+        }
+        Verdict::Blocked => {
+            put(b"blocked\n");
+            1
+        }
+        Verdict::Open => {
+            put(b"open ");
+            put_number(n);
+            put(b"\n");
+            0
+        }
+    }
+}
+
 // `start MODEL`
-pub fn start(tables: &[u32]) {
+pub fn start(tables: &[u32]) -> u8
+    ensures { λ r. ⌜ r ≡ statuses.startStatus (now (tables .entry)) ⌝ }
+{
     let mut text = [0u8; 8192];
     let mut kinds = [0u8; 2048];
     let mut starts = [0u32; 2048];
@@ -92,29 +120,59 @@ pub fn start(tables: &[u32]) {
     let mut s = [0i32; 2048];
     starting::start(t, &mut s);
     let n = list_offers(t, &s, &text, &kinds, &starts, &ends, &toks);
-    match moving::verdict_of(t, &s) {
-        Verdict::Finished => put(b"finished\n"),
-        Verdict::Blocked => put(b"blocked\n"),
-        Verdict::Open => {
-            put(b"open ");
-            put_number(n);
-            put(b"\n");
+    put_verdict_of(moving::verdict_of(t, &s), n)
+}
+
+fn put_ending(e: Ending) -> u8
+    ensures { λ r. ⌜ r ≡ statuses.endingStatus e ⌝ }
+{
+    match e {
+        Ending::Finished => {
+            put(b"finished");
+            0
+        }
+        Ending::Blocked => {
+            put(b"blocked");
+            1
+        }
+        Ending::Open => {
+            put(b"open");
+            0
+        }
+        Ending::Assert => {
+            put(b"assert");
+            1
+        }
+        Ending::Fault(_) => {
+            put(b"fault");
+            1
         }
     }
 }
 
-fn put_ending(e: Ending) {
-    match e {
-        Ending::Finished => put(b"finished"),
-        Ending::Blocked => put(b"blocked"),
-        Ending::Open => put(b"open"),
-        Ending::Assert => put(b"assert"),
-        Ending::Fault(_) => put(b"fault"),
+// The answer of a run.
+fn put_ran(r: Ran) -> u8
+    ensures { λ x. ⌜ x ≡ statuses.ranStatus r ⌝ }
+{
+    match r {
+        Ran::Ended(e, n) => {
+            let x = put_ending(e);
+            put(b" ");
+            put_number(n as usize);
+            put(b"\n");
+            x
+        }
+        Ran::Refused(_) => {
+            put(b"error: the run was refused\n");
+            2
+        }
     }
 }
 
 // `run MODEL LIMIT`
-pub fn run(tables: &[u32], limit: u32) {
+pub fn run(tables: &[u32], limit: u32) -> u8
+    ensures { λ r. ⌜ r ≡ statuses.runStatus (now (tables .entry)) limit ⌝ }
+{
     let t = genuine::written(tables);
     let mut s = [0i32; 2048];
     starting::start(t, &mut s);
@@ -123,15 +181,7 @@ pub fn run(tables: &[u32], limit: u32) {
     if line[0] != b'\n' {
         put(b"\n");
     }
-    match r {
-        Ran::Ended(e, n) => {
-            put_ending(e);
-            put(b" ");
-            put_number(n as usize);
-            put(b"\n");
-        }
-        Ran::Refused(_) => {}
-    }
+    put_ran(r)
 }
 
 fn put_verdict(v: u8) {
@@ -145,12 +195,15 @@ fn put_verdict(v: u8) {
 }
 
 // The answer of a replay.
-fn put_replayed(r: Replayed) {
+fn put_replayed(r: Replayed) -> u8
+    ensures { λ x. ⌜ x ≡ statuses.replayedStatus r ⌝ }
+{
     match r {
         Replayed::Accepted(v) => {
             put(b"accepted ");
             put_verdict(v);
             put(b"\n");
+            0
         }
         Replayed::Refused(x, line) => {
             put(b"refused ");
@@ -158,14 +211,17 @@ fn put_replayed(r: Replayed) {
             put(b" ");
             put_number(line);
             put(b"\n");
+            1
         }
     }
 }
 
 // `replay MODEL TRAIL`
-pub fn replay(tables: &[u32], trail: &[u8]) {
+pub fn replay(tables: &[u32], trail: &[u8]) -> u8
+    ensures { λ r. ⌜ r ≡ statuses.replayStatus (now (tables .entry)) (now (trail .entry)) ⌝ }
+{
     let mut s = [0i32; 2048];
-    put_replayed(trails::replay(tables, trail, &mut s));
+    put_replayed(trails::replay(tables, trail, &mut s))
 }
 
 // Each process with the statement at which it stands, and its variables.
@@ -207,7 +263,9 @@ fn leaves_state(r: Replayed) -> bool {
 }
 
 // `state MODEL TRAIL`
-pub fn state(tables: &[u32], trail: &[u8]) {
+pub fn state(tables: &[u32], trail: &[u8]) -> u8
+    ensures { λ r. ⌜ r ≡ statuses.replayStatus (now (tables .entry)) (now (trail .entry)) ⌝ }
+{
     let mut s = [0i32; 2048];
     let r = trails::replay(tables, trail, &mut s);
     if leaves_state(r) {
@@ -229,7 +287,7 @@ pub fn state(tables: &[u32], trail: &[u8]) {
         put_processes(t, &s, &text, &kinds, &starts, &ends, &toks);
         picture::put_channels(t, &s);
     }
-    put_replayed(r);
+    put_replayed(r)
 }
 
 fn put_fault(f: Fault) {
@@ -377,7 +435,9 @@ fn refused_line(r: Replayed) -> usize {
 }
 
 // `steps MODEL TRAIL`
-pub fn steps(tables: &[u32], trail: &[u8]) {
+pub fn steps(tables: &[u32], trail: &[u8]) -> u8
+    ensures { λ r. ⌜ r ≡ statuses.replayStatus (now (tables .entry)) (now (trail .entry)) ⌝ }
+{
     let mut s = [0i32; 2048];
     let r = trails::replay(tables, trail, &mut s);
     match records::form(trail) {
@@ -414,5 +474,5 @@ pub fn steps(tables: &[u32], trail: &[u8]) {
         }
         Formed::Spoiled(_, _) => {}
     }
-    put_replayed(r);
+    put_replayed(r)
 }

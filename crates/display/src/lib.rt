@@ -103,7 +103,7 @@ pub fn seek(line: &[u8], from: usize, b: u8) -> usize
 // Line and column of a refused part, its line, and a caret under it. The margin keeps a model's line from being taken for an answer.
 pub fn explain(text: &[u8], place: usize, len: usize, refused: &[u8]) {
     let p = lexis::located(text, place);
-    put(b"line ");
+    put(b"  line ");
     put_number(p.line);
     put(b" column ");
     put_number(p.column);

@@ -206,15 +206,23 @@ fn put_taken(t: &[u32], before: &[i32], after: &[i32], p: u8, q: u32, m: u32) {
     }
 }
 
-// A process that the step started.
-fn put_started(t: &[u32], before: &[i32], after: &[i32]) {
-    let n = base::least(frames::processes(before) as usize, PROCESSES_MOST - 1);
-    if n < frames::processes(after) as usize {
+// The process of the unit that item u begins, which a `run` started if there was room for it.
+fn put_started(t: &[u32], before: &[i32], u: u32) {
+    if executing::has_room(t, before, u) {
         put(b"\tstarted ");
-        put_number(n);
+        put_number(frames::processes(before) as usize);
         put(b" ");
-        put_proctype(t, frames::unit_of(after, n as u8) as usize);
+        put_proctype(t, u as usize);
         put(b"\n");
+    }
+}
+
+// What a step that stores did: `v = run` may start a process too.
+fn put_assigned(t: &[u32], before: &[i32], after: &[i32], p: u8, q: u32, m: usize) {
+    put_stored(t, before, after, p, q as usize, m);
+    let e = tables::link(t, m);
+    if tables::code(t, e) == 203 {
+        put_started(t, before, tables::link(t, e) as u32);
     }
 }
 
@@ -222,12 +230,12 @@ fn put_started(t: &[u32], before: &[i32], after: &[i32]) {
 pub fn put_effects(t: &[u32], before: &[i32], after: &[i32], p: u8, q: u32) {
     let m = executing::mark(t, q);
     match tables::code(t, m) {
-        190 => put_stored(t, before, after, p, q as usize, m),
+        190 => put_assigned(t, before, after, p, q, m),
         192 => put_stored(t, before, after, p, q as usize, m),
         193 => put_stored(t, before, after, p, q as usize, m),
         194 => put_sent(t, before, after, p, q, m),
         195 => put_taken(t, before, after, p, q, m as u32),
+        202 => put_started(t, before, tables::link(t, m) as u32),
         _ => {}
     }
-    put_started(t, before, after);
 }

@@ -1,8 +1,8 @@
 use lib.ListN.{length}
 use Prim.Native.Nat.{_≤_, _-_}
 use borrow.Author.Needs.{needs}
-use Rattle.pluskaro.proofs.is_limit.Statement.{statement}
-use Rattle.pluskaro.proofs.is_limit.Tie as tie
+use Rattle.show_files.proofs.is_limit.Statement.{statement}
+use Rattle.show_files.proofs.is_limit.Tie as tie
 
 abbrev Inv-loop : tie.InvT-loop
 Inv-loop word i₀ i = i ≤ length word

@@ -1,0 +1,1 @@
+active[16]proctype p(){skip}
