@@ -134,7 +134,7 @@ map-through : {A B : Type 0} (f : A → B) (g : ℕ → A) (l : List ℕ) → ma
 map-through f g [] = refl
 map-through f g (a ∷ l) = ap (f (g a) ∷_) (map-through f g l)
 
-past-end : (l : List ℕ) (j : ℕ) → length l ≤ j → getD l j 0 ≡ 0
+pub past-end : (l : List ℕ) (j : ℕ) → length l ≤ j → getD l j 0 ≡ 0
 past-end [] j h = refl
 past-end (a ∷ l) zero h = absurd (omega arith)
 past-end (a ∷ l) (suc j) h = past-end l j (omega arith)

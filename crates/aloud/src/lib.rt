@@ -1,12 +1,12 @@
 // The automatic run, which shows what its steps print as it goes: the same run as that of `runs`.
 ghost use mathlib.Core.Path.{_≡_};
 ghost use Rattle.runs.specs.Runs.{turnOf, runFrom, shown};
+use base_outcome::Taken;
 use display::part;
 use display::put;
 use moving::Offer;
 use runs::Ending;
 use runs::Ran;
-use statements::Taken;
 
 // The most bytes that the printed text of a step takes as it is shown: a margin and four bytes for each.
 const SHOWN_MOST: usize = 768;

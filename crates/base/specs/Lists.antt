@@ -15,3 +15,8 @@ same (x ∷ xs) (y ∷ ys) = both (eqb x y) (same xs ys)
 -- the first n of xs, as far as there are so many in both, and then what ys has behind them
 abbrev pub pasted : ℕ → List ℕ → List ℕ → List ℕ
 pasted n xs ys = take (min n (min (length xs) (length ys))) xs ++ drop (min n (min (length xs) (length ys))) ys
+
+-- the first list, unless it is empty
+abbrev pub orElse : List ℕ → List ℕ → List ℕ
+orElse [] ys = ys
+orElse (x ∷ xs) ys = x ∷ xs

@@ -14,11 +14,12 @@ use Rattle.entries.specs.Items as items
 use Rattle.tables.specs.Access.{codeOf, linkOf}
 use Rattle.accepting.specs.Meaning.{Accepts}
 use Rattle.judging.specs.Judging.{tablesText}
-use Rattle.frames.specs.Layout.{kept, processesMost, processAt, processesOf}
+use Rattle.frames.specs.Layout.{kept, processAt, processesOf}
+use Rattle.spec_text.specs.Ceilings.{processesMost}
 use Rattle.frames.specs.Walks.{walk}
 use Rattle.starting.specs.Starting.{declared, entered, processMade}
-use Rattle.acts.specs.Program.{enter, Holds, startIn, endIn}
-use Rattle.acts.proofs.Stands.{Lying, body-lies, lying-front, lying-back}
+use Rattle.spec_machine.specs.Program.{enter, Holds, startIn, endIn}
+use Rattle.agree_stage.proofs.Stands.{Lying, body-lies, lying-front, lying-back}
 use Rattle.placing.proofs.Heads.{holds-between}
 use Rattle.following.proofs.Main.{text-unit, text-enter}
 use Rattle.choosing.proofs.Places.{known-there}

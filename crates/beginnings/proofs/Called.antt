@@ -20,13 +20,13 @@ use Rattle.frames.specs.Walks.{walk}
 use Rattle.evaluating.specs.Variables.{typeOf, slotOf}
 use Rattle.starting.specs.Starting.{unitLength}
 use Rattle.effects.specs.Effects.{parameterSet, called}
-use Rattle.keeping.specs.Well.{Unit}
+use Rattle.fitness.specs.Well.{Unit}
 use Rattle.expressions.specs.Held.{Held}
 use Rattle.expressions.proofs.Items.{held-front, held-back}
 use Rattle.expressions.proofs.Operators.{known-back}
 use Rattle.fitness.proofs.Tables.{codesAt, text-held}
-use Rattle.acts.specs.Program.{Holds, startIn, endIn}
-use Rattle.acts.proofs.Stands.{body-lies}
+use Rattle.spec_machine.specs.Program.{Holds, startIn, endIn}
+use Rattle.agree_stage.proofs.Stands.{body-lies}
 use Rattle.placing.proofs.Heads.{Between}
 use Rattle.following.proofs.Main.{text-unit}
 use Rattle.choosing.proofs.Places.{ends-there, known-there}

@@ -17,17 +17,18 @@ use Rattle.sheets.specs.Homes.{insideOf}
 use Rattle.tables.specs.Access.{itemsOf, codeOf, linkOf, numberOf}
 use Rattle.accepting.specs.Meaning.{Accepts}
 use Rattle.judging.specs.Judging.{tablesText}
-use Rattle.frames.specs.Layout.{cleared, processesMost}
+use Rattle.frames.specs.Layout.{cleared}
+use Rattle.spec_text.specs.Ceilings.{processesMost}
 use Rattle.frames.specs.Walks.{walk}
 use Rattle.starting.specs.Starting.{declared, processMade, globalMade, startsOf, unitStarted, scanned, initialOf}
-use Rattle.keeping.specs.Well.{Unit}
+use Rattle.fitness.specs.Well.{Unit}
 use Rattle.fitting.specs.Fits.{isLocal}
 use Rattle.expressions.specs.Held.{Held}
 use Rattle.expressions.proofs.Main.{items-long}
 use Rattle.fitness.proofs.Tables.{codesAt, text-held}
 use Rattle.fitness.proofs.Whole.{text-well}
-use Rattle.acts.specs.Program.{Holds, in-process, in-init, later, endIn}
-use Rattle.acts.proofs.Stands.{Lying, lying-whole, body-lies, lying-front, lying-back}
+use Rattle.spec_machine.specs.Program.{Holds, in-process, in-init, later, endIn}
+use Rattle.agree_stage.proofs.Stands.{Lying, lying-whole, body-lies, lying-front, lying-back}
 use Rattle.placing.proofs.Heads.{holds-between}
 use Rattle.following.proofs.Main.{text-unit}
 use Rattle.following.proofs.Insides.{Inner, inner-known, inner-tree, inner-declarations, inner-groups}

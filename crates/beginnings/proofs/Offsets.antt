@@ -18,7 +18,7 @@ use Rattle.links.specs.Links.{offsetAt}
 use Rattle.tables.specs.Access.{codeOf, linkOf}
 use Rattle.judging.specs.Judging.{tablesText}
 use Rattle.accepting.specs.Meaning.{Accepts}
-use Rattle.keeping.specs.Well.{Unit, Inside}
+use Rattle.fitness.specs.Well.{Unit, Inside}
 use Rattle.fitness.specs.Facts.{homes, linksIn, Facts}
 use Rattle.fitness.specs.Held.{Held}
 use Rattle.fitness.proofs.Tables.{codesAt, saidAt, text-held}

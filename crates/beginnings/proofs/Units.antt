@@ -21,8 +21,8 @@ use Rattle.expressions.specs.Held.{Held}
 use Rattle.expressions.proofs.Items.{part-held}
 use Rattle.expressions.proofs.Main.{items-long}
 use Rattle.fitness.proofs.Tables.{text-held}
-use Rattle.acts.specs.Program.{sizeIn, Holds, in-process, in-init, later, startIn, endIn}
-use Rattle.acts.proofs.Stands.{Lying, lying-behind, lying-whole, lying-front, lying-back}
+use Rattle.spec_machine.specs.Program.{sizeIn, Holds, in-process, in-init, later, startIn, endIn}
+use Rattle.agree_stage.proofs.Stands.{Lying, lying-behind, lying-whole, lying-front, lying-back}
 use Rattle.placing.proofs.Heads.{Between}
 use Rattle.following.proofs.Main.{text-unit}
 use Rattle.choosing.proofs.Places.{ends-there, known-there}

@@ -13,10 +13,11 @@ use Rattle.syntax.specs.Code.{i-local, each, code-size, code-variable, code-dec
 use Rattle.tables.specs.Access.{linkOf}
 use Rattle.value.specs.Types.{castOf}
 use Rattle.value.specs.Operators.{unaryOf}
-use Rattle.frames.specs.Layout.{kept, cleared, processesMost, processAt, processesOf, channelsOf}
+use Rattle.frames.specs.Layout.{kept, cleared, processAt, processesOf, channelsOf}
+use Rattle.spec_text.specs.Ceilings.{processesMost}
 use Rattle.evaluating.specs.Variables.{typeOf, slotOf}
 use Rattle.starting.specs.Starting.{filled, stored, channelMade}
-use Rattle.acts.specs.Program.{enter, startIn, endIn}
+use Rattle.spec_machine.specs.Program.{enter, startIn, endIn}
 
 -- n times
 abbrev pub repeated : (List ℤ → List ℤ) → ℕ → List ℤ → List ℤ

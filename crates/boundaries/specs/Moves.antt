@@ -1,4 +1,4 @@
--- Worked examples on both sides of what statements of a tree can do and do (crates `meaning` and `acts`), computed: document 01, "How it moves". The stage is a small one of its own.
+-- Worked examples on both sides of what statements of a tree can do and do (crate `spec_machine`), computed: document 01, "How it moves". The stage is a small one of its own.
 use Prim.Native.Nat.{ℕ, _+_, _-_}
 use mathlib.Core.Path.{_≡_, refl}
 use mathlib.Core.Bool.{Bool, true, false}
@@ -9,27 +9,27 @@ use lib.Dec.{eqb}
 use Rattle.base.specs.Choice.{pick}
 use Rattle.base.specs.Lists.{same}
 use Rattle.tokens.specs.Kinds.{bytes}
-use Rattle.frames.specs.Layout.{nat}
+use Rattle.base.specs.Numbers.{nat}
 use Rattle.value.specs.Operators.{applyOf, unaryOf, divideOf}
 use Rattle.value.specs.declared.Fault.the-variants.{Divide, Index, Channel, Fields}
 use Rattle.value.specs.declared.Answer.{Answer}
 use Rattle.value.specs.declared.Answer.the-variants.{Value, Fails}
-use Rattle.statements.specs.declared.Taken.the-variants.{Done, Refuted, Faulted, Idle}
+use Rattle.base_outcome.specs.declared.Taken.the-variants.{Done, Refuted, Faulted, Idle}
 use Rattle.statements.specs.Statements.{Result}
-use Rattle.printing.specs.Printing.{digits, escaped, written, opened, counted}
+use Rattle.spec_text.specs.Formats.{digitsBy, escaped, written, opened, counted}
 use Rattle.syntax.specs.Tree.{Name, Expr, plain, indexed, num, get, len, unary, binary, choice, into, equal, exactly, exactly-true, exactly-false}
 use Rattle.syntax.specs.Tree.{action, sequence, Tree, express, assign, increment, decrement, send, receive, assert, print, skip, goto, break, timeout, else, run, set-run, select, loop, bare, labelled, end, then, over, option}
-use Rattle.meaning.specs.Eval.{eval}
-use Rattle.acts.specs.Stage.{Stage, Ways}
-use Rattle.acts.specs.Arguments.{values, agrees, targets}
-use Rattle.acts.specs.Ready.{ready}
-use Rattle.acts.specs.Effect.{deliveries, effect, format, prints}
-use Rattle.acts.specs.Offers.{offers}
-use Rattle.acts.specs.Program.{Within, itself, in-if, in-do, unlabelled, behind-label, in-first, in-rest, in-option, in-others, labelIn}
+use Rattle.spec_machine.specs.Eval.{eval}
+use Rattle.spec_machine.specs.Stage.{Stage, Ways}
+use Rattle.spec_machine.specs.Arguments.{values, agrees, targets}
+use Rattle.spec_machine.specs.Ready.{ready}
+use Rattle.spec_machine.specs.Effect.{deliveries, effect, format, prints}
+use Rattle.spec_machine.specs.Offers.{offers}
+use Rattle.spec_machine.specs.Program.{Within, itself, in-if, in-do, unlabelled, behind-label, in-first, in-rest, in-option, in-others, labelIn}
 
 -- to unfold this is to unfold all that the examples compute with
 unfoldable moving : Unit {0}
-unfolding same applyOf unaryOf divideOf eval values agrees targets ready deliveries effect offers digits escaped written opened counted format
+unfolding same applyOf unaryOf divideOf eval values agrees targets ready deliveries effect offers digitsBy escaped written opened counted format
 moving = tt
 
 -- ## the stage: a state has the place of the process, i, a[0], a[1], c, e, how many messages wait in channel 1, and how many processes there are. m is an mtype name, 7
@@ -62,7 +62,7 @@ abbrev count : ℕ → List ℤ → ℕ
 count k s = nat (getD s k (pos 0))
 
 -- channel 1 holds up to 2 messages of 2 fields, the oldest is 1, 7; `fits` says whether one more process has room
-abbrev stage : Bool → List ℤ → Stage
+abbrev stage : Bool → List ℤ → Stage (List ℤ)
 stage fits s =
     record {
       scene =

@@ -20,7 +20,7 @@ use Rattle.phrases.specs.Phrases.{At}
 use Rattle.accepting.specs.Meaning.{Accepts}
 use Rattle.expressions.specs.Names.{codesAt, saidAt, homesAt}
 use Rattle.expressions.proofs.Main.{items-long}
-use Rattle.acts.proofs.Stands.{Lying}
+use Rattle.agree_stage.proofs.Stands.{Lying}
 use Rattle.nesting.specs.Full.{Starts, Full}
 use Rattle.nesting.proofs.Main.{all-at}
 use Rattle.choosing.specs.Depth.{optionsIn}

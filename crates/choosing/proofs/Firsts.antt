@@ -17,8 +17,8 @@ use Rattle.tables.specs.Access.{codeOf}
 use Rattle.accepting.specs.Meaning.{Accepts}
 use Rattle.expressions.specs.Held.{Held}
 use Rattle.expressions.proofs.Items.{T, held-front, held-back}
-use Rattle.acts.specs.Program.{sizeIn}
-use Rattle.acts.proofs.Stands.{Lying, lying-front}
+use Rattle.spec_machine.specs.Program.{sizeIn}
+use Rattle.agree_stage.proofs.Stands.{Lying, lying-front}
 use Rattle.choosing.specs.Told.{Plain}
 use Rattle.choosing.proofs.Places.{xs, held-there, proper-there}
 

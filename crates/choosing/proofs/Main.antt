@@ -4,31 +4,29 @@ use Prim.Native.Nat.{ℕ, _+_, _≤_}
 use native.Mathlib.Omega.{arith}
 use mathlib.Core.Path.{_≡_, sym as inv, ap₂, subst, _∙_}
 use mathlib.Core.Bool.{Bool}
-use mathlib.Core.Logic.{_⊎_, inl, inr}
 use mathlib.Core.List.{List, [], _∷_, _++_}
 use lib.ListN.{length-append}
 use lib.IntN.{ℤ}
-use Rattle.syntax.specs.Tree.{Sort, action, options, Tree, select, loop, Body, body, Model}
-use Rattle.syntax.specs.Code.{i-local, i-body, i-end-body, i-if, i-fi, i-do, i-od, each, code-declaration, code-body, code-tree}
+use Rattle.syntax.specs.Tree.{Sort, action, Tree, Body, body, Model}
+use Rattle.syntax.specs.Code.{i-local, i-body, i-end-body, each, code-declaration, code-body, code-tree}
 use Rattle.tables.specs.Access.{codeOf}
 use Rattle.judging.specs.Judging.{tablesText}
 use Rattle.accepting.specs.Meaning.{Accepts}
 use Rattle.accepting.proofs.Tables.{text-tables}
 use Rattle.executing.specs.Executing.{readyOf}
 use Rattle.offering.specs.Offers.{offersOf}
-use Rattle.executable.proofs.Verdicts.{end-offers}
+use Rattle.choosing.proofs.Lists.{end-offers}
 use Rattle.expressions.proofs.Codes.{codes-few}
 use Rattle.expressions.proofs.Items.{T}
 use Rattle.expressions.proofs.Main.{items-long}
-use Rattle.acts.specs.Stage.{Ways}
-use Rattle.acts.specs.Program.{Within, itself, in-if, in-do, unlabelled, behind-label, in-first, in-rest, in-option, in-others, Holds, in-process, in-init, later, endIn, statementsOf, Statement, Ending}
-use Rattle.acts.specs.Offers.{offers}
-use Rattle.acts.proofs.Stands.{Lying, body-lies, statement-lies, lying-back, lying-between}
+use Rattle.spec_machine.specs.Stage.{Ways}
+use Rattle.spec_machine.specs.Program.{Within, itself, in-if, in-do, unlabelled, behind-label, in-first, in-rest, in-option, in-others, Holds, in-process, in-init, later, endIn, statementsOf, Statement, Ending}
+use Rattle.spec_machine.specs.Offers.{offers}
+use Rattle.agree_stage.proofs.Stands.{Lying, body-lies, statement-lies, lying-back}
 use Rattle.nesting.specs.Full.{Full, FullBody, FullModel}
 use Rattle.nesting.proofs.Begun.{full-model}
-use Rattle.choosing.specs.Depth.{depth, optionsIn, ShallowBody, ShallowModel}
+use Rattle.choosing.specs.Depth.{depth, ShallowBody, ShallowModel}
 use Rattle.choosing.proofs.Shallow.{shallow-model}
-use Rattle.choosing.proofs.Counted.{few-options}
 use Rattle.choosing.proofs.Walks.{walked}
 use Rattle.choosing.proofs.Places.{xs, held-there, inside-there}
 use Rattle.choosing.proofs.Texts.{told}
@@ -80,15 +78,6 @@ module _ (t : List ℕ) (a : Accepts t) where
 
   text-full : {u j : ℕ} {x : Tree action} {h : Ways} → Statement (a .tree) u x j h → Full x
   text-full s = within-full (s .inside) (holds-full (s .held) (full-model (a .gram)))
-
-  -- "statements 512", one of which is in each option
-  pub text-options : {u j : ℕ} {x : Tree action} {h : Ways} → Statement (a .tree) u x j h → (os : Tree options) → (x ≡ select os) ⊎ (x ≡ loop os) → optionsIn os ≤ 512
-  text-options {u} {j} {x} {h} s os (inl e) =
-      few-options t a os (j + 1) (subst Full e (text-full s))
-      (lying-between (xs t a) i-if (code-tree os) i-fi 0 j (subst (λ (y : Tree action). Lying (xs t a) 0 (code-tree y) j) e (statement-lies s)))
-  text-options {u} {j} {x} {h} s os (inr e) =
-      few-options t a os (j + 1) (subst Full e (text-full s))
-      (lying-between (xs t a) i-do (code-tree os) i-od 0 j (subst (λ (y : Tree action). Lying (xs t a) 0 (code-tree y) j) e (statement-lies s)))
 
   -- ---- steps
   offers-in-tables : {u j : ℕ} {x : Tree action} {h : Ways} → Statement (a .tree) u x j h → (s : List ℤ) (p : ℕ) (late : Bool)

@@ -19,7 +19,7 @@ use Rattle.expressions.specs.Names.{codesAt}
 use Rattle.expressions.proofs.Items.{T, part-held}
 use Rattle.expressions.proofs.Main.{items-long}
 use Rattle.expressions.proofs.Operators.{known-front, known-back, text-proper}
-use Rattle.acts.proofs.Stands.{Lying}
+use Rattle.agree_stage.proofs.Stands.{Lying}
 use Rattle.nesting.specs.Balanced.{Begun, Balanced}
 use Rattle.nesting.proofs.Matches.{Opener, Match}
 use Rattle.nesting.proofs.Main.{all-at, linked-to}

@@ -13,8 +13,8 @@ use Rattle.tables.specs.Access.{codeOf}
 use Rattle.offering.specs.Offers.{firstOf}
 use Rattle.accepting.specs.Meaning.{Accepts}
 use Rattle.expressions.proofs.Items.{T}
-use Rattle.acts.specs.Program.{sizeIn, enter}
-use Rattle.acts.proofs.Stands.{Lying, lying-front, lying-back, lying-between}
+use Rattle.spec_machine.specs.Program.{sizeIn, enter}
+use Rattle.agree_stage.proofs.Stands.{Lying, lying-front, lying-back, lying-between}
 use Rattle.nesting.specs.Full.{Starts, Full}
 use Rattle.nesting.proofs.Begun.{sequence-begun}
 use Rattle.nesting.proofs.Matches.{is-if, is-do, is-option}

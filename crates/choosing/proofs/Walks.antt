@@ -12,10 +12,11 @@ use Rattle.tables.specs.Access.{codeOf, linkOf}
 use Rattle.syntax.specs.Tree.{Sort, action, statement, sequence, options, Tree, express, assign, increment, decrement, send, receive, assert, print, skip, goto, break, timeout, else, run, set-run, select, loop, bare, labelled, end, then, over, option}
 use Rattle.syntax.specs.Code.{i-if, i-fi, i-do, i-od, i-option, i-end-option, code-tree}
 use Rattle.executing.specs.Executing.{readyOf}
-use Rattle.offering.specs.Offers.{orElse, isSelection, endOf, firstOf, eachOption, elseAt, offersFrom}
-use Rattle.executable.proofs.Offers.{list-plain, list-selection}
-use Rattle.acts.specs.Program.{sizeIn, placeIn, enter}
-use Rattle.acts.specs.Offers.{elseOf, offers}
+use Rattle.offering.specs.Offers.{isSelection, endOf, firstOf, eachOption, elseAt, offersFrom}
+use Rattle.base.specs.Lists.{orElse}
+use Rattle.choosing.proofs.Lists.{list-plain, list-selection}
+use Rattle.spec_machine.specs.Program.{sizeIn, placeIn, enter}
+use Rattle.spec_machine.specs.Offers.{elseOf, offers}
 use Rattle.nesting.specs.Full.{Starts}
 use Rattle.choosing.specs.Depth.{depth, optionsIn}
 use Rattle.choosing.specs.Told.{Told}

@@ -6,7 +6,7 @@ use mathlib.Core.List.{List}
 use Rattle.tables.specs.Access.{codeOf, linkOf}
 use Rattle.syntax.specs.Tree.{Sort, Tree, express, assign, increment, decrement, send, receive, assert, print, skip, goto, break, timeout, else, run, set-run, select, loop, bare, labelled, end, then, over, option}
 use Rattle.offering.specs.Offers.{isSelection, firstOf}
-use Rattle.acts.specs.Program.{sizeIn, enter}
+use Rattle.spec_machine.specs.Program.{sizeIn, enter}
 use Rattle.nesting.specs.Full.{Starts}
 use Rattle.choosing.specs.Depth.{optionsIn}
 

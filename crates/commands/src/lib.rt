@@ -3,6 +3,7 @@
 ghost use mathlib.Core.Path.{_≡_};
 ghost use Prim.Native.Nat.{_≤_};
 ghost use Rattle.commands.specs.Statuses as statuses;
+use base_outcome::Taken;
 use display::part;
 use display::put;
 use display::put_bytes;
@@ -16,7 +17,6 @@ use records::Formed;
 use records::Record;
 use runs::Ending;
 use runs::Ran;
-use statements::Taken;
 use trails::Replayed;
 use value::Fault;
 

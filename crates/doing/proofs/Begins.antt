@@ -23,7 +23,7 @@ use Rattle.tables.specs.Access.{codeOf, linkOf}
 use Rattle.judging.specs.Judging.{tablesText}
 use Rattle.accepting.specs.Meaning.{Accepts}
 use Rattle.executing.specs.Executing.{isAlone, markOf}
-use Rattle.meaning.specs.Scenes.{sizeIn}
+use Rattle.agree_stage.specs.Scenes.{sizeIn}
 use Rattle.expressions.specs.Names.{firstName, codesAt, saidAt, homesAt}
 use Rattle.expressions.proofs.Main.{items-long}
 use Rattle.expressions.proofs.Said.{first-said}
@@ -31,7 +31,7 @@ use Rattle.fitness.specs.Facts.{homes, starts}
 use Rattle.fitness.proofs.Tables.{text-held}
 use Rattle.fitness.proofs.Known.{text-facts}
 use Rattle.fitness.proofs.Links.{link-is}
-use Rattle.acts.proofs.Stands.{lying-back}
+use Rattle.agree_stage.proofs.Stands.{lying-back}
 use Rattle.choosing.proofs.Places.{at-there, ends-there}
 use Rattle.doing.specs.Stages.{unitAt}
 use Rattle.doing.proofs.Parts.{Here, here-lies, first-code}

@@ -14,10 +14,10 @@ use Rattle.accepting.specs.Meaning.{Accepts}
 use Rattle.expressions.specs.Names.{codesAt, declAt}
 use Rattle.expressions.proofs.Names.{low-at}
 use Rattle.expressions.proofs.Operators.{text-proper}
-use Rattle.acts.specs.Stage.{Ways}
-use Rattle.acts.specs.Tables.{stageOf}
-use Rattle.acts.specs.Program.{Within, Holds, startIn, statementsOf, Statement}
-use Rattle.acts.proofs.Stands.{within-lies, body-lies, lying-in, statements-lie, lying-front, lying-back}
+use Rattle.spec_machine.specs.Stage.{Ways}
+use Rattle.agree_stage.specs.Tables.{stageOf}
+use Rattle.spec_machine.specs.Program.{Within, Holds, startIn, statementsOf, Statement}
+use Rattle.agree_stage.proofs.Stands.{within-lies, body-lies, lying-in, statements-lie, lying-front, lying-back}
 use Rattle.choosing.proofs.Places.{at-there}
 use Rattle.doing.specs.Stages.{unitAt, stageAt}
 use Rattle.doing.proofs.Meant.{Quiet, quiet-join, decl-same}

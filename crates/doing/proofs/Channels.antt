@@ -11,7 +11,8 @@ use borrow.Author.Tests.{eq-eqb, ne-eqb, eqb-true}
 use Rattle.base.specs.Choice.{pick}
 use Rattle.tables.specs.Access.{codeOf, linkOf}
 use Rattle.value.specs.declared.Fault.the-variants.{Channel, Fields}
-use Rattle.frames.specs.Layout.{nat, cellOf, declaredOf}
+use Rattle.frames.specs.Layout.{cellOf, declaredOf}
+use Rattle.base.specs.Numbers.{nat}
 use Rattle.syntax.specs.Tree.{Name, Ref}
 use Rattle.evaluating.specs.declared.Reached.{Reached}
 use Rattle.evaluating.specs.declared.Reached.the-variants.{Record, Unmade}
@@ -19,9 +20,9 @@ use Rattle.evaluating.specs.Variables.{slotOf, madeOf, loadOf, channelOf}
 use Rattle.evaluating.specs.Expressions.{locateOf}
 use Rattle.executing.specs.Channels.{fieldsOf, argumentsOf, addressedOf}
 use Rattle.executing.specs.Executing.{messageOf}
-use Rattle.meaning.specs.Scenes.{sceneOf, locate}
-use Rattle.acts.specs.Tables.{stageOf}
-use Rattle.acts.specs.Arguments.{nameOf, Aim, hit, miss, aim, Reach, channel, astray, reachAt, reach}
+use Rattle.agree_stage.specs.Scenes.{sceneOf, locate}
+use Rattle.agree_stage.specs.Tables.{stageOf}
+use Rattle.spec_machine.specs.Arguments.{nameOf, Aim, hit, miss, aim, Reach, channel, astray, reachAt, reach}
 use Rattle.doing.proofs.Receives.{placed, locate-aim}
 
 -- the record of a channel, by its number

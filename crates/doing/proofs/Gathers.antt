@@ -19,9 +19,9 @@ use Rattle.messages.specs.declared.Gathered.{Gathered}
 use Rattle.messages.specs.declared.Gathered.the-variants.{Upto, Failed}
 use Rattle.messages.specs.Messages.{onValue, gatherEnd, gatherList}
 use Rattle.effects.specs.Effects.{endFrom}
-use Rattle.meaning.specs.Eval.{Scene, eval}
-use Rattle.meaning.specs.Scenes.{sceneOf}
-use Rattle.acts.specs.Arguments.{Values, all, stopped, first, valuesBy, values}
+use Rattle.spec_machine.specs.Eval.{Scene, eval}
+use Rattle.agree_stage.specs.Scenes.{sceneOf}
+use Rattle.spec_machine.specs.Arguments.{Values, all, stopped, first, valuesBy, values}
 use Rattle.doing.specs.Walked.{Passed, no-more, one-more}
 
 -- ---- a list filled from place k on

@@ -4,7 +4,6 @@ pub mod Meant
 pub mod Parts
 pub mod Marks
 pub mod Phrases
-pub mod Units
 pub mod Lists
 pub mod Channels
 pub mod Begins

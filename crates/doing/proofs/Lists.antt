@@ -15,11 +15,11 @@ use Rattle.tables.specs.Access.{codeOf}
 use Rattle.judging.specs.Judging.{tablesText}
 use Rattle.accepting.specs.Meaning.{Accepts}
 use Rattle.evaluating.specs.Expressions.{evalOf}
-use Rattle.meaning.specs.Eval.{eval}
-use Rattle.meaning.specs.Scenes.{sceneOf, sizeIn}
+use Rattle.spec_machine.specs.Eval.{eval}
+use Rattle.agree_stage.specs.Scenes.{sceneOf, sizeIn}
 use Rattle.expressions.specs.Names.{codesAt, declAt}
 use Rattle.fitness.proofs.Tables.{text-held}
-use Rattle.acts.proofs.Stands.{lying-back}
+use Rattle.agree_stage.proofs.Stands.{lying-back}
 use Rattle.choosing.proofs.Places.{at-there, ends-there}
 use Rattle.doing.specs.Walked.{Passed, Compared, Agreed, Got, no-more, one-more}
 use Rattle.doing.proofs.Meant.{Quiet, quiet-join}

@@ -13,7 +13,7 @@ use Rattle.accepting.specs.Meaning.{Accepts}
 use Rattle.expressions.specs.Names.{codesAt}
 use Rattle.expressions.proofs.Names.{Lies, lies-all}
 use Rattle.fitness.proofs.Tables.{text-held}
-use Rattle.acts.proofs.Stands.{Lying}
+use Rattle.agree_stage.proofs.Stands.{Lying}
 use Rattle.choosing.proofs.Places.{at-there, ends-there}
 
 module _ (t : List ℕ) (a : Accepts t) where

@@ -19,7 +19,8 @@ use Rattle.finding.specs.Sets.{among}
 use Rattle.finding.specs.Search.{lookup}
 use Rattle.rules.specs.Rules.{roleOf, badPlain, badVariable, badUse, badRef, ruleOf, badBy, bad}
 use Rattle.faults.specs.Faults.{blank}
-use Rattle.phrases.specs.Phrases.{height, Proper, At}
+use Rattle.phrases.specs.Phrases.{Proper, At}
+use Rattle.lawful.specs.Heights.{height}
 use Rattle.phrases.proofs.Starts.{at-front, some-items, phrase-starts}
 use Rattle.phrases.proofs.Inside.{phrase-inside}
 use Rattle.places.specs.Places.{isPart, isMark}
@@ -28,9 +29,9 @@ use Rattle.judging.specs.Judging.{tablesText}
 use Rattle.accepting.specs.Meaning.{Accepts}
 use Rattle.accepting.proofs.Tables.{text-tables}
 use Rattle.evaluating.specs.Expressions.{evalOf, locateOf}
-use Rattle.meaning.specs.Eval.{eval}
-use Rattle.meaning.specs.Scenes.{sceneOf, sizeIn, Stands, Named, locate, Linked}
-use Rattle.meaning.proofs.Tables.{locate-is}
+use Rattle.spec_machine.specs.Eval.{eval}
+use Rattle.agree_stage.specs.Scenes.{sceneOf, sizeIn, Stands, Named, locate, Linked}
+use Rattle.agree_stage.proofs.Tables.{locate-is}
 use Rattle.expressions.specs.Names.{codesAt, saidAt, homesAt, meantAt, declAt, Arrays}
 use Rattle.expressions.specs.Marks.{Closes, plainly, in-parentheses}
 use Rattle.expressions.proofs.Codes.{codes-few}
@@ -41,8 +42,8 @@ use Rattle.expressions.proofs.Names.{low-at, link-means, means-found, means-non
 use Rattle.expressions.proofs.Declared.{no-fault}
 use Rattle.expressions.proofs.Operators.{text-proper}
 use Rattle.expressions.proofs.Whole.{text-arrays, text-height, text-evaluates}
-use Rattle.acts.specs.Arguments.{nameOf}
-use Rattle.acts.proofs.Stands.{lying-back}
+use Rattle.spec_machine.specs.Arguments.{nameOf}
+use Rattle.agree_stage.proofs.Stands.{lying-back}
 use Rattle.choosing.proofs.Places.{at-there, ends-there}
 use Rattle.doing.proofs.Meant.{Quiet, decl-same}
 use Rattle.doing.proofs.Parts.{Here, here-lies}

@@ -1,5 +1,5 @@
 -- WHAT A STEP PRINTS: at the place of a statement of an accepted text's tree the tables print what the tree's statement prints, in every state and for every process.
-use Prim.Native.Nat.{ℕ, zero, suc, _+_, _-_, _<_}
+use Prim.Native.Nat.{ℕ, zero, suc, _+_, _-_, _<_, _≤_}
 use native.Mathlib.Omega.{arith}
 use mathlib.Core.Path.{_≡_, refl, sym, ap, subst, _∙_}
 use mathlib.Core.Logic.{inr}
@@ -20,13 +20,15 @@ use Rattle.judging.specs.Judging.{tablesText}
 use Rattle.accepting.specs.Meaning.{Accepts, linksAt}
 use Rattle.accepting.proofs.Tables.{text-tables}
 use Rattle.messages.specs.Messages.{gatherEnd, gatherList}
-use Rattle.printing.specs.Printing.{written, opened, counted, writtenFrom, textOf, unlessFailed, printedAt}
-use Rattle.meaning.specs.Scenes.{sceneOf}
+use Rattle.printing.specs.Printing.{writtenFrom, textOf, unlessFailed, printedAt}
+use Rattle.spec_text.specs.Formats.{written, opened, counted}
+use Rattle.agree_stage.specs.Scenes.{sceneOf}
 use Rattle.expressions.specs.Names.{declAt}
 use Rattle.expressions.proofs.Main.{items-long}
-use Rattle.acts.specs.Arguments.{Values, all, stopped, values}
-use Rattle.acts.specs.Effect.{format, textBy, prints}
-use Rattle.acts.proofs.Stands.{Lying}
+use Rattle.spec_machine.specs.Arguments.{Values, all, stopped, values}
+use Rattle.spec_machine.specs.Effect.{format, textBy, prints}
+use Rattle.agree_stage.proofs.Stands.{Lying}
+use Rattle.doing.specs.Few.{Few}
 use Rattle.doing.specs.Stages.{stageAt}
 use Rattle.doing.proofs.Gathers.{endBy, gather-ends}
 use Rattle.doing.proofs.Parts.{Here, here-lies, first-inside, first-code}
@@ -89,11 +91,11 @@ module _ (t : List ℕ) (a : Accepts t) where
     unfolding printedAt
     text-printed e = rw e
 
-    print-prints : (w : List ℕ) (es : List Expr) → Here t a (code-tree (print w es)) j → printedAt T s p j ≡ textBy w (values (sceneOf T s p (declAt t a j)) es)
-    print-prints w es h =
+    print-prints : (w : List ℕ) (es : List Expr) → Here t a (code-tree (print w es)) j → length es ≤ 32 → printedAt T s p j ≡ textBy w (values (sceneOf T s p (declAt t a j)) es)
+    print-prints w es h few =
         let g = printing t a w es j h in
-        text-printed (g .coded) ∙ ap (λ y. unlessFailed y (textOf T (gatherList T s p 32 (j + 1) 0 (replicate 32 (pos 0))) j)) (gather-ends T (declAt t a j) s p (g .passed) 32 (g .few))
-        ∙ go (j + length (code-tree (print w es)) - 1) (values (sceneOf T s p (declAt t a j)) es) (λ vs e. gathered-alike T (declAt t a j) s p (g .passed) (g .few) vs e) refl
+        text-printed (g .coded) ∙ ap (λ y. unlessFailed y (textOf T (gatherList T s p 32 (j + 1) 0 (replicate 32 (pos 0))) j)) (gather-ends T (declAt t a j) s p (g .passed) 32 few)
+        ∙ go (j + length (code-tree (print w es)) - 1) (values (sceneOf T s p (declAt t a j)) es) (λ vs e. gathered-alike T (declAt t a j) s p (g .passed) few vs e) refl
       where
         go : (z : ℕ) (y : Values)
             → ((vs : List ℤ) → values (sceneOf T s p (declAt t a j)) es ≡ all vs → (i : ℕ) → getD (gatherList T s p 32 (j + 1) 0 (replicate 32 (pos 0))) i (pos 0) ≡ getD vs i (pos 0))
@@ -104,33 +106,33 @@ module _ (t : List ℕ) (a : Accepts t) where
     alone-prints : (x : Item) (z : List Item) → Here t a (x ∷ z) j → (items.codeOf x ≡ 72 → ⊥) → printedAt T s p j ≡ []
     alone-prints x z h n = none-printed (λ e. n (sym (first-code t a x z j h) ∙ e))
 
-    prints-at : (x : Tree action) → Here t a (code-tree x) j → printedAt T s p j ≡ prints (stageAt t a s p j) x
-    prints-at (express e) h = none-printed (leaf-no-text (leaf-there t a e (i-express ∷ []) j h))
-    prints-at (assign r e) h =
+    prints-at : (x : Tree action) → Here t a (code-tree x) j → Few x → printedAt T s p j ≡ prints (stageAt t a s p j) x
+    prints-at (express e) h few = none-printed (leaf-no-text (leaf-there t a e (i-express ∷ []) j h))
+    prints-at (assign r e) h few =
         none-printed (leaf-no-text (leaf-there t a r (i-target ∷ (code-exp e ++ i-assign ∷ [])) j
         (subst (λ l. Here t a l j) (append-assoc (code-exp r) (i-target ∷ code-exp e) (i-assign ∷ [])) h)))
-    prints-at (increment r) h = none-printed (leaf-no-text (leaf-there t a r (i-increment ∷ []) j h))
-    prints-at (decrement r) h = none-printed (leaf-no-text (leaf-there t a r (i-decrement ∷ []) j h))
-    prints-at (send r es) h =
+    prints-at (increment r) h few = none-printed (leaf-no-text (leaf-there t a r (i-increment ∷ []) j h))
+    prints-at (decrement r) h few = none-printed (leaf-no-text (leaf-there t a r (i-decrement ∷ []) j h))
+    prints-at (send r es) h few =
         let E = each code-argument es in
         none-printed (leaf-no-text (leaf-there t a r (i-send ∷ (E ++ i-end ∷ [])) j (subst (λ l. Here t a l j) (append-assoc (code-exp r) (i-send ∷ E) (i-end ∷ [])) h)))
-    prints-at (receive r ys) h =
+    prints-at (receive r ys) h few =
         let E = each code-received ys in
         none-printed (leaf-no-text (leaf-there t a r (i-receive ∷ (E ++ i-end ∷ [])) j (subst (λ l. Here t a l j) (append-assoc (code-exp r) (i-receive ∷ E) (i-end ∷ [])) h)))
-    prints-at (assert e) h = none-printed (leaf-no-text (leaf-there t a e (i-assert ∷ []) j h))
-    prints-at (print w es) h = print-prints w es h
-    prints-at skip h = alone-prints i-skip [] h (λ e. omega arith)
-    prints-at (goto w) h = alone-prints (i-name w) (i-goto ∷ []) h (λ e. omega arith)
-    prints-at break h = alone-prints i-break [] h (λ e. omega arith)
-    prints-at timeout h = alone-prints i-timeout [] h (λ e. omega arith)
-    prints-at else h = alone-prints i-else [] h (λ e. omega arith)
-    prints-at (run w es) h = alone-prints (i-name w) (i-run ∷ (each code-argument es ++ i-end ∷ [])) h (λ e. omega arith)
-    prints-at (set-run r w es) h =
+    prints-at (assert e) h few = none-printed (leaf-no-text (leaf-there t a e (i-assert ∷ []) j h))
+    prints-at (print w es) h few = print-prints w es h few
+    prints-at skip h few = alone-prints i-skip [] h (λ e. omega arith)
+    prints-at (goto w) h few = alone-prints (i-name w) (i-goto ∷ []) h (λ e. omega arith)
+    prints-at break h few = alone-prints i-break [] h (λ e. omega arith)
+    prints-at timeout h few = alone-prints i-timeout [] h (λ e. omega arith)
+    prints-at else h few = alone-prints i-else [] h (λ e. omega arith)
+    prints-at (run w es) h few = alone-prints (i-name w) (i-run ∷ (each code-argument es ++ i-end ∷ [])) h (λ e. omega arith)
+    prints-at (set-run r w es) h few =
         let E = each code-argument es in
         none-printed (leaf-no-text (leaf-there t a r (i-target ∷ i-name w ∷ i-set-run ∷ (E ++ i-end ∷ [])) j
         (subst (λ l. Here t a l j) (append-assoc (code-exp r) (i-target ∷ i-name w ∷ i-set-run ∷ E) (i-end ∷ [])) h)))
-    prints-at (select os) h = alone-prints i-if (code-tree os ++ i-fi ∷ []) h (λ e. omega arith)
-    prints-at (loop os) h = alone-prints i-do (code-tree os ++ i-od ∷ []) h (λ e. omega arith)
+    prints-at (select os) h few = alone-prints i-if (code-tree os ++ i-fi ∷ []) h (λ e. omega arith)
+    prints-at (loop os) h few = alone-prints i-do (code-tree os ++ i-od ∷ []) h (λ e. omega arith)
 
-  pub text-prints : (x : Tree action) {j : ℕ} → Lying (code (a .tree)) 0 (code-tree x) j → (s : List ℤ) (p : ℕ) → printedAt (tablesText t) s p j ≡ prints (stageAt t a s p j) x
-  text-prints x {j} h s p = prints-at j s p x h
+  pub text-prints : (x : Tree action) {j : ℕ} → Lying (code (a .tree)) 0 (code-tree x) j → Few x → (s : List ℤ) (p : ℕ) → printedAt (tablesText t) s p j ≡ prints (stageAt t a s p j) x
+  text-prints x {j} h few s p = prints-at j s p x h few

@@ -11,7 +11,8 @@ use Rattle.base.specs.Choice.{pick}
 use Rattle.tables.specs.Access.{codeOf, linkOf}
 use Rattle.value.specs.declared.Answer.{Answer}
 use Rattle.value.specs.declared.Answer.the-variants.{Value, Fails}
-use Rattle.frames.specs.Layout.{nat, waitingOf}
+use Rattle.frames.specs.Layout.{waitingOf}
+use Rattle.base.specs.Numbers.{nat}
 use Rattle.syntax.specs.Tree.{Ref, Expr, Received, action, Tree, express, assign, increment, decrement, send, receive, assert, print, skip, goto, break, timeout, else, run, set-run, select, loop}
 use Rattle.syntax.specs.Code.{Item, i-name, i-express, i-target, i-assign, i-increment, i-decrement, i-assert, i-skip, i-goto, i-break, i-timeout, i-else, i-if, i-fi, i-do, i-od, code-exp, code-tree, code}
 use Rattle.entries.specs.Items as items
@@ -20,13 +21,13 @@ use Rattle.accepting.specs.Meaning.{Accepts}
 use Rattle.evaluating.specs.Expressions.{evalOf}
 use Rattle.executing.specs.Executing.{isAlone, isAlways, markOf, fitsOf, readyBy, readyOf, messageOf}
 use Rattle.executing.specs.Executing as tables
-use Rattle.meaning.specs.Eval.{eval}
-use Rattle.meaning.specs.Scenes.{sceneOf, sizeIn}
+use Rattle.spec_machine.specs.Eval.{eval}
+use Rattle.agree_stage.specs.Scenes.{sceneOf, sizeIn}
 use Rattle.expressions.specs.Names.{declAt}
-use Rattle.acts.specs.Stage.{Stage}
-use Rattle.acts.specs.Arguments.{Reach, channel, astray, reach, agrees}
-use Rattle.acts.specs.Ready.{passes, sendable, receivable, ready}
-use Rattle.acts.proofs.Stands.{Lying, lying-back}
+use Rattle.spec_machine.specs.Stage.{Stage}
+use Rattle.spec_machine.specs.Arguments.{Reach, channel, astray, reach, agrees}
+use Rattle.spec_machine.specs.Ready.{passes, sendable, receivable, ready}
+use Rattle.agree_stage.proofs.Stands.{Lying, lying-back}
 use Rattle.doing.specs.Stages.{unitAt, stageAt}
 use Rattle.doing.specs.Walked.{Got}
 use Rattle.doing.proofs.Gathers.{count-is}
@@ -113,7 +114,7 @@ module _ (t : List ℕ) (a : Accepts t) where
   T = tablesText t
 
   module _ (j : ℕ) (s : List ℤ) (p : ℕ) (late : Bool) where
-    abbrev c : Stage
+    abbrev c : Stage (List ℤ)
     c = stageAt t a s p j
 
     -- the mark stands at m

@@ -14,7 +14,8 @@ use Rattle.value.specs.Types.{castOf}
 use Rattle.value.specs.declared.Fault.the-variants.{Index}
 use Rattle.value.specs.declared.Answer.{Answer}
 use Rattle.value.specs.declared.Answer.the-variants.{Value, Fails}
-use Rattle.frames.specs.Layout.{nat, fieldOf}
+use Rattle.frames.specs.Layout.{fieldOf}
+use Rattle.base.specs.Numbers.{nat}
 use Rattle.syntax.specs.Tree.{Name, Ref, plain, indexed, Received, into, equal, exactly, exactly-true, exactly-false}
 use Rattle.evaluating.specs.declared.Located.{Located}
 use Rattle.evaluating.specs.declared.Located.the-variants.{At, Astray}
@@ -25,12 +26,12 @@ use Rattle.executing.specs.Channels as tables
 use Rattle.messages.specs.declared.Gathered.{Gathered}
 use Rattle.messages.specs.declared.Gathered.the-variants.{Upto, Failed}
 use Rattle.messages.specs.Messages.{onPlace, aimOf, aimEnd, aimList, deliveredOne, delivered}
-use Rattle.meaning.specs.Eval.{eval}
-use Rattle.meaning.specs.Scenes.{sceneOf, locate}
-use Rattle.acts.specs.Stage.{Stage}
-use Rattle.acts.specs.Tables.{stageOf}
-use Rattle.acts.specs.Arguments.{nameOf, Aim, hit, miss, aimBy, aim, equalBy, agree, agreeBy, agrees, Aims, hits, missed, before, aimsBy, target, targets}
-use Rattle.acts.specs.Effect.{delivery, deliveries}
+use Rattle.spec_machine.specs.Eval.{eval}
+use Rattle.agree_stage.specs.Scenes.{sceneOf, locate}
+use Rattle.spec_machine.specs.Stage.{Stage}
+use Rattle.agree_stage.specs.Tables.{stageOf}
+use Rattle.spec_machine.specs.Arguments.{nameOf, Aim, hit, miss, aimBy, aim, equalBy, agree, agreeBy, agrees, Aims, hits, missed, before, aimsBy, target, targets}
+use Rattle.spec_machine.specs.Effect.{delivery, deliveries}
 use Rattle.doing.specs.Walked.{Stored, Agreed, Got, no-more, one-more}
 use Rattle.doing.proofs.Gathers.{fill}
 
@@ -54,7 +55,7 @@ before-ends : (k z : ℕ) (x : Aims) → endAims z x ≡ endAims z (before k x)
 before-ends k z (hits ks) = refl
 before-ends k z (missed f) = refl
 
-pub targets-count : (c : Stage) (xs : List Received) → Sure (targets c xs) → length (aimed (targets c xs)) ≡ length xs
+pub targets-count : (c : Stage (List ℤ)) (xs : List Received) → Sure (targets c xs) → length (aimed (targets c xs)) ≡ length xs
 unfolding targets
 targets-count c [] w = refl
 targets-count c (x ∷ xs) w = go (target c x) (targets c xs) w (targets-count c xs)
@@ -119,7 +120,7 @@ module _ (t : List ℕ) (decl : Name → ℕ) where
   spots p (x ∷ xs) (k ∷ ks) = spot p x k ∷ spots p xs ks
 
   module _ (s : List ℤ) (p : ℕ) (unit : Name → ℕ) where
-    abbrev c : Stage
+    abbrev c : Stage (List ℤ)
     c = stageOf t s p decl unit
 
     -- ---- agreement with the oldest message

@@ -8,18 +8,19 @@ use lib.IntN.{ℤ, pos}
 use Rattle.tables.specs.Access.{linkOf}
 use Rattle.value.specs.declared.Answer.{Answer}
 use Rattle.value.specs.declared.Answer.the-variants.{Value, Fails}
-use Rattle.frames.specs.Layout.{nat, fieldOf}
+use Rattle.frames.specs.Layout.{fieldOf}
+use Rattle.base.specs.Numbers.{nat}
 use Rattle.syntax.specs.Tree.{Name, Ref, Expr, Received}
 use Rattle.evaluating.specs.Expressions.{locateOf}
 use Rattle.executing.specs.Channels.{matchesOf}
 use Rattle.messages.specs.Messages.{onValue, gatherEnd, gatherList, aimList, appended, removed, delivered}
-use Rattle.statements.specs.declared.Taken.the-variants.{Done}
+use Rattle.base_outcome.specs.declared.Taken.the-variants.{Done}
 use Rattle.statements.specs.Statements.{fault, moved, onEnd, onChannel, blank, oldest, sent, receivedFrom, received}
-use Rattle.meaning.specs.Scenes.{sceneOf, locate}
-use Rattle.acts.specs.Stage.{Stage}
-use Rattle.acts.specs.Tables.{stageOf}
-use Rattle.acts.specs.Arguments.{Values, all, stopped, values, Reach, channel, astray, reach, agrees, Aims, hits, missed, targets}
-use Rattle.acts.specs.Effect.{sentTo, sentBy, receivedAt, receivedIf, receivedBy}
+use Rattle.agree_stage.specs.Scenes.{sceneOf, locate}
+use Rattle.spec_machine.specs.Stage.{Stage}
+use Rattle.agree_stage.specs.Tables.{stageOf}
+use Rattle.spec_machine.specs.Arguments.{Values, all, stopped, values, Reach, channel, astray, reach, agrees, Aims, hits, missed, targets}
+use Rattle.spec_machine.specs.Effect.{sentTo, sentBy, receivedAt, receivedIf, receivedBy}
 use Rattle.doing.specs.Walked.{Passed, Got}
 use Rattle.doing.proofs.Gathers.{fill, endBy, fill-blank, count-is, gather-ends}
 use Rattle.doing.proofs.Receives.{endAims, Sure, aimed, targets-count, got-count, matches-is, spots, aim-ends, aim-fills, delivered-is}
@@ -35,7 +36,7 @@ oldest-at s c (suc (suc (suc zero))) h = refl
 oldest-at s c (suc (suc (suc (suc i)))) h = absurd (omega arith)
 
 module _ (t : List ℕ) (decl : Name → ℕ) (s : List ℤ) (p : ℕ) (unit : Name → ℕ) where
-  abbrev c : Stage
+  abbrev c : Stage (List ℤ)
   c = stageOf t s p decl unit
 
   -- ---- sends; z is the last item, which links to n

@@ -1,5 +1,5 @@
 -- STATEMENTS WITH ARGUMENTS as they stand in the tables of an accepted text: their marks, what they refer to, and the arguments behind them.
-use Prim.Native.Nat.{ℕ, _+_, _-_, _≤_}
+use Prim.Native.Nat.{ℕ, _+_, _-_}
 use native.Mathlib.Omega.{arith}
 use mathlib.Core.Path.{_≡_, refl, sym, ap, subst, _∙_}
 use mathlib.Core.Bool.{true}
@@ -14,22 +14,18 @@ use Rattle.entries.specs.Items as items
 use Rattle.judging.specs.Judging.{tablesText}
 use Rattle.accepting.specs.Meaning.{Accepts}
 use Rattle.places.specs.Places.{isPart, isMark}
-use Rattle.forming.specs.Forms.{inner}
-use Rattle.keeping.specs.Well.{opens}
 use Rattle.evaluating.specs.Expressions.{locateOf}
 use Rattle.executing.specs.Executing.{isAlone, markOf}
-use Rattle.meaning.specs.Scenes.{sizeIn, locate}
+use Rattle.agree_stage.specs.Scenes.{sizeIn, locate}
 use Rattle.expressions.specs.Names.{declAt}
-use Rattle.acts.specs.Arguments.{nameOf}
-use Rattle.acts.specs.Program as tree
-use Rattle.acts.proofs.Stands.{lying-back}
-use Rattle.choosing.proofs.Places.{at-there}
+use Rattle.spec_machine.specs.Arguments.{nameOf}
+use Rattle.spec_machine.specs.Program as tree
+use Rattle.agree_stage.proofs.Stands.{lying-back}
 use Rattle.doing.specs.Stages.{unitAt}
 use Rattle.doing.specs.Walked.{Passed, Got}
 use Rattle.doing.proofs.Meant.{Quiet, quiet-join}
-use Rattle.doing.proofs.Parts.{Here, first-inside, first-code}
+use Rattle.doing.proofs.Parts.{Here, first-code}
 use Rattle.doing.proofs.Phrases.{Refers, refers-target, refers-send, refers-receive, refers-linked, refers-located}
-use Rattle.doing.proofs.Units.{opened, few-passed}
 use Rattle.doing.proofs.Lists.{quiet-mark, quiet-phrase, mark-code, behind-there, arguments-there, received-there}
 use Rattle.doing.proofs.Begins.{alone-mark, phrase-mark, name-mark, target-run, run-unit}
 
@@ -67,15 +63,6 @@ module _ (t : List ℕ) (a : Accepts t) where
         located = refers-located t a j j (omega arith) (none-yet j) r x z p b;
       }
 
-  -- ---- how many arguments
-  few-there : (x : Item) (l : List Item) (m : ℕ) (es : List Expr) (decl : Name → ℕ) (z : ℕ) → Here t a (x ∷ l) m → inner (items.codeOf x) ≡ true → opens (items.codeOf x) ≡ true
-      → (items.codeOf x ≡ 228 → ⊥)
-      → Passed T decl es (m + 1) z → length es ≤ 32
-  few-there x l m es decl z p i o n r =
-      let c = at-there t a (x ∷ l) m p .0 in
-      let k = opened t a m (first-inside t a x l m p) (ap inner c ∙ i) (λ e. n (sym c ∙ e)) (ap opens (first-code t a x l m p) ∙ o) in
-      few-passed T decl (k .0) r 32 (m + 1) refl (k .1)
-
   -- ---- each of them
   pub sending : (r : Ref) (es : List Expr) (j : ℕ) → Here t a (code-tree (send r es)) j
       → Reference r i-send j (j + sizeIn r) × Passed (tablesText t) (declAt t a j) es (j + sizeIn r + 1) (j + tree.sizeIn (send r es) - 1)
@@ -105,7 +92,6 @@ module _ (t : List ℕ) (a : Accepts t) where
     pub mark : markOf (tablesText t) j ≡ j
     pub coded : codeOf (tablesText t) j ≡ 72
     pub passed : Passed (tablesText t) (declAt t a j) es (j + 1) z
-    pub few : length es ≤ 32
 
   pub printing : (w : List ℕ) (es : List Expr) (j : ℕ) → Here t a (code-tree (print w es)) j → Printing es j (j + tree.sizeIn (print w es) - 1)
   printing w es j p =
@@ -118,7 +104,6 @@ module _ (t : List ℕ) (a : Accepts t) where
         mark = alone-mark t a (i-text w) (E ++ i-end ∷ []) j p text-alone;
         coded = first-code t a (i-text w) (E ++ i-end ∷ []) j p;
         passed = k;
-        few = few-there (i-text w) (E ++ i-end ∷ []) j es (declAt t a j) (j + tree.sizeIn (print w es) - 1) p refl refl (λ e. omega arith) k;
       }
 
   -- a name w and behind it the run m, of code c
@@ -126,7 +111,6 @@ module _ (t : List ℕ) (a : Accepts t) where
     pub coded : codeOf (tablesText t) m ≡ c
     pub begun : linkOf (tablesText t) m ≡ unitAt t a w
     pub passed : Passed (tablesText t) (declAt t a j) es (m + 1) z
-    pub few : length es ≤ 32
 
   pub running : (w : Name) (es : List Expr) (j : ℕ) → Here t a (code-tree (run w es)) j → (markOf (tablesText t) j ≡ j + 1) × Running w es 202 j (j + 1) (j + tree.sizeIn (run w es) - 1)
   running w es j p =
@@ -143,7 +127,6 @@ module _ (t : List ℕ) (a : Accepts t) where
           coded = first-code t a i-run (E ++ i-end ∷ []) (j + 1) q;
           begun = run-unit t a w i-run (E ++ i-end ∷ []) j p (inl refl);
           passed = k;
-          few = few-there i-run (E ++ i-end ∷ []) (j + 1) es (declAt t a j) (j + tree.sizeIn (run w es) - 1) q refl refl (λ e. omega arith) k;
         },
       )
 
@@ -173,6 +156,5 @@ module _ (t : List ℕ) (a : Accepts t) where
           coded = first-code t a i-set-run Y (m + 2) o;
           begun = ap (linkOf T) (sym d) ∙ run-unit t a w i-set-run Y (m + 1) q (inr refl);
           passed = k;
-          few = few-there i-set-run Y (m + 2) es (declAt t a j) z o refl refl (λ e. omega arith) k;
         },
       )

@@ -19,22 +19,22 @@ use Rattle.evaluating.specs.Variables.{typeOf, slotOf}
 use Rattle.evaluating.specs.Expressions.{evalOf, locateOf}
 use Rattle.executing.specs.Executing.{fitsOf}
 use Rattle.messages.specs.Messages.{onValue, onPlace, gatherEnd, gatherList}
-use Rattle.statements.specs.declared.Taken.the-variants.{Done, Refuted, Idle}
+use Rattle.base_outcome.specs.declared.Taken.the-variants.{Done, Refuted, Idle}
 use Rattle.statements.specs.Statements.{fault, moved, onEnd, blank, expressed, asserted, stepped, assigned, printed}
 use Rattle.effects.specs.Effects.{called, ran, setRunAt, setRan}
-use Rattle.meaning.specs.Eval.{eval}
-use Rattle.meaning.specs.Scenes.{sceneOf, locate}
-use Rattle.acts.specs.Stage.{Stage}
-use Rattle.acts.specs.Tables.{stageOf}
-use Rattle.acts.specs.Arguments.{nameOf, Aim, hit, miss, aim, Values, all, stopped, values}
-use Rattle.acts.specs.Effect.{expressedBy, assertedBy, assignedBy, steppedBy, printedBy, ranBy, setBy, setRunBy}
+use Rattle.spec_machine.specs.Eval.{eval}
+use Rattle.agree_stage.specs.Scenes.{sceneOf, locate}
+use Rattle.spec_machine.specs.Stage.{Stage}
+use Rattle.agree_stage.specs.Tables.{stageOf}
+use Rattle.spec_machine.specs.Arguments.{nameOf, Aim, hit, miss, aim, Values, all, stopped, values}
+use Rattle.spec_machine.specs.Effect.{expressedBy, assertedBy, assignedBy, steppedBy, printedBy, ranBy, setBy, setRunBy}
 use Rattle.doing.specs.Walked.{Passed}
 use Rattle.doing.proofs.Gathers.{endBy, end-is, gather-ends}
 use Rattle.doing.proofs.Receives.{placed, locate-aim}
 use Rattle.doing.proofs.Values.{called-alike, gathered-alike}
 
 module _ (t : List ℕ) (decl : Name → ℕ) (s : List ℤ) (p : ℕ) (unit : Name → ℕ) where
-  abbrev c : Stage
+  abbrev c : Stage (List ℤ)
   c = stageOf t s p decl unit
 
   -- ---- expressions and assertions; z is the last item, which links to n

@@ -14,15 +14,16 @@ use Rattle.entries.specs.Items as items
 use Rattle.judging.specs.Judging.{tablesText}
 use Rattle.accepting.specs.Meaning.{Accepts}
 use Rattle.executing.specs.Executing.{isAlone, markOf}
-use Rattle.statements.specs.declared.Taken.the-variants.{Idle}
+use Rattle.base_outcome.specs.declared.Taken.the-variants.{Idle}
 use Rattle.statements.specs.Statements.{passed, expressed, asserted, stepped, assigned, sent, received, printed}
 use Rattle.effects.specs.Effects.{ran, setRan, targeted, takenAs, takenBy, takenOf}
-use Rattle.meaning.specs.Scenes.{sizeIn}
+use Rattle.agree_stage.specs.Scenes.{sizeIn}
 use Rattle.expressions.specs.Names.{declAt}
-use Rattle.acts.specs.Stage.{Ways}
-use Rattle.acts.specs.Tables.{Leads}
-use Rattle.acts.specs.Effect.{goOn, effect}
-use Rattle.acts.proofs.Stands.{Lying, lying-back}
+use Rattle.spec_machine.specs.Stage.{Ways}
+use Rattle.agree_stage.specs.Tables.{Leads}
+use Rattle.spec_machine.specs.Effect.{goOn, effect}
+use Rattle.agree_stage.proofs.Stands.{Lying, lying-back}
+use Rattle.doing.specs.Few.{Few}
 use Rattle.doing.specs.Stages.{unitAt, stageAt}
 use Rattle.doing.proofs.Meant.{Quiet}
 use Rattle.doing.proofs.Parts.{Here, first-code}
@@ -123,14 +124,14 @@ module _ (t : List ℕ) (a : Accepts t) where
     none-yet : Quiet t a j j
     none-yet y u v = absurd (omega arith)
 
-    takes-at : (x : Tree action) → Here t a (code-tree x) j → (h : Ways) → Leads T h x j → takenOf T p j s ≡ effect (stageAt t a s p j) h s x
+    takes-at : (x : Tree action) → Here t a (code-tree x) j → Few x → (h : Ways) → Leads T h x j → takenOf T p j s ≡ effect (stageAt t a s p j) h s x
     unfolding effect
-    takes-at (express e) f h l =
+    takes-at (express e) f few h l =
         let m = j + sizeIn e in
         let z : j + length (code-exp e ++ i-express ∷ []) - 1 ≡ m = omega (arith, length-append (code-exp e) (i-express ∷ [])) in
         at-mark m (phrase-mark t a e i-express [] j f (marks .0)) ∙ by-express T p j m s (mark-code t a e i-express [] j f)
         ∙ expressed-is T (declAt t a j) s p (unitAt t a) e j m (h .next) (works t a j j (omega arith) none-yet e i-express [] f behind-express s p) (ap (linkOf T) (sym z) ∙ l)
-    takes-at (assign r e) f h l =
+    takes-at (assign r e) f few h l =
         let R = code-exp r in
         let X = code-exp e in
         let m = j + sizeIn r in
@@ -143,60 +144,60 @@ module _ (t : List ℕ) (a : Accepts t) where
         at-mark m (o .mark) ∙ by-assign T p j m s k (o .coded) (target-assign t a e m (lying-back (code (a .tree)) R (i-target ∷ y) 0 j m refl g)) (mark-code t a e i-assign [] (m + 1) q)
         ∙ assigned-is T (declAt t a j) s p (unitAt t a) r j m (o .located s p) (o .declared) e k (h .next)
         (works t a j (m + 1) (omega arith) (quiet-phrase t a j j none-yet r i-target y g (omega arith)) e i-assign [] q behind-assign s p) (ap (linkOf T) (sym z) ∙ l)
-    takes-at (increment r) f h l =
+    takes-at (increment r) f few h l =
         let m = j + sizeIn r in
         let o = reference-there t a r i-increment [] j refers-increment f in
         let z : j + length (code-exp r ++ i-increment ∷ []) - 1 ≡ m = omega (arith, length-append (code-exp r) (i-increment ∷ [])) in
         at-mark m (o .mark) ∙ by-increment T p j m s (o .coded) ∙ stepped-is T (declAt t a j) s p (unitAt t a) r j m (o .located s p) (o .declared) (pos 1) (h .next)
         (ap (linkOf T) (sym z) ∙ l)
-    takes-at (decrement r) f h l =
+    takes-at (decrement r) f few h l =
         let m = j + sizeIn r in
         let o = reference-there t a r i-decrement [] j refers-decrement f in
         let z : j + length (code-exp r ++ i-decrement ∷ []) - 1 ≡ m = omega (arith, length-append (code-exp r) (i-decrement ∷ [])) in
         at-mark m (o .mark) ∙ by-decrement T p j m s (o .coded) ∙ stepped-is T (declAt t a j) s p (unitAt t a) r j m (o .located s p) (o .declared) (negsuc 0) (h .next)
         (ap (linkOf T) (sym z) ∙ l)
-    takes-at (send r es) f h l =
+    takes-at (send r es) f few h l =
         let g = sending t a r es j f in
         let m = j + sizeIn r in
         at-mark m (g .0 .mark) ∙ by-send T p j m s (g .0 .coded) ∙ sent-is T (declAt t a j) s p (unitAt t a) r es j m (j + length (code-tree (send r es)) - 1) (h .next) (g .0 .located s p)
         (g .1) l
-    takes-at (receive r ys) f h l =
+    takes-at (receive r ys) f few h l =
         let g = receiving t a r ys j f in
         let m = j + sizeIn r in
         at-mark m (g .0 .mark) ∙ by-receive T p j m s (g .0 .coded) ∙ received-is T (declAt t a j) s p (unitAt t a) r ys j m (j + length (code-tree (receive r ys)) - 1) (h .next)
         (g .0 .located s p) (g .1) l
-    takes-at (assert e) f h l =
+    takes-at (assert e) f few h l =
         let m = j + sizeIn e in
         let z : j + length (code-exp e ++ i-assert ∷ []) - 1 ≡ m = omega (arith, length-append (code-exp e) (i-assert ∷ [])) in
         at-mark m (phrase-mark t a e i-assert [] j f (marks .1)) ∙ by-assert T p j m s (mark-code t a e i-assert [] j f)
         ∙ asserted-is T (declAt t a j) s p (unitAt t a) e j m (h .next) (works t a j j (omega arith) none-yet e i-assert [] f behind-assert s p) (ap (linkOf T) (sym z) ∙ l)
-    takes-at (print w es) f h l =
+    takes-at (print w es) f few h l =
         let g = printing t a w es j f in
-        at-mark j (g .mark) ∙ by-text T p j j s (g .coded) ∙ printed-is T (declAt t a j) s p (unitAt t a) es j (j + length (code-tree (print w es)) - 1) (h .next) (g .passed) (g .few) l
-    takes-at skip f h l = let z : j ≡ j + 1 - 1 = omega arith in alone-takes i-skip (h .next) f (alones .0) (ap (linkOf T) z ∙ l) (by-skip T p j j s)
-    takes-at (goto w) f h l =
+        at-mark j (g .mark) ∙ by-text T p j j s (g .coded) ∙ printed-is T (declAt t a j) s p (unitAt t a) es j (j + length (code-tree (print w es)) - 1) (h .next) (g .passed) few l
+    takes-at skip f few h l = let z : j ≡ j + 1 - 1 = omega arith in alone-takes i-skip (h .next) f (alones .0) (ap (linkOf T) z ∙ l) (by-skip T p j j s)
+    takes-at (goto w) f few h l =
         at-mark (j + 1) (name-mark t a w i-goto [] j f (marks .2)) ∙ by-goto T p j (j + 1) s
         (first-code t a i-goto [] (j + 1) (lying-back (code (a .tree)) (i-name w ∷ []) (i-goto ∷ []) 0 j (j + 1) refl f))
         ∙ ap (λ k. goOn (stageAt t a s p j) k s) l
-    takes-at break f h l = alone-takes i-break (h .out) f (alones .1) l (by-break T p j j s)
-    takes-at timeout f h l = let z : j ≡ j + 1 - 1 = omega arith in alone-takes i-timeout (h .next) f (alones .2) (ap (linkOf T) z ∙ l) (by-timeout T p j j s)
-    takes-at else f h l = let z : j ≡ j + 1 - 1 = omega arith in alone-takes i-else (h .next) f (alones .3) (ap (linkOf T) z ∙ l) (by-else T p j j s)
-    takes-at (run w es) f h l =
+    takes-at break f few h l = alone-takes i-break (h .out) f (alones .1) l (by-break T p j j s)
+    takes-at timeout f few h l = let z : j ≡ j + 1 - 1 = omega arith in alone-takes i-timeout (h .next) f (alones .2) (ap (linkOf T) z ∙ l) (by-timeout T p j j s)
+    takes-at else f few h l = let z : j ≡ j + 1 - 1 = omega arith in alone-takes i-else (h .next) f (alones .3) (ap (linkOf T) z ∙ l) (by-else T p j j s)
+    takes-at (run w es) f few h l =
         let g = running t a w es j f in
         let o = g .1 in
         at-mark (j + 1) (g .0) ∙ by-run T p j (j + 1) s (o .coded) ∙ ran-is T (declAt t a j) s p (unitAt t a) w es (j + 1) (j + length (code-tree (run w es)) - 1) (h .next) (o .begun)
-        (o .passed) (o .few) l
-    takes-at (set-run r w es) f h l =
+        (o .passed) few l
+    takes-at (set-run r w es) f few h l =
         let g = set-running t a r w es j f in
         let m = j + sizeIn r in
         let b = g .0 in
         let o = g .2 in
         at-mark m (b .mark) ∙ by-set-run T p j m s (m + 2) (b .coded) (g .1) (o .coded)
         ∙ set-ran-is T (declAt t a j) s p (unitAt t a) r w es j m (m + 2) (j + length (code-tree (set-run r w es)) - 1) (h .next) (b .located s p) (b .declared) (o .begun) (o .passed)
-        (o .few) l
-    takes-at (select os) f h l = idle-takes i-if (code-tree os ++ i-fi ∷ []) f (alones .4) (by-if T p j j s)
-    takes-at (loop os) f h l = idle-takes i-do (code-tree os ++ i-od ∷ []) f (alones .5) (by-do T p j j s)
+        few l
+    takes-at (select os) f few h l = idle-takes i-if (code-tree os ++ i-fi ∷ []) f (alones .4) (by-if T p j j s)
+    takes-at (loop os) f few h l = idle-takes i-do (code-tree os ++ i-od ∷ []) f (alones .5) (by-do T p j j s)
 
-  pub text-takes : (x : Tree action) {j : ℕ} → Lying (code (a .tree)) 0 (code-tree x) j → (h : Ways) → Leads (tablesText t) h x j → (s : List ℤ) (p : ℕ)
+  pub text-takes : (x : Tree action) {j : ℕ} → Lying (code (a .tree)) 0 (code-tree x) j → Few x → (h : Ways) → Leads (tablesText t) h x j → (s : List ℤ) (p : ℕ)
       → takenOf (tablesText t) p j s ≡ effect (stageAt t a s p j) h s x
-  text-takes x {j} f h l s p = takes-at j s p x f h l
+  text-takes x {j} f few h l s p = takes-at j s p x f few h l

@@ -17,9 +17,10 @@ use Rattle.executing.specs.Channels.{fieldsOf}
 use Rattle.messages.specs.Messages.{fieldType, gatherList, appended}
 use Rattle.statements.specs.Statements.{blank}
 use Rattle.effects.specs.Effects.{parameterSet, called}
-use Rattle.printing.specs.Printing.{decimal, escaped, written, opened, counted, writtenFrom}
-use Rattle.meaning.specs.Scenes.{sceneOf}
-use Rattle.acts.specs.Arguments.{all, values}
+use Rattle.printing.specs.Printing.{writtenFrom}
+use Rattle.spec_text.specs.Formats.{decimal, escaped, written, opened, counted}
+use Rattle.agree_stage.specs.Scenes.{sceneOf}
+use Rattle.spec_machine.specs.Arguments.{all, values}
 use Rattle.doing.specs.Walked.{Passed}
 use Rattle.doing.proofs.Gathers.{Whole, listed, fill-blank, values-count, gather-fills}
 

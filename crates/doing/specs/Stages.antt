@@ -10,8 +10,8 @@ use Rattle.finding.specs.Search.{find}
 use Rattle.judging.specs.Judging.{tablesText}
 use Rattle.accepting.specs.Meaning.{Accepts}
 use Rattle.expressions.specs.Names.{firstName, codesAt, saidAt, homesAt, declAt}
-use Rattle.acts.specs.Stage.{Stage}
-use Rattle.acts.specs.Tables.{stageOf}
+use Rattle.spec_machine.specs.Stage.{Stage}
+use Rattle.agree_stage.specs.Tables.{stageOf}
 
 module _ (t : List ℕ) (a : Accepts t) where
   -- the item that begins the proctype of this name: the first global declaration of the name in the whole text
@@ -19,5 +19,5 @@ module _ (t : List ℕ) (a : Accepts t) where
   unitAt w = find (codesAt t a) (saidAt t a) (homesAt t a) 1 (getD (saidAt t a) (firstName w (code (a .tree))) 0) 0 (length (codesAt t a))
 
   -- for the statement at item j, in the state s and for process p
-  abbrev pub stageAt : List ℤ → ℕ → ℕ → Stage
+  abbrev pub stageAt : List ℤ → ℕ → ℕ → Stage (List ℤ)
   stageAt s p j = stageOf (tablesText t) s p (declAt t a j) (unitAt)

@@ -7,9 +7,9 @@ use lib.IntN.{ℤ}
 use Rattle.tables.specs.Access.{codeOf, linkOf}
 use Rattle.syntax.specs.Tree.{Name, Expr, Ref, Received, into, equal, exactly, exactly-true, exactly-false, num, tru, fls}
 use Rattle.evaluating.specs.Expressions.{evalOf, locateOf}
-use Rattle.meaning.specs.Eval.{eval}
-use Rattle.meaning.specs.Scenes.{sceneOf, locate}
-use Rattle.acts.specs.Arguments.{nameOf}
+use Rattle.spec_machine.specs.Eval.{eval}
+use Rattle.agree_stage.specs.Scenes.{sceneOf, locate}
+use Rattle.spec_machine.specs.Arguments.{nameOf}
 
 module _ (t : List ℕ) (decl : Name → ℕ) where
   -- the expressions are arguments from item a on, and item z is their end

@@ -15,7 +15,8 @@ use Rattle.tables.specs.Access.{codeOf, linkOf}
 use Rattle.value.specs.Types.{castOf}
 use Rattle.value.specs.declared.Fault.{Fault}
 use Rattle.frames.proofs.Laws.{back}
-use Rattle.frames.specs.Layout.{kept, cellOf, processesOf, channelsOf, channelsMost}
+use Rattle.frames.specs.Layout.{kept, cellOf, processesOf, channelsOf}
+use Rattle.spec_text.specs.Ceilings.{channelsMost}
 use Rattle.frames.specs.Walks.{walk}
 use Rattle.evaluating.specs.declared.Located.{Located}
 use Rattle.evaluating.specs.declared.Located.the-variants.{At, Astray}
@@ -26,7 +27,7 @@ use Rattle.executing.specs.Executing.{channelsIn, fitsOf}
 use Rattle.messages.specs.declared.Gathered.{Gathered}
 use Rattle.messages.specs.declared.Gathered.the-variants.{Upto, Failed}
 use Rattle.messages.specs.Messages.{gatherEnd, gatherList}
-use Rattle.statements.specs.declared.Taken.the-variants.{Done, Faulted, Idle}
+use Rattle.base_outcome.specs.declared.Taken.the-variants.{Done, Faulted, Idle}
 use Rattle.statements.specs.Statements.{Result, fault, moved, onEnd, blank, storedAt, passed, expressed, asserted, stepped, assigned, sent, received, printed}
 use Rattle.statements.proofs.Laws.{outcome, on-at, on-astray, on-upto, on-failed, done-moved}
 use Rattle.effects.specs.Effects.{endFrom, parameterSet, called, ran, setRunAt, setRan, targeted, takenAs, takenBy}

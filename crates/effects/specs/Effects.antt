@@ -15,7 +15,7 @@ use Rattle.evaluating.specs.Expressions.{locateOf}
 use Rattle.starting.specs.Starting.{unitLength, processMade}
 use Rattle.executing.specs.Executing.{markOf, fitsOf}
 use Rattle.messages.specs.Messages.{onPlace, gatherEnd, gatherList}
-use Rattle.statements.specs.declared.Taken.the-variants.{Done, Idle}
+use Rattle.base_outcome.specs.declared.Taken.the-variants.{Done, Idle}
 use Rattle.statements.specs.Statements.{Result, fault, moved, onEnd, blank, storedAt, passed, expressed, asserted, stepped, assigned, sent, received, printed}
 
 module _ (t : List ℕ) where

@@ -3,9 +3,9 @@ ghost use mathlib.Core.Path.{_≡_};
 ghost use Prim.Native.Nat.{_<_};
 ghost use Rattle.frames.specs.Layout.{processesOf};
 ghost use Rattle.effects.specs.Effects as effects;
+use base_outcome::Taken;
 use evaluating::Located;
 use messages::Gathered;
-use statements::Taken;
 
 // Where the arguments from item a on end.
 fn end_of(t: &[u32], a: usize) -> usize

@@ -14,7 +14,8 @@ use mir.ValLaws.{toZ-ofZ, toZ-pos}
 use Rattle.base.specs.Choice.{pick}
 use Rattle.tables.specs.Access.{codeOf, linkOf, numberOf}
 use Rattle.frames.proofs.Laws.{back}
-use Rattle.frames.specs.Layout.{nat, kept, cellOf, channelsOf, waitingOf}
+use Rattle.frames.specs.Layout.{kept, cellOf, channelsOf, waitingOf}
+use Rattle.base.specs.Numbers.{nat}
 use Rattle.value.specs.Operators.{same, isTrue, oneIf, applyOf, unaryOf}
 use Rattle.value.specs.declared.Fault.the-variants.{Index, Channel}
 use Rattle.value.specs.declared.Answer.{Answer}

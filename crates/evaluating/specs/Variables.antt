@@ -7,7 +7,8 @@ use lib.IntN.{ℤ, pos, negsuc}
 use lib.Dec.{eqb, ltb, leb}
 use Rattle.base.specs.Choice.{pick, both}
 use Rattle.tables.specs.Access.{linkOf}
-use Rattle.frames.specs.Layout.{nat, globalAt, localAt, cellOf, channelsOf, waitingOf}
+use Rattle.frames.specs.Layout.{globalAt, localAt, cellOf, channelsOf, waitingOf}
+use Rattle.base.specs.Numbers.{nat}
 use Rattle.value.specs.declared.Fault.the-variants.{Index, Channel}
 use Rattle.value.specs.declared.Answer.{Answer}
 use Rattle.value.specs.declared.Answer.the-variants.{Value, Fails}

@@ -15,7 +15,8 @@ use mir.ValLaws.{toZ-ofZ}
 use Rattle.base.specs.Choice.{pick, both}
 use Rattle.tables.specs.Access.{codeOf, linkOf, numberOf}
 use Rattle.frames.proofs.Laws.{back}
-use Rattle.frames.specs.Layout.{processesMost, channelsMost, processesOf, channelsOf, declaredOf, waitingOf, fieldOf}
+use Rattle.frames.specs.Layout.{processesOf, channelsOf, declaredOf, waitingOf, fieldOf}
+use Rattle.spec_text.specs.Ceilings.{processesMost, channelsMost}
 use Rattle.value.specs.Operators.{same}
 use Rattle.value.specs.declared.Fault.the-variants.{Fields}
 use Rattle.value.specs.declared.Answer.{Answer}
@@ -28,7 +29,8 @@ use Rattle.evaluating.specs.Expressions.{holds, evalOf, locateOf}
 use Rattle.starting.specs.Starting.{unitLength}
 use Rattle.executing.specs.Channels.{capacityOf, fieldsOf, argumentsFrom, argumentsOf, comparedAt, equalBy, reachedOf, agreesOf, matchesFrom, matchesOf, addressedOf}
 use Rattle.executing.specs.Executing.{passes, isAlone, isAlways, markOf, channelsFrom, channelsIn, fitsOf, sendable, receivable, messageOf, readyBy, readyOf}
-use Rattle.executing.proofs.Bits.{same-bits, one-if}
+use Rattle.executing.proofs.Bits.{one-if}
+use Rattle.value.proofs.Machine.{same-bits}
 
 -- ---- comparing
 pub equal-value : {x : Answer} {v : ℤ} (w : ℤ) → x ≡ Value v → mag v < 2 ^ 31 → SFits w32 w → Value (toZ w32 (boolByte (eqb (ofZ w32 v) (ofZ w32 w)))) ≡ equalBy x w

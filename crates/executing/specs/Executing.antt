@@ -8,7 +8,8 @@ use lib.IntN.{ℤ}
 use lib.Dec.{eqb, ltb, leb}
 use Rattle.base.specs.Choice.{pick, both, either}
 use Rattle.tables.specs.Access.{codeOf, linkOf}
-use Rattle.frames.specs.Layout.{processesMost, channelsMost, processesOf, channelsOf, declaredOf, waitingOf}
+use Rattle.frames.specs.Layout.{processesOf, channelsOf, declaredOf, waitingOf}
+use Rattle.spec_text.specs.Ceilings.{processesMost, channelsMost}
 use Rattle.value.specs.declared.Answer.{Answer}
 use Rattle.evaluating.specs.declared.Reached.{Reached}
 use Rattle.evaluating.specs.declared.Reached.the-variants.{Record, Unmade}

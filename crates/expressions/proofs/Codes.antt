@@ -88,7 +88,7 @@ entry-codes [] = refl
 entry-codes (x ∷ l) = ap₂ _∷_ (entry-code x) (entry-codes l)
 
 -- ---- runs
-runs-at : (f : ℕ → Entry) (i k j : ℕ) → j < k → getD (runs f i k) j nothing ≡ f (i + j)
+pub runs-at : (f : ℕ → Entry) (i k j : ℕ) → j < k → getD (runs f i k) j nothing ≡ f (i + j)
 unfolding runs
 runs-at f i zero j h = absurd (omega arith)
 runs-at f i (suc k) zero h = ap f (omega arith)

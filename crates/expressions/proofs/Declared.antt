@@ -3,11 +3,10 @@ use Prim.Native.Nat.{ℕ, zero, suc, _+_, _≤_, _<_}
 use native.Mathlib.Omega.{arith}
 use mathlib.Core.Path.{_≡_, refl, sym as inv, ap, _∙_, subst}
 use mathlib.Core.Bool.{Bool, true, false}
-use mathlib.Core.Logic.{_⊎_, inl, inr}
 use mathlib.Core.List.{List, [], _∷_, _++_, map}
 use lib.ListN.{length, getD, length-append, length-replicate}
 use lib.Dec.{eqb, ltb}
-use borrow.Author.Tests.{ltb-true, ltb-false, eqb-true, ne-eqb}
+use borrow.Author.Tests.{ltb-true, ltb-false, eqb-true}
 use Rattle.base.specs.Choice.{pick, either}
 use Rattle.base.proofs.Tests.{true-false}
 use Rattle.syntax.specs.Tree.{Name, Shape, Exp, plain, indexed, num, tru, fls, get, len, unary, binary, choice}
@@ -18,30 +17,18 @@ use Rattle.sheets.specs.Spans.{startsOf, heightsOf}
 use Rattle.finding.specs.Sets.{among}
 use Rattle.finding.specs.Search.{lookup}
 use Rattle.rules.specs.Rules.{roleOf, badPlain, badVariable, badUse, badRef, ruleOf, badBy, bad}
-use Rattle.faults.specs.declared.Fault.{Fault}
-use Rattle.faults.specs.declared.Fault.the-variants.{None, At}
+use Rattle.faults.specs.declared.Fault.the-variants.{None}
 use Rattle.faults.specs.Faults.{place, sooner, joined, leastFrom, leastOf, blank, checked}
 use Rattle.phrases.specs.Phrases.{Proper, At as Stood}
 use Rattle.phrases.proofs.Starts.{at-front, at-back, some-items, phrase-starts}
 use Rattle.accepting.specs.Meaning.{Accepts}
-use Rattle.meaning.specs.Scenes.{sizeIn}
+use Rattle.agree_stage.specs.Scenes.{sizeIn}
 use Rattle.expressions.specs.Names.{codesAt, saidAt, homesAt, meantAt, Arrays}
 use Rattle.expressions.proofs.Codes.{codes-few}
 use Rattle.expressions.proofs.Main.{items-long}
 use Rattle.expressions.proofs.Said.{first-said, home-same}
 use Rattle.expressions.proofs.Names.{Lies, lies-front, lies-back, meaning, means-none}
-
--- ---- no item of an accepted text has a fault
-sooner-some : (p m : ℕ) (f : Fault) → sooner p m f ≡ None → ⊥
-unfolding sooner
-sooner-some p m None e = let z : _≡_ {A = ℕ} 0 1 = cc in omega arith
-sooner-some p m (At m2 p2) e = by (ltb p p2) (ltb p2 p) (ltb m2 m) e
-  where
-    by : (a b c : Bool) → pick a (At m p) (pick b (At m2 p2) (pick c (At m2 p2) (At m p))) ≡ None → ⊥
-    by true b c e = let z : _≡_ {A = ℕ} 0 1 = cc in omega arith
-    by false true c e = let z : _≡_ {A = ℕ} 0 1 = cc in omega arith
-    by false false true e = let z : _≡_ {A = ℕ} 0 1 = cc in omega arith
-    by false false false e = let z : _≡_ {A = ℕ} 0 1 = cc in omega arith
+use Rattle.faults.proofs.Theorems.{sooner-some}
 
 module _ (cs vs hs ss ts toks : List ℕ) where
   none-bad : (j k x : ℕ) → leastFrom cs vs hs ss ts toks j k ≡ None → j ≤ x → x < j + k → bad cs vs hs ss ts x ≡ 0
@@ -77,33 +64,6 @@ module _ (cs vs hs : List ℕ) where
       go false true z q e = absurd (never-zero (either (eqb role 0) (eqb role 3)) e)
       go false false true q e = q
       go false false false q e = absurd (omega arith)
-
-  -- a channel operand or a target
-  role-variable : (m h role : ℕ) (b : Bool) → (role ≡ 1) ⊎ (role ≡ 2) → badUse cs vs hs m h role b ≡ 0 → among 14 (getD cs (lookup cs vs hs (getD vs m 0) h m) 0) ≡ true
-  unfolding badUse
-  role-variable m h role b r e = go (eqb (getD vs m 0) 0) (eqb (getD cs (lookup cs vs hs (getD vs m 0) h m) 0) 220) (among 14 (getD cs (lookup cs vs hs (getD vs m 0) h m) 0)) refl (not-operand r) e
-    where
-      not-operand : (role ≡ 1) ⊎ (role ≡ 2) → (eqb role 0 ≡ false) × (eqb role 3 ≡ false)
-      not-operand (inl q) = (ne-eqb role 0 (λ z. omega arith), ne-eqb role 3 (λ z. omega arith))
-      not-operand (inr q) = (ne-eqb role 0 (λ z. omega arith), ne-eqb role 3 (λ z. omega arith))
-
-      go : (x y z : Bool) → among 14 (getD cs (lookup cs vs hs (getD vs m 0) h m) 0) ≡ z → (eqb role 0 ≡ false) × (eqb role 3 ≡ false)
-          → pick x (badPlain (eqb role 0) b) (pick y (badPlain (either (eqb role 0) (eqb role 3)) b) (pick z (badVariable cs (lookup cs vs hs (getD vs m 0) h m) role b) 4)) ≡ 0
-          → among 14 (getD cs (lookup cs vs hs (getD vs m 0) h m) 0) ≡ true
-      go true y z q n e = absurd (let w : _≡_ {A = ℕ} 4 0 = sym4 n e in omega arith)
-        where
-          sym4 : (eqb role 0 ≡ false) × (eqb role 3 ≡ false) → badPlain (eqb role 0) b ≡ 0 → _≡_ {A = ℕ} 4 0
-          sym4 n e = ap (λ c. badPlain c b) (inv (n .0)) ∙ e
-      go false true z q n e = absurd (let w : _≡_ {A = ℕ} 4 0 = both4 n e in omega arith)
-        where
-          both4 : (eqb role 0 ≡ false) × (eqb role 3 ≡ false) → badPlain (either (eqb role 0) (eqb role 3)) b ≡ 0 → _≡_ {A = ℕ} 4 0
-          both4 n e = ap (λ c. badPlain c b) (inv (ap (λ c. either c (eqb role 3)) (n .0) ∙ n .1)) ∙ e
-      go false false true q n e = q
-      go false false false q n e = absurd (omega arith)
-
-  plain-rule : (ss ts : List ℕ) (j : ℕ) → getD cs j 0 ≡ 176 → bad cs vs hs ss ts j ≡ badUse cs vs hs (getD ss j 0) (getD hs j 0) (roleOf (getD cs (j + 1) 0)) false
-  unfolding ruleOf badBy badRef
-  plain-rule ss ts j e = rw e
 
   index-rule : (ss ts : List ℕ) (j : ℕ) → getD cs j 0 ≡ 177 → bad cs vs hs ss ts j ≡ badUse cs vs hs (getD ss j 0) (getD hs j 0) (roleOf (getD cs (j + 1) 0)) true
   unfolding ruleOf badBy badRef
@@ -142,25 +102,6 @@ module _ (t : List ℕ) (a : Accepts t) where
         ∙ ap (λ y. lookup C v o (getD v k 0) y k) (inv (home-same t a i j (omega arith) (omega (arith, items-long t a)) (λ y d z. low y d (omega arith))))
         ∙ ap (λ y. lookup C v o (getD v y 0) (getD o j 0) y) (inv st)) ∙ u
 
-    -- a plain name that is used so, whose items are k and k + 1
-    plain-means-variable : (w : Name) (k : ℕ) → Stood C k (code-exp (plain w)) → i ≤ k → k + 2 ≤ i + n → getD xs k i-plain ≡ i-name w
-        → (roleOf (getD C (k + 2) 0) ≡ 1) ⊎ (roleOf (getD C (k + 2) 0) ≡ 2) → among 14 (getD C (meaning t a i n end low w k) 0) ≡ true
-    plain-means-variable w k h b g l r =
-        let v = saidAt t a in
-        let o = homesAt t a in
-        let j = k + 1 in
-        let z : suc k ≡ k + 1 = omega arith in
-        let y : k + 1 + 1 ≡ k + 2 = omega arith in
-        let c : getD C j 0 ≡ 176 = ap (λ d. getD C d 0) (inv z) ∙ h .1 .0 in
-        let st : getD S j 0 ≡ k = phrase-starts C blank (plain w) tt k j h (codes-few t a) (omega (arith, codes-few t a, length-replicate 8192 zero)) (omega arith) (omega arith) in
-        let u =
-        role-variable C v o (getD S j 0) (getD o j 0) (roleOf (getD C (j + 1) 0)) false (subst (λ d. (roleOf (getD C d 0) ≡ 1) ⊎ (roleOf (getD C d 0) ≡ 2)) (inv y) r)
-        (inv (plain-rule C v o S (heightsOf C S blank) j c) ∙ no-fault j (omega arith)) in
-        ap (λ y. among 14 (getD C y 0))
-        (ap (λ y. lookup C v o y (insideOf C i) k) (first-said t a w k (omega (arith, items-long t a)) l)
-        ∙ ap (λ y. lookup C v o (getD v k 0) y k) (inv (home-same t a i j (omega arith) (omega (arith, items-long t a)) (λ y d z. low y d (omega arith))))
-        ∙ ap (λ y. lookup C v o (getD v y 0) (getD o j 0) y) (inv st)) ∙ u
-
     index-declared : (w : Name) (k : ℕ) → i ≤ k → k < i + n → getD C k 0 ≡ 70 → among 14 (getD C (meaning t a i n end low w k) 0) ≡ true → meantAt t a i w < i
     index-declared w k b g c u = go (ltb (meantAt t a i w) i) refl
       where
@@ -169,10 +110,6 @@ module _ (t : List ℕ) (a : Accepts t) where
         go false e =
             let l : meantAt t a i w < i → ⊥ = λ z. (let y = ltb-false (meantAt t a i w) i e in omega arith) in
             absurd (true-false (inv u ∙ ap (λ y. among 14 (getD C y 0)) (means-none t a i n end low w k b g l) ∙ ap (among 14) c ∙ name-no-variable))
-
-    pub plain-declared : (w : Name) (k : ℕ) → Stood C k (code-exp (plain w)) → i ≤ k → k + 2 ≤ i + n → getD xs k i-plain ≡ i-name w
-        → (roleOf (getD C (k + 2) 0) ≡ 1) ⊎ (roleOf (getD C (k + 2) 0) ≡ 2) → meantAt t a i w < i
-    plain-declared w k h b g l r = index-declared w k b (omega arith) (h .0) (plain-means-variable w k h b g l r)
 
     pub arrays-in : {s : Shape} (e : Exp s) (k : ℕ) → Proper e → Lies xs k (code-exp e) → Stood C k (code-exp e) → i ≤ k → k + length (code-exp e) ≤ i + n → Arrays t a i e
     arrays-in (plain w) k p l h b g = tt

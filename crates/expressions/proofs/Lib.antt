@@ -8,4 +8,3 @@ pub mod Names
 pub mod Declared
 pub mod Operators
 pub mod Whole
-pub mod Targets

@@ -10,7 +10,8 @@ use Rattle.syntax.specs.Tree.{Name, Shape, Exp, plain, indexed, num, tru, fls, 
 use Rattle.syntax.specs.Code.{Item, i-index, i-len, i-unary, i-binary, i-otherwise, i-choice, code-exp, code}
 use Rattle.entries.specs.Items as items
 use Rattle.links.specs.Links.{classOf}
-use Rattle.phrases.specs.Phrases.{height, Proper, At}
+use Rattle.phrases.specs.Phrases.{Proper, At}
+use Rattle.lawful.specs.Heights.{height}
 use Rattle.phrases.proofs.Starts.{at-front, at-back, phrase-starts}
 use Rattle.phrases.proofs.Inside.{stands}
 use Rattle.tables.specs.Access.{codeOf, linkOf}
@@ -18,9 +19,9 @@ use Rattle.judging.specs.Judging.{tablesText}
 use Rattle.accepting.specs.Meaning.{Accepts}
 use Rattle.accepting.proofs.Tables.{text-tables}
 use Rattle.evaluating.specs.Expressions.{evalOf}
-use Rattle.meaning.specs.Eval.{eval}
-use Rattle.meaning.specs.Scenes.{sceneOf, sizeIn, Stands, Named}
-use Rattle.meaning.proofs.Tables.{eval-is}
+use Rattle.spec_machine.specs.Eval.{eval}
+use Rattle.agree_stage.specs.Scenes.{sceneOf, sizeIn, Stands, Named}
+use Rattle.agree_stage.proofs.Tables.{eval-is}
 use Rattle.expressions.specs.Held.{Held}
 use Rattle.expressions.proofs.Codes.{cs, codes-few, codes-long, codes-are}
 use Rattle.expressions.proofs.Starts.{binary-class, otherwise-class, choice-class, link-starts}

@@ -10,16 +10,19 @@ use lib.ListN.{length, getD, replicate, length-append, length-replicate, List·g
 use lib.Seq.{getD-append-add}
 use lib.IntN.{ℤ}
 use lib.Dec.{ltb}
-use borrow.Author.Tests.{ltb-true, ltb-false, lt-ltb}
+use borrow.Author.Tests.{ltb-true, ltb-false, lt-ltb, le-ltb}
 use Rattle.base.specs.Choice.{pick}
 use Rattle.base.proofs.Tests.{true-false}
 use Rattle.syntax.specs.Tree.{Name, Shape, reference, Exp, plain, indexed, num, tru, fls, get, len, unary, binary, choice}
 use Rattle.syntax.specs.Code.{Item, i-name, i-plain, i-index, i-len, i-unary, i-binary, i-otherwise, i-choice, code-exp, code}
 use Rattle.entries.specs.Items as items
 use Rattle.sheets.specs.Homes.{insideOf}
-use Rattle.finding.specs.Search.{lookup}
+use Rattle.finding.specs.Search.{find, lookup}
+use Rattle.base.specs.Lists.{same}
+use Rattle.spec_text.specs.Names.{pid}
 use Rattle.links.specs.Links.{classOf}
-use Rattle.phrases.specs.Phrases.{height, Proper, At, inExpression}
+use Rattle.phrases.specs.Phrases.{Proper, At, inExpression}
+use Rattle.lawful.specs.Heights.{height}
 use Rattle.phrases.proofs.Starts.{at-front, at-back, some-items, phrase-starts}
 use Rattle.phrases.proofs.Inside.{all-inside, phrase-inside, mark-outside}
 use Rattle.tables.specs.Access.{codeOf, linkOf}
@@ -27,15 +30,15 @@ use Rattle.judging.specs.Judging.{tablesText}
 use Rattle.accepting.specs.Meaning.{Accepts}
 use Rattle.accepting.proofs.Tables.{text-tables}
 use Rattle.evaluating.specs.Expressions.{evalOf}
-use Rattle.meaning.specs.Eval.{eval}
-use Rattle.meaning.specs.Scenes.{sceneOf, sizeIn, Meant, Named}
+use Rattle.spec_machine.specs.Eval.{eval}
+use Rattle.agree_stage.specs.Scenes.{sceneOf, sizeIn, Meant, Named}
 use Rattle.expressions.specs.Names.{firstName, codesAt, saidAt, homesAt, meantAt, declAt, Arrays}
 use Rattle.expressions.proofs.Codes.{codes-few}
 use Rattle.expressions.proofs.Starts.{reference-class, link-name}
 use Rattle.expressions.proofs.Items.{link-held, code-held}
 use Rattle.expressions.proofs.Main.{U, items-long, stands-at, text-eval}
 use Rattle.expressions.proofs.Lookups.{lookup-most, lookup-further, lookup-none}
-use Rattle.expressions.proofs.Said.{first-said, first-code, home-same}
+use Rattle.expressions.proofs.Said.{pid-said, first-said, first-code, home-same}
 
 -- ---- items that lie in a list from place k on
 abbrev pub Lies : List Item → ℕ → List Item → Type 0
@@ -134,12 +137,24 @@ module _ (t : List ℕ) (a : Accepts t) where
             let f = first-code t a w k h e in
             inr (ap (codeOf (U t a)) (q ∙ means-none w k b g l) ∙ code-held t a k h ∙ ap items.codeOf e, ap (codeOf (U t a)) (decl-none w l) ∙ code-held t a (firstName w xs) (f .0) ∙ f .1)
 
+    -- `_pid` is declared by no item
+    pid-declared : (w : Name) (k : ℕ) → i ≤ k → k < i + n → getD xs k i-plain ≡ i-name w → same w pid ≡ true → codeOf (U t a) (declAt t a i w) ≡ 70
+    unfolding meantAt lookup find
+    pid-declared w k b g e q =
+        let h : k < length xs = omega (arith, items-long t a) in
+        let f = first-code t a w k h e in
+        let z : meantAt t a i w ≡ i =
+        ap (λ v. lookup C (saidAt t a) (homesAt t a) v (insideOf C i) i) (first-said t a w k h e ∙ pid-said t a w k h e q) ∙ rw (le-ltb i i (omega arith)) in
+        ap (codeOf (U t a)) (decl-none w (λ l. omega arith)) ∙ code-held t a (firstName w xs) (f .0) ∙ f .1
+
     named-in : {s : Shape} (e : Exp s) (k : ℕ) → Proper e → Lies xs k (code-exp e) → At C k (code-exp e) → i ≤ k → k + length (code-exp e) ≤ i + n → Arrays t a i e → Named (U t a) (declAt t a i) e k
     unfolding Named
     named-in (plain w) k p l h b g r =
         let z : suc k ≡ k + 1 = omega arith in
-        let c : getD C (k + 1) 0 ≡ 176 = ap (λ y. getD C y 0) (inv z) ∙ h .1 .0 in
-        plain-means w k (linkOf (U t a) (k + 1)) b (omega arith) (l .0) (link-means w (plain w) k (k + 1) 176 p h b (omega arith) (omega arith) (l .0) c (reference-class .0))
+        let c : getD C (k + 1) 0 ≡ 176 = ap (λ y. getD C y 0) (inv z) ∙ h .1 .0 in (
+          plain-means w k (linkOf (U t a) (k + 1)) b (omega arith) (l .0) (link-means w (plain w) k (k + 1) 176 p h b (omega arith) (omega arith) (l .0) c (reference-class .0)),
+          pid-declared w k b (omega arith) (l .0),
+        )
     named-in (indexed w e) k p l h b g r =
         let m = sizeIn e in
         let z : suc k ≡ k + 1 = omega arith in

@@ -18,7 +18,8 @@ use Rattle.syntax.specs.Code.{Item, i-name, i-plain, code}
 use Rattle.machine.specs.Machine.{symbol-of, place-of}
 use Rattle.entries.specs.Items as items
 use Rattle.sheets.specs.Walks.{first}
-use Rattle.sheets.specs.Payload.{wordOf, pid, sameName, firstSame, nameArg, argOf, argsOf, spelled}
+use Rattle.sheets.specs.Payload.{wordOf, sameName, firstSame, nameArg, argOf, argsOf, spelled}
+use Rattle.spec_text.specs.Names.{pid}
 use Rattle.sheets.specs.Homes.{insideOf, homeOf}
 use Rattle.sheets.proofs.Meaning.{filled-at, home-at}
 use Rattle.holdings.proofs.Read.{get-only}
@@ -119,6 +120,13 @@ module _ (t : List ℕ) (a : Accepts t) where
       let z : m ≡ f + (m - f) = omega arith in
       ap (λ y. pick (same y pid) 0 (first (sameName t ss es C ks f) 0 f + 1)) q
       ∙ ap (λ n. pick (same (wordOf t ss es C ks m) pid) 0 (n + 1)) (firsts f m q ∙ inv (ap (first (sameName t ss es C ks m) 0) z ∙ first-reached (sameName t ss es C ks m) 0 f (m - f) (let y : 0 + f ≡ f = omega arith in ap (sameName t ss es C ks m) y ∙ passes f m e q)))
+
+  -- `_pid` says 0
+  pub pid-said : (w : Name) (m : ℕ) → m < length xs → getD xs m i-plain ≡ i-name w → same w pid ≡ true → getD (saidAt t a) m 0 ≡ 0
+  unfolding nameArg
+  pid-said w m h e q =
+      let cm = code-of m h ∙ ap items.codeOf e in
+      said m h cm ∙ ap (λ y. pick (same y pid) 0 (firstSame t ss es C ks m + 1)) (word-is m h cm ∙ ap (λ y. items.entryOf y .bytes) e) ∙ rw q
 
   -- the first item of a name says what each item of it says
   pub first-said : (w : Name) (m : ℕ) → m < length xs → getD xs m i-plain ≡ i-name w → getD (saidAt t a) (firstName w xs) 0 ≡ getD (saidAt t a) m 0

@@ -17,15 +17,15 @@ use Rattle.entries.specs.Items as items
 use Rattle.sheets.specs.Spans.{startsOf, heightsOf}
 use Rattle.rules.specs.Rules.{badHeight, ruleOf, badBy, bad}
 use Rattle.faults.specs.Faults.{blank}
-use Rattle.phrases.specs.Phrases.{height}
+use Rattle.lawful.specs.Heights.{height}
 use Rattle.phrases.proofs.Starts.{some-items}
 use Rattle.phrases.proofs.Heights.{phrase-heights}
 use Rattle.phrases.proofs.Inside.{phrase-inside}
 use Rattle.judging.specs.Judging.{tablesText}
 use Rattle.accepting.specs.Meaning.{Accepts}
 use Rattle.evaluating.specs.Expressions.{evalOf}
-use Rattle.meaning.specs.Eval.{eval}
-use Rattle.meaning.specs.Scenes.{sceneOf, sizeIn}
+use Rattle.spec_machine.specs.Eval.{eval}
+use Rattle.agree_stage.specs.Scenes.{sceneOf, sizeIn}
 use Rattle.expressions.specs.Names.{codesAt, saidAt, homesAt, declAt, Arrays}
 use Rattle.expressions.specs.Marks.{Closes, plainly, in-parentheses}
 use Rattle.expressions.proofs.Codes.{codes-few}

@@ -18,7 +18,7 @@ use Rattle.faults.specs.declared.Fault.{Fault}
 use Rattle.faults.specs.declared.Fault.the-variants.{None, At}
 
 -- ## no place matters
-sooner-some : (p m : ℕ) (f : Fault) → sooner p m f ≡ None → ⊥
+pub sooner-some : (p m : ℕ) (f : Fault) → sooner p m f ≡ None → ⊥
 unfolding sooner
 sooner-some p m None e = let z : _≡_ {A = ℕ} 0 1 = cc in omega arith
 sooner-some p m (At m2 p2) e = by (ltb p p2) (ltb p2 p) (ltb m2 m) e

@@ -12,8 +12,8 @@ use Rattle.base.specs.Choice.{pick, both}
 use Rattle.base.proofs.Tests.{both-true, true-false}
 use Rattle.sheets.specs.Homes.{heads, insideOf, homeOf}
 use Rattle.sheets.proofs.Meaning.{home-at}
-use Rattle.forming.specs.Forms.{begins, formAt, Formed}
-use Rattle.forming.proofs.Spans.{Closed, said, zone-kept, zone-ended}
+use Rattle.forming.specs.Forms.{begins, Formed}
+use Rattle.forming.proofs.Spans.{Closed}
 use Rattle.fitness.specs.Facts.{homes}
 
 pub both-hold : (a b : Bool) → a ≡ true → b ≡ true → both a b ≡ true
@@ -107,43 +107,3 @@ module _ (cs : List ℕ) where
               before : Dec (j ≡ e) → j ≤ e → j < e
               before (yes z) m = absurd (n (ap (λ i. getD cs i 0) z ∙ c .2))
               before (no z) m = omega arith
-
--- a channel is in the body of its declared name
-pub home-step : (cs : List ℕ) → length cs ≤ 8192 → (j : ℕ) → j + 2 < length cs → getD cs j 0 ≡ 212 → getD cs (j + 1) 0 ≡ 71 → getD cs (j + 2) 0 ≡ 217 → getD (homes cs) (j + 2) 0 ≡ getD (homes cs) j 0
-home-step cs few j h a b c =
-    at (j + 2) h ∙ home-plain cs (j + 2) (rw c) ∙ ap (insideOf cs) (let z : j + 2 ≡ suc (j + 1) = omega arith in z) ∙ inside-next cs (j + 1) ∙ rw b (ap (insideOf cs) (let z : j + 1 ≡ suc j = omega arith in z) ∙ inside-next cs j ∙ rw a (sym (at j (omega arith) ∙ home-plain cs j (rw a))))
-  where
-    at : (i : ℕ) → i < length cs → getD (homes cs) i 0 ≡ homeOf cs i
-    at i g = home-at cs (replicate 8192 0) i g few (omega (arith, length-replicate {A = ℕ} 8192 0))
-
--- ---- what stands in a unit is in a body
-module _ (cs : List ℕ) (F : Formed cs) (few : length cs ≤ 8192) where
-  zone-none : formAt cs 0 .zone ≡ 0
-  unfolding formAt
-  zone-none = refl
-
-  zone-inside : (j : ℕ) → j ≤ length cs → 1 ≤ formAt cs j .zone → 1 ≤ insideOf cs j
-  zone-inside zero h z = absurd (let e = zone-none in omega arith)
-  zone-inside (suc j) h z = go (begins (getD cs j 0)) refl (ℕ-discrete (getD cs j 0) 228) (ℕ-discrete (getD cs j 0) 227) (zone-inside j (omega arith))
-    where
-      go : (b : Bool) → begins (getD cs j 0) ≡ b → Dec (getD cs j 0 ≡ 228) → Dec (getD cs j 0 ≡ 227) → (1 ≤ formAt cs j .zone → 1 ≤ insideOf cs j) → 1 ≤ insideOf cs (suc j)
-      go true e d f r = let a : insideOf cs (suc j) ≡ j + 1 = inside-next cs j ∙ rw (begins-heads (getD cs j 0) e) in omega arith
-      go false e (yes d) f r = absurd (let a = zone-ended cs j d in omega arith)
-      go false e (no d) (yes f) r =
-          let a : insideOf cs (suc j) ≡ insideOf cs j = inside-next cs j ∙ rw (no-heads (getD cs j 0) e, ne-eqb (getD cs j 0) 228 d) in
-          let b = said cs F j h .body f in
-          let c = r (omega arith) in
-          omega arith
-      go false e (no d) (no f) r =
-          let a : insideOf cs (suc j) ≡ insideOf cs j = inside-next cs j ∙ rw (no-heads (getD cs j 0) e, ne-eqb (getD cs j 0) 228 d) in
-          let b = zone-kept cs j e f d in
-          let c = r (omega arith) in
-          omega arith
-
-  -- a parameter is in the body of its unit
-  pub parameter-home : (j : ℕ) → j < length cs → getD cs j 0 ≡ 222 → 1 ≤ getD (homes cs) j 0
-  parameter-home j h e =
-      let a = said cs F j h .parameter e in
-      let b = zone-inside j (omega arith) (omega arith) in
-      let c : getD (homes cs) j 0 ≡ insideOf cs j = home-is cs F few j h ∙ home-plain cs j (rw e) in
-      omega arith

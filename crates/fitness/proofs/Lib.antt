@@ -1,3 +1,4 @@
+pub mod Cells
 pub mod Tables
 pub mod Links
 pub mod Known
@@ -7,12 +8,5 @@ pub mod Sums
 pub mod Variables
 pub mod Firsts
 pub mod Marks
-pub mod Items
-pub mod Follows
 pub mod Jumps
-pub mod Options
 pub mod Whole
-pub mod Arguments
-pub mod Channels
-pub mod Made
-pub mod Stores

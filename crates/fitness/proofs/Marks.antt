@@ -19,7 +19,7 @@ use Rattle.links.specs.Links.{classOf, linkBy}
 use Rattle.standing.specs.Standing.{placeAt}
 use Rattle.forming.specs.Forms.{joins}
 use Rattle.forming.proofs.Nears.{before-part}
-use Rattle.keeping.specs.Well.{Unit, Inside, Stop}
+use Rattle.fitness.specs.Well.{Unit, Inside, Stop}
 use Rattle.fitness.specs.Held.{Held}
 use Rattle.fitness.specs.Facts.{homes, starts, linksIn, Facts}
 use Rattle.fitness.proofs.Links.{link-is}
@@ -88,13 +88,6 @@ mark-says c = go (isPart c)
     go : (b : Bool) → pick b false true ≡ true → b ≡ false
     go true e = absurd (true-false (sym e))
     go false e = refl
-
-pub part-says : (c : ℕ) → isMark c ≡ false → isPart c ≡ true
-part-says c = go (isPart c)
-  where
-    go : (b : Bool) → pick b false true ≡ false → b ≡ true
-    go true e = refl
-    go false e = absurd (true-false e)
 
 end-stop : (cs : List ℕ) (e : ℕ) → getD cs e 0 ≡ 228 → isStop cs e ≡ true
 unfolding isStop

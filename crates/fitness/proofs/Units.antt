@@ -11,8 +11,8 @@ use Rattle.tables.specs.Access.{itemsOf, codeOf, linkOf}
 use Rattle.places.specs.Places.{isOpening, isClosing, deeper, closeFrom, closeOf}
 use Rattle.links.specs.Links.{classOf, linkBy}
 use Rattle.forming.specs.Forms.{begins}
-use Rattle.forming.proofs.Spans.{Closed, unit-closed, unit-body}
-use Rattle.keeping.specs.Well.{Unit}
+use Rattle.forming.proofs.Spans.{Closed, unit-closed}
+use Rattle.fitness.specs.Well.{Unit}
 use Rattle.fitness.specs.Held.{Held}
 use Rattle.fitness.specs.Facts.{homes, starts, linksIn, Facts}
 use Rattle.fitness.proofs.Links.{link-is}
@@ -88,11 +88,3 @@ module _ (t cs vs : List ℕ) (H : Held t cs vs (linksIn cs vs)) (K : Facts cs v
       let s = span-of u n in
       let c = s .closed in
       (c .0, subst (λ k. linkOf t u < k) (sym (H .items)) (c .1), H .codes (linkOf t u) (c .1) ∙ c .2)
-
-  pub text-begins : (u : ℕ) → Unit t u → (b : ℕ) × (u < b) × (b < linkOf t u) × (codeOf t b ≡ 227)
-  text-begins u n =
-      let s = span-of u n in
-      let b = unit-body cs (K .formed) u (linkOf t u) (s .before) (s .head) (s .closed) in
-      let l = s .closed .1 in
-      let g = b .2 in
-      (b .0, b .1, g, H .codes (b .0) (omega arith) ∙ b .3)

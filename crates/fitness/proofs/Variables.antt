@@ -12,22 +12,19 @@ use borrow.Author.Tests.{eq-eqb, ne-eqb, eqb-true, ltb-true, ltb-false, leb-true
 use Rattle.base.specs.Choice.{pick, both, either}
 use Rattle.base.proofs.Tests.{either-false, true-false}
 use Rattle.sheets.specs.Walks.{sum}
-use Rattle.finding.specs.Sets.{among}
 use Rattle.rules.specs.Rules.{isArray, badSize, ruleOf, badBy}
-use Rattle.ceilings.specs.Ceilings.{numbersAt, numbers, heavyAt, weight, total, anyPassed}
+use Rattle.ceilings.specs.Ceilings.{numbers, weight, total, anyPassed}
 use Rattle.links.specs.Links.{typeAt, sizeAt, localAt, offsetAt, slotAt, classOf, linkBy}
 use Rattle.tables.specs.Access.{itemsOf, codeOf, linkOf}
-use Rattle.frames.specs.Layout.{globalsMost, numbersMost}
 use Rattle.evaluating.specs.Variables.{sizeOf}
-use Rattle.fitting.specs.Fits.{isGlobal, isLocal}
-use Rattle.keeping.specs.Well.{Unit, Inside}
-use Rattle.keeping.proofs.Cells.{global-is, local-is}
+use Rattle.fitting.specs.Fits.{isLocal}
+use Rattle.fitness.specs.Well.{Unit, Inside}
+use Rattle.fitness.proofs.Cells.{local-is}
 use Rattle.fitness.specs.Held.{Held}
 use Rattle.fitness.specs.Facts.{homes, starts, heights, linksIn, Facts}
 use Rattle.fitness.proofs.Links.{link-is}
 use Rattle.fitness.proofs.Units.{span-of}
 use Rattle.fitness.proofs.Homes.{inside-home}
-use Rattle.fitness.proofs.Sums.{sum-part, sum-next, sum-none}
 
 -- ---- four numbers in one
 unpacked : (a b c d : ℕ) → a ≤ 7 → b ≤ 1 → c ≤ 63
@@ -65,19 +62,6 @@ module _ (cs vs hs : List ℕ) (e : anyPassed cs vs hs ≡ false) where
         some = λ z. true-false (sym (eq-eqb (total cs vs hs 4) 0 z) ∙ h .1);
         channels = ltb-false 16 (total cs vs hs 5) (g .1);
       }
-
-  heavy-none : (u : ℕ) → u < length cs → heavyAt cs vs hs u ≡ 0
-  unfolding total weight
-  heavy-none u h = sum-none (weight cs vs hs 7) (length cs) u (within .heavy) h
-
-  -- a process of the unit has at most 32 numbers
-  pub unit-numbers : (u : ℕ) → u < length cs → among 15 (getD cs u 0) ≡ true → numbers cs vs hs (u + 1) ≤ 32
-  unfolding heavyAt
-  unit-numbers u h b = go (ltb 32 (numbers cs vs hs (u + 1))) refl (sym (ap (λ b. pick b (pick (ltb 32 (numbers cs vs hs (u + 1))) 1 0) 0) b) ∙ heavy-none u h)
-    where
-      go : (b : Bool) → ltb 32 (numbers cs vs hs (u + 1)) ≡ b → pick {A = ℕ} b 1 0 ≡ 0 → numbers cs vs hs (u + 1) ≤ 32
-      go true q z = absurd (omega arith)
-      go false q z = ltb-false 32 (numbers cs vs hs (u + 1)) q
 
 -- ---- what is an item is there
 pub past-none : (cs : List ℕ) (j : ℕ) → length cs ≤ j → getD cs j 0 ≡ 0
@@ -147,11 +131,6 @@ unfolding classOf
 variable-class c (inl e) = rw e
 variable-class c (inr e) = rw e
 
-variable-set : (c : ℕ) → (c ≡ 212) ⊎ (c ≡ 222) → among 14 c ≡ true
-unfolding among
-variable-set c (inl e) = rw e
-variable-set c (inr e) = rw e
-
 module _ (t cs vs : List ℕ) (H : Held t cs vs (linksIn cs vs)) (K : Facts cs vs) where
   abbrev hs : List ℕ
   hs = homes cs
@@ -183,47 +162,6 @@ module _ (t cs vs : List ℕ) (H : Held t cs vs (linksIn cs vs)) (K : Facts cs v
       let u = unpacked (typeAt cs d) (localAt hs d) (sizeAt cs vs d) (offsetAt cs vs hs d) (type-most cs d) (local-most hs d) (size-most cs vs d) in
       record { offset = ap (λ l. l / 1024) e ∙ u .0; size = ap (λ l. l / 16 % 64) e ∙ u .1; flag = ap (λ l. l / 8 % 2) e ∙ u .2 }
 
-  -- the numbers that it has in its body
-  own-numbers : (d : ℕ) → (getD cs d 0 ≡ 212) ⊎ (getD cs d 0 ≡ 222) → numbersAt cs vs hs (getD hs d 0) d ≡ sizeAt cs vs d
-  unfolding numbersAt
-  own-numbers d v = rw (variable-set (getD cs d 0) v, eq-eqb (getD hs d 0) (getD hs d 0) refl) (sym (size-is cs vs K d .1))
-
-  module _ (d : ℕ) (v : (getD cs d 0 ≡ 212) ⊎ (getD cs d 0 ≡ 222)) (h : d < length cs) (most : numbers cs vs hs (getD hs d 0) ≤ 64) where
-    next-sum : sum (numbersAt cs vs hs (getD hs d 0)) 0 (d + 1) ≡ sum (numbersAt cs vs hs (getD hs d 0)) 0 d + sizeAt cs vs d
-    next-sum = sum-next (numbersAt cs vs hs (getD hs d 0)) d ∙ ap (λ k. sum (numbersAt cs vs hs (getD hs d 0)) 0 d + k) (own-numbers d v)
-
-    all-sum : sum (numbersAt cs vs hs (getD hs d 0)) 0 (d + 1) ≤ numbers cs vs hs (getD hs d 0)
-    unfolding numbers
-    all-sum = sum-part (numbersAt cs vs hs (getD hs d 0)) (d + 1) (length cs) (omega arith)
-
-    offset-is : offsetAt cs vs hs d ≡ sum (numbersAt cs vs hs (getD hs d 0)) 0 d
-    unfolding offsetAt
-    offset-is = let a = next-sum in let b = all-sum in omega arith
-
-    fits-in : linkOf t d / 1024 + sizeOf (linkOf t d) ≤ numbers cs vs hs (getD hs d 0)
-    fits-in =
-        let s = slot-of d h v in
-        let a = next-sum in
-        let b = all-sum in
-        let c = offset-is in
-        let x = s .offset in
-        let y = s .size in
-        omega arith
-
-    apart-from : (e : ℕ) → d < e → e < length cs → (getD cs e 0 ≡ 212) ⊎ (getD cs e 0 ≡ 222) → getD hs e 0 ≡ getD hs d 0 → offsetAt cs vs hs e ≡ sum (numbersAt cs vs hs (getD hs e 0)) 0 e
-        → linkOf t d / 1024 + sizeOf (linkOf t d) ≤ linkOf t e / 1024
-    apart-from e l g z q r =
-        let s = slot-of d h v in
-        let o = slot-of e g z in
-        let a = next-sum in
-        let c = offset-is in
-        let x = s .offset in
-        let y = s .size in
-        let w = o .offset in
-        let b = sum-part (numbersAt cs vs hs (getD hs d 0)) (d + 1) e (omega arith) in
-        let k : sum (numbersAt cs vs hs (getD hs e 0)) 0 e ≡ sum (numbersAt cs vs hs (getD hs d 0)) 0 e = ap (λ h. sum (numbersAt cs vs hs h) 0 e) q in
-        omega arith
-
   -- ---- fields of `Well`
   below : (d : ℕ) → d < itemsOf t → d < length cs
   below d h = subst (λ n. d < n) (H .items) h
@@ -238,74 +176,17 @@ module _ (t cs vs : List ℕ) (H : Held t cs vs (linksIn cs vs)) (K : Facts cs v
   pub text-sized : (d : ℕ) → d < itemsOf t → isLocal t d ≡ true → 1 ≤ sizeOf (linkOf t d)
   text-sized d h e = let g = below d h in let s = slot-of d g (code-as d g e) .size in let r = size-is cs vs K d .0 in omega arith
 
-  -- a global variable is in no body
-  pub global-home : (d : ℕ) → (h : d < length cs) → (v : (getD cs d 0 ≡ 212) ⊎ (getD cs d 0 ≡ 222)) → linkOf t d / 8 % 2 ≡ 0 → getD hs d 0 ≡ 0
-  global-home d h v e = go (eqb (getD hs d 0) 0) refl (sym (slot-of d h v .flag) ∙ e)
-    where
-      go : (b : Bool) → eqb (getD hs d 0) 0 ≡ b → pick {A = ℕ} b 0 1 ≡ 0 → getD hs d 0 ≡ 0
-      go true q z = eqb-true (getD hs d 0) 0 q
-      go false q z = absurd (omega arith)
-
-  global-code : (d : ℕ) → d < length cs → isGlobal t d ≡ true → getD cs d 0 ≡ 212
-  global-code d h e = sym (H .codes d h) ∙ global-is t d e .0
-
-  globals-most : (h : ℕ) → h ≡ 0 → numbers cs vs hs h ≤ 64
-  globals-most h e = subst (λ h. numbers cs vs hs h ≤ 64) (sym e) (within cs vs hs (K .ceiled) .globals)
-
-  pub text-globals-fit : (d : ℕ) → d < itemsOf t → isGlobal t d ≡ true → linkOf t d / 1024 + sizeOf (linkOf t d) ≤ globalsMost
-  text-globals-fit d h e =
-      let g = below d h in
-      let v : (getD cs d 0 ≡ 212) ⊎ (getD cs d 0 ≡ 222) = inl (global-code d g e) in
-      let m = globals-most (getD hs d 0) (global-home d g v (global-is t d e .1)) in
-      let f = fits-in d v g m in
-      omega arith
-
-  pub text-globals-apart : (d e : ℕ) → d < e → e < itemsOf t → isGlobal t d ≡ true → isGlobal t e ≡ true → linkOf t d / 1024 + sizeOf (linkOf t d) ≤ linkOf t e / 1024
-  text-globals-apart d e l h gd ge =
-      let k = below e h in
-      let j : d < length cs = omega arith in
-      let v : (getD cs d 0 ≡ 212) ⊎ (getD cs d 0 ≡ 222) = inl (global-code d j gd) in
-      let z : (getD cs e 0 ≡ 212) ⊎ (getD cs e 0 ≡ 222) = inl (global-code e k ge) in
-      let a = global-home d j v (global-is t d gd .1) in
-      let b = global-home e k z (global-is t e ge .1) in
-      apart-from d v j (globals-most (getD hs d 0) a) e l k z (b ∙ sym a) (offset-is e z k (globals-most (getD hs e 0) b))
-
-  -- ---- those of a unit
-  unit-most : (u : ℕ) → Unit t u → numbers cs vs hs (u + 1) ≤ 32
-  unfolding among
-  unit-most u n = let s = span-of t cs vs H K u n in unit-numbers cs vs hs (K .ceiled) u (s .before) (s .head)
-
   pub unit-home : (u d : ℕ) → Unit t u → Inside t u d → getD hs d 0 ≡ u + 1
   unit-home u d n i = let s = span-of t cs vs H K u n in inside-home cs (K .formed) (K .few) u (linkOf t u) (s .head) (s .closed) d (i .0) (i .1)
 
   pub unit-there : (u d : ℕ) → Unit t u → Inside t u d → d < length cs
   unit-there u d n i = let a = span-of t cs vs H K u n .closed .1 in let b = i .1 in omega arith
 
-  home-most : (u h : ℕ) → Unit t u → h ≡ u + 1 → numbers cs vs hs h ≤ 32
-  home-most u h n e = subst (λ h. numbers cs vs hs h ≤ 32) (sym e) (unit-most u n)
-
   pub text-locals-local : (u d : ℕ) → Unit t u → Inside t u d → isLocal t d ≡ true → linkOf t d / 8 % 2 ≡ 1
   text-locals-local u d n i e =
       let g = unit-there u d n i in
       let h = unit-home u d n i in
       slot-of d g (code-as d g e) .flag ∙ rw (ne-eqb (getD hs d 0) 0 (λ z. omega arith))
-
-  pub text-locals-fit : (u d : ℕ) → Unit t u → Inside t u d → isLocal t d ≡ true → linkOf t d / 1024 + sizeOf (linkOf t d) ≤ numbersMost
-  text-locals-fit u d n i e =
-      let g = unit-there u d n i in
-      let m = home-most u (getD hs d 0) n (unit-home u d n i) in
-      let f = fits-in d (code-as d g e) g (omega arith) in
-      omega arith
-
-  pub text-locals-apart : (u d e : ℕ) → Unit t u → Inside t u d → Inside t u e → d < e → isLocal t d ≡ true → isLocal t e ≡ true → linkOf t d / 1024 + sizeOf (linkOf t d) ≤ linkOf t e / 1024
-  text-locals-apart u d e n i k l ld le =
-      let g = unit-there u d n i in
-      let h = unit-there u e n k in
-      let a = unit-home u d n i in
-      let b = unit-home u e n k in
-      let x = home-most u (getD hs d 0) n a in
-      let y = home-most u (getD hs e 0) n b in
-      apart-from d (code-as d g ld) g (omega arith) e l h (code-as e h le) (b ∙ sym a) (offset-is e (code-as e h le) h (omega arith))
 
   -- ---- some item, and not too many: a process starts
   some-item : 1 ≤ length cs

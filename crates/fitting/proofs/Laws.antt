@@ -14,7 +14,7 @@ use Rattle.tables.specs.Access.{codeOf, linkOf}
 use Rattle.value.specs.Types.{castOf}
 use Rattle.value.specs.Operators.{same}
 use Rattle.frames.proofs.Laws.{back}
-use Rattle.executing.proofs.Bits.{same-bits}
+use Rattle.value.proofs.Machine.{same-bits}
 use Rattle.frames.specs.Layout.{kept, fieldAt, cellOf, countOf}
 use Rattle.evaluating.specs.Variables.{typeOf, sizeOf, slotOf}
 use Rattle.starting.specs.Starting.{unitLength}

@@ -18,7 +18,7 @@ use Rattle.places.specs.Places.{isPart, isMark, markFrom, markOf, isAlone, isLe
 use Rattle.phrases.specs.Phrases.{At}
 use Rattle.phrases.proofs.Starts.{at-front, at-back, some-items}
 use Rattle.expressions.proofs.Operators.{known-front, known-back}
-use Rattle.acts.specs.Program.{sizeIn, placeIn}
+use Rattle.spec_machine.specs.Program.{sizeIn, placeIn}
 use Rattle.following.proofs.Insides.{quiet, kind, part-known, type-known, Parts, parts-exp}
 
 -- ---- what is no stop, and what is one

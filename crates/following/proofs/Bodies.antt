@@ -14,7 +14,7 @@ use Rattle.expressions.proofs.Operators.{known-front, known-back}
 use Rattle.nesting.specs.Balanced.{Balanced}
 use Rattle.nesting.specs.Full.{FullBody, FullModel}
 use Rattle.nesting.proofs.Trees.{model-balanced}
-use Rattle.acts.specs.Program.{Holds, in-process, in-init, later}
+use Rattle.spec_machine.specs.Program.{Holds, in-process, in-init, later}
 use Rattle.following.proofs.Insides.{Inner, inner-groups}
 
 -- item u begins the unit, and its body b begins at item k

@@ -21,7 +21,7 @@ use Rattle.nesting.proofs.Skips.{selections, loops}
 use Rattle.nesting.proofs.Trees.{tree-balanced}
 use Rattle.fitness.specs.Facts.{homes, starts, linksIn}
 use Rattle.fitness.proofs.Links.{link-is}
-use Rattle.acts.specs.Program.{sizeIn, placeIn, enter, Within, itself, in-if, in-do, unlabelled, behind-label, in-first, in-rest, in-option, in-others}
+use Rattle.spec_machine.specs.Program.{sizeIn, placeIn, enter, Within, itself, in-if, in-do, unlabelled, behind-label, in-first, in-rest, in-option, in-others}
 use Rattle.following.specs.Onward.{Onward}
 use Rattle.following.proofs.Passes.{back-pass, back-stop, back, close-skip, close-pass, close-stop}
 use Rattle.following.proofs.Begins.{statement-from}
@@ -63,7 +63,7 @@ module _ (cs : List ℕ) where
       let z : i + sizeIn a - 1 ≡ i + length (r .front) = omega arith in
       (omega arith, ap (λ j. getD cs j 0) z ∙ at-back cs (r .front) (r .last ∷ []) i (i + length (r .front)) refl (subst (At cs i) (r .is) h) .0)
 
-  statement-last : (s : Tree statement) (i : ℕ) → At cs i (code-tree s) → isMark (getD cs (i + sizeIn s - 1) 0) ≡ true
+  pub statement-last : (s : Tree statement) (i : ℕ) → At cs i (code-tree s) → isMark (getD cs (i + sizeIn s - 1) 0) ≡ true
   statement-last (bare a) i h = ap isMark (last-at a i h .1) ∙ ended a .mark
   statement-last (labelled w a) i h =
       ap (λ j. isMark (getD cs j 0)) (let z : i + suc (suc (sizeIn a)) - 1 ≡ suc (suc i) + sizeIn a - 1 = omega arith in z) ∙ ap isMark (last-at a (suc (suc i)) (h .1 .1) .1) ∙ ended a .mark
@@ -76,7 +76,7 @@ pub record Here (cs : List ℕ) (k : Sort) (t : Tree k) (i : ℕ) : Type 0 where
   pub ends : i + sizeIn t < length cs
 
 module _ (cs : List ℕ) {i : ℕ} where
-  here-if : {os : Tree options} → Here cs action (select os) i → Here cs options os (i + 1)
+  pub here-if : {os : Tree options} → Here cs action (select os) i → Here cs options os (i + 1)
   here-if {os} h =
       let n = length-append (code-tree os) (i-fi ∷ []) in
       let e = h .ends in
@@ -87,7 +87,7 @@ module _ (cs : List ℕ) {i : ℕ} where
         ends = omega arith;
       }
 
-  here-do : {os : Tree options} → Here cs action (loop os) i → Here cs options os (i + 1)
+  pub here-do : {os : Tree options} → Here cs action (loop os) i → Here cs options os (i + 1)
   here-do {os} h =
       let n = length-append (code-tree os) (i-od ∷ []) in
       let e = h .ends in
@@ -98,10 +98,10 @@ module _ (cs : List ℕ) {i : ℕ} where
         ends = omega arith;
       }
 
-  here-bare : {a : Tree action} → Here cs statement (bare a) i → Here cs action a i
+  pub here-bare : {a : Tree action} → Here cs statement (bare a) i → Here cs action a i
   here-bare h = record { full = h .full; known = h .known; stands = h .stands; ends = h .ends }
 
-  here-labelled : {w : Name} {a : Tree action} → Here cs statement (labelled w a) i → Here cs action a (i + 2)
+  pub here-labelled : {w : Name} {a : Tree action} → Here cs statement (labelled w a) i → Here cs action a (i + 2)
   here-labelled {w} {a} h =
       let e = h .ends in
       record { full = h .full; known = h .known .1 .1; stands = subst (λ j. At cs j (code-tree a)) (let z : suc (suc i) ≡ i + 2 = omega arith in z) (h .stands .1 .1); ends = omega arith }
@@ -112,13 +112,13 @@ module _ (cs : List ℕ) {i : ℕ} where
       let e = h .ends in
       record { full = h .full .0; known = known-front (code-tree s) (code-tree q) (h .known); stands = at-front cs i (code-tree s) (code-tree q) (h .stands); ends = omega arith }
 
-  here-rest : {s : Tree statement} {q : Tree sequence} → Here cs sequence (then s q) i → Here cs sequence q (i + sizeIn s)
+  pub here-rest : {s : Tree statement} {q : Tree sequence} → Here cs sequence (then s q) i → Here cs sequence q (i + sizeIn s)
   here-rest {s} {q} h =
       let n = length-append (code-tree s) (code-tree q) in
       let e = h .ends in
       record { full = h .full .1; known = known-back (code-tree s) (code-tree q) (h .known); stands = at-back cs (code-tree s) (code-tree q) i (i + sizeIn s) refl (h .stands); ends = omega arith }
 
-  here-option : {q : Tree sequence} {os : Tree options} → Here cs options (option q os) i → Here cs sequence q (i + 1)
+  pub here-option : {q : Tree sequence} {os : Tree options} → Here cs options (option q os) i → Here cs sequence q (i + 1)
   here-option {q} {os} h =
       let n = length-append (code-tree q) (i-end-option ∷ code-tree os) in
       let e = h .ends in
@@ -129,10 +129,10 @@ module _ (cs : List ℕ) {i : ℕ} where
         ends = omega arith;
       }
 
-  option-behind : {q : Tree sequence} {os : Tree options} → Here cs options (option q os) i → At cs (i + 1 + sizeIn q) (i-end-option ∷ code-tree os)
+  pub option-behind : {q : Tree sequence} {os : Tree options} → Here cs options (option q os) i → At cs (i + 1 + sizeIn q) (i-end-option ∷ code-tree os)
   option-behind {q} {os} h = at-back cs (code-tree q) (i-end-option ∷ code-tree os) (suc i) (i + 1 + sizeIn q) (omega arith) (h .stands .1)
 
-  here-others : {q : Tree sequence} {os : Tree options} → Here cs options (option q os) i → Here cs options os (i + 2 + sizeIn q)
+  pub here-others : {q : Tree sequence} {os : Tree options} → Here cs options (option q os) i → Here cs options os (i + 2 + sizeIn q)
   here-others {q} {os} h =
       let n = length-append (code-tree q) (i-end-option ∷ code-tree os) in
       let e = h .ends in

@@ -33,9 +33,9 @@ use Rattle.fitness.specs.Facts.{homes, starts, linksIn}
 use Rattle.fitness.specs.Held.{Held}
 use Rattle.fitness.proofs.Links.{back-keeps, link-is}
 use Rattle.fitness.proofs.Tables.{codesAt, saidAt, text-held}
-use Rattle.acts.specs.Stage.{Ways}
-use Rattle.acts.specs.Program.{sizeIn, enter, Within, Holds, startIn, endIn, statementsOf, Statement}
-use Rattle.acts.specs.Tables.{Leads}
+use Rattle.spec_machine.specs.Stage.{Ways}
+use Rattle.spec_machine.specs.Program.{sizeIn, enter, Within, Holds, startIn, endIn, statementsOf, Statement}
+use Rattle.agree_stage.specs.Tables.{Leads}
 use Rattle.following.specs.Onward.{Onward}
 use Rattle.following.proofs.Insides.{inner-append, inner-tree, inner-declarations}
 use Rattle.following.proofs.Passes.{close-skip, close-pass, close-stop, close-inner}

@@ -5,5 +5,4 @@ pub mod Units
 pub mod Scans
 pub mod Spans
 pub mod Nears
-pub mod Nests
 pub mod Aims

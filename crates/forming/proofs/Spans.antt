@@ -98,9 +98,6 @@ module _ (cs : List ℕ) (j : ℕ) where
   pub zone-body : getD cs j 0 ≡ 227 → formAt cs (suc j) .zone ≡ 2
   zone-body e = zone-next ∙ rw e
 
-  pub zone-ended : getD cs j 0 ≡ 228 → formAt cs (suc j) .zone ≡ 0
-  zone-ended e = zone-next ∙ rw e
-
 -- ---- from a place in a unit to its end
 module _ (cs : List ℕ) (F : Formed cs) where
   pub said : (j : ℕ) → j < length cs → Says (formAt cs j) (getD cs j 0)
@@ -141,19 +138,6 @@ module _ (cs : List ℕ) (F : Formed cs) where
       go (no e) (yes d) r = more e (r (let z = zone-body cs j d in omega arith))
       go (no e) (no d) r = more e (r (let z = zone-kept cs j b d e in omega arith))
 
-  -- a body before the end
-  until-body : (n j e : ℕ) → j + n ≡ e → e < length cs → getD cs e 0 ≡ 228 → ((i : ℕ) → j ≤ i → i < e → (begins (getD cs i 0) ≡ false) × (getD cs i 0 ≡ 228 → ⊥)) → formAt cs j .zone ≡ 1
-      → (b : ℕ) × (j ≤ b) × (b < e) × (getD cs b 0 ≡ 227)
-  until-body zero j e q h c f z = absurd (let y : formAt cs j .zone ≡ 2 = ap (λ k. formAt cs k .zone) (let x : j ≡ e = omega arith in x) ∙ said e h .end c .0 in omega arith)
-  until-body (suc n) j e q h c f z = go (ℕ-discrete (getD cs j 0) 227) (λ y. until-body n (suc j) e (omega arith) h c (λ i g k. f i (omega arith) k) y)
-    where
-      go : Dec (getD cs j 0 ≡ 227) → (formAt cs (suc j) .zone ≡ 1 → (b : ℕ) × (suc j ≤ b) × (b < e) × (getD cs b 0 ≡ 227)) → (b : ℕ) × (j ≤ b) × (b < e) × (getD cs b 0 ≡ 227)
-      go (yes d) r = (j, (omega arith), (omega arith), d)
-      go (no d) r = let a = f j (omega arith) (omega arith) in let y = r (zone-kept cs j (a .0) d (a .1) ∙ z) in let l = y .1 in (y .0, omega arith, y .2, y .3)
-
   -- ---- units
   pub unit-closed : (u : ℕ) → u < length cs → begins (getD cs u 0) ≡ true → (e : ℕ) × Closed (suc u) e
   unit-closed u h b = until-end (length cs - suc u) (suc u) (omega arith) (let z = zone-begun cs u b in omega arith)
-
-  pub unit-body : (u e : ℕ) → u < length cs → begins (getD cs u 0) ≡ true → Closed (suc u) e → (b : ℕ) × (suc u ≤ b) × (b < e) × (getD cs b 0 ≡ 227)
-  unit-body u e h b c = let l = c .0 in until-body (e - suc u) (suc u) e (omega arith) (c .1) (c .2) (λ i g k. let x = c .3 i g k in (x .0, x .1)) (zone-begun cs u b)

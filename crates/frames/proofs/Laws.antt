@@ -14,7 +14,8 @@ use borrow.Author.Tests.{ltb-true}
 use mir.Syntax.{w32}
 use mir.Val.{SFits, Fits, toZ, ofZ}
 use mir.ValLaws.{toZ-ofZ, toZ-pos}
-use Rattle.frames.specs.Layout.{nat, countOf, cellOf, kept, cleared, stateSize}
+use Rattle.frames.specs.Layout.{countOf, cellOf, kept, cleared, stateSize}
+use Rattle.base.specs.Numbers.{nat}
 
 -- a number kept in a local and read again
 pub back : {z : ℤ} → mag z < 2 ^ 31 → toZ w32 (ofZ w32 z) ≡ z

@@ -8,29 +8,13 @@
 use Prim.Native.Nat.{ℕ, _+_, _*_, min}
 use mathlib.Core.List.{List, _++_}
 use lib.ListN.{length, getD, replicate, drop}
-use lib.IntN.{ℤ, pos, negsuc}
+use lib.IntN.{ℤ, pos}
+use Rattle.base.specs.Numbers.{nat}
+use Rattle.spec_text.specs.Ceilings.{globalsMost, processesMost, numbersMost, channelsMost, messagesMost, fieldsMost}
 
--- ## ceilings and strides
+-- ## strides
 abbrev pub stateSize : ℕ
 stateSize = 2048
-
-abbrev pub globalsMost : ℕ
-globalsMost = 64
-
-abbrev pub processesMost : ℕ
-processesMost = 16
-
-abbrev pub numbersMost : ℕ
-numbersMost = 32
-
-abbrev pub channelsMost : ℕ
-channelsMost = 16
-
-abbrev pub messagesMost : ℕ
-messagesMost = 8
-
-abbrev pub fieldsMost : ℕ
-fieldsMost = 4
 
 abbrev pub processSize : ℕ
 processSize = 2 + numbersMost
@@ -55,11 +39,6 @@ abbrev pub fieldAt : ℕ → ℕ → ℕ → ℕ
 fieldAt c m f = channelAt c + 2 + fieldsMost * m + f
 
 -- ## what they say
--- a number below 0, which no state has where one counts, is taken as 0
-abbrev pub nat : ℤ → ℕ
-nat (pos n) = n
-nat (negsuc n) = 0
-
 module _ (s : List ℤ) where
   abbrev pub cellOf : ℕ → ℤ
   cellOf i = getD s i (pos 0)

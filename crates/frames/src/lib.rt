@@ -2,9 +2,10 @@
 ghost use mathlib.Core.Path.{_≡_};
 ghost use Prim.Native.Nat.{_<_};
 ghost use lib.ListN.{set};
+ghost use Rattle.base.specs.Numbers.{nat};
 ghost use Rattle.frames.specs.Layout as layout;
 
-// Ceilings and strides, as in specs/Layout.antt.
+// Ceilings, as in specs/Ceilings.antt of `spec_text`, and strides, as in specs/Layout.antt.
 pub const STATE_SIZE: usize = 2048;
 
 pub const PROCESSES_MOST: u32 = 16;
@@ -47,7 +48,7 @@ pub fn put(s: &mut [i32], i: usize, v: i32)
 
 // A number as a natural one, 0 below 0.
 pub fn natural(v: i32) -> u32
-    ensures { λ r. ⌜ r ≡ layout.nat v ⌝ }
+    ensures { λ r. ⌜ r ≡ nat v ⌝ }
     ensures { λ r. ⌜ r < 2147483648 ⌝ }
 {
     if v < 0 { 0 } else { v as u32 }

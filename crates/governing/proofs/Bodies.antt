@@ -11,7 +11,7 @@ use lib.ListN.{length, getD, length-append, length-map}
 use borrow.Author.Tests.{ne-eqb, eq-eqb, lt-ltb, lt-leb}
 use Rattle.base.specs.Choice.{pick, both}
 use Rattle.base.proofs.Tests.{true-false}
-use Rattle.sheets.specs.Payload.{pid}
+use Rattle.spec_text.specs.Names.{pid}
 use Rattle.sheets.specs.Walks.{sum}
 use Rattle.sheets.specs.Homes.{heads, insideOf}
 use Rattle.finding.specs.Sets.{among}
@@ -22,10 +22,10 @@ use Rattle.syntax.specs.Code.{Item, i-name, i-type, i-group, i-parameter, i-loc
 use Rattle.lawful.specs.Senses.{Sense, variable, constant, procedure, unknown, Scope, senseIn}
 use Rattle.lawful.specs.Statements.{Place, labelsOf, apart, allowed}
 use Rattle.lawful.specs.Units.{ofParameter, ofGroup, ofGroups, ofDeclarations, declarations, bodyLawful}
-use Rattle.lawful.specs.Says.{itemAt, Says}
-use Rattle.lawful.specs.Setting.{Runs, Setting}
-use Rattle.acts.specs.Program.{sizeIn}
-use Rattle.acts.proofs.Stands.{Lying}
+use Rattle.legal_items.specs.Says.{itemAt, Says}
+use Rattle.legal_items.specs.Setting.{Runs, Setting}
+use Rattle.spec_machine.specs.Program.{sizeIn}
+use Rattle.agree_stage.proofs.Stands.{Lying}
 use Rattle.fitness.proofs.Sums.{sum-split, sum-nones}
 use Rattle.governing.proofs.Items.{spoken, settled, declaring, Calm, all-tree, all-declarations, all-groups}
 use Rattle.governing.proofs.Standing.{Lies, lies-front, lies-back, lies-all, long, code-is, spoken-at, declaring-at, settled-at}

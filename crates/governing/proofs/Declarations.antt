@@ -12,7 +12,7 @@ use Rattle.base.specs.Choice.{both}
 use Rattle.base.specs.Lists.{same}
 use Rattle.base.proofs.Tests.{both-true}
 use Rattle.base.proofs.Lists.{same-eq}
-use Rattle.sheets.specs.Payload.{pid}
+use Rattle.spec_text.specs.Names.{pid}
 use Rattle.finding.specs.Sets.{among}
 use Rattle.finding.specs.Search.{lookup, last}
 use Rattle.rules.specs.Rules.{ruleOf}
@@ -22,7 +22,7 @@ use Rattle.syntax.specs.Code.{Item, i-name, i-type, i-local, i-global, i-group,
 use Rattle.entries.specs.Items.{codeOf, Known}
 use Rattle.lawful.specs.Senses.{Sense, variable, constant, procedure, unknown, declared, Scope, senseIn, senseOf, isUnknown, isConstant, fresh, hides}
 use Rattle.lawful.specs.Units.{ofVariable, ofDeclaration, ofDeclarations, ofGroup, ofGroups, sized, valued, joins, localLawful, globalLawful, variables, declarations}
-use Rattle.lawful.specs.Says.{itemAt, Says}
+use Rattle.legal_items.specs.Says.{itemAt, Says}
 use Rattle.governing.proofs.Items.{Low, type-code}
 use Rattle.governing.proofs.Standing.{Lies, lies-front, lies-back, long, known-at, code-is}
 use Rattle.governing.proofs.Scopes.{Out, Scoped, scoped-over, scoped-more, lookup-finds, lookup-pid, finds-constant}

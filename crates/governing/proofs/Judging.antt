@@ -12,7 +12,7 @@ use borrow.Author.Tests.{lt-ltb, ne-eqb, eq-eqb, le-leb, lt-leb, leb-true, eqb-t
 use Rattle.base.specs.Choice.{pick, both, either}
 use Rattle.base.specs.Lists.{same}
 use Rattle.base.proofs.Tests.{true-false, both-true, either-true}
-use Rattle.sheets.specs.Payload.{pid}
+use Rattle.spec_text.specs.Names.{pid}
 use Rattle.sheets.specs.Walks.{after}
 use Rattle.sheets.specs.Homes.{homesOf}
 use Rattle.sheets.specs.Spans.{startsOf, heightsOf}
@@ -22,7 +22,7 @@ use Rattle.rules.specs.Rules.{badTwice, badNamed, badSecond, badSize, badField,
 use Rattle.syntax.specs.Tree.{Name, Model}
 use Rattle.syntax.specs.Code.{i-name, i-number, code}
 use Rattle.lawful.specs.Senses.{Scope, senseIn, isUnknown, fresh}
-use Rattle.lawful.specs.Says.{itemAt, Says}
+use Rattle.legal_items.specs.Says.{itemAt, Says}
 use Rattle.governing.proofs.Scopes.{Scoped, out-known}
 
 -- ---- which rule an item has

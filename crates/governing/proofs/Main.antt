@@ -9,7 +9,7 @@ use lib.Dec.{leb}
 use borrow.Author.Tests.{leb-true, le-leb}
 use Rattle.base.specs.Choice.{both}
 use Rattle.base.proofs.Tests.{both-true}
-use Rattle.sheets.specs.Payload.{pid}
+use Rattle.spec_text.specs.Names.{pid}
 use Rattle.sheets.specs.Walks.{sum}
 use Rattle.sheets.specs.Homes.{homesOf}
 use Rattle.sheets.specs.Spans.{startsOf, heightsOf}
@@ -20,7 +20,7 @@ use Rattle.faults.specs.declared.Fault.the-variants.{None}
 use Rattle.syntax.specs.Tree.{Model}
 use Rattle.lawful.specs.Senses.{senseIn, isUnknown}
 use Rattle.lawful.specs.Units.{ofModel, partsLawful, mtypesIn, initsIn, tally, modelLawful}
-use Rattle.lawful.specs.Says.{Says}
+use Rattle.legal_items.specs.Says.{Says}
 use Rattle.fitness.proofs.Known.{checked-free}
 use Rattle.governing.proofs.Homes.{inside-none}
 use Rattle.governing.proofs.Scopes.{scoped-start}

@@ -17,9 +17,9 @@ use Rattle.syntax.specs.Code.{Item, i-name, i-number, i-type, i-mtypes, i-globa
 use Rattle.entries.specs.Items.{Known}
 use Rattle.lawful.specs.Senses.{Scope}
 use Rattle.lawful.specs.Units.{ofPart, ofModel, partLawful, partsLawful, mtypesIn, initsIn, tally}
-use Rattle.lawful.specs.Says.{itemAt, Says}
-use Rattle.acts.specs.Program.{sizeIn, startIn}
-use Rattle.acts.proofs.Stands.{Lying, lying-behind, lying-before, lying-whole, lying-in, statements-lie}
+use Rattle.legal_items.specs.Says.{itemAt, Says}
+use Rattle.spec_machine.specs.Program.{sizeIn, startIn}
+use Rattle.agree_stage.proofs.Stands.{Lying, lying-behind, lying-before, lying-whole, lying-in, statements-lie}
 use Rattle.governing.proofs.Items.{type-code}
 use Rattle.governing.proofs.Standing.{Lies, lies-front, lies-back, lies-whole, long, known-at, code-is}
 use Rattle.governing.proofs.Scopes.{Scoped}
@@ -64,7 +64,7 @@ lawful-walk M g c d (u ∷ m) x y e =
     let a = both-true (partLawful M g u) (partsLawful M (g ++ ofPart u) m) e in
     rw (most-firsts c d u (omega arith) (omega arith), a .0) (lawful-walk M (g ++ ofPart u) (c + mtypesIn u) (d + initsIn u) m (omega arith) (omega arith) (a .1))
 
-beyond : (l : List ℕ) (k : ℕ) → length l ≤ k → getD l k 0 ≡ 0
+pub beyond : (l : List ℕ) (k : ℕ) → length l ≤ k → getD l k 0 ≡ 0
 beyond [] k h = refl
 beyond (x ∷ l) zero h = absurd (omega arith)
 beyond (x ∷ l) (suc k) h = beyond l k (omega arith)

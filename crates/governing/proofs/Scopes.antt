@@ -12,7 +12,7 @@ use Rattle.base.specs.Choice.{pick, both}
 use Rattle.base.specs.Lists.{same}
 use Rattle.base.proofs.Tests.{true-false}
 use Rattle.base.proofs.Lists.{same-refl}
-use Rattle.sheets.specs.Payload.{pid}
+use Rattle.spec_text.specs.Names.{pid}
 use Rattle.sheets.specs.Walks.{first}
 use Rattle.finding.specs.Sets.{among}
 use Rattle.finding.specs.Search.{declares, find, lookup, count}
@@ -20,8 +20,8 @@ use Rattle.rules.specs.Rules.{isArray, isChan}
 use Rattle.syntax.specs.Tree.{Name, Model}
 use Rattle.syntax.specs.Code.{i-name, code}
 use Rattle.lawful.specs.Senses.{Sense, variable, constant, procedure, unknown, Declared, declared, Scope, senseIn, isUnknown, isConstant, hides, senseOf}
-use Rattle.lawful.specs.Says.{itemAt, Says}
-use Rattle.lawful.specs.Setting.{Finds}
+use Rattle.legal_items.specs.Says.{itemAt, Says}
+use Rattle.legal_items.specs.Setting.{Finds}
 
 -- ---- one declaration more
 -- every declaration stands for something
@@ -49,7 +49,7 @@ sense-more (x ∷ l) d w u = go (same (x .name) w) (sense-more l d w (u .1))
     go true r = sym (hides-known (x .sense) (pick (same (d .name) w) (d .sense) unknown) (u .0))
     go false r = r
 
-first-more : (p : ℕ → Bool) (n i : ℕ) → first p i (suc n) ≡ pick (ltb (first p i n) (i + n)) (first p i n) (pick (p (i + n)) (i + n) (suc (i + n)))
+pub first-more : (p : ℕ → Bool) (n i : ℕ) → first p i (suc n) ≡ pick (ltb (first p i n) (i + n)) (first p i n) (pick (p (i + n)) (i + n) (suc (i + n)))
 unfolding first
 first-more p zero i =
     subst (λ k. pick (p i) i (i + 1) ≡ pick (ltb i k) i (pick (p k) k (suc k))) (let z : i ≡ i + 0 = omega arith in z)
@@ -62,7 +62,7 @@ first-more p (suc n) i = go (p i) (first-more p n (i + 1))
     go false r = subst (λ k. first p (i + 1) (suc n) ≡ pick (ltb (first p (i + 1) n) k) (first p (i + 1) n) (pick (p k) k (suc k))) (let z : i + 1 + n ≡ i + suc n = omega arith in z) r
 
 module _ (cs vs hs : List ℕ) where
-  find-more : (v h j : ℕ) → eqb v 0 ≡ false → find cs vs hs 1 v h (suc j) ≡ pick (ltb (find cs vs hs 1 v h j) j) (find cs vs hs 1 v h j) (pick (declares cs vs hs 1 v h j) j (suc j))
+  pub find-more : (v h j : ℕ) → eqb v 0 ≡ false → find cs vs hs 1 v h (suc j) ≡ pick (ltb (find cs vs hs 1 v h j) j) (find cs vs hs 1 v h j) (pick (declares cs vs hs 1 v h j) j (suc j))
   unfolding find
   find-more v h j e =
       rw e
@@ -74,7 +74,7 @@ module _ (cs vs hs : List ℕ) where
   unfolding find
   find-pid v h j e = rw e
 
-  find-start : (v h : ℕ) → find cs vs hs 1 v h 0 ≡ 0
+  pub find-start : (v h : ℕ) → find cs vs hs 1 v h 0 ≡ 0
   unfolding find first
   find-start v h = go (eqb v 0)
     where
@@ -95,7 +95,7 @@ module _ (cs vs hs : List ℕ) where
       go true false = refl
       go false b = refl
 
-  declares-is : (v h j : ℕ) → among 1 (getD cs j 0) ≡ true → getD hs j 0 ≡ h → declares cs vs hs 1 v h j ≡ eqb (getD vs (j - 1) 0) v
+  pub declares-is : (v h j : ℕ) → among 1 (getD cs j 0) ≡ true → getD hs j 0 ≡ h → declares cs vs hs 1 v h j ≡ eqb (getD vs (j - 1) 0) v
   unfolding declares
   declares-is v h j a e = rw a (go (eqb (getD vs (j - 1) 0) v))
     where

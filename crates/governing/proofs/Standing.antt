@@ -10,7 +10,7 @@ use lib.Seq.{getD-append-add}
 use Rattle.syntax.specs.Tree.{Model}
 use Rattle.syntax.specs.Code.{Item, i-plain, code}
 use Rattle.entries.specs.Items.{codeOf, Known, AllKnown}
-use Rattle.lawful.specs.Says.{itemAt, Says}
+use Rattle.legal_items.specs.Says.{itemAt, Says}
 use Rattle.governing.proofs.Items.{spoken, valued, settled, declaring, Low, Calm, spoken-code, valued-code, settled-code, declaring-code, settled-declaring, All}
 
 -- the items l stand in the items xs from item k on

@@ -21,9 +21,9 @@ use Rattle.syntax.specs.Code.{Item, i-name, i-mtypes, i-message, i-global, i-lo
 use Rattle.entries.specs.Items.{codeOf}
 use Rattle.lawful.specs.Senses.{Sense, constant, procedure, Scope, declared, senseIn, fresh}
 use Rattle.lawful.specs.Units.{ofMessage, ofGroups, ofPart, joins, bodyLawful, partLawful, mtypesIn, initsIn}
-use Rattle.lawful.specs.Says.{itemAt, Says}
-use Rattle.acts.specs.Program.{sizeIn}
-use Rattle.acts.proofs.Stands.{Lying}
+use Rattle.legal_items.specs.Says.{itemAt, Says}
+use Rattle.spec_machine.specs.Program.{sizeIn}
+use Rattle.agree_stage.proofs.Stands.{Lying}
 use Rattle.fitness.proofs.Sums.{sum-next}
 use Rattle.governing.proofs.Items.{settled, all-declaration, global-settled, All, all-each}
 use Rattle.governing.proofs.Standing.{Lies, lies-front, lies-all, long, code-at, code-is, settled-at}

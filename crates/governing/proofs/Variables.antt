@@ -13,7 +13,7 @@ use borrow.Author.Tests.{ne-eqb, eq-eqb, le-leb, lt-leb, leb-true}
 use Rattle.base.specs.Choice.{pick, both, either}
 use Rattle.base.specs.Lists.{same}
 use Rattle.base.proofs.Tests.{true-false, both-true}
-use Rattle.sheets.specs.Payload.{pid}
+use Rattle.spec_text.specs.Names.{pid}
 use Rattle.finding.specs.Sets.{among}
 use Rattle.finding.specs.Search.{lookup, last}
 use Rattle.rules.specs.Rules as rules
@@ -25,7 +25,7 @@ use Rattle.lawful.specs.Senses as senses
 use Rattle.lawful.specs.Senses.{Sense, unknown, constant, procedure, declared, Scope, senseIn, isUnknown, isConstant, fresh, hides}
 use Rattle.lawful.specs.Units.{isArray, ofVariable, sized, variables}
 use Rattle.lawful.specs.Units as units
-use Rattle.lawful.specs.Says.{itemAt, Says}
+use Rattle.legal_items.specs.Says.{itemAt, Says}
 use Rattle.governing.proofs.Items.{valued, Low, type-code, all-append, all-size, all-value}
 use Rattle.governing.proofs.Standing.{Lies, lies-front, lies-back, lies-all, long, known-at, code-is, valued-at}
 use Rattle.governing.proofs.Scopes.{Sure, Scoped, sense-more, scoped-over, scoped-more}
@@ -38,7 +38,7 @@ low-one c l =
     let a = l .most in
     rw (ne-eqb c 212 (λ z. (let h = l .high (omega arith) in omega arith)), ne-eqb c 220 (λ z. omega arith), lt-leb 222 c (omega arith))
 
-low-three : (c : ℕ) → Low c → among 3 c ≡ false
+pub low-three : (c : ℕ) → Low c → among 3 c ≡ false
 unfolding among
 low-three c l = go (decLt c 180)
   where

@@ -79,7 +79,7 @@ name-held (digits p q r) h = absurd (omega arith)
 name-held (string p q) h = absurd (omega arith)
 name-held (mark {k = k} {x = x} e) h = absurd (omega (arith, mark-range x k e))
 
-unquoted : (s w : List ℕ) → quote ∷ (s ++ quote ∷ []) ≡ quote ∷ (w ++ quote ∷ []) → s ≡ w
+pub unquoted : (s w : List ℕ) → quote ∷ (s ++ quote ∷ []) ≡ quote ∷ (w ++ quote ∷ []) → s ≡ w
 unquoted s w e =
     let f : s ++ quote ∷ [] ≡ w ++ quote ∷ [] = cc in
     let n : length s ≡ length w = omega (arith, ap length f, length-append s (quote ∷ []), length-append w (quote ∷ [])) in

@@ -7,7 +7,8 @@ use mathlib.Core.Option.{Option, none, some}
 use mathlib.Core.List.{List, [], _∷_}
 use lib.ListN.{replicate}
 use Rattle.base.specs.Lists.{same}
-use Rattle.sheets.specs.Payload.{pid, formatFrom}
+use Rattle.spec_text.specs.Formats.{formatFrom}
+use Rattle.spec_text.specs.Names.{pid}
 use Rattle.tokens.specs.Kinds.{bytes}
 use Rattle.syntax.specs.Tree.{Name, Expr, plain, indexed, num, get, len, unary, binary, choice, into, equal, exactly}
 use Rattle.syntax.specs.Tree.{action, sequence, Tree, express, assign, increment, decrement, send, receive, print, skip, goto, break, else, run, set-run, select, loop, bare, labelled, end, then, over, option}
@@ -393,8 +394,9 @@ height-of-index = (refl, refl, refl, refl)
 
 height-of-parts : (asks (binary 14 (num 1) (above (num 1) 30)) ≡ true) × (asks (choice (num 1) (num 1) (above (num 1) 30)) ≡ true)
     × (asks (binary 14 (above (num 1) 31) (num 1)) ≡ false) × (asks (choice (num 1) (above (num 1) 31) (num 1)) ≡ false)
+    × (asks (choice (num 1) (num 1) (above (num 1) 31)) ≡ false)
 unfolding judging
-height-of-parts = (refl, refl, refl, refl)
+height-of-parts = (refl, refl, refl, refl, refl)
 
 height-of-arguments : (says (send (plain c) (num 1 ∷ above (num 1) 31 ∷ [])) ≡ true) × (says (receive (plain c) (equal (above (num 1) 31) ∷ [])) ≡ true)
     × (says (send (plain c) (num 1 ∷ above (num 1) 32 ∷ [])) ≡ false) × (says (receive (plain c) (equal (above (num 1) 32) ∷ [])) ≡ false)

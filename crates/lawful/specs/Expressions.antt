@@ -4,8 +4,8 @@ use mathlib.Core.Bool.{Bool, true, false, not}
 use lib.Dec.{leb}
 use Rattle.base.specs.Choice.{pick, both}
 use Rattle.base.specs.Lists.{same}
-use Rattle.sheets.specs.Payload.{pid}
-use Rattle.phrases.specs.Phrases.{height}
+use Rattle.spec_text.specs.Names.{pid}
+use Rattle.lawful.specs.Heights.{height}
 use Rattle.syntax.specs.Tree.{Name, Expr, Shape, Exp, plain, indexed, num, tru, fls, get, len, unary, binary, choice}
 use Rattle.lawful.specs.Senses.{Sense, variable, constant, procedure, unknown}
 

@@ -1,9 +1,8 @@
 pub mod Senses
+pub mod Heights
 pub mod Expressions
 pub mod Statements
 pub mod Units
 pub mod Ceilings
-pub mod Says
-pub mod Setting
 pub mod Examples
 pub mod Ceiled

@@ -5,7 +5,7 @@ use mathlib.Core.Bool.{Bool, true, false, not}
 use mathlib.Core.List.{List, [], _∷_}
 use Rattle.base.specs.Choice.{pick, both}
 use Rattle.base.specs.Lists.{same}
-use Rattle.sheets.specs.Payload.{pid}
+use Rattle.spec_text.specs.Names.{pid}
 use Rattle.syntax.specs.Tree.{Name}
 
 pub data Sense : Type 0 where

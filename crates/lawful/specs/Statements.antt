@@ -7,7 +7,8 @@ use lib.ListN.{length}
 use lib.Dec.{eqb, leb}
 use Rattle.base.specs.Choice.{pick, both, either}
 use Rattle.base.specs.Lists.{same}
-use Rattle.sheets.specs.Payload.{pid, formatOf}
+use Rattle.spec_text.specs.Formats.{formatOf}
+use Rattle.spec_text.specs.Names.{pid}
 use Rattle.syntax.specs.Tree.{Name, Received, into, equal, exactly, exactly-true, exactly-false, Sort, Tree, express, assign, increment, decrement, send, receive, assert, print, skip, goto, break, timeout, else, run, set-run, select, loop, bare, labelled, end, then, over, option}
 use Rattle.lawful.specs.Senses.{Sense, variable, constant, procedure, unknown, Scope, isUnknown, senseIn, senseOf}
 use Rattle.lawful.specs.Expressions.{channel, target, received, lawful, whole}
@@ -107,7 +108,7 @@ module _ (at : Place) where
   receives exactly-true = true
   receives exactly-false = true
 
-  -- a format with bad `%`s has an odd number here, and half of it is how many `%d` there are (crate `sheets`)
+  -- a format with bad `%`s has an odd number here, and half of it is how many `%d` there are (specs/Formats.antt of `spec_text`)
   unfoldable pub formats : List ℕ → ℕ → Bool
   formats w n = both (eqb (formatOf w % 2) 0) (eqb n (formatOf w / 2))
 

@@ -11,7 +11,7 @@ use Rattle.faults.specs.Faults.{checked}
 use Rattle.faults.specs.declared.Fault.the-variants.{None}
 use Rattle.judging.specs.declared.Judged.the-variants.{Accepted}
 use Rattle.reader.specs.Entries.{room, readOf}
-use Rattle.lawful.specs.Says.{Says}
+use Rattle.legal_items.specs.Says.{Says}
 use Rattle.lawful.specs.Units.{modelLawful}
 use Rattle.saying.specs.Legal.{Legal}
 use Rattle.saying.proofs.Whole as whole

@@ -8,7 +8,8 @@ use lib.IntN.{ℤ}
 use lib.Dec.{eqb, ltb}
 use Rattle.base.specs.Choice.{pick}
 use Rattle.tables.specs.Access.{codeOf}
-use Rattle.frames.specs.Layout.{processesMost, processesOf, placeOf}
+use Rattle.frames.specs.Layout.{processesOf, placeOf}
+use Rattle.spec_text.specs.Ceilings.{processesMost}
 use Rattle.offering.specs.Offers.{offersOf, isSome, pickAt}
 use Rattle.offering.specs.declared.Walk.{Walk}
 use Rattle.offering.specs.declared.Walk.the-variants.{Left}

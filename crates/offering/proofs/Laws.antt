@@ -10,7 +10,8 @@ use borrow.Author.Tests.{ltb-true, lt-ltb, le-ltb, eq-eqb, ne-eqb}
 use Rattle.base.specs.Choice.{pick, both, either}
 use Rattle.tables.specs.Access.{codeOf, linkOf}
 use Rattle.executing.specs.Executing.{readyOf}
-use Rattle.offering.specs.Offers.{orElse, isSelection, isOption, endOf, firstOf, eachOption, elseAt, offersFrom, pickAt}
+use Rattle.offering.specs.Offers.{isSelection, isOption, endOf, firstOf, eachOption, elseAt, offersFrom, pickAt}
+use Rattle.base.specs.Lists.{orElse}
 use Rattle.offering.specs.declared.Walk.{Walk}
 use Rattle.offering.specs.declared.Walk.the-variants.{Found, Left}
 use Rattle.offering.proofs.Picks.{pick-none, pick-found, pick-left, or-found, or-left, or-else}

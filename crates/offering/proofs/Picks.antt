@@ -5,7 +5,8 @@ use mathlib.Core.Bool.{Bool, true, false}
 use mathlib.Core.List.{List, [], _∷_, _++_}
 use native.Mathlib.Omega.{arith}
 use lib.ListN.{length}
-use Rattle.offering.specs.Offers.{pickAt, orElse, countOf, isSome}
+use Rattle.offering.specs.Offers.{pickAt, countOf, isSome}
+use Rattle.base.specs.Lists.{orElse}
 use Rattle.offering.specs.declared.Walk.{Walk}
 use Rattle.offering.specs.declared.Walk.the-variants.{Found, Left}
 

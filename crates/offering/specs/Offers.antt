@@ -8,14 +8,11 @@ use lib.ListN.{length}
 use lib.IntN.{ℤ}
 use lib.Dec.{eqb, ltb}
 use Rattle.base.specs.Choice.{pick, both, either}
+use Rattle.base.specs.Lists.{orElse}
 use Rattle.tables.specs.Access.{codeOf, linkOf}
 use Rattle.executing.specs.Executing.{readyOf}
 use Rattle.offering.specs.declared.Walk.{Walk}
 use Rattle.offering.specs.declared.Walk.the-variants.{Found, Left}
-
-abbrev pub orElse : List ℕ → List ℕ → List ℕ
-orElse [] ys = ys
-orElse (x ∷ xs) ys = x ∷ xs
 
 module _ (t : List ℕ) where
   -- if (204) or do (206)

@@ -13,7 +13,8 @@ use Rattle.syntax.specs.Code.{i-index, i-len, i-unary, i-binary, i-otherwise, i
 use Rattle.entries.specs.Items.{codeOf}
 use Rattle.sheets.specs.Walks.{filled}
 use Rattle.sheets.specs.Spans.{shapeOf, above, greater, heightOf, startsOf, heightsOf}
-use Rattle.phrases.specs.Phrases.{height, Proper, At}
+use Rattle.phrases.specs.Phrases.{Proper, At}
+use Rattle.lawful.specs.Heights.{height}
 use Rattle.phrases.proofs.Fills.{filled-length, filled-keeps, filled-split, filled-last}
 use Rattle.phrases.proofs.Starts.{at-front, at-back, some-items, unary-shape, binary-shape, shapes, phrase-starts}
 

@@ -1,8 +1,8 @@
--- Expressions of a tree as phrases of its code: where their items stand, and how high they are.
+-- Expressions of a tree as phrases of its code: where their items stand.
 use mathlib.Core.Path.{_≡_}
 use mathlib.Core.Bool.{Bool}
 use mathlib.Core.List.{List, [], _∷_}
-use Prim.Native.Nat.{ℕ, suc, max, _≤_}
+use Prim.Native.Nat.{ℕ, suc, _≤_}
 use lib.ListN.{getD}
 use lib.Dec.{eqb, ltb}
 use Rattle.base.specs.Choice.{both, either}
@@ -10,19 +10,6 @@ use Rattle.syntax.specs.Tree.{Shape, Exp, plain, indexed, num, tru, fls, get, l
 use Rattle.syntax.specs.Grammar.{Is-unary}
 use Rattle.syntax.specs.Code.{Item}
 use Rattle.entries.specs.Items.{codeOf}
-
--- Document 01, "Ceilings": "expression height 32 (operand 1; operator, index, `len` 1 above its highest part)". A conditional is 1 above its highest part, as an operator is.
-abbrev pub height : {s : Shape} → Exp s → ℕ
-height (plain w) = 1
-height (indexed w e) = suc (height e)
-height (num n) = 1
-height tru = 1
-height fls = 1
-height (get r) = height r
-height (len r) = suc (height r)
-height (unary o e) = suc (height e)
-height (binary o a b) = suc (max (height a) (height b))
-height (choice a b c) = suc (max (height a) (max (height b) (height c)))
 
 -- its operators are operators
 abbrev pub Proper : {s : Shape} → Exp s → Type 0

@@ -9,8 +9,8 @@ use Rattle.syntax.specs.Tree.{Name, Declaration, Group, group, Body, body, Mode
 use Rattle.syntax.specs.Code.{Item, i-local, i-init, i-body, i-end-body, each, code-tree, code-declaration, code-parameter, code-group, code-body, code-activity, code-part, code}
 use Rattle.accepting.specs.Meaning.{Accepts}
 use Rattle.expressions.specs.Names.{codesAt}
-use Rattle.acts.specs.Program.{Holds, in-process, in-init, later, startIn}
-use Rattle.acts.proofs.Stands.{Lying, lying-behind, lying-before, lying-whole, body-lies, lying-front, lying-back}
+use Rattle.spec_machine.specs.Program.{Holds, in-process, in-init, later, startIn}
+use Rattle.agree_stage.proofs.Stands.{Lying, lying-behind, lying-before, lying-whole, body-lies, lying-front, lying-back}
 use Rattle.choosing.proofs.Places.{at-there, known-there}
 use Rattle.placing.proofs.Labels.{Bare, bare-each, bare-at, bare-declaration, bare-type}
 

@@ -25,7 +25,7 @@ use Rattle.accepting.specs.Meaning.{Accepts}
 use Rattle.expressions.specs.Names.{codesAt, saidAt}
 use Rattle.expressions.proofs.Main.{items-long}
 use Rattle.expressions.proofs.Said.{first-said}
-use Rattle.keeping.specs.Well.{Unit, Inside}
+use Rattle.fitness.specs.Well.{Unit, Inside}
 use Rattle.fitness.specs.Held.{Held}
 use Rattle.fitness.specs.Facts.{homes, starts, heights, linksIn, Facts}
 use Rattle.fitness.proofs.Tables.{text-held}
@@ -37,10 +37,10 @@ use Rattle.fitness.proofs.Jumps.{find-says, declared-says, label-code, body-in,
 use Rattle.following.proofs.Insides.{quiet}
 use Rattle.following.proofs.Begins.{mark, none, dull-skip, statement-from}
 use Rattle.following.proofs.Main.{text-unit}
-use Rattle.acts.specs.Stage.{Ways}
-use Rattle.acts.specs.Program.{sizeIn, Holds, labelIn, startIn, endIn, statementsOf, Statement}
-use Rattle.acts.proofs.Stands.{Lying, within-lies, body-lies, statements-lie, lying-in, lying-back}
-use Rattle.acts.proofs.Labels.{Labelled, Search, label-found, marked, Behind, labelled-lies}
+use Rattle.spec_machine.specs.Stage.{Ways}
+use Rattle.spec_machine.specs.Program.{sizeIn, Holds, labelIn, startIn, endIn, statementsOf, Statement}
+use Rattle.agree_stage.proofs.Stands.{Lying, within-lies, body-lies, statements-lie, lying-in, lying-back}
+use Rattle.agree_stage.proofs.Labels.{Labelled, Search, label-found, marked, Behind, labelled-lies}
 use Rattle.choosing.proofs.Places.{at-there, known-there, ends-there}
 use Rattle.placing.proofs.Labels.{label-there}
 use Rattle.placing.proofs.Names.{said-names}

@@ -21,8 +21,8 @@ use Rattle.phrases.specs.Phrases.{At}
 use Rattle.phrases.proofs.Starts.{at-front, at-back}
 use Rattle.expressions.proofs.Operators.{known-front, known-back}
 use Rattle.following.proofs.Insides.{kind, part-known, Parts, parts-exp}
-use Rattle.acts.specs.Program.{sizeIn}
-use Rattle.acts.proofs.Labels.{Labelled}
+use Rattle.spec_machine.specs.Program.{sizeIn}
+use Rattle.agree_stage.proofs.Labels.{Labelled}
 
 -- ---- types, by the grammar's table
 unfoldable low : Item → Bool

@@ -12,7 +12,8 @@ use Rattle.base.specs.Lists.{same}
 use Rattle.base.proofs.Lists.{same-eq}
 use Rattle.base.proofs.Tests.{true-false}
 use Rattle.sheets.specs.Walks.{first}
-use Rattle.sheets.specs.Payload.{wordOf, pid, sameName, firstSame, nameArg}
+use Rattle.sheets.specs.Payload.{wordOf, sameName, firstSame, nameArg}
+use Rattle.spec_text.specs.Names.{pid}
 use Rattle.syntax.specs.Tree.{Name}
 use Rattle.syntax.specs.Code.{Item, i-name, i-plain, code}
 use Rattle.entries.specs.Items as items

@@ -23,7 +23,7 @@ use Rattle.accepting.specs.Meaning.{Accepts}
 use Rattle.fitness.proofs.Firsts.{first-is, first-most}
 use Rattle.expressions.specs.Names.{codesAt}
 use Rattle.expressions.proofs.Operators.{text-proper}
-use Rattle.acts.proofs.Stands.{Lying}
+use Rattle.agree_stage.proofs.Stands.{Lying}
 use Rattle.choosing.proofs.Places.{at-there, ends-there}
 
 -- ---- codes of expressions

@@ -10,10 +10,10 @@ use Rattle.syntax.specs.Tree.{Sort, action, statement, sequence, options, Tree,
 use Rattle.syntax.specs.Code.{Item, i-name, i-text, i-end, i-label, i-express, i-target, i-assign, i-increment, i-decrement, i-send, i-receive, i-assert, i-skip, i-goto, i-break, i-timeout, i-else, i-run, i-set-run, i-if, i-fi, i-do, i-od, i-option, i-end-option, each, code-exp, code-argument, code-received, code-tree, code}
 use Rattle.places.specs.Places.{isPlace}
 use Rattle.accepting.specs.Meaning.{Accepts}
-use Rattle.acts.specs.Program.{sizeIn, enter, Within, itself, in-if, in-do, unlabelled, behind-label, in-first, in-rest, in-option, in-others}
+use Rattle.spec_machine.specs.Program.{sizeIn, enter, Within, itself, in-if, in-do, unlabelled, behind-label, in-first, in-rest, in-option, in-others}
 use Rattle.placing.specs.Stated.{Found}
 use Rattle.placing.proofs.Quiet.{C, L, Quiet, Lone, quiet-then, closing-plain, lead-plain, leaf-parts, label-dull, assign-dull, set-run-dull, end-dull, item-quiet, leaf-quiet, pair-lone, each-quiet, expression-quiet, argument-quiet, received-quiet, spread, alone-lone, lone-one, named-lone}
-use Rattle.acts.proofs.Stands.{lying-front, lying-back}
+use Rattle.agree_stage.proofs.Stands.{lying-front, lying-back}
 
 module _ (t : List ℕ) (a : Accepts t) where
   abbrev X : List Item

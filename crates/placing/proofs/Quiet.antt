@@ -14,7 +14,7 @@ use Rattle.entries.specs.Items as items
 use Rattle.places.specs.Places.{isPart, isMark, isAlone, isLead, isPlace}
 use Rattle.accepting.specs.Meaning.{Accepts}
 use Rattle.expressions.specs.Names.{codesAt}
-use Rattle.acts.proofs.Stands.{Lying, lying-front, lying-back}
+use Rattle.agree_stage.proofs.Stands.{Lying, lying-front, lying-back}
 use Rattle.choosing.proofs.Places.{at-there}
 use Rattle.placing.proofs.Phrases.{none-at, part-says, next-mark, first-place, no-place}
 

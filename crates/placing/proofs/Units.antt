@@ -12,7 +12,7 @@ use Rattle.phrases.specs.Phrases.{At}
 use Rattle.phrases.proofs.Starts.{at-front, at-back}
 use Rattle.expressions.proofs.Operators.{known-front, known-back}
 use Rattle.following.proofs.Insides.{kind, inner-known, Inner, inner-append, inner-each, inner-variable, inner-tree, inner-declarations, inner-groups}
-use Rattle.acts.specs.Program.{in-process, in-init, later}
+use Rattle.spec_machine.specs.Program.{in-process, in-init, later}
 use Rattle.placing.specs.Stated.{Head}
 
 -- ---- items inside of units have low codes

@@ -20,7 +20,7 @@ use Rattle.accepting.specs.Meaning.{Accepts}
 use Rattle.standing.specs.Standing.{placeAt}
 use Rattle.expressions.specs.Names.{codesAt, saidAt}
 use Rattle.expressions.proofs.Main.{items-long}
-use Rattle.keeping.specs.Well.{Unit, Inside}
+use Rattle.fitness.specs.Well.{Unit, Inside}
 use Rattle.fitness.specs.Held.{Held}
 use Rattle.fitness.specs.Facts.{linksIn, Facts}
 use Rattle.fitness.proofs.Tables.{text-held}
@@ -32,8 +32,8 @@ use Rattle.fitness.proofs.Marks.{mark-is, mark-in, begun-class}
 use Rattle.following.proofs.Insides.{quiet, kind, type-known}
 use Rattle.following.proofs.Begins.{Dull, none, mark, said, dull-each, dull-skip, dull-declarations}
 use Rattle.following.proofs.Main.{text-unit}
-use Rattle.acts.specs.Program.{labelIn, Holds, startIn, endIn, statementsOf, Ending}
-use Rattle.acts.proofs.Stands.{Lying, body-lies, statements-lie, lying-in, lying-whole}
+use Rattle.spec_machine.specs.Program.{labelIn, Holds, startIn, endIn, statementsOf}
+use Rattle.agree_stage.proofs.Stands.{Lying, body-lies, statements-lie, lying-in, lying-whole}
 use Rattle.choosing.proofs.Places.{at-there, known-there, ends-there}
 use Rattle.placing.specs.Stated.{Stated, Head}
 use Rattle.placing.proofs.Phrases.{none-at}
@@ -145,7 +145,3 @@ module _ (t : List ℕ) (a : Accepts t) where
         ways = record { next = f .1; out = f .2; label = λ w. labelIn w (statementsOf b) (startIn b k) 0 };
         stands = record { own = b; at = k; held = r .held; inside = f .3; labels = λ w. refl };
       }
-
-  -- the end of a unit
-  pub text-ending : (u : ℕ) → Unit T u → Ending (a .tree) u (linkOf T u)
-  text-ending u n = let r = text-head u n in record { own = r .own; at = r .at; held = r .held; ends = text-unit t a (r .held) .0 }

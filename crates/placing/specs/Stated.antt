@@ -1,8 +1,8 @@
 -- That a place is one of a statement, and that an item begins a unit with a body: docs/TABLES.md, "Links".
 use Prim.Native.Nat.{ℕ}
 use Rattle.syntax.specs.Tree.{Sort, action, Tree, Body, Model}
-use Rattle.acts.specs.Stage.{Ways}
-use Rattle.acts.specs.Program.{Within, Holds, Statement}
+use Rattle.spec_machine.specs.Stage.{Ways}
+use Rattle.spec_machine.specs.Program.{Within, Holds, Statement}
 
 -- a statement of the tree has the place x
 abbrev pub Found : (k : Sort) → Tree k → ℕ → ℕ → ℕ → ℕ → Type 0

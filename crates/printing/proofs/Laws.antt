@@ -20,8 +20,10 @@ use Rattle.messages.specs.declared.Gathered.the-variants.{Upto, Failed}
 use Rattle.messages.specs.Messages.{gatherEnd, gatherList}
 use Rattle.value.specs.Operators.{unaryOf}
 use Rattle.frames.proofs.Laws.{back}
-use Rattle.frames.specs.Layout.{nat, cellOf}
-use Rattle.printing.specs.Printing.{Pen, pen, putP, puts, digits, sizeOf, decimal, escaped, written, opened, counted, writtenFrom, textOf, unlessFailed, printedAt}
+use Rattle.frames.specs.Layout.{cellOf}
+use Rattle.base.specs.Numbers.{nat}
+use Rattle.printing.specs.Printing.{Pen, pen, putP, puts, sizeOf, writtenFrom, textOf, unlessFailed, printedAt}
+use Rattle.spec_text.specs.Formats.{digitsBy, decimal, escaped, written, opened, counted}
 
 -- ---- the pen
 pub puts-append : (xs ys : List ℕ) (w : Pen) → puts (xs ++ ys) w ≡ puts ys (puts xs w)
@@ -38,8 +40,8 @@ unfolding puts
 puts-cons x ys w = refl
 
 -- ---- digits
-digits-step : (f n : ℕ) → (f ≡ 0 → ⊥) → digits f n ≡ pick (ltb n 10) [] (digits (f - 1) (n / 10)) ++ ((48 + n % 10) ∷ [])
-unfolding digits
+digits-step : (f n : ℕ) → (f ≡ 0 → ⊥) → digitsBy f n ≡ pick (ltb n 10) ((48 + n) ∷ []) (digitsBy (f - 1) (n / 10) ++ (48 + n % 10) ∷ [])
+unfolding digitsBy
 digits-step zero n h = absurd (h refl)
 digits-step (suc f) n h = rw (pred-of f)
   where
@@ -47,20 +49,21 @@ digits-step (suc f) n h = rw (pred-of f)
     pred-of f = omega arith
 
 module _ (f n : ℕ) (w : Pen) where
-  pub digits-none : f ≡ 0 → w ≡ puts (digits f n) w
-  unfolding digits puts
+  pub digits-none : f ≡ 0 → w ≡ puts (digitsBy f n) w
+  unfolding digitsBy puts
   digits-none e = rw e
 
   module _ (h : f ≡ 0 → ⊥) {d : ℕ} (ed : d ≡ 48 + n % 10) where
-    pub digits-one : n < 10 → {r : Pen} → r ≡ puts (d ∷ []) w → r ≡ puts (digits f n) w
+    pub digits-one : n < 10 → {r : Pen} → r ≡ puts (d ∷ []) w → r ≡ puts (digitsBy f n) w
     digits-one g er =
-        er ∙ ap (λ d. puts (d ∷ []) w) ed
-        ∙ sym (ap (λ l. puts l w) (digits-step f n h ∙ ap (λ b. pick b [] (digits (f - 1) (n / 10)) ++ ((48 + n % 10) ∷ [])) (lt-ltb n 10 g)))
+        let z : 48 + n % 10 ≡ 48 + n = omega arith in
+        er ∙ ap (λ d. puts (d ∷ []) w) (ed ∙ z)
+        ∙ sym (ap (λ l. puts l w) (digits-step f n h ∙ ap (λ b. pick b ((48 + n) ∷ []) (digitsBy (f - 1) (n / 10) ++ (48 + n % 10) ∷ [])) (lt-ltb n 10 g)))
 
-    pub digits-more : 10 ≤ n → {q r : Pen} → q ≡ puts (digits (f - 1) (n / 10)) w → r ≡ puts (d ∷ []) q → r ≡ puts (digits f n) w
+    pub digits-more : 10 ≤ n → {q r : Pen} → q ≡ puts (digitsBy (f - 1) (n / 10)) w → r ≡ puts (d ∷ []) q → r ≡ puts (digitsBy f n) w
     digits-more g eq er =
-        er ∙ (λ i. puts (ed i ∷ []) (eq i)) ∙ sym (puts-append (digits (f - 1) (n / 10)) ((48 + n % 10) ∷ []) w)
-        ∙ sym (ap (λ l. puts l w) (digits-step f n h ∙ ap (λ b. pick b [] (digits (f - 1) (n / 10)) ++ ((48 + n % 10) ∷ [])) (le-ltb n 10 g)))
+        er ∙ (λ i. puts (ed i ∷ []) (eq i)) ∙ sym (puts-append (digitsBy (f - 1) (n / 10)) ((48 + n % 10) ∷ []) w)
+        ∙ sym (ap (λ l. puts l w) (digits-step f n h ∙ ap (λ b. pick b ((48 + n) ∷ []) (digitsBy (f - 1) (n / 10) ++ (48 + n % 10) ∷ [])) (le-ltb n 10 g)))
 
 -- ---- values
 size-negative : (v : ℤ) → ltZ v (pos 0) ≡ true → nat (unaryOf 20 v) + 1 ≡ sizeOf v
@@ -86,17 +89,17 @@ module _ (v : ℤ) (f : SFits w32 v) where
     size : n ≡ sizeOf v
     size = en ∙ ap sizeOf same
 
-    pub number-below : ltZ (toZ w32 (ofZ w32 v)) (pos 0) ≡ true → {q r : Pen} → q ≡ puts (45 ∷ []) w → r ≡ puts (digits 10 n) q → r ≡ puts (decimal v) w
-    number-below e eq er = er ∙ (λ i. puts (digits 10 (size i)) (eq i)) ∙ go v (rw same at e)
+    pub number-below : ltZ (toZ w32 (ofZ w32 v)) (pos 0) ≡ true → {q r : Pen} → q ≡ puts (45 ∷ []) w → r ≡ puts (digitsBy 10 n) q → r ≡ puts (decimal v) w
+    number-below e eq er = er ∙ (λ i. puts (digitsBy 10 (size i)) (eq i)) ∙ go v (rw same at e)
       where
-        go : (v : ℤ) → ltZ v (pos 0) ≡ true → puts (digits 10 (sizeOf v)) (puts (45 ∷ []) w) ≡ puts (decimal v) w
+        go : (v : ℤ) → ltZ v (pos 0) ≡ true → puts (digitsBy 10 (sizeOf v)) (puts (45 ∷ []) w) ≡ puts (decimal v) w
         go (pos k) e = absurd (let h : k < 0 = ltb-true k 0 e in omega arith)
-        go (negsuc k) e = sym (puts-cons 45 (digits 10 (k + 1)) w)
+        go (negsuc k) e = sym (puts-cons 45 (digitsBy 10 (k + 1)) w)
 
-    pub number-above : ltZ (toZ w32 (ofZ w32 v)) (pos 0) ≡ false → {r : Pen} → r ≡ puts (digits 10 n) w → r ≡ puts (decimal v) w
-    number-above e er = er ∙ ap (λ n. puts (digits 10 n) w) size ∙ go v (rw same at e)
+    pub number-above : ltZ (toZ w32 (ofZ w32 v)) (pos 0) ≡ false → {r : Pen} → r ≡ puts (digitsBy 10 n) w → r ≡ puts (decimal v) w
+    number-above e er = er ∙ ap (λ n. puts (digitsBy 10 n) w) size ∙ go v (rw same at e)
       where
-        go : (v : ℤ) → ltZ v (pos 0) ≡ false → puts (digits 10 (sizeOf v)) w ≡ puts (decimal v) w
+        go : (v : ℤ) → ltZ v (pos 0) ≡ false → puts (digitsBy 10 (sizeOf v)) w ≡ puts (decimal v) w
         go (pos k) e = refl
         go (negsuc k) e = absurd (let z : _≡_ {A = ℕ} 0 1 = cc in omega arith)
 

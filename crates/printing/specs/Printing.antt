@@ -7,6 +7,7 @@ use lib.ListN.{length, getD, set, replicate}
 use lib.IntN.{ℤ, pos, negsuc}
 use lib.Dec.{eqb, ltb}
 use Rattle.base.specs.Choice.{pick}
+use Rattle.spec_text.specs.Formats.{written, opened, counted}
 use Rattle.tables.specs.Access.{codeOf, nameLength, nameByte}
 use Rattle.messages.specs.declared.Gathered.{Gathered}
 use Rattle.messages.specs.declared.Gathered.the-variants.{Upto, Failed}
@@ -28,41 +29,12 @@ puts [] w = w
 puts (b ∷ bs) w = puts bs (putP b w)
 
 -- ## numbers
--- the last f digits of n, the first of them not 0 unless it is alone
-unfoldable pub digits : ℕ → ℕ → List ℕ
-digits zero n = []
-digits (suc f) n = pick (ltb n 10) [] (digits f (n / 10)) ++ ((48 + n % 10) ∷ [])
-
 -- how far a value is from 0
 abbrev pub sizeOf : ℤ → ℕ
 sizeOf (pos n) = n
 sizeOf (negsuc n) = n + 1
 
--- in signed decimal
-abbrev pub decimal : ℤ → List ℕ
-decimal (pos n) = digits 10 n
-decimal (negsuc n) = 45 ∷ digits 10 (n + 1)
-
 -- ## a format, its bytes at i, i + 1, ..
--- the byte that a backslash and b mean
-unfoldable pub escaped : ℕ → ℕ
-escaped b = pick (eqb b 110) 10 (pick (eqb b 116) 9 b)
-
--- what the byte b writes, which stands behind `was`: a backslash (92) or a `%` (37) that is open, or 0; k numbers are written before
-unfoldable pub written : List ℤ → ℕ → ℕ → ℕ → List ℕ
-written l was b k =
-    pick (eqb was 92) (escaped b ∷ [])
-    (pick (eqb was 37) (pick (eqb b 100) (decimal (getD l k (pos 0))) (b ∷ []))
-    (pick (eqb b 92) [] (pick (eqb b 37) [] (b ∷ []))))
-
--- what is open behind it
-unfoldable pub opened : ℕ → ℕ → ℕ
-opened was b = pick (eqb was 92) 0 (pick (eqb was 37) 0 (pick (eqb b 92) 92 (pick (eqb b 37) 37 0)))
-
--- how many numbers are written then
-unfoldable pub counted : ℕ → ℕ → ℕ → ℕ
-counted was b k = pick (eqb was 37) (pick (eqb b 100) (k + 1) k) k
-
 module _ (t : List ℕ) (l : List ℤ) where
   unfoldable pub writtenFrom : ℕ → ℕ → ℕ → ℕ → ℕ → List ℕ
   writtenFrom zero j i was k = []

@@ -2,6 +2,7 @@
 ghost use mathlib.Core.Path.{_≡_};
 ghost use Prim.Native.Nat.{_+_, _%_, _<_, _≤_};
 ghost use mathlib.Core.List.{[], _∷_};
+ghost use Rattle.spec_text.specs.Formats as formats;
 ghost use Rattle.printing.specs.Printing as printing;
 ghost use Rattle.printing.specs.Printing.{pen, puts};
 use messages::Gathered;
@@ -26,7 +27,7 @@ fn digit(n: u32) -> u8
 }
 
 fn digits(n: u32, f: usize, out: &mut [u8], w: usize) -> usize
-    ensures { λ r. ⌜ pen (now (out .exit)) r ≡ puts (printing.digits f n) (pen (now (out .entry)) w) ⌝ }
+    ensures { λ r. ⌜ pen (now (out .exit)) r ≡ puts (formats.digitsBy f n) (pen (now (out .entry)) w) ⌝ }
 {
     if f == 0 {
         return w;
@@ -51,7 +52,7 @@ pub fn size_of(v: i32) -> u32
 }
 
 fn put_number(out: &mut [u8], w: usize, v: i32) -> usize
-    ensures { λ r. ⌜ pen (now (out .exit)) r ≡ puts (printing.decimal v) (pen (now (out .entry)) w) ⌝ }
+    ensures { λ r. ⌜ pen (now (out .exit)) r ≡ puts (formats.decimal v) (pen (now (out .entry)) w) ⌝ }
 {
     if v < 0 {
         let q = put(out, w, 45);
@@ -62,7 +63,7 @@ fn put_number(out: &mut [u8], w: usize, v: i32) -> usize
 }
 
 fn escape(b: u8) -> u8
-    ensures { λ r. ⌜ r ≡ printing.escaped b ⌝ }
+    ensures { λ r. ⌜ r ≡ formats.escaped b ⌝ }
 {
     match b {
         110 => 10,
@@ -72,7 +73,7 @@ fn escape(b: u8) -> u8
 }
 
 fn open_behind(was: u8, b: u8) -> u8
-    ensures { λ r. ⌜ r ≡ printing.opened was b ⌝ }
+    ensures { λ r. ⌜ r ≡ formats.opened was b ⌝ }
 {
     if was == 92 {
         return 0;
@@ -88,7 +89,7 @@ fn open_behind(was: u8, b: u8) -> u8
 
 fn count_behind(was: u8, b: u8, k: usize) -> usize
     requires { ⌜ k < 4294967296 ⌝ }
-    ensures { λ r. ⌜ r ≡ printing.counted was b k ⌝ }
+    ensures { λ r. ⌜ r ≡ formats.counted was b k ⌝ }
     ensures { λ r. ⌜ r ≤ k + 1 ⌝ }
 {
     if was == 37 {
@@ -101,7 +102,7 @@ fn count_behind(was: u8, b: u8, k: usize) -> usize
 }
 
 fn put_one(values: &[i32], was: u8, b: u8, k: usize, out: &mut [u8], w: usize) -> usize
-    ensures { λ r. ⌜ pen (now (out .exit)) r ≡ puts (printing.written (now (values .entry)) was b k) (pen (now (out .entry)) w) ⌝ }
+    ensures { λ r. ⌜ pen (now (out .exit)) r ≡ puts (formats.written (now (values .entry)) was b k) (pen (now (out .entry)) w) ⌝ }
 {
     if was == 92 {
         return put(out, w, escape(b));

@@ -11,7 +11,7 @@ use borrow.Author.Tests.{lt-ltb, le-ltb}
 use Rattle.base.specs.Choice.{pick}
 use Rattle.pens.specs.Pen.{Pen, pen, write, puts}
 use Rattle.pens.proofs.Pen.{puts-append}
-use Rattle.spacing.specs.Writing.{digitsBy}
+use Rattle.spec_text.specs.Formats.{digitsBy}
 
 -- byte v of a list goes to a pen that is w before it and x behind it
 pub puts-more : (s : List ℕ) (k v : ℕ) (w x : Pen) → k < length s → v ≡ getD s k 0 → x ≡ write v w → puts (drop (k + 1) s) x ≡ puts (drop k s) w

@@ -4,7 +4,7 @@ ghost use Prim.Native.Nat.{_+_, _-_, _%_, _<_, _≤_};
 ghost use lib.ListN.{length, getD};
 ghost use Rattle.pens.specs.Pen.{pen, write, puts};
 ghost use Rattle.lexemes.specs.Bytes.{isDigit, isLetter, isWord};
-ghost use Rattle.spacing.specs.Writing.{digitsBy};
+ghost use Rattle.spec_text.specs.Formats.{digitsBy};
 ghost use Rattle.quills.specs.Sheet.{sheet, sizes, spelledBy};
 ghost use Rattle.quills.specs.After.{joinsBy};
 

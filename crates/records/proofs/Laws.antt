@@ -17,7 +17,8 @@ use Rattle.lexemes.proofs.Laws.{span-le, span-stop, span-more, span-end}
 use Rattle.spacing.proofs.Spans.{span-all}
 use Rattle.spacing.proofs.Digits.{decimal-below}
 use Rattle.spacing.specs.Spelled.{all}
-use Rattle.records.specs.Records.{tab, wellFormed, isNot, field, behindField, stepOf}
+use Rattle.records.specs.Records.{wellFormed, isNot, field, behindField, stepOf}
+use Rattle.spec_trails.specs.Trails.{tab}
 use Rattle.records.specs.declared.Record.{Record}
 use Rattle.records.specs.declared.Record.the-variants.{Step, Malformed}
 

@@ -1,2 +1,4 @@
 pub mod Laws
 pub mod Scans
+pub mod Numbers
+pub mod Written

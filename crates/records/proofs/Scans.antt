@@ -11,8 +11,9 @@ use lib.Seq.{drop-cons, drop-drop, take-all}
 use Rattle.base.specs.Choice.{pick}
 use Rattle.lexemes.proofs.Laws.{span-le}
 use Rattle.records.proofs.Laws.{tail-part}
-use Rattle.records.specs.Records.{line-end, isNot, recordOf}
-use Rattle.records.specs.Forms.{Taken, Form, form, spoiled, before, lineOf, follow, formFrom, formOf, answerOf}
+use Rattle.records.specs.Records.{isNot, recordOf}
+use Rattle.spec_trails.specs.Trails.{line-end, Recorded}
+use Rattle.records.specs.Forms.{Form, form, spoiled, before, lineOf, follow, formFrom, formOf, answerOf}
 use Rattle.records.specs.declared.Record.{Record}
 use Rattle.records.specs.declared.Record.the-variants.{Step, Claim, Malformed}
 use Rattle.records.specs.declared.Formed.{Formed}
@@ -26,25 +27,25 @@ pass line left (suc k) [] = refl
 pass line left (suc k) (b ∷ s) = pass line left k s
 
 -- several steps before a form
-abbrev pub befores : List Taken → Form → Form
+abbrev pub befores : List Recorded → Form → Form
 befores [] x = x
 befores (a ∷ rest) x = before a (befores rest x)
 
-befores-snoc : (done : List Taken) (a : Taken) (x : Form) → befores (done ++ (a ∷ [])) x ≡ befores done (before a x)
+befores-snoc : (done : List Recorded) (a : Recorded) (x : Form) → befores (done ++ (a ∷ [])) x ≡ befores done (before a x)
 befores-snoc [] a x = refl
 befores-snoc (b ∷ done) a x = ap (before b) (befores-snoc done a x)
 
-befores-spoiled : (done : List Taken) (x l : ℕ) → befores done (spoiled x l) ≡ spoiled x l
+befores-spoiled : (done : List Recorded) (x l : ℕ) → befores done (spoiled x l) ≡ spoiled x l
 befores-spoiled [] x l = refl
 befores-spoiled (b ∷ done) x l = ap (before b) (befores-spoiled done x l)
 
-befores-end : (done : List Taken) (v : ℕ) → befores done (form [] v) ≡ form done v
+befores-end : (done : List Recorded) (v : ℕ) → befores done (form [] v) ≡ form done v
 befores-end [] v = refl
 befores-end (b ∷ done) v = ap (before b) (befores-end done v)
 
 -- what is known at the head of the loop: at a place, on a line, with so many steps read
 pub record SoFar (t : List ℕ) (at line n : ℕ) : Type 0 where
-  pub steps : List Taken
+  pub steps : List Recorded
   pub whole : formFrom 1 2048 0 t ≡ befores steps (formFrom line (2048 - n) 0 (drop at t))
   pub count : length steps ≡ n
   pub most : n ≤ 2048
@@ -105,7 +106,7 @@ module _ {t : List ℕ} {at line n : ℕ} (z : SoFar t at line n) where
       pub one-more : (p k : ℕ) → r ≡ Step p k → (n ≡ 2048 → ⊥) → SoFar t (at + m + 1) (line + 1) (n + 1)
       one-more p k e q =
           let f : 2048 - n ≡ suc (2048 - (n + 1)) = omega (arith, z .most) in
-          let a : Taken = record { process = p; choice = k } in
+          let a : Recorded = record { process = p; choice = k } in
           let i : suc at + m ≡ at + m + 1 = omega arith in
           let s : drop m (drop (suc at) t) ≡ drop (at + m + 1) t = drop-drop m (suc at) t ∙ ap (λ (j : ℕ). drop j t) i in
           let g : formFrom line (2048 - n) 0 (drop at t) ≡ before a (formFrom (line + 1) (2048 - (n + 1)) 0 (drop (at + m + 1) t)) =

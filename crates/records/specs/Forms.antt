@@ -6,30 +6,20 @@ use Prim.Native.Nat.{ℕ, zero, suc, _+_, _-_}
 use lib.Dec.{eqb, ltb}
 use lib.ListN.{length, take, drop}
 use Rattle.base.specs.Choice.{pick}
+use Rattle.spec_trails.specs.Trails.{Recorded, line-end, trail-most, steps-most}
 use Rattle.lexemes.specs.Spans.{span}
-use Rattle.records.specs.Records.{line-end, isNot, recordOf}
+use Rattle.records.specs.Records.{isNot, recordOf}
 use Rattle.records.specs.declared.Record.{Record}
 use Rattle.records.specs.declared.Record.the-variants.{Step, Claim, Malformed}
 use Rattle.records.specs.declared.Formed.{Formed}
 use Rattle.records.specs.declared.Formed.the-variants.{Well, Spoiled}
 
-abbrev pub trail-most : ℕ
-trail-most = 32768
-
-abbrev pub steps-most : ℕ
-steps-most = 2048
-
--- a step: process and k
-pub record Taken : Type 0 where
-  pub process : ℕ
-  pub choice : ℕ
-
 -- the steps in their order and the claimed verdict, or the number and line of a refusal
 pub data Form : Type 0 where
-  form : List Taken → ℕ → Form
+  form : List Recorded → ℕ → Form
   spoiled : ℕ → ℕ → Form
 
-abbrev pub before : Taken → Form → Form
+abbrev pub before : Recorded → Form → Form
 before a (form steps v) = form (a ∷ steps) v
 before a (spoiled x l) = spoiled x l
 

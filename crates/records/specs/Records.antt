@@ -5,22 +5,12 @@ use Prim.Native.Nat.{ℕ, suc, _+_}
 use lib.Dec.{eqb, leb}
 use lib.ListN.{length, getD, take, drop}
 use Rattle.base.specs.Choice.{pick, both, either}
-use Rattle.tokens.specs.Kinds.{bytes}
 use Rattle.spellings.specs.Find.{find}
+use Rattle.spec_trails.specs.Trails.{tab, verdicts}
 use Rattle.lexemes.specs.Bytes.{isDigit}
 use Rattle.lexemes.specs.Spans.{span, decimal}
 use Rattle.records.specs.declared.Record.{Record}
 use Rattle.records.specs.declared.Record.the-variants.{Step, Claim, Malformed}
-
-abbrev pub tab : ℕ
-tab = 9
-
-abbrev pub line-end : ℕ
-line-end = 10
-
--- "`V` and a verdict": assert 1, fault 2, finished 3, blocked 4, open 5
-abbrev pub verdicts : List (List ℕ)
-verdicts = bytes "assert" ∷ bytes "fault" ∷ bytes "finished" ∷ bytes "blocked" ∷ bytes "open" ∷ []
 
 -- "Numbers have 1 to 5 digits, no leading zero": 0 itself is one digit
 abbrev pub wellFormed : List ℕ → Bool

@@ -6,7 +6,8 @@ ghost use lib.Dec.{eqb};
 ghost use Rattle.base.specs.Choice.{both};
 ghost use Rattle.lexemes.specs.Ceilings.{number-most};
 ghost use Rattle.lexemes.specs.Spans.{span, decimal};
-ghost use Rattle.records.specs.Records.{tab, wellFormed, isNot, stepOf, claimOf, recordOf};
+ghost use Rattle.records.specs.Records.{wellFormed, isNot, stepOf, claimOf, recordOf};
+ghost use Rattle.spec_trails.specs.Trails.{tab};
 ghost use Rattle.records.specs.Forms.{formOf, answerOf, lineOf};
 
 // A record of a trail.

@@ -9,7 +9,7 @@ use lib.Dec.{eqb, ltb, leb}
 use borrow.Author.Tests.{lt-ltb, le-ltb, ltb-true, ltb-false, le-leb, lt-leb, leb-true, leb-false, ne-eqb, eqb-true, eqb-false}
 use Rattle.base.specs.Choice.{pick, both, either}
 use Rattle.base.specs.Lists.{same}
-use Rattle.sheets.specs.Payload.{pid}
+use Rattle.spec_text.specs.Names.{pid}
 use Rattle.finding.specs.Sets.{among}
 use Rattle.finding.specs.Search.{find}
 use Rattle.rules.specs.Rules.{twin, badTwice, badGoto, badBreak, badElse, badBy, ruleOf}
@@ -19,7 +19,7 @@ use Rattle.syntax.specs.Tree.{Name, Shape, Exp, Sort, action, statement, sequen
 use Rattle.syntax.specs.Code.{Item, i-name, i-text, i-end, i-label, i-express, i-target, i-assign, i-increment, i-decrement, i-send, i-receive, i-assert, i-skip, i-goto, i-break, i-timeout, i-else, i-run, i-set-run, i-if, i-fi, i-do, i-od, i-option, i-end-option, each, code-exp, code-argument, code-received, code-tree}
 use Rattle.entries.specs.Items.{codeOf}
 use Rattle.lawful.specs.Statements.{has, isElse}
-use Rattle.lawful.specs.Says.{itemAt}
+use Rattle.legal_items.specs.Says.{itemAt}
 use Rattle.ruling.specs.Scene.{Scene, xs, homes, starts, heights, fine, clean, Stands}
 use Rattle.ruling.proofs.Tests.{both-last}
 use Rattle.ruling.proofs.Stands.{front, back, next, inside, code-at, proper, home, clean-one, clean-none, fine-by, fine-free}

@@ -6,7 +6,7 @@ use Rattle.base.specs.Choice.{pick, both, either}
 use Rattle.base.specs.Lists.{same}
 use Rattle.base.proofs.Lists.{same-refl, same-eq}
 use Rattle.base.proofs.Tests.{true-false}
-use Rattle.sheets.specs.Payload.{pid}
+use Rattle.spec_text.specs.Names.{pid}
 use Rattle.syntax.specs.Tree.{Name}
 use Rattle.lawful.specs.Statements.{has, apart}
 use Rattle.ruling.proofs.Tests.{both-group, both-last, same-tests}

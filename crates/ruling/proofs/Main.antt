@@ -12,7 +12,7 @@ use borrow.Author.Tests.{le-ltb, eqb-true, eq-eqb, ne-eqb}
 use Rattle.base.specs.Choice.{pick, both, either}
 use Rattle.base.specs.Lists.{same}
 use Rattle.base.proofs.Tests.{true-false, both-true}
-use Rattle.sheets.specs.Payload.{pid}
+use Rattle.spec_text.specs.Names.{pid}
 use Rattle.sheets.specs.Homes.{homesOf}
 use Rattle.sheets.specs.Spans.{startsOf, heightsOf}
 use Rattle.finding.specs.Sets.{among}
@@ -22,11 +22,11 @@ use Rattle.faults.specs.Faults.{blank}
 use Rattle.syntax.specs.Tree.{Name, sequence, Tree, Model}
 use Rattle.syntax.specs.Code.{Item, i-plain, i-name, code-tree, code}
 use Rattle.entries.specs.Items.{codeOf}
-use Rattle.acts.specs.Program.{sizeIn}
-use Rattle.acts.proofs.Stands.{Lying}
+use Rattle.spec_machine.specs.Program.{sizeIn}
+use Rattle.agree_stage.proofs.Stands.{Lying}
 use Rattle.lawful.specs.Statements.{Place, has, labelsOf, apart, allowed}
-use Rattle.lawful.specs.Says.{Says, itemAt}
-use Rattle.lawful.specs.Setting.{Setting}
+use Rattle.legal_items.specs.Says.{Says, itemAt}
+use Rattle.legal_items.specs.Setting.{Setting}
 use Rattle.ruling.specs.Scene.{Scene, xs, homes, fine, clean, Items, Stands}
 use Rattle.ruling.proofs.Uses.{pid-told}
 use Rattle.ruling.proofs.Walks.{any, any-zero, any-none, find-any, find-pid, count-none}

@@ -18,7 +18,7 @@ use Rattle.syntax.specs.Tree.{Name, Shape, Exp, Expr, Received, into, equal, ex
 use Rattle.syntax.specs.Code.{Item, i-name, i-text, i-argument, i-into, i-equal, i-end, i-label, i-express, i-target, i-assign, i-increment, i-decrement, i-send, i-receive, i-assert, i-skip, i-goto, i-break, i-timeout, i-else, i-run, i-set-run, i-if, i-fi, i-do, i-od, i-option, i-end-option, each, code-exp, code-argument, code-received, code-tree}
 use Rattle.entries.specs.Items.{codeOf}
 use Rattle.lawful.specs.Statements.{has, labelsOf}
-use Rattle.lawful.specs.Says.{itemAt}
+use Rattle.legal_items.specs.Says.{itemAt}
 use Rattle.ruling.specs.Scene.{Scene, xs, homes, Stands}
 use Rattle.ruling.proofs.Stands.{front, back, next, code-at, proper, home}
 use Rattle.ruling.proofs.Arguments.{inner-code}

@@ -10,7 +10,7 @@ use borrow.Author.Tests.{lt-ltb, le-ltb, lt-leb, leb-true, leb-false, ne-eqb}
 use Rattle.base.specs.Choice.{pick, both}
 use Rattle.faults.specs.Faults.{blank}
 use Rattle.rules.specs.Rules.{roleOf, ruleOf, badHeight, badBy}
-use Rattle.phrases.specs.Phrases.{height}
+use Rattle.lawful.specs.Heights.{height}
 use Rattle.phrases.proofs.Starts.{phrase-starts}
 use Rattle.phrases.proofs.Heights.{phrase-heights}
 use Rattle.syntax.specs.Tree.{Shape, expression, reference, Exp, plain, indexed, num, tru, fls, get, len, unary, binary, choice}

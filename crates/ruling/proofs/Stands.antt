@@ -13,7 +13,7 @@ use Rattle.syntax.specs.Tree.{Shape, Exp}
 use Rattle.syntax.specs.Code.{Item, i-plain, code-exp}
 use Rattle.entries.specs.Items.{codeOf, Known, AllKnown}
 use Rattle.expressions.proofs.Operators.{known-proper}
-use Rattle.lawful.specs.Says.{itemAt}
+use Rattle.legal_items.specs.Says.{itemAt}
 use Rattle.ruling.specs.Scene.{Scene, xs, homes, starts, heights, fine, clean, Items, Stands}
 use Rattle.ruling.proofs.Tests.{both-group}
 

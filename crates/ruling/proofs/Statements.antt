@@ -12,7 +12,8 @@ use borrow.Author.Tests.{lt-ltb, le-ltb, leb-true, leb-false, eqb-true, eqb-fals
 use Rattle.base.specs.Choice.{pick, both}
 use Rattle.base.specs.Lists.{same}
 use Rattle.base.proofs.Lists.{same-eq}
-use Rattle.sheets.specs.Payload.{pid, formatOf}
+use Rattle.spec_text.specs.Formats.{formatOf}
+use Rattle.spec_text.specs.Names.{pid}
 use Rattle.finding.specs.Sets.{among}
 use Rattle.finding.specs.Search.{find, count}
 use Rattle.rules.specs.Rules.{roleOf, ruleOf, badFormat, badCount, badPassing, badRun, badBy, globalOf, bodyOf}
@@ -22,7 +23,7 @@ use Rattle.entries.specs.Items.{codeOf}
 use Rattle.lawful.specs.Senses.{Sense, variable, constant, procedure, unknown, isUnknown, senseIn}
 use Rattle.lawful.specs.Expressions.{operand, channel, target, lawful, whole}
 use Rattle.lawful.specs.Statements.{all, sense, takes, runs, receives, formats, allowed}
-use Rattle.lawful.specs.Setting.{Runs}
+use Rattle.legal_items.specs.Setting.{Runs}
 use Rattle.ruling.specs.Scene.{Scene, homes, starts, heights, clean, Stands}
 use Rattle.ruling.proofs.Tests.{both-turn}
 use Rattle.ruling.proofs.Stands.{front, back, next, inside, code-at, home, clean-append, clean-one, fine-by, fine-free}

@@ -9,7 +9,7 @@ use lib.Dec.{eqb, leb}
 use Rattle.base.specs.Choice.{pick, both, either}
 use Rattle.base.specs.Lists.{same}
 use Rattle.base.proofs.Tests.{true-false}
-use Rattle.sheets.specs.Payload.{pid}
+use Rattle.spec_text.specs.Names.{pid}
 use Rattle.rules.specs.Rules.{twin, ruleOf}
 use Rattle.syntax.specs.Tree.{Name, Sort, options, Tree, express, assign, increment, decrement, send, receive, assert, print, skip, goto, break, timeout, else, run, set-run, select, loop, bare, labelled, end, then, over, option}
 use Rattle.syntax.specs.Code.{Item, i-name, i-label, i-skip, i-timeout, i-if, i-fi, i-do, i-od, i-option, i-end-option, code-tree}

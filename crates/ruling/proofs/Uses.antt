@@ -10,7 +10,7 @@ use borrow.Author.Tests.{eqb-true, leb-true, ne-eqb}
 use Rattle.base.specs.Choice.{pick, both, either}
 use Rattle.base.specs.Lists.{same}
 use Rattle.base.proofs.Tests.{true-false, both-true}
-use Rattle.sheets.specs.Payload.{pid}
+use Rattle.spec_text.specs.Names.{pid}
 use Rattle.finding.specs.Sets.{among}
 use Rattle.finding.specs.Search.{lookup}
 use Rattle.rules.specs.Rules.{roleOf, badPlain, badIndex, badVariable, badUse, badRef, ruleOf, badBy}
@@ -19,8 +19,8 @@ use Rattle.syntax.specs.Code.{i-name}
 use Rattle.lawful.specs.Senses.{Sense, variable, constant, procedure, unknown}
 use Rattle.lawful.specs.Expressions.{Role, operand, channel, target, received, forConstant, forPid, forChan, alike, suits, usable}
 use Rattle.lawful.specs.Statements.{sense}
-use Rattle.lawful.specs.Says.{itemAt}
-use Rattle.lawful.specs.Setting.{Finds}
+use Rattle.legal_items.specs.Says.{itemAt}
+use Rattle.legal_items.specs.Setting.{Finds}
 use Rattle.ruling.specs.Scene.{Scene, xs, homes, starts, fine}
 use Rattle.ruling.proofs.Stands.{fine-by}
 

@@ -13,8 +13,8 @@ use Rattle.faults.specs.Faults.{blank}
 use Rattle.syntax.specs.Tree.{Model}
 use Rattle.syntax.specs.Code.{Item, code}
 use Rattle.lawful.specs.Statements.{Place}
-use Rattle.lawful.specs.Says.{Says, itemAt}
-use Rattle.lawful.specs.Setting.{Setting}
+use Rattle.legal_items.specs.Says.{Says, itemAt}
+use Rattle.legal_items.specs.Setting.{Setting}
 
 -- the statements of the body numbered h stand from item `from` to before item `to` of the model
 pub record Scene : Type 0 where

@@ -12,8 +12,8 @@ use Rattle.moving.specs.declared.Offer.{Offer}
 use Rattle.moving.specs.declared.Offer.the-variants.{Step, Beyond}
 use Rattle.moving.specs.declared.Verdict.{Verdict}
 use Rattle.statements.specs.Statements.{Result}
-use Rattle.statements.specs.declared.Taken.{Taken}
-use Rattle.statements.specs.declared.Taken.the-variants.{Done, Refuted, Faulted, Idle}
+use Rattle.base_outcome.specs.declared.Taken.{Taken}
+use Rattle.base_outcome.specs.declared.Taken.the-variants.{Done, Refuted, Faulted, Idle}
 use Rattle.effects.specs.Effects.{takenOf}
 use Rattle.steps.specs.Entries.{refusalOf}
 use Rattle.value.specs.declared.Fault.{Fault}

@@ -10,8 +10,8 @@ use Rattle.moving.specs.declared.Offer.the-variants.{Step, Beyond}
 use Rattle.moving.specs.declared.Verdict.{Verdict}
 use Rattle.moving.specs.declared.Verdict.the-variants as verdict
 use Rattle.statements.specs.Statements.{Result}
-use Rattle.statements.specs.declared.Taken.{Taken}
-use Rattle.statements.specs.declared.Taken.the-variants.{Done, Refuted, Faulted, Idle}
+use Rattle.base_outcome.specs.declared.Taken.{Taken}
+use Rattle.base_outcome.specs.declared.Taken.the-variants.{Done, Refuted, Faulted, Idle}
 use Rattle.effects.specs.Effects.{takenOf}
 use Rattle.runs.specs.declared.Ending.{Ending}
 use Rattle.runs.specs.declared.Ending.the-variants.{Finished, Blocked, Open, Assert, Fault}

@@ -2,9 +2,9 @@
 ghost use mathlib.Core.Path.{_≡_};
 ghost use Rattle.runs.specs.Runs as runs;
 ghost use Rattle.runs.specs.Entries as entries;
+use base_outcome::Taken;
 use moving::Offer;
 use moving::Verdict;
-use statements::Taken;
 use value::Fault;
 
 // How a run ends.

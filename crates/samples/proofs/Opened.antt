@@ -44,6 +44,7 @@ use Rattle.patterns.specs.Rules as patterns
 use Rattle.writer.specs.Normal as writerNormal
 use Rattle.writer.specs.Turning as writerTurning
 use Rattle.spacing.specs.Writing as spacing
+use Rattle.spec_text.specs.Formats as formats
 
 -- reading a text, judging it, and its tables
 unfoldable pub reads : Unit {0}
@@ -98,5 +99,5 @@ unfolding
     patterns.rows
     writerNormal.codesIn writerNormal.tokensOf writerTurning.cell writerTurning.rowFrom writerTurning.rowOf writerTurning.laid writerTurning.operated writerTurning.turned
     writerTurning.kept writerTurning.told writerTurning.walk writerTurning.marks
-    spacing.digitsBy spacing.writeBehind
+    formats.digitsBy spacing.writeBehind
 writes = tt

@@ -21,8 +21,8 @@ use Rattle.frames.specs.Layout.{stateSize, globalAt, cellOf, placeOf}
 use Rattle.evaluating.specs.Expressions.{evalOf}
 use Rattle.starting.specs.Starting.{initialOf}
 use Rattle.executing.specs.Executing.{markOf}
-use Rattle.statements.specs.declared.Taken.{Taken}
-use Rattle.statements.specs.declared.Taken.the-variants.{Done}
+use Rattle.base_outcome.specs.declared.Taken.{Taken}
+use Rattle.base_outcome.specs.declared.Taken.the-variants.{Done}
 use Rattle.effects.specs.Effects.{takenOf}
 use Rattle.moving.specs.Moving.{verdictOf}
 use Rattle.moving.specs.declared.Verdict.the-variants.{Blocked}

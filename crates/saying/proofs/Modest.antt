@@ -20,7 +20,7 @@ use Rattle.ceilings.specs.Ceilings.{one, numbersAt, numbers, startsAt, makesAt,
 use Rattle.lawful.specs.Units.{tally}
 use Rattle.lawful.specs.Statements.{all}
 use Rattle.lawful.specs.Ceilings.{statementsOf, messagesOf, proctypesOf, globalsOf, light, startsOf, channelsOf, modest}
-use Rattle.lawful.specs.Says.{Says}
+use Rattle.legal_items.specs.Says.{Says}
 use Rattle.saying.proofs.Standing.{weigh, sum-weigh, Lain, model-lain}
 use Rattle.saying.proofs.Counts.{mass-at, statements-model, messages-model, proctypes-model}
 use Rattle.saying.proofs.Parts.{model-sum, model-none}

@@ -17,6 +17,7 @@ use Rattle.lawful.specs.Statements.{all}
 use Rattle.saying.proofs.Codes.{every-lift, type-low, InDeclaration, global-codes, InMessages, messages-codes}
 use Rattle.saying.proofs.Standing.{weigh, weigh-append, Lain, lain-front, lain-back, Stood, Inner, settled}
 use Rattle.saying.proofs.Bodies.{Housed, housed, weigh-body}
+use Rattle.accepting.proofs.Alike.{past-end as past}
 
 -- the item that begins a unit's body is the last of these
 abbrev pub headAt : Activity → ℕ → ℕ
@@ -28,11 +29,6 @@ pub head-last : (x : Activity) (w : Name) (i : ℕ) → suc (headAt x i) ≡ i +
 head-last idle w i = omega arith
 head-last once w i = omega arith
 head-last (times n) w i = omega arith
-
-past : (l : List ℕ) (j : ℕ) → length l ≤ j → getD l j 0 ≡ 0
-past [] j h = refl
-past (a ∷ l) zero h = absurd (omega arith)
-past (a ∷ l) (suc j) h = past l j (omega arith)
 
 -- none is a sum of nones
 pub none-sum : (a b : ℕ) → eqb (a + b) 0 ≡ both (eqb a 0) (eqb b 0)

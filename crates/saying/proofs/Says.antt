@@ -31,7 +31,9 @@ use Rattle.entries.specs.Items.{codeOf, entryOf}
 use Rattle.entries.proofs.Runs.{length-runs}
 use Rattle.tables.specs.Trees.{entriesIn}
 use Rattle.sheets.specs.Walks.{first}
-use Rattle.sheets.specs.Payload.{wordOf, pid, formatFrom, formatOf, sameName, firstSame, nameArg, argOf, argsOf, spelled}
+use Rattle.sheets.specs.Payload.{wordOf, sameName, firstSame, nameArg, argOf, argsOf, spelled}
+use Rattle.spec_text.specs.Formats.{formatFrom, formatOf}
+use Rattle.spec_text.specs.Names.{pid}
 use Rattle.sheets.proofs.Meaning.{filled-at}
 use Rattle.holdings.specs.Read.{Right}
 use Rattle.holdings.proofs.Read.{get-only}
@@ -41,19 +43,14 @@ use Rattle.holdings.proofs.Wrote.{machine-right}
 use Rattle.accepting.proofs.Alike.{parsed-done, name-says, text-says as string-says}
 use Rattle.expressions.proofs.Codes.{entry-code}
 use Rattle.expressions.proofs.Lookups.{first-reached}
-use Rattle.lawful.specs.Says.{itemAt, Says}
+use Rattle.legal_items.specs.Says.{itemAt, Says}
 use Rattle.saying.specs.Parses.{Parses, codesOf, saidOf}
+use Rattle.expressions.proofs.Codes.{runs-at}
 
 -- ---- lists
 entry-codes : (l : List Item) → map (λ x. entryOf x .code) l ≡ map codeOf l
 entry-codes [] = refl
 entry-codes (x ∷ l) = ap₂ _∷_ (entry-code x) (entry-codes l)
-
-runs-at : (f : ℕ → Entry) (i k j : ℕ) → j < k → getD (runs f i k) j nothing ≡ f (i + j)
-unfolding runs
-runs-at f i zero j h = absurd (omega arith)
-runs-at f i (suc k) zero h = ap f (omega arith)
-runs-at f i (suc k) (suc j) h = runs-at f (i + 1) k j (omega arith) ∙ ap f (omega arith)
 
 no-more : (l : List ℕ) → l ++ [] ≡ l
 no-more [] = refl

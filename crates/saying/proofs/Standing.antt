@@ -12,7 +12,7 @@ use Rattle.entries.specs.Items.{codeOf, Known, AllKnown}
 use Rattle.holdings.proofs.Read.{get-only}
 use Rattle.sheets.specs.Walks.{sum}
 use Rattle.sheets.specs.Homes.{heads, insideOf, homeOf}
-use Rattle.lawful.specs.Says.{itemAt, Says}
+use Rattle.legal_items.specs.Says.{itemAt, Says}
 use Rattle.saying.proofs.Codes.{Every}
 
 -- ---- sums over the items of a list that stands at a place

@@ -25,7 +25,7 @@ use Rattle.accepting.proofs.Main.{kinds-are, all-proper, short, accepted-means,
 use Rattle.reader.specs.Entries.{room, readOf}
 use Rattle.lawful.specs.Units.{modelLawful}
 use Rattle.lawful.specs.Ceilings as ceilings
-use Rattle.lawful.specs.Says.{Says}
+use Rattle.legal_items.specs.Says.{Says}
 use Rattle.saying.specs.Parses.{Parses, codesOf, saidOf}
 use Rattle.saying.specs.Legal.{Legal}
 use Rattle.saying.proofs.Says.{text-says}

@@ -7,7 +7,8 @@ use lib.ListN.{set, replicate}
 use lib.IntN.{ℤ, pos}
 use Rattle.base.specs.Choice.{pick}
 use Rattle.tables.specs.Access.{linkOf}
-use Rattle.frames.specs.Layout.{stateSize, processesMost, channelsMost, messagesMost, processAt, channelAt, fieldAt, cellOf, processesOf, channelsOf, unitOf, placeOf, declaredOf, waitingOf, kept}
+use Rattle.frames.specs.Layout.{stateSize, processAt, channelAt, fieldAt, cellOf, processesOf, channelsOf, unitOf, placeOf, declaredOf, waitingOf, kept}
+use Rattle.spec_text.specs.Ceilings.{processesMost, channelsMost, messagesMost}
 use Rattle.frames.specs.Walks.{walk}
 use Rattle.evaluating.specs.Variables.{sizeOf, slotOf}
 use Rattle.starting.specs.Starting.{unitLength, scanned}

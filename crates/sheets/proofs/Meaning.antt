@@ -14,7 +14,9 @@ use Rattle.base.specs.Lists.{same}
 use Rattle.lexemes.specs.Ceilings.{number-most}
 use Rattle.lexemes.specs.Spans.{decimal}
 use Rattle.sheets.specs.Walks.{first, filled}
-use Rattle.sheets.specs.Payload.{wordOf, pid, formatOf, sameName, firstSame, nameArg, argOf, argsOf}
+use Rattle.sheets.specs.Payload.{wordOf, sameName, firstSame, nameArg, argOf, argsOf}
+use Rattle.spec_text.specs.Formats.{formatOf}
+use Rattle.spec_text.specs.Names.{pid}
 use Rattle.sheets.specs.Homes.{homeOf, homesOf}
 
 -- ## an array filled with what does not look at the array

@@ -9,7 +9,8 @@ use lib.ListN.{length, getD, take, drop, length-take, length-drop, drop-of-lengt
 use lib.Seq.{drop-cons}
 use lib.Dec.{eqb}
 use Rattle.base.specs.Choice.{pick}
-use Rattle.sheets.specs.Payload.{piece, formatFrom, moveOf}
+use Rattle.sheets.specs.Payload.{piece}
+use Rattle.spec_text.specs.Formats.{formatFrom, moveOf}
 
 module _ (opened : Bool) (n bad : ℕ) (s : List ℕ) (i : ℕ) where
   pub format-more : {m n2 bad2 : ℕ} → i < length s → m ≡ moveOf opened (getD s i 0) → n2 ≡ pick (eqb m 2) 1 0 → bad2 ≡ pick (eqb m 3) 1 bad →

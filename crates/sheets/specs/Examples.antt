@@ -3,7 +3,7 @@ use Prim.Native.Nat.{ℕ}
 use mathlib.Core.Path.{_≡_, refl}
 use mathlib.Core.List.{List, [], _∷_}
 use Rattle.sheets.specs.Walks.{filled}
-use Rattle.sheets.specs.Payload.{formatFrom, formatOf}
+use Rattle.spec_text.specs.Formats.{formatFrom, formatOf}
 use Rattle.sheets.specs.Homes.{insideOf, homeOf}
 use Rattle.sheets.specs.Spans.{shapeOf, startOf, heightOf}
 

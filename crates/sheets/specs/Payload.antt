@@ -9,6 +9,8 @@ use Rattle.base.specs.Choice.{pick, both}
 use Rattle.base.specs.Lists.{same}
 use Rattle.lexemes.specs.Ceilings.{number-most}
 use Rattle.lexemes.specs.Spans.{decimal}
+use Rattle.spec_text.specs.Names.{pid}
+use Rattle.spec_text.specs.Formats.{formatOf}
 use Rattle.sheets.specs.Walks.{first, filled}
 
 -- the bytes from a place to a place, as far as there are any
@@ -18,25 +20,6 @@ piece text from to = take (min to (length text) - min from (min to (length text)
 -- the spelling of token t
 unfoldable pub spelled : List ℕ → List ℕ → List ℕ → ℕ → List ℕ
 spelled text starts ends t = piece text (getD starts t 0) (getD ends t 0)
-
--- `_pid`
-abbrev pub pid : List ℕ
-pid = 95 ∷ 112 ∷ 105 ∷ 100 ∷ []
-
--- how a format goes on at a byte, where `opened` says that the byte before is a `%` still to be explained:
--- 0 nothing, 1 a `%` opens, 2 a number (`%d`), 3 a bad `%`, 4 a `%` for itself (`%%`)
-abbrev pub moveOf : Bool → ℕ → ℕ
-moveOf opened b = pick opened (pick (eqb b 100) 2 (pick (eqb b 37) 4 3)) (pick (eqb b 37) 1 0)
-
--- a format with n `%d` so far, and 1 for `bad` if some `%` was followed by neither `d` nor `%`; one at the end is bad too.
--- A bad `%` is passed over by one byte and counting goes on. The quotes around it count as any other byte.
-unfoldable pub formatFrom : Bool → ℕ → ℕ → List ℕ → ℕ
-formatFrom opened n bad [] = 2 * n + pick opened 1 bad
-formatFrom opened n bad (b ∷ s) = formatFrom (eqb (moveOf opened b) 1) (n + pick (eqb (moveOf opened b) 2) 1 0) (pick (eqb (moveOf opened b) 3) 1 bad) s
-
--- twice the number of `%d`, and one more if some `%` is bad
-abbrev pub formatOf : List ℕ → ℕ
-formatOf s = formatFrom false 0 0 s
 
 module _ (text starts ends codes toks : List ℕ) where
   abbrev pub wordOf : ℕ → List ℕ

@@ -7,7 +7,9 @@ ghost use lib.Dec.{eqb, leb};
 ghost use Rattle.base.specs.Choice.{pick};
 ghost use Rattle.base.specs.Choice as choice;
 ghost use Rattle.base.specs.Lists as lists;
-ghost use Rattle.sheets.specs.Payload.{piece, spelled, pid, formatOf, firstSame, nameArg, argOf, argsOf};
+ghost use Rattle.sheets.specs.Payload.{piece, spelled, firstSame, nameArg, argOf, argsOf};
+ghost use Rattle.spec_text.specs.Formats.{formatOf};
+ghost use Rattle.spec_text.specs.Names.{pid};
 ghost use Rattle.sheets.specs.Homes.{heads, homeOf, insideOf, homesOf};
 ghost use Rattle.sheets.specs.Spans.{shapeOf, startOf, heightOf, startsOf, heightsOf};
 
@@ -179,7 +181,7 @@ fn name_arg(
 
 // How a format goes on at a byte: 0 nothing, 1 a `%` opens, 2 a number, 3 a bad `%`, 4 a `%` for itself.
 fn move_of(opened: bool, b: u8) -> u8
-    ensures { λ r. ⌜ r ≡ Rattle.sheets.specs.Payload.moveOf opened b ⌝ }
+    ensures { λ r. ⌜ r ≡ Rattle.spec_text.specs.Formats.moveOf opened b ⌝ }
 {
     if opened {
         choose(b == b'd', 2, choose(b == b'%', 4, 3))

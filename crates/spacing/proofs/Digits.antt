@@ -14,7 +14,7 @@ use Rattle.lexemes.specs.Bytes.{isDigit}
 use Rattle.lexemes.specs.Ceilings.{number-most}
 use Rattle.lexemes.specs.Spans.{decimalFrom, decimal}
 use Rattle.spacing.specs.Spelled.{all, Spelled, digits}
-use Rattle.spacing.specs.Writing.{digitsBy, digitsOf}
+use Rattle.spec_text.specs.Formats.{digitsBy, digitsOf}
 use Rattle.spacing.proofs.Classes.{digit-range}
 
 digit-of : (n : ℕ) → n < 10 → isDigit (48 + n) ≡ true

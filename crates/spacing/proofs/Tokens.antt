@@ -19,7 +19,8 @@ use Rattle.lexemes.specs.Bytes.{isDigit, isLetter, isWord, quote, slash, star}
 use Rattle.lexemes.specs.Ceilings.{number-most}
 use Rattle.lexemes.specs.Spans.{decimal}
 use Rattle.spacing.specs.Spelled.{all, Spelled, word, digits, string, mark, markJoins, joins}
-use Rattle.spacing.specs.Writing.{digitsOf, spell, tokenOf, Sound}
+use Rattle.spacing.specs.Writing.{spell, tokenOf, Sound}
+use Rattle.spec_text.specs.Formats.{digitsOf}
 use Rattle.spacing.proofs.Classes.{digit-range}
 use Rattle.spacing.proofs.Tables.{mark-range, word-range, keyword-below, every, fails-unfound, found-at}
 use Rattle.spacing.proofs.Fronts.{joins-word, joins-mark, markish, mark-passes, short, spelled-some}

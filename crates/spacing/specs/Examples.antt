@@ -5,7 +5,8 @@ use Prim.Native.Nat.{ℕ}
 use Rattle.base.specs.Lists.{same}
 use Rattle.spellings.specs.Find.{find}
 use Rattle.tokens.specs.Kinds.{bytes, Token, sym, name, number, text}
-use Rattle.spacing.specs.Writing.{digitsBy, writeBehind, write}
+use Rattle.spacing.specs.Writing.{writeBehind, write}
+use Rattle.spec_text.specs.Formats.{digitsBy}
 
 -- `init{if::1fi}`: a number and a word need no space
 number-word : write (sym 56 ∷ sym 25 ∷ sym 55 ∷ sym 30 ∷ number 1 ∷ sym 53 ∷ sym 26 ∷ []) ≡ bytes "init{if::1fi}"

@@ -7,20 +7,13 @@ use Prim.Native.Nat.{ℕ, zero, suc, _+_, _-_, _/_, _%_, _≤_, _<_}
 use lib.Dec.{eqb, ltb}
 use lib.ListN.{length, getD, take, drop}
 use Rattle.base.specs.Choice.{pick}
+use Rattle.spec_text.specs.Formats.{digitsOf}
 use Rattle.tokens.specs.Kinds.{marks, keywords, Token, sym, name, number, text, kindOf, name-kind, number-kind, string-kind}
 use Rattle.lexemes.specs.Bytes.{quote}
 use Rattle.lexemes.specs.Ceilings.{number-most}
 use Rattle.lexemes.specs.Spans.{decimal}
 use Rattle.lexis.specs.Reading.{Placed}
 use Rattle.spacing.specs.Spelled.{Spelled, joins}
-
--- the decimal digits of a number, no zero in front; at most f of them, and ten are enough for every number that a text can hold
-unfoldable pub digitsBy : ℕ → ℕ → List ℕ
-digitsBy zero n = []
-digitsBy (suc f) n = pick (ltb n 10) ((48 + n) ∷ []) (digitsBy f (n / 10) ++ (48 + n % 10) ∷ [])
-
-abbrev pub digitsOf : ℕ → List ℕ
-digitsOf n = digitsBy 10 n
 
 -- the bytes of a token
 abbrev pub spell : Token → List ℕ

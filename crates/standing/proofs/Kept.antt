@@ -11,7 +11,8 @@ use lib.Seq.{getD-set-same, getD-set-other}
 use lib.IntN.{ℤ, pos}
 use Rattle.base.specs.Choice.{pick}
 use Rattle.tables.specs.Access.{linkOf}
-use Rattle.frames.specs.Layout.{stateSize, processesMost, channelsMost, messagesMost, kept, cellOf, countOf, processAt, channelAt, fieldAt, processesOf, channelsOf, unitOf, placeOf, declaredOf, waitingOf}
+use Rattle.frames.specs.Layout.{stateSize, kept, cellOf, countOf, processAt, channelAt, fieldAt, processesOf, channelsOf, unitOf, placeOf, declaredOf, waitingOf}
+use Rattle.spec_text.specs.Ceilings.{processesMost, channelsMost, messagesMost}
 use Rattle.frames.specs.Walks.{walk}
 use Rattle.evaluating.specs.Variables.{sizeOf, slotOf}
 use Rattle.starting.specs.Starting.{unitLength, scanned}

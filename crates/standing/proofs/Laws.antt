@@ -15,7 +15,7 @@ use Rattle.finding.specs.Sets.{within}
 use Rattle.places.specs.Places.{isPart, isMark, isAlone, isLead}
 use Rattle.tables.specs.Access.{itemsOf, codeOf, linkOf}
 use Rattle.value.specs.Operators.{same}
-use Rattle.executing.proofs.Bits.{same-bits}
+use Rattle.value.proofs.Machine.{same-bits}
 use Rattle.frames.specs.Layout.{stateSize, processAt, channelAt, cellOf, unitOf, placeOf, declaredOf, waitingOf}
 use Rattle.starting.specs.Starting.{scanned}
 use Rattle.executing.specs.Channels.{capacityOf}

@@ -16,7 +16,9 @@ use Rattle.base.proofs.Tests.{both-true, either-true, true-false}
 use Rattle.tables.specs.Access.{codeOf, linkOf}
 use Rattle.value.specs.Operators.{same}
 use Rattle.value.specs.Types.{castOf}
-use Rattle.frames.specs.Layout.{stateSize, processesMost, channelsMost, messagesMost, kept, nat, cellOf, countOf, processAt, channelAt, fieldAt, processesOf, channelsOf, unitOf, placeOf, declaredOf, waitingOf}
+use Rattle.frames.specs.Layout.{stateSize, kept, cellOf, countOf, processAt, channelAt, fieldAt, processesOf, channelsOf, unitOf, placeOf, declaredOf, waitingOf}
+use Rattle.spec_text.specs.Ceilings.{processesMost, channelsMost, messagesMost}
+use Rattle.base.specs.Numbers.{nat}
 use Rattle.evaluating.specs.Variables.{typeOf, sizeOf, slotOf}
 use Rattle.starting.specs.Starting.{unitLength, scanned}
 use Rattle.executing.specs.Channels.{capacityOf, fieldsOf}

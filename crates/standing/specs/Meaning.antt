@@ -11,7 +11,8 @@ use lib.ListN.{length}
 use lib.IntN.{ℤ, pos}
 use Rattle.tables.specs.Access.{codeOf, linkOf}
 use Rattle.value.specs.Types.{castOf}
-use Rattle.frames.specs.Layout.{stateSize, processesMost, channelsMost, messagesMost, cellOf, countOf, processAt, channelAt, fieldAt, processesOf, channelsOf, unitOf, placeOf, declaredOf, waitingOf}
+use Rattle.frames.specs.Layout.{stateSize, cellOf, countOf, processAt, channelAt, fieldAt, processesOf, channelsOf, unitOf, placeOf, declaredOf, waitingOf}
+use Rattle.spec_text.specs.Ceilings.{processesMost, channelsMost, messagesMost}
 use Rattle.evaluating.specs.Variables.{typeOf, sizeOf, slotOf}
 use Rattle.starting.specs.Starting.{unitLength, scanned}
 use Rattle.executing.specs.Channels.{capacityOf, fieldsOf}

@@ -13,7 +13,8 @@ use Rattle.finding.specs.Sets.{within}
 use Rattle.places.specs.Places.{isPart, isMark, isAlone, isLead}
 use Rattle.tables.specs.Access.{itemsOf, codeOf, linkOf}
 use Rattle.value.specs.Operators.{same}
-use Rattle.frames.specs.Layout.{stateSize, processesMost, channelsMost, messagesMost, processAt, channelAt, cellOf, unitOf, placeOf, declaredOf, waitingOf}
+use Rattle.frames.specs.Layout.{stateSize, processAt, channelAt, cellOf, unitOf, placeOf, declaredOf, waitingOf}
+use Rattle.spec_text.specs.Ceilings.{processesMost, channelsMost, messagesMost}
 use Rattle.executing.specs.Channels.{capacityOf}
 use Rattle.starting.specs.Starting.{scanned}
 use Rattle.fitting.specs.Fits.{every, countsFrom, globalFits, localsFit, messageFits}

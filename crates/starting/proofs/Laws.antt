@@ -16,7 +16,8 @@ use Rattle.tables.specs.Access.{itemsOf, codeOf, linkOf, numberOf}
 use Rattle.value.specs.Operators.{unaryOf}
 use Rattle.value.specs.Types.{castOf}
 use Rattle.frames.proofs.Laws.{back}
-use Rattle.frames.specs.Layout.{kept, cleared, processAt, channelAt, processesOf, channelsOf, processesMost}
+use Rattle.frames.specs.Layout.{kept, cleared, processAt, channelAt, processesOf, channelsOf}
+use Rattle.spec_text.specs.Ceilings.{processesMost}
 use Rattle.frames.specs.Walks.{walk}
 use Rattle.evaluating.specs.Variables.{typeOf, sizeOf, slotOf}
 use Rattle.starting.specs.Values.{valueAt, literalOf, valueOf}

@@ -9,7 +9,8 @@ use lib.Dec.{eqb, ltb}
 use Rattle.base.specs.Choice.{pick}
 use Rattle.tables.specs.Access.{itemsOf, codeOf, linkOf, numberOf}
 use Rattle.value.specs.Types.{castOf}
-use Rattle.frames.specs.Layout.{kept, cleared, processesMost, processAt, channelAt, processesOf, channelsOf}
+use Rattle.frames.specs.Layout.{kept, cleared, processAt, channelAt, processesOf, channelsOf}
+use Rattle.spec_text.specs.Ceilings.{processesMost}
 use Rattle.frames.specs.Walks.{walk}
 use Rattle.evaluating.specs.Variables.{typeOf, sizeOf, slotOf}
 use Rattle.starting.specs.Values.{valueAt, valueOf}

@@ -3,19 +3,11 @@
 ghost use mathlib.Core.Path.{_≡_};
 ghost use Prim.Native.Nat.{_<_};
 ghost use Rattle.statements.specs.Statements as statements;
+use base_outcome::Taken;
 use evaluating::Located;
 use evaluating::Reached;
 use messages::Gathered;
 use value::Answer;
-use value::Fault;
-
-// What came of a step: it is done, its assertion failed, it faulted; or there is none to take.
-pub enum Taken {
-    Done,
-    Refuted,
-    Faulted(Fault),
-    Idle,
-}
 
 // Process p goes on at place q.
 pub fn move_to(s: &mut [i32], p: u8, q: usize)

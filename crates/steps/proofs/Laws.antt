@@ -23,7 +23,7 @@ use Rattle.printing.specs.Printing.{Pen, pen, puts}
 use Rattle.offering.specs.Offers.{pickAt}
 use Rattle.offering.specs.declared.Walk.{Walk}
 use Rattle.offering.specs.declared.Walk.the-variants.{Found, Left}
-use Rattle.statements.specs.declared.Taken.{Taken}
+use Rattle.base_outcome.specs.declared.Taken.{Taken}
 use Rattle.statements.specs.Statements.{Result}
 use Rattle.effects.specs.Effects.{takenOf}
 use Rattle.printing.specs.Printing.{printedAt}

@@ -19,8 +19,8 @@ use Rattle.moving.specs.declared.Offer.{Offer}
 use Rattle.moving.specs.declared.Offer.the-variants as offer
 use Rattle.moving.specs.declared.Verdict.{Verdict}
 use Rattle.moving.specs.declared.Verdict.the-variants as verdict
-use Rattle.statements.specs.declared.Taken.{Taken}
-use Rattle.statements.specs.declared.Taken.the-variants as taken
+use Rattle.base_outcome.specs.declared.Taken.{Taken}
+use Rattle.base_outcome.specs.declared.Taken.the-variants as taken
 use Rattle.effects.specs.Effects.{takenOf}
 use Rattle.printing.specs.Printing.{printedAt}
 use Rattle.steps.specs.declared.Listed.{Listed}

@@ -1,10 +1,10 @@
 // The entries of the stepper.
 ghost use mathlib.Core.Path.{_≡_};
 ghost use Rattle.steps.specs.Entries as entries;
+use base_outcome::Taken;
 use moving::Offer;
 use moving::Verdict;
 use offering::Walk;
-use statements::Taken;
 use value::Fault;
 
 // The numbers that are lent for tables.

@@ -13,7 +13,7 @@ use Rattle.base.specs.Choice.{pick}
 use Rattle.genuine.specs.Genuine.{written}
 use Rattle.starting.specs.Starting.{initialOf}
 use Rattle.records.specs.Records.{recordOf}
-use Rattle.records.specs.Forms as forms
+use Rattle.spec_trails.specs.Trails as forms
 use Rattle.records.specs.Forms.{Form, form, spoiled, lineOf, formFrom, formOf, answerOf}
 use Rattle.records.specs.declared.Record.{Record}
 use Rattle.records.specs.declared.Record.the-variants.{Step, Claim, Malformed}
@@ -24,8 +24,8 @@ use Rattle.moving.specs.declared.Verdict.{Verdict}
 use Rattle.offering.specs.declared.Walk.{Walk}
 use Rattle.offering.specs.declared.Walk.the-variants.{Found, Left}
 use Rattle.statements.specs.Statements.{Result}
-use Rattle.statements.specs.declared.Taken.{Taken}
-use Rattle.statements.specs.declared.Taken.the-variants.{Idle}
+use Rattle.base_outcome.specs.declared.Taken.{Taken}
+use Rattle.base_outcome.specs.declared.Taken.the-variants.{Idle}
 use Rattle.effects.specs.Effects.{takenOf}
 use Rattle.steps.specs.Entries.{foreignOf}
 use Rattle.records.proofs.Scans as scans
@@ -66,7 +66,7 @@ other-verdict claim reached line e = rw (ne-eqb claim reached e)
 
 -- ---- the loop: i records are read, the trail goes on at a place, and what is left of it is known
 pub record Going (t trail : List ℕ) (n claim : ℕ) (s₀ : List ℤ) (failed at i : ℕ) (s : List ℤ) : Type 0 where
-  pub steps : List forms.Taken
+  pub steps : List forms.Recorded
   pub left : formFrom (i + 1) (2048 - i) 0 (drop at trail) ≡ form steps claim
   pub count : length steps ≡ n - i
   pub rest : replayFrom t claim steps (i + 1) failed s ≡ replayForm t (formOf trail) s₀
@@ -74,7 +74,7 @@ pub record Going (t trail : List ℕ) (n claim : ℕ) (s₀ : List ℤ) (failed 
   pub most : n ≤ 2048
   pub read : i ≤ n
 
-in-ceiling : (trail : List ℕ) (steps : List forms.Taken) (v : ℕ) → formOf trail ≡ form steps v → formFrom 1 2048 0 trail ≡ form steps v
+in-ceiling : (trail : List ℕ) (steps : List forms.Recorded) (v : ℕ) → formOf trail ≡ form steps v → formFrom 1 2048 0 trail ≡ form steps v
 in-ceiling trail steps v e = go (ltb 32768 (length trail)) e
   where
     go : (b : Bool) → pick b (spoiled 2 0) (formFrom 1 2048 0 trail) ≡ form steps v → formFrom 1 2048 0 trail ≡ form steps v
@@ -102,7 +102,7 @@ module _ {t trail : List ℕ} {n claim : ℕ} {s₀ : List ℤ} {failed at i : �
   unfolding replayFrom
   at-end h {x = x} {r = r} ex er = go (g .steps) (g .count) (g .rest)
     where
-      go : (steps : List forms.Taken) → length steps ≡ n - i → replayFrom t claim steps (i + 1) failed s ≡ replayForm t (formOf trail) s₀ → (r, s) ≡ replayForm t (formOf trail) s₀
+      go : (steps : List forms.Recorded) → length steps ≡ n - i → replayFrom t claim steps (i + 1) failed s ≡ replayForm t (formOf trail) s₀ → (r, s) ≡ replayForm t (formOf trail) s₀
       go [] c q =
           let z : n + 1 ≡ i + 1 = omega (arith, g .read) in
           let y : r ≡ judged claim (reachedOf t failed s) (i + 1) = er ∙ (ap (λ (k : ℕ). judged claim k (n + 1)) ex ∙ ap (judged claim (reachedOf t failed s)) z) in
@@ -111,19 +111,19 @@ module _ {t trail : List ℕ} {n claim : ℕ} {s₀ : List ℤ} {failed at i : �
 
   module _ (h : i < n) (m : ℕ) (em : m ≡ lineOf (drop at trail)) where
     record Ahead : Type 0 where
-      a : forms.Taken
-      more : List forms.Taken
+      a : forms.Recorded
+      more : List forms.Recorded
       split : g .steps ≡ a ∷ more
 
     ahead : Ahead
     ahead = go (g .steps) refl
       where
-        go : (steps : List forms.Taken) → g .steps ≡ steps → Ahead
+        go : (steps : List forms.Recorded) → g .steps ≡ steps → Ahead
         go [] e = absurd (omega (arith, g .count, ap length e))
         go (b ∷ rest) e = record { a = b; more = rest; split = e }
 
     first : First (i + 1) (2048 - i) (drop at trail) (ahead .a) (ahead .more) claim
-    first = first-line (i + 1) (2048 - i) (drop at trail) (ahead .a) (ahead .more) claim (g .left ∙ ap (λ (x : List forms.Taken). form x claim) (ahead .split))
+    first = first-line (i + 1) (2048 - i) (drop at trail) (ahead .a) (ahead .more) claim (g .left ∙ ap (λ (x : List forms.Recorded). form x claim) (ahead .split))
 
     pub line-within : at + m < length trail
     line-within = omega (arith, first .ended, length-drop at trail, g .place)
@@ -167,7 +167,7 @@ module _ {t trail : List ℕ} {n claim : ℕ} {s₀ : List ℤ} {failed at i : �
             ap (λ (b : ℕ). pick (eqb failed 0) (nextBy t (failureOf (recordedOf t p k s .0)) (recordedOf t p k s .1) (i + 1) (λ x y. replayFrom t claim (ahead .more) b x y)) (Refused 11 (i + 1), s)) z
             ∙ (ap (λ (b : ℕ). pick (eqb failed 0) (nextBy t (failureOf (recordedOf t b k s .0)) (recordedOf t b k s .1) (i + 1) (λ x y. replayFrom t claim (ahead .more) (i + 1 + 1) x y)) (Refused 11 (i + 1), s)) (sym process-is)
             ∙ (ap (λ (b : ℕ). pick (eqb failed 0) (nextBy t (failureOf (recordedOf t (ahead .a .process) b s .0)) (recordedOf t (ahead .a .process) b s .1) (i + 1) (λ x y. replayFrom t claim (ahead .more) (i + 1 + 1) x y)) (Refused 11 (i + 1), s)) (sym choice-is)
-            ∙ (ap (λ (b : List forms.Taken). replayFrom t claim b (i + 1) failed s) (sym (ahead .split)) ∙ g .rest)))
+            ∙ (ap (λ (b : List forms.Recorded). replayFrom t claim b (i + 1) failed s) (sym (ahead .split)) ∙ g .rest)))
 
         pub behind-failure : (failed ≡ 0 → ⊥) → (Refused 11 (i + 1), s) ≡ replayForm t (formOf trail) s₀
         behind-failure f =

@@ -9,22 +9,23 @@ use lib.ListN.{length, take, drop}
 use borrow.Author.Tests.{ltb-true}
 use Rattle.base.specs.Choice.{pick}
 use Rattle.records.specs.Records.{recordOf}
-use Rattle.records.specs.Forms.{Taken, Form, form, spoiled, before, lineOf, follow, formFrom, formOf, answerOf}
+use Rattle.records.specs.Forms.{Form, form, spoiled, before, lineOf, follow, formFrom, formOf, answerOf}
+use Rattle.spec_trails.specs.Trails.{Recorded}
 use Rattle.records.specs.declared.Record.{Record}
 use Rattle.records.specs.declared.Record.the-variants.{Step, Claim, Malformed}
 use Rattle.records.specs.declared.Formed.{Formed}
 use Rattle.records.specs.declared.Formed.the-variants.{Well, Spoiled}
 use Rattle.records.proofs.Scans.{pass}
 
-not-form : {x l v : ℕ} {steps : List Taken} → spoiled x l ≡ form steps v → ⊥
+not-form : {x l v : ℕ} {steps : List Recorded} → spoiled x l ≡ form steps v → ⊥
 not-form e = let z : _≡_ {A = ℕ} 0 1 = cc in omega arith
 
-none-left : {v w : ℕ} {a : Taken} {more : List Taken} → form [] v ≡ form (a ∷ more) w → ⊥
+none-left : {v w : ℕ} {a : Recorded} {more : List Recorded} → form [] v ≡ form (a ∷ more) w → ⊥
 none-left e = let z : _≡_ {A = ℕ} 0 1 = cc in omega arith
 
 -- ---- the form by its answer
 pub record Formal (f : Form) (n v : ℕ) : Type 0 where
-  pub steps : List Taken
+  pub steps : List Recorded
   pub is : f ≡ form steps v
   pub count : length steps ≡ n
 
@@ -33,7 +34,7 @@ formal (form steps w) n v e = let z : w ≡ v = cc in let c : length steps ≡ n
 formal (spoiled x l) n v e = absurd (let z : _≡_ {A = ℕ} 0 1 = cc in omega arith)
 
 -- ---- no more steps than may come
-follow-most : (r : Record) (line left m : ℕ) (rest : ℕ → Form) → ((l : ℕ) (steps : List Taken) (v : ℕ) → rest l ≡ form steps v → length steps ≤ l) → (steps : List Taken) (v : ℕ)
+follow-most : (r : Record) (line left m : ℕ) (rest : ℕ → Form) → ((l : ℕ) (steps : List Recorded) (v : ℕ) → rest l ≡ form steps v → length steps ≤ l) → (steps : List Recorded) (v : ℕ)
     → follow r line left m rest ≡ form steps v → length steps ≤ left
 follow-most Malformed line left m rest h steps v e = absurd (not-form e)
 follow-most (Claim w) line left m rest h steps v e = claimed (eqb m 0) e
@@ -51,13 +52,13 @@ follow-most (Step p k) line (suc left) m rest h steps v e = stepped (rest left) 
         let c : length others ≤ left = h left others w q in
         rw (← z) (omega arith)
 
-pub form-most : (s : List ℕ) (line left passed : ℕ) (steps : List Taken) (v : ℕ) → formFrom line left passed s ≡ form steps v → length steps ≤ left
+pub form-most : (s : List ℕ) (line left passed : ℕ) (steps : List Recorded) (v : ℕ) → formFrom line left passed s ≡ form steps v → length steps ≤ left
 unfolding formFrom
 form-most [] line left passed steps v e = absurd (not-form e)
 form-most (b ∷ s) line left (suc n) steps v e = form-most s line left n steps v e
 form-most (b ∷ s) line left zero steps v e = lined (λ l others w g. form-most s (line + 1) l (lineOf (b ∷ s)) others w g) (ltb (lineOf (b ∷ s)) (length (b ∷ s))) e
   where
-    lined : ((l : ℕ) (others : List Taken) (w : ℕ) → formFrom (line + 1) l (lineOf (b ∷ s)) s ≡ form others w → length others ≤ l) → (c : Bool)
+    lined : ((l : ℕ) (others : List Recorded) (w : ℕ) → formFrom (line + 1) l (lineOf (b ∷ s)) s ≡ form others w → length others ≤ l) → (c : Bool)
         → pick c (follow (recordOf (take (lineOf (b ∷ s)) (b ∷ s))) line left (length (b ∷ s) - (lineOf (b ∷ s) + 1)) (λ l. formFrom (line + 1) l (lineOf (b ∷ s)) s)) (spoiled 10 line) ≡ form steps v
         → length steps ≤ left
     lined below true q =
@@ -66,16 +67,16 @@ form-most (b ∷ s) line left zero steps v e = lined (λ l others w g. form-most
     lined below false q = absurd (not-form q)
 
 -- ---- the first line
-pub record First (line left : ℕ) (x : List ℕ) (a : Taken) (more : List Taken) (v : ℕ) : Type 0 where
+pub record First (line left : ℕ) (x : List ℕ) (a : Recorded) (more : List Recorded) (v : ℕ) : Type 0 where
   pub ended : lineOf x < length x
   pub here : recordOf (take (lineOf x) x) ≡ Step (a .process) (a .choice)
   pub others : formFrom (line + 1) (left - 1) 0 (drop (lineOf x + 1) x) ≡ form more v
 
-record Followed (r : Record) (left : ℕ) (rest : ℕ → Form) (a : Taken) (more : List Taken) (v : ℕ) : Type 0 where
+record Followed (r : Record) (left : ℕ) (rest : ℕ → Form) (a : Recorded) (more : List Recorded) (v : ℕ) : Type 0 where
   is : r ≡ Step (a .process) (a .choice)
   others : rest (left - 1) ≡ form more v
 
-followed : (r : Record) (line left m : ℕ) (rest : ℕ → Form) (a : Taken) (more : List Taken) (v : ℕ) → follow r line left m rest ≡ form (a ∷ more) v → Followed r left rest a more v
+followed : (r : Record) (line left m : ℕ) (rest : ℕ → Form) (a : Recorded) (more : List Recorded) (v : ℕ) → follow r line left m rest ≡ form (a ∷ more) v → Followed r left rest a more v
 followed Malformed line left m rest a more v e = absurd (not-form e)
 followed (Claim w) line left m rest a more v e = absurd (claimed (eqb m 0) e)
   where
@@ -88,11 +89,11 @@ followed (Step p k) line (suc left) m rest a more v e = stepped (rest left) refl
     stepped : (f : Form) → rest left ≡ f → before (record { process = p; choice = k }) f ≡ form (a ∷ more) v → Followed (Step p k) (suc left) rest a more v
     stepped (spoiled x l) q g = absurd (not-form g)
     stepped (form others w) q g =
-        let z : _≡_ {A = Taken} (record { process = p; choice = k }) a = cc in
+        let z : _≡_ {A = Recorded} (record { process = p; choice = k }) a = cc in
         let y : form others w ≡ form more v = cc in
-        record { is = ap (λ (c : Taken). Step (c .process) (c .choice)) z; others = ap rest (omega arith) ∙ (q ∙ y) }
+        record { is = ap (λ (c : Recorded). Step (c .process) (c .choice)) z; others = ap rest (omega arith) ∙ (q ∙ y) }
 
-pub first-line : (line left : ℕ) (x : List ℕ) (a : Taken) (more : List Taken) (v : ℕ) → formFrom line left 0 x ≡ form (a ∷ more) v → First line left x a more v
+pub first-line : (line left : ℕ) (x : List ℕ) (a : Recorded) (more : List Recorded) (v : ℕ) → formFrom line left 0 x ≡ form (a ∷ more) v → First line left x a more v
 unfolding formFrom
 first-line line left [] a more v e = absurd (not-form e)
 first-line line left (b ∷ s) a more v e = lined (ltb (lineOf (b ∷ s)) (length (b ∷ s))) refl e

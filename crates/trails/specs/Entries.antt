@@ -9,7 +9,8 @@ use Rattle.base.specs.Choice.{pick}
 use Rattle.genuine.specs.Genuine.{written}
 use Rattle.starting.specs.Starting.{initialOf}
 use Rattle.steps.specs.Entries.{foreignOf}
-use Rattle.records.specs.Forms.{Form, form, spoiled, trail-most, formOf}
+use Rattle.records.specs.Forms.{Form, form, spoiled, formOf}
+use Rattle.spec_trails.specs.Trails.{trail-most}
 use Rattle.trails.specs.Replay.{Replay, replayForm}
 use Rattle.trails.specs.declared.Replayed.the-variants.{Refused}
 

@@ -5,7 +5,7 @@ use mathlib.Core.List.{List, [], _∷_}
 use lib.IntN.{ℤ}
 use lib.Dec.{eqb}
 use Rattle.base.specs.Choice.{pick}
-use Rattle.records.specs.Forms as forms
+use Rattle.spec_trails.specs.Trails as forms
 use Rattle.records.specs.Forms.{Form, form, spoiled}
 use Rattle.moving.specs.Moving.{stepAt, verdictOf}
 use Rattle.moving.specs.declared.Verdict.{Verdict}
@@ -13,8 +13,8 @@ use Rattle.moving.specs.declared.Verdict.the-variants.{Finished, Blocked, Open}
 use Rattle.offering.specs.declared.Walk.{Walk}
 use Rattle.offering.specs.declared.Walk.the-variants.{Found, Left}
 use Rattle.statements.specs.Statements.{Result}
-use Rattle.statements.specs.declared.Taken.{Taken}
-use Rattle.statements.specs.declared.Taken.the-variants.{Done, Refuted, Faulted, Idle}
+use Rattle.base_outcome.specs.declared.Taken.{Taken}
+use Rattle.base_outcome.specs.declared.Taken.the-variants.{Done, Refuted, Faulted, Idle}
 use Rattle.effects.specs.Effects.{takenOf}
 use Rattle.trails.specs.declared.Replayed.{Replayed}
 use Rattle.trails.specs.declared.Replayed.the-variants.{Accepted, Refused}
@@ -58,7 +58,7 @@ module _ (t : List ℕ) where
   nextBy failure s line rest = pick (eqb failure 3) (Refused 11 line, s) (rest failure s)
 
   -- the steps from a line on, in state s, behind a step that failed so, or 0
-  unfoldable pub replayFrom : ℕ → List forms.Taken → ℕ → ℕ → List ℤ → Replay
+  unfoldable pub replayFrom : ℕ → List forms.Recorded → ℕ → ℕ → List ℤ → Replay
   replayFrom claim [] line failed s = (judged claim (reachedOf failed s) line, s)
   replayFrom claim (a ∷ more) line failed s =
       pick (eqb failed 0)

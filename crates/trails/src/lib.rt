@@ -4,11 +4,11 @@ ghost use Rattle.records.specs.Forms.{formOf, answerOf};
 ghost use Rattle.records.specs.declared.Formed.the-variants.{Well};
 ghost use Rattle.trails.specs.Replay as replay;
 ghost use Rattle.trails.specs.Entries as entries;
+use base_outcome::Taken;
 use moving::Verdict;
 use offering::Walk;
 use records::Formed;
 use records::Record;
-use statements::Taken;
 
 // The most bytes of a trail.
 const TRAIL_MOST: usize = 32768;

@@ -1,7 +1,7 @@
 pub mod Wrap
 pub mod Laws
 mod Tests
-mod Machine
+pub mod Machine
 mod Wrapping
 mod Dividing
 mod Shifting

@@ -71,7 +71,7 @@ pub minus : (u m : ℕ) → u < suc m → pos u -ℤ pos (suc m) ≡ negsuc (suc
 minus u m h = rw (lt-ltb u (suc m) h)
 
 -- ---- tests of equality
-eqb-of : (m n m′ n′ : ℕ) → (m ≡ n → m′ ≡ n′) → (m′ ≡ n′ → m ≡ n) → eqb m n ≡ eqb m′ n′
+pub eqb-of : (m n m′ n′ : ℕ) → (m ≡ n → m′ ≡ n′) → (m′ ≡ n′ → m ≡ n) → eqb m n ≡ eqb m′ n′
 eqb-of m n m′ n′ f g = go (ℕ-discrete m n)
   where
     go : Dec (m ≡ n) → eqb m n ≡ eqb m′ n′

@@ -5,7 +5,8 @@ use Prim.Native.Nat.{ℕ}
 use Rattle.tokens.specs.Kinds.{bytes}
 use Rattle.base.specs.Lists.{same}
 use Rattle.spellings.specs.Find.{find}
-use Rattle.spacing.specs.Writing.{digitsBy, writeBehind}
+use Rattle.spacing.specs.Writing.{writeBehind}
+use Rattle.spec_text.specs.Formats.{digitsBy}
 use Rattle.syntax.specs.Tree.{Model, num, get, plain, unary, binary, express, skip, bare, end, then, unset, variable, declare, body, init}
 use mathlib.Core.Option.{none}
 use Rattle.pens.specs.Pack.{four, packed, digit}

@@ -1,6 +1,6 @@
 use borrow.Author.Tests.{eq-eqb, ne-eqb}
 use native.Mathlib.Omega.{arith}
-use Rattle.printing.specs.Printing.{counted}
+use Rattle.spec_text.specs.Formats.{counted}
 use borrow.Author.Needs.{needs}
 use Rattle.printing.proofs.count_behind.Statement.{statement}
 use Rattle.printing.proofs.count_behind.Tie as tie

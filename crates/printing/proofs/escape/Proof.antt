@@ -1,5 +1,5 @@
 use borrow.Author.Tests.{ne-eqb}
-use Rattle.printing.specs.Printing.{escaped}
+use Rattle.spec_text.specs.Formats.{escaped}
 use Rattle.printing.proofs.escape.Statement.{statement}
 use Rattle.printing.proofs.escape.Tie as tie
 

@@ -1,5 +1,5 @@
 use borrow.Author.Tests.{eq-eqb, ne-eqb}
-use Rattle.printing.specs.Printing.{opened}
+use Rattle.spec_text.specs.Formats.{opened}
 use Rattle.printing.proofs.open_behind.Statement.{statement}
 use Rattle.printing.proofs.open_behind.Tie as tie
 

@@ -1,7 +1,7 @@
 use Rattle.sheets.proofs.Payload as formats
 use lib.Dec.{eqb}
 use mathlib.Core.Bool.{false}
-use Rattle.sheets.specs.Payload as payload
+use Rattle.spec_text.specs.Formats as asked
 use denote.Ref.{now}
 use lib.ListN.{length, drop}
 use Prim.Native.Nat.{_-_, _≤_}
@@ -12,7 +12,7 @@ use Rattle.sheets.proofs.format_arg.Statement.{statement}
 use Rattle.sheets.proofs.format_arg.Tie as tie
 
 abbrev Inv-loop : tie.InvT-loop
-Inv-loop s opened₀ n₀ bad₀ i₀ opened n bad i = (i ≤ length s) × (n ≤ i) × (bad ≤ 1) × (payload.formatFrom opened n bad (drop i s) ≡ payload.formatFrom false 0 0 s)
+Inv-loop s opened₀ n₀ bad₀ i₀ opened n bad i = (i ≤ length s) × (n ≤ i) × (bad ≤ 1) × (asked.formatFrom opened n bad (drop i s) ≡ asked.formatFrom false 0 0 s)
 
 abbrev μ-loop : tie.MeasureT-loop
 μ-loop s opened₀ n₀ bad₀ i₀ opened n bad i = length s - i

@@ -1,3 +1,0 @@
-pub mod Stands
-pub mod Labels
-pub mod Offers

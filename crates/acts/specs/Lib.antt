@@ -1,8 +1,0 @@
-pub mod Stage
-pub mod Arguments
-pub mod Ready
-pub mod Effect
-pub mod Offers
-pub mod Program
-pub mod Tables
-pub mod Examples

@@ -1,0 +1,200 @@
+-- WHAT THE CODE REPLAYS is what any machine replays, over the machine of the tables; a step that fails, or does nothing, changes no number.
+use Prim.Native.Nat.{ℕ, _+_}
+use mathlib.Core.Path.{_≡_, refl, sym as inv, ap, ap₂, _∙_}
+use mathlib.Core.Bool.{Bool, true, false}
+use mathlib.Core.Option.{Option, none, some}
+use mathlib.Core.List.{List, [], _∷_}
+use lib.IntN.{ℤ, pos, negsuc}
+use lib.Dec.{eqb}
+use Rattle.base.specs.Choice.{pick}
+use Rattle.value.specs.declared.Answer.{Answer}
+use Rattle.value.specs.declared.Answer.the-variants.{Value, Fails}
+use Rattle.evaluating.specs.declared.Located.{Located}
+use Rattle.evaluating.specs.declared.Located.the-variants.{At, Astray}
+use Rattle.evaluating.specs.declared.Reached.{Reached}
+use Rattle.evaluating.specs.declared.Reached.the-variants.{Record, Unmade}
+use Rattle.evaluating.specs.Expressions.{evalOf, locateOf}
+use Rattle.executing.specs.Channels.{matchesOf}
+use Rattle.executing.specs.Executing.{markOf, messageOf, fitsOf}
+use Rattle.tables.specs.Access.{codeOf, linkOf}
+use Rattle.value.specs.Operators.{isTrue}
+use Rattle.messages.specs.declared.Gathered.{Gathered}
+use Rattle.messages.specs.declared.Gathered.the-variants.{Upto, Failed}
+use Rattle.messages.specs.Messages.{onValue, onPlace, gatherEnd, aimEnd}
+use Rattle.statements.specs.Statements.{Result, fault, onEnd, onChannel, expressed, asserted, stepped, assigned, sent, receivedFrom, received, printed}
+use Rattle.base_outcome.specs.declared.Taken.{Taken}
+use Rattle.base_outcome.specs.declared.Taken.the-variants.{Done, Refuted, Faulted, Idle}
+use Rattle.effects.specs.Effects.{ran, setRunAt, setRan, targeted, takenAs, takenOf}
+use Rattle.offering.specs.declared.Walk.{Walk}
+use Rattle.offering.specs.declared.Walk.the-variants.{Found, Left}
+use Rattle.moving.specs.Moving.{stepAt, verdictOf}
+use Rattle.trails.specs.Replay as trails
+use Rattle.trails.specs.Replay.{Replay, numberOf, failureOf, recordedBy, recordedOf, reachedOf, nextBy}
+use Rattle.trails.specs.declared.Replayed as answers
+use Rattle.trails.specs.declared.Replayed.the-variants as replayed
+use Rattle.spec_machine.specs.Machine.{Machine, Step, Verdict, finished, blocked, «open», offered, verdict, asked}
+use Rattle.spec_trails.specs.Replays.{Claim, assertion, fault as faulting, standing, claimed, Replayed, accepted, refused, judged, followed, recorded, replayFrom}
+use Rattle.spec_trails.specs.Trails.{Recorded}
+use Rattle.agree_tables.specs.Tables.{machineIn}
+use Rattle.agree_machine.proofs.Moves.{verdictAs, verdict-is}
+use Rattle.agree_machine.proofs.Asked.{Met, step-met}
+
+-- ---- only a step that is done changes numbers
+abbrev pub Still : {S : Type 0} → S → Taken → S → Type 0
+Still s Done x = Unit {0}
+Still s Refuted x = x ≡ s
+Still s (Faulted f) x = x ≡ s
+Still s Idle x = x ≡ s
+
+abbrev Ok : List ℤ → Result → Type 0
+Ok s r = Still s (r .0) (r .1)
+
+module _ (s : List ℤ) where
+  on-value : (v : Answer) (f : ℤ → Result) → ((z : ℤ) → Ok s (f z)) → Ok s (onValue v f (fault s))
+  on-value (Value v) f h = h v
+  on-value (Fails e) f h = refl
+
+  on-place : (v : Located) (f : ℕ → Result) → ((z : ℕ) → Ok s (f z)) → Ok s (onPlace v f (fault s))
+  on-place (At i) f h = h i
+  on-place (Astray e) f h = refl
+
+  on-end : (v : Gathered) (f : ℕ → Result) → ((z : ℕ) → Ok s (f z)) → Ok s (onEnd v f (fault s))
+  on-end (Upto i) f h = h i
+  on-end (Failed e) f h = refl
+
+  on-channel : (v : Reached) (f : ℕ → Result) → ((z : ℕ) → Ok s (f z)) → Ok s (onChannel v f (fault s))
+  on-channel (Record i) f h = h i
+  on-channel (Unmade e) f h = refl
+
+  on-pick : (b : Bool) (x y : Result) → Ok s x → Ok s y → Ok s (pick b x y)
+  on-pick true x y h g = h
+  on-pick false x y h g = g
+
+  module _ (t : List ℕ) (p : ℕ) where
+    ok-printed : (m : ℕ) → Ok s (printed t p m s)
+    unfolding printed
+    ok-printed m = on-end (gatherEnd t s p 32 (m + 1)) _ (λ e. tt)
+
+    ok-expressed : (q m : ℕ) → Ok s (expressed t p q m s)
+    unfolding expressed
+    ok-expressed q m = on-value (evalOf t s p q m) _ (λ v. tt)
+
+    ok-asserted : (q m : ℕ) → Ok s (asserted t p q m s)
+    unfolding asserted
+    ok-asserted q m = on-value (evalOf t s p q m) _ (λ v. on-pick (isTrue v) _ _ tt refl)
+
+    ok-stepped : (d : ℤ) (q m : ℕ) → Ok s (stepped t p d q m s)
+    unfolding stepped
+    ok-stepped d q m = on-place (locateOf t s p q m) _ (λ i. tt)
+
+    ok-assigned : (q m e : ℕ) → Ok s (assigned t p q m e s)
+    unfolding assigned
+    ok-assigned q m e = on-place (locateOf t s p q m) _ (λ i. on-value (evalOf t s p (m + 1) e) _ (λ v. tt))
+
+    ok-sent : (q m : ℕ) → Ok s (sent t p q m s)
+    unfolding sent
+    ok-sent q m = on-channel (messageOf t s p q m) _ (λ c. on-end (gatherEnd t s p 32 (m + 1)) _ (λ e. tt))
+
+    ok-received : (q m : ℕ) → Ok s (received t p q m s)
+    unfolding received receivedFrom
+    ok-received q m = on-channel (messageOf t s p q m) _ (λ c. on-value (matchesOf t s p c (m + 1)) _ (λ v. on-end (aimEnd t s p 4 (m + 1)) _ (λ e. tt)))
+
+    ok-ran : (m : ℕ) → Ok s (ran t p m s)
+    unfolding ran
+    ok-ran m = on-pick (fitsOf t s (linkOf t m)) _ _ (on-end (gatherEnd t s p 32 (m + 1)) _ (λ e. tt)) refl
+
+    ok-set : (q m e : ℕ) → Ok s (setRan t p q m e s)
+    unfolding setRan setRunAt
+    ok-set q m e = on-place (locateOf t s p q m) _ (λ i. on-pick (fitsOf t s (linkOf t e)) _ _ (on-end (gatherEnd t s p 32 (e + 1)) _ (λ z. tt)) tt)
+
+    ok-targeted : (q m : ℕ) → Ok s (targeted t p q m s)
+    unfolding targeted
+    ok-targeted q m = on-pick (eqb (codeOf t (linkOf t m)) 203) _ _ (ok-set q m (linkOf t m)) (ok-assigned q m (linkOf t m))
+
+    ok-as : (c q m : ℕ) → Ok s (takenAs t p c q m s)
+    unfolding takenAs
+    ok-as c q m =
+        on-pick (eqb c 72) _ _ (ok-printed m)
+        (on-pick (eqb c 189) _ _ (ok-expressed q m)
+        (on-pick (eqb c 190) _ _ (ok-targeted q m)
+        (on-pick (eqb c 192) _ _ (ok-stepped (pos 1) q m)
+        (on-pick (eqb c 193) _ _ (ok-stepped (negsuc 0) q m)
+        (on-pick (eqb c 194) _ _ (ok-sent q m)
+        (on-pick (eqb c 195) _ _ (ok-received q m)
+        (on-pick (eqb c 196) _ _ (ok-asserted q m)
+        (on-pick (eqb c 197) _ _ tt
+        (on-pick (eqb c 198) _ _ tt
+        (on-pick (eqb c 199) _ _ tt
+        (on-pick (eqb c 200) _ _ tt
+        (on-pick (eqb c 201) _ _ tt
+        (on-pick (eqb c 202) _ _ (ok-ran m) refl)))))))))))))
+
+    pub taken-still : (q : ℕ) → Still s (takenOf t p q s .0) (takenOf t p q s .1)
+    taken-still q = ok-as (codeOf t (markOf t q)) q (markOf t q)
+
+-- ---- claims by their numbers
+abbrev failedBy : Option Claim → ℕ
+failedBy none = 0
+failedBy (some c) = claimed c
+
+some-claim : (c : Claim) → eqb (claimed c) 0 ≡ false
+some-claim assertion = refl
+some-claim faulting = refl
+some-claim (standing finished) = refl
+some-claim (standing blocked) = refl
+some-claim (standing «open») = refl
+
+verdict-number : (v : Verdict) → numberOf (verdictAs v) ≡ claimed (standing v)
+verdict-number finished = refl
+verdict-number blocked = refl
+verdict-number «open» = refl
+
+-- answers and records of a machine's replay as those of the code
+abbrev pub answerAs : ℕ → Replayed → answers.Replayed
+answerAs claim accepted = replayed.Accepted claim
+answerAs claim (refused x line) = replayed.Refused x line
+
+module _ (w : List ℕ) (claim : Claim) where
+  abbrev M : Machine (List ℤ)
+  M = machineIn w
+
+  abbrev c : ℕ
+  c = claimed claim
+
+  abbrev told : Replayed × List ℤ → Replay
+  told r = (answerAs c (r .0), r .1)
+
+  judged-is : (r : Claim) (line : ℕ) → trails.judged c (claimed r) line ≡ answerAs c (judged M claim r line)
+  unfolding trails.judged
+  judged-is r line = go (eqb (claimed claim) (claimed r))
+    where
+      go : (b : Bool) → pick b (replayed.Accepted c) (replayed.Refused 12 line) ≡ answerAs c (pick b accepted (refused 12 line))
+      go true = refl
+      go false = refl
+
+  follows : (line : ℕ) (s : List ℤ) (F : ℕ → List ℤ → Replay) (G : Option Claim → List ℤ → Replayed × List ℤ) → ((e : Option Claim) (x : List ℤ) → F (failedBy e) x ≡ told (G e x))
+      → (k : Taken) (x : List ℤ) → Still s k x → nextBy w (failureOf k) x line F ≡ told (followed M line s k x G)
+  follows line s F G h Done x o = h none x
+  follows line s F G h Refuted x o = h (some assertion) x
+  follows line s F G h (Faulted f) x o = h (some faulting) x
+  follows line s F G h Idle x o = ap (λ (y : List ℤ). (replayed.Refused 11 line, y)) o
+
+  records : (line : ℕ) (s : List ℤ) (F : ℕ → List ℤ → Replay) (G : Option Claim → List ℤ → Replayed × List ℤ) → ((e : Option Claim) (x : List ℤ) → F (failedBy e) x ≡ told (G e x))
+      → (p : ℕ) (st : Walk) (o : Option Step) → Met M p st o → nextBy w (failureOf (recordedBy w st p s .0)) (recordedBy w st p s .1) line F ≡ told (recorded M line s o G)
+  records line s F G h p (Found q) none z = absurd z
+  records line s F G h p (Found q) (some x) z =
+      ap₂ (λ i j. nextBy w (failureOf (takenOf w i j s .0)) (takenOf w i j s .1) line F) (inv (z .0)) (inv (z .1))
+      ∙ follows line s F G h (takenOf w (x .process) (x .place) s .0) (takenOf w (x .process) (x .place) s .1) (taken-still s w (x .process) (x .place))
+  records line s F G h p (Left n) (some x) z = absurd z
+  records line s F G h p (Left n) none z = refl
+
+  pub replay-is : (l : List Recorded) (line : ℕ) (e : Option Claim) (s : List ℤ) → trails.replayFrom w (claimed claim) l line (failedBy e) s
+      ≡ (answerAs (claimed claim) (replayFrom (machineIn w) claim l line e s .0), replayFrom (machineIn w) claim l line e s .1)
+  unfolding trails.replayFrom replayFrom reachedOf recordedOf
+  replay-is [] line none s = ap (λ x. (x, s)) (ap (λ i. trails.judged c i line) (ap numberOf (verdict-is w s) ∙ verdict-number (verdict M s)) ∙ judged-is (standing (verdict M s)) line)
+  replay-is [] line (some f) s = ap (λ x. (x, s)) (ap (λ b. trails.judged c (pick b (numberOf (verdictOf w s)) (claimed f)) line) (some-claim f) ∙ judged-is f line)
+  replay-is (a ∷ l) line none s =
+      records line s (λ x y. trails.replayFrom w (claimed claim) l (line + 1) x y) (λ f x. replayFrom M claim l (line + 1) f x) (λ e x. replay-is l (line + 1) e x) (a .process)
+      (stepAt w s (a .process) (a .choice)) (asked M (a .process) (a .choice) (offered M s)) (step-met w s (a .process) (a .choice))
+  replay-is (a ∷ l) line (some f) s =
+      ap (λ b. pick b (nextBy w (failureOf (recordedOf w (a .process) (a .choice) s .0)) (recordedOf w (a .process) (a .choice) s .1) line (λ x y. trails.replayFrom w (claimed claim) l (line + 1) x y)) (replayed.Refused 11 line, s)) (some-claim f)

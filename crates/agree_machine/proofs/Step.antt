@@ -1,0 +1,177 @@
+-- TAKING A STEP: the entry `step` answers what the machine of the tree says, leaves the numbers of the state after it, and the text that it prints, whole; a step that fails changes nothing and prints nothing.
+use Prim.Native.Nat.{ℕ, _≤_}
+use native.Mathlib.Omega.{arith}
+use mathlib.Core.Path.{_≡_, refl, sym as inv, ap, ap₂, _∙_, subst}
+use mathlib.Core.Bool.{true}
+use mathlib.Core.Option.{none, some}
+use mathlib.Core.List.{List, [], _∷_, _++_}
+use lib.ListN.{length, drop}
+use lib.IntN.{ℤ}
+use lib.Dec.{eqb}
+use borrow.Author.Tests.{le-ltb}
+use Rattle.base.specs.Choice.{pick}
+use Rattle.printing.specs.Printing.{Pen, pen, puts}
+use Rattle.base_outcome.specs.declared.Taken.{Taken}
+use Rattle.base_outcome.specs.declared.Taken.the-variants.{Done, Refuted, Faulted, Idle}
+use Rattle.syntax.specs.Tree.{action, Tree, express, assign, increment, decrement, send, receive, assert, print, skip, goto, break, timeout, else, run, set-run, select, loop, Model}
+use Rattle.reader.specs.Entries.{room}
+use Rattle.judging.specs.Judging.{tablesText}
+use Rattle.accepting.specs.Meaning.{Accepts}
+use Rattle.genuine.specs.Genuine.{written, genuine}
+use Rattle.offering.specs.declared.Walk.{Walk}
+use Rattle.offering.specs.declared.Walk.the-variants.{Found, Left}
+use Rattle.moving.specs.Moving.{stepAt}
+use Rattle.effects.specs.Effects.{takenOf}
+use Rattle.steps.specs.Entries.{Outcome, tookBy, refusedBy, tookAt, outcomeBy, printRoom, stepRefusal, outcomeOf}
+use Rattle.spec_machine.specs.Stage.{Stage, Ways}
+use Rattle.spec_machine.specs.Arguments.{Values, all, stopped, values}
+use Rattle.spec_machine.specs.Effect.{printedBy, effect, textBy, prints}
+use Rattle.spec_machine.specs.State.{State}
+use Rattle.state_encode.specs.Encode.{encode}
+use Rattle.spec_machine.specs.Places.{Belongs}
+use Rattle.spec_machine.specs.Fits.{Fits}
+use Rattle.spec_machine.specs.Machine.{Machine, Step, late, offered, asked}
+use Rattle.spec_machine.specs.Steps as steps
+use Rattle.spec_machine.specs.Steps.{waysOf, takeBy, printBy, takeOf, printOf, machineOf}
+use Rattle.agree_tables.specs.Tables.{machineIn}
+use Rattle.agree_states.proofs.Texts.{text-single}
+use Rattle.agree_machine.proofs.Survey.{text-modest, text-surveyed, text-same}
+use Rattle.agree_machine.proofs.Asked.{Met, step-met, asked-listed}
+use Rattle.agree_machine.proofs.Replays.{Still, taken-still}
+use Rattle.agree_machine.proofs.Prints.{text-printed, text-short}
+use Rattle.agree_machine.proofs.Fitted.{text-fits}
+use Rattle.agree_machine.proofs.Entries.{none-refused, holding, same-offered}
+
+-- ---- "A failed assertion or fault .. prints nothing": only a step that is done does
+abbrev pub Silent : Taken → List ℕ → Type 0
+Silent Done l = Unit {0}
+Silent Refuted l = l ≡ []
+Silent (Faulted f) l = l ≡ []
+Silent Idle l = l ≡ []
+
+hush : (k : Taken) → Silent k []
+hush Done = tt
+hush Refuted = refl
+hush (Faulted f) = refl
+hush Idle = refl
+
+module _ {S : Type 0} (c : Stage S) (h : Ways) (s : S) where
+  silent : (x : Tree action) → Silent (effect c h s x .0) (prints c x)
+  unfolding effect
+  silent (express e) = hush (effect c h s (express e) .0)
+  silent (assign r e) = hush (effect c h s (assign r e) .0)
+  silent (increment r) = hush (effect c h s (increment r) .0)
+  silent (decrement r) = hush (effect c h s (decrement r) .0)
+  silent (send r es) = hush (effect c h s (send r es) .0)
+  silent (receive r xs) = hush (effect c h s (receive r xs) .0)
+  silent (assert e) = hush (effect c h s (assert e) .0)
+  silent (print w es) = go (values (c .scene) es)
+    where
+      go : (vs : Values) → Silent (printedBy c (h .next) s vs .0) (textBy w vs)
+      go (all vs) = tt
+      go (stopped f) = refl
+  silent skip = tt
+  silent (goto w) = tt
+  silent break = tt
+  silent timeout = tt
+  silent else = tt
+  silent (run w es) = hush (effect c h s (run w es) .0)
+  silent (set-run r w es) = hush (effect c h s (set-run r w es) .0)
+  silent (select os) = refl
+  silent (loop os) = refl
+
+pub take-silent : (m : Model) (σ : State) (p q : ℕ) → Silent (takeOf m σ p q .0) (printOf m σ p q)
+unfolding takeOf printOf
+take-silent m σ p q = go (steps.standing m σ p q)
+  where
+    go : (f : steps.Found) → Silent (takeBy m σ p f .0) (printBy m σ p f)
+    go steps.nothing = refl
+    go (steps.found a n o) = silent (steps.stageOf m σ p) (waysOf m σ p n o) σ a
+
+-- the outcome of what came of a step, the numbers after it and the bytes as far as written
+abbrev leaves : Taken → List ℤ → Pen → Outcome
+leaves k s n = record { answer = tookBy k (n .at); state = s; printed = n .bytes }
+
+-- which step is asked for does not depend on the machine
+asked-any : {S T : Type 0} (M : Machine S) (N : Machine T) (p k : ℕ) (l : List Step) → asked M p k l ≡ asked N p k l
+unfolding asked
+asked-any M N p k [] = refl
+asked-any M N p k (x ∷ l) = ap (λ o. pick (eqb (x .process) p) (pick (eqb (x .number) k) (some x) o) o) (asked-any M N p k l)
+
+-- ---- the entry
+module _ (ts : List ℕ) (big : room ≤ length ts) (real : genuine ts ≡ true) (t : List ℕ) (a : Accepts t) (own : written ts ≡ tablesText t) where
+  abbrev m : Model
+  m = a .tree
+
+  abbrev T : List ℕ
+  T = tablesText t
+
+  abbrev MP : Machine State
+  MP = machineOf (a .tree)
+
+  module _ (σ : State) (rest : List ℤ) (f : Fits (Belongs (a .tree)) (a .tree) σ) where
+    abbrev E : List ℤ
+    E = encode m σ ++ rest
+
+    -- a step that fails, or does nothing, leaves the state
+    pub step-still : (p k : ℕ) (x : Step) → asked (machineOf (a .tree)) p k (offered (machineOf (a .tree)) σ) ≡ some x
+        → Still σ (machineOf (a .tree) .take σ (x .process) (x .place) .0) (machineOf (a .tree) .take σ (x .process) (x .place) .1)
+    step-still p k x e =
+        let i = x .process in
+        let j = x .place in
+        let l = asked-listed MP σ p k x e in
+        let R = text-same t a rest .take (holding ts big real t a own σ rest f) (late MP σ) i j (l .0) (l .1) in
+        still-by (takeOf m σ i j .0) (takeOf m σ i j .1) (takenOf T i j E .1) (R .1 .fits) (R .1 .is) (subst (λ y. Still E y (takenOf T i j E .1)) (inv (R .0)) (taken-still E T i j))
+      where
+        still-by : (k : Taken) (τ : State) (s : List ℤ) → Fits (Belongs m) m τ → s ≡ encode m τ ++ rest → Still E k s → Still σ k τ
+        still-by Done τ s g e q = tt
+        still-by Refuted τ s g e q = text-single t a (text-modest t a) (text-surveyed t a) s τ σ rest rest g f e q
+        still-by (Faulted h) τ s g e q = text-single t a (text-modest t a) (text-surveyed t a) s τ σ rest rest g f e q
+        still-by Idle τ s g e q = text-single t a (text-modest t a) (text-surveyed t a) s τ σ rest rest g f e q
+
+    module _ (p k : ℕ) (out : List ℕ) (long : 128 ≤ length out) where
+      none-refuses : stepRefusal ts E out ≡ 0
+      unfolding stepRefusal
+      none-refuses = rw (le-ltb (length out) printRoom long, none-refused ts big real t a own σ rest f)
+
+      met : Met (machineIn T) p (stepAt T E p k) (asked MP p k (offered MP σ))
+      met =
+          subst (Met (machineIn T) p (stepAt T E p k)) (ap (asked (machineIn T) p k) (same-offered ts big real t a own σ rest f) ∙ asked-any (machineIn T) MP p k (offered MP σ))
+          (step-met T E p k)
+
+      let-through : outcomeOf ts E p k out ≡ outcomeBy (stepAt T E p k) T E p out
+      unfolding outcomeOf
+      let-through =
+          ap (λ (i : ℕ). pick (eqb i 0) (outcomeBy (stepAt (written ts) E p k) (written ts) E p out) (refusedBy i E out)) none-refuses
+          ∙ ap (λ w. outcomeBy (stepAt w E p k) w E p out) own
+
+      pub step-none : asked (machineOf (a .tree)) p k (offered (machineOf (a .tree)) σ) ≡ none → outcomeOf ts (encode (a .tree) σ ++ rest) p k out ≡ refusedBy 11 (encode (a .tree) σ ++ rest) out
+      step-none e = let-through ∙ go (stepAt T E p k) (subst (Met (machineIn T) p (stepAt T E p k)) e met)
+        where
+          go : (w : Walk) → Met (machineIn T) p w none → outcomeBy w T E p out ≡ refusedBy 11 E out
+          go (Left n) z = refl
+          go (Found q) z = absurd z
+
+      -- the answer, the state and the text of step x
+      abbrev pub taken : Step → Outcome
+      taken x =
+          record {
+            answer = tookBy (takeOf (a .tree) σ (x .process) (x .place) .0) (length (printOf (a .tree) σ (x .process) (x .place)));
+            state = encode (a .tree) (takeOf (a .tree) σ (x .process) (x .place) .1) ++ rest;
+            printed = printOf (a .tree) σ (x .process) (x .place) ++ drop (length (printOf (a .tree) σ (x .process) (x .place))) out;
+          }
+
+      pub step-some : (x : Step) → asked (machineOf (a .tree)) p k (offered (machineOf (a .tree)) σ) ≡ some x → outcomeOf ts (encode (a .tree) σ ++ rest) p k out ≡ taken x
+      step-some x e = let-through ∙ go (stepAt T E p k) (subst (Met (machineIn T) p (stepAt T E p k)) e met)
+        where
+          go : (w : Walk) → Met (machineIn T) p w (some x) → outcomeBy w T E p out ≡ taken x
+          go (Left n) z = absurd z
+          go (Found q) z =
+              let i = x .process in
+              let j = x .place in
+              let l = asked-listed MP σ p k x e in
+              let R = text-same t a rest .take (holding ts big real t a own σ rest f) (late MP σ) i j (l .0) (l .1) in
+              let w = text-short t a rest σ f i (l .0) (late MP σ) j (l .1) in
+              ap₂ (λ (b c : ℕ). tookAt T E b c out) (inv (z .0)) (inv (z .1))
+              ∙ ap₂ (λ (y : Taken) (text : List ℕ). leaves y (takenOf T i j E .1) (puts text (pen out 0))) (inv (R .0)) (inv (text-printed t a rest σ f i (l .0) (late MP σ) j (l .1)))
+              ∙ ap₂ (λ (s : List ℤ) (n : Pen). leaves (takeOf m σ i j .0) s n) (R .1 .is) (text-fits (printOf m σ i j) out (omega arith))

@@ -1,0 +1,1 @@
+// The machine of tables is that of the tree: theorems alone (proofs/).

@@ -1,0 +1,12 @@
+pub mod Channels
+pub mod Declared
+pub mod Ends
+pub mod Fields
+pub mod Links
+pub mod Main
+pub mod Makes
+pub mod Meanings
+pub mod Scopes
+pub mod Texts
+pub mod Units
+pub mod Values

@@ -1,0 +1,31 @@
+-- FOR EVERY ACCEPTED TEXT: the machine of its tables is that of its model (crate `agree_tables`), where processes begin in numbers as they do in plain states.
+use Prim.Native.Nat.{ℕ}
+use mathlib.Core.Path.{_≡_}
+use mathlib.Core.Bool.{true}
+use mathlib.Core.List.{List, map}
+use lib.IntN.{ℤ}
+use Rattle.spacing.specs.Writing.{tokensIn}
+use Rattle.machine.specs.Machine.{place-of}
+use Rattle.judging.specs.Judging.{tablesText}
+use Rattle.accepting.specs.Meaning.{Accepts}
+use Rattle.lawful.specs.Units.{modelLawful}
+use Rattle.expressions.specs.Names.{codesAt, saidAt}
+use Rattle.saying.proofs.Says.{text-says}
+use Rattle.legal.proofs.Main.{rules}
+use Rattle.agree_transfer.specs.Alike.{Alike}
+use Rattle.spec_machine.specs.Steps.{machineOf}
+use Rattle.agree_tables.specs.Tables.{machineIn}
+use Rattle.agree_tables.proofs.Main.{Holding, machines-alike}
+use Rattle.agree_names.proofs.Main.{Begins, text-tabled, text-small, text-begun, text-few}
+
+module _ (t : List ℕ) (a : Accepts t) where
+  -- its tree is lawful
+  pub text-lawful : modelLawful (a .tree) ≡ true
+  text-lawful =
+      rules (a .tree) (tokensIn t (a .parts)) (a .gram) (codesAt t a) (saidAt t a) (map place-of (a .numbers))
+      (text-says t record { parts = a .parts; reads = a .reads; tree = a .tree; gram = a .gram; numbers = a .numbers; written = a .written; coded = a .coded }) .0 (a .faultless)
+
+  module _ (B : Begins t a text-lawful) (rest : List ℤ) where
+    pub text-alike : Alike (Holding t a text-lawful (text-tabled t a text-lawful B) (text-small t a text-lawful) (λ k b x j n o w. text-begun t a text-lawful k b x j n o w) (λ k b x j n o w. text-few t a text-lawful k b x j n o w) rest)
+        (machineOf (a .tree)) (machineIn (tablesText t))
+    text-alike = machines-alike t a text-lawful (text-tabled t a text-lawful B) (text-small t a text-lawful) (λ k b x j n o w. text-begun t a text-lawful k b x j n o w) (λ k b x j n o w. text-few t a text-lawful k b x j n o w) rest

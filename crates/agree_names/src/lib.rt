@@ -1,0 +1,1 @@
+// What tables say of names is definitions and theorems alone (specs/, proofs/).

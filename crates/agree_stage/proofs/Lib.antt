@@ -1,0 +1,4 @@
+pub mod Tables
+pub mod Stands
+pub mod Labels
+pub mod Offers

@@ -1,0 +1,63 @@
+-- The stage that tables and a state make: docs/TABLES.md. `t` are tables, `s` the state before the step, p the number of the process; `decl` has for each name the item that declares it
+-- (specs/Scenes.antt), `unit` for each proctype the item that begins it.
+use Prim.Native.Nat.{ℕ, _+_, _-_}
+use mathlib.Core.Path.{_≡_}
+use mathlib.Core.List.{List}
+use lib.ListN.{set}
+use lib.IntN.{ℤ}
+use lib.Dec.{eqb}
+use Rattle.tables.specs.Access.{codeOf, linkOf}
+use Rattle.value.specs.Types.{castOf}
+use Rattle.frames.specs.Layout.{kept, processesOf, declaredOf, fieldOf}
+use Rattle.base.specs.Numbers.{nat}
+use Rattle.evaluating.specs.Variables.{typeOf, slotOf}
+use Rattle.executing.specs.Channels.{capacityOf, fieldsOf}
+use Rattle.executing.specs.Executing.{fitsOf}
+use Rattle.messages.specs.Messages.{appended, removed}
+use Rattle.statements.specs.Statements.{moved}
+use Rattle.effects.specs.Effects.{called}
+use Rattle.syntax.specs.Tree.{Name, action, Tree, express, assign, increment, decrement, send, receive, assert, print, skip, goto, break, timeout, else, run, set-run, select, loop}
+use Rattle.agree_stage.specs.Scenes.{sceneOf}
+use Rattle.spec_machine.specs.Stage.{Stage, Ways}
+use Rattle.spec_machine.specs.Program.{sizeIn}
+
+abbrev pub stageOf : List ℕ → List ℤ → ℕ → (Name → ℕ) → (Name → ℕ) → Stage (List ℤ)
+stageOf t s p decl unit =
+    record {
+      scene = sceneOf t s p decl;
+      constant = λ w. eqb (codeOf t (decl w)) 220;
+      capacity = λ v. capacityOf t (declaredOf s (nat v - 1));
+      fields = λ v. fieldsOf t (declaredOf s (nat v - 1));
+      oldest = λ v f. fieldOf s (nat v - 1) 0 f;
+      room = λ w. fitsOf t s (unit w);
+      newest = kept (processesOf s);
+      store = λ w k v x. set x (slotOf (linkOf t (decl w)) p k) (castOf (typeOf (linkOf t (decl w))) v);
+      put = λ v l x. appended t (nat v - 1) l x;
+      take = λ v x. removed (nat v - 1) x;
+      begin = λ w l x. called t (unit w) l x;
+      go = λ n x. moved p n x;
+    }
+
+-- the last item of the tree links to the place that follows
+abbrev pub LeadsOn : List ℕ → Ways → Tree action → ℕ → Type 0
+LeadsOn t h a j = linkOf t (j + sizeIn a - 1) ≡ h .next
+
+-- from the statement at place j the tables lead where the ways do; `if` and `do` are no steps
+abbrev pub Leads : List ℕ → Ways → Tree action → ℕ → Type 0
+Leads t h (express e) j = LeadsOn t h (express e) j
+Leads t h (assign r e) j = LeadsOn t h (assign r e) j
+Leads t h (increment r) j = LeadsOn t h (increment r) j
+Leads t h (decrement r) j = LeadsOn t h (decrement r) j
+Leads t h (send r es) j = LeadsOn t h (send r es) j
+Leads t h (receive r xs) j = LeadsOn t h (receive r xs) j
+Leads t h (assert e) j = LeadsOn t h (assert e) j
+Leads t h (print w es) j = LeadsOn t h (print w es) j
+Leads t h skip j = LeadsOn t h skip j
+Leads t h (goto w) j = linkOf t (j + 1) ≡ h .label w
+Leads t h break j = linkOf t j ≡ h .out
+Leads t h timeout j = LeadsOn t h timeout j
+Leads t h else j = LeadsOn t h else j
+Leads t h (run w es) j = LeadsOn t h (run w es) j
+Leads t h (set-run r w es) j = LeadsOn t h (set-run r w es) j
+Leads t h (select os) j = Unit {0}
+Leads t h (loop os) j = Unit {0}

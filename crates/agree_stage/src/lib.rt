@@ -1,0 +1,1 @@
+// The stage of tables and numbers is definitions and theorems alone (specs/, proofs/).

@@ -1,0 +1,123 @@
+-- THE NUMBERS OF A PLAIN STATE, ONE BY ONE: which number stands where, and that nothing else does. Numbers that say the same in each place are the state's (`shown-same`).
+use Prim.Native.Nat.{ℕ, zero, suc, _+_, _-_, _*_, _/_, _%_, _<_, _≤_}
+use native.Mathlib.Omega.{arith}
+use native.Mathlib.Decide.{ℕ-discrete, decLt}
+use mathlib.Core.Path.{_≡_, refl, sym as inv, ap, ap₂, _∙_, subst}
+use mathlib.Core.List.{List, [], _∷_, _++_, map, append-assoc}
+use lib.ListN.{length, getD, drop, length-append, length-replicate, getD-replicate}
+use lib.IntN.{ℤ, pos}
+use Rattle.frames.specs.Layout.{kept, cellOf, globalAt, processAt, channelAt}
+use Rattle.syntax.specs.Tree.{Model}
+use Rattle.spec_machine.specs.State.{State}
+use Rattle.state_encode.specs.Encode.{pad, rows, flat, processRow, channelRow, encode}
+use Rattle.state_encode.proofs.Rows.{get-left, get-right, length-pad, get-pad, off, get-process, get-channel, get-global}
+use Rattle.state_encode.proofs.Numbers.{at-34, G, P, C, Z, lg, lp, lc}
+
+pub record Shown (m : Model) (σ : State) (s : List ℤ) : Type 0 where
+  pub processes-count : cellOf s 0 ≡ kept (length (σ .processes))
+  pub channels-count : cellOf s 1 ≡ kept (length (σ .channels))
+  pub globals : (k : ℕ) → k < 64 → cellOf s (globalAt k) ≡ getD (flat (σ .globals)) k (pos 0)
+  -- behind the last process and the last channel there are no numbers, and what is not there is 0
+  pub processes : (p k : ℕ) → p < 16 → k < 34 → cellOf s (processAt p + k) ≡ getD (getD (map (processRow m) (σ .processes)) p []) k (pos 0)
+  pub channels : (c k : ℕ) → c < 16 → k < 34 → cellOf s (channelAt c + k) ≡ getD (getD (map (channelRow m) (σ .channels)) c []) k (pos 0)
+  pub rest : (i : ℕ) → 1154 ≤ i → i < 2048 → cellOf s i ≡ pos 0
+
+pub row-any : {A : Type 0} (f : A → List ℤ) (z n : ℕ) (l : List A) (p k : ℕ) → p < n → k < z → getD (rows f z n l) (off f z p + k) (pos 0) ≡ getD (getD (map f l) p []) k (pos 0)
+unfolding rows
+row-any f z zero l p k h g = absurd (omega arith)
+row-any f z (suc n) [] zero k h g =
+    ap (λ i. getD (pad z [] ++ rows f z n []) i (pos 0)) (let w : 0 + k ≡ k = omega arith in w)
+    ∙ get-left (pad z []) (rows f z n []) (pos 0) k (subst (k <_) (inv (length-pad z [])) g) ∙ get-pad z [] k g
+row-any f z (suc n) [] (suc p) k h g =
+    get-right (pad z []) (rows f z n []) (pos 0) z (off f z p + k) (z + off f z p + k) (length-pad z []) (omega arith) ∙ row-any f z n [] p k (omega arith) g ∙ none p
+  where
+    none : (p : ℕ) → getD (getD [] p []) k (pos 0) ≡ getD [] k (pos 0)
+    none zero = refl
+    none (suc p) = refl
+row-any f z (suc n) (x ∷ l) zero k h g =
+    ap (λ i. getD (pad z (f x) ++ rows f z n l) i (pos 0)) (let w : 0 + k ≡ k = omega arith in w)
+    ∙ get-left (pad z (f x)) (rows f z n l) (pos 0) k (subst (k <_) (inv (length-pad z (f x))) g) ∙ get-pad z (f x) k g
+row-any f z (suc n) (x ∷ l) (suc p) k h g =
+    get-right (pad z (f x)) (rows f z n l) (pos 0) z (off f z p + k) (z + off f z p + k) (length-pad z (f x)) (omega arith) ∙ row-any f z n l p k (omega arith) g
+
+-- rows of four
+pub at-four : {A : Type 0} (f : A → List ℤ) (p : ℕ) → off f 4 p ≡ 4 * p
+at-four f zero = refl
+at-four f (suc p) = let e = at-four f p in omega arith
+
+module _ (m : Model) (σ : State) where
+  pub encode-long : length (encode m σ) ≡ 2048
+  unfolding encode
+  encode-long =
+      ap (λ n. suc (suc n))
+      (length-append (G m [] σ) (P m [] σ ++ (C m [] σ ++ Z m [] σ))
+      ∙ ap₂ _+_ (lg m [] σ) (length-append (P m [] σ) (C m [] σ ++ Z m [] σ) ∙ ap₂ _+_ (lp m [] σ) (length-append (C m [] σ) (Z m [] σ) ∙ ap₂ _+_ (lc m [] σ) (length-replicate 894 (pos 0)))))
+
+  -- EACH NUMBER of a state that is written down
+  pub encode-shown : (t : List ℤ) → Shown m σ (encode m σ ++ t)
+  unfolding encode
+  encode-shown t =
+      let a = kept (length (σ .processes)) in
+      let b = kept (length (σ .channels)) in
+      record {
+        processes-count = refl;
+        channels-count = refl;
+        globals = λ k h. get-global a b (G m t σ) (P m t σ) (C m t σ) (Z m t σ) t (lg m t σ) (lp m t σ) (lc m t σ) k h ∙ get-pad 64 (flat (σ .globals)) k h;
+        processes = λ p k h g.
+            let e = at-34 (processRow m) p in
+            ap (cellOf (encode m σ ++ t)) (let z : processAt p + k ≡ 66 + (off (processRow m) 34 p + k) = omega arith in z)
+            ∙ get-process a b (G m t σ) (P m t σ) (C m t σ) (Z m t σ) t (lg m t σ) (lp m t σ) (lc m t σ) (off (processRow m) 34 p + k) (omega arith)
+            ∙ row-any (processRow m) 34 16 (σ .processes) p k h g;
+        channels = λ c k h g.
+            let e = at-34 (channelRow m) c in
+            ap (cellOf (encode m σ ++ t)) (let z : channelAt c + k ≡ 610 + (off (channelRow m) 34 c + k) = omega arith in z)
+            ∙ get-channel a b (G m t σ) (P m t σ) (C m t σ) (Z m t σ) t (lg m t σ) (lp m t σ) (lc m t σ) (off (channelRow m) 34 c + k) (omega arith)
+            ∙ row-any (channelRow m) 34 16 (σ .channels) c k h g;
+        rest = λ i h g. zeros i h g;
+      }
+    where
+      zeros : (i : ℕ) → 1154 ≤ i → i < 2048 → getD (encode m σ ++ t) i (pos 0) ≡ pos 0
+      zeros i h g =
+          let a = kept (length (σ .processes)) in
+          let b = kept (length (σ .channels)) in
+          let f : List ℤ = (a ∷ b ∷ G m t σ) ++ (P m t σ ++ C m t σ) in
+          get-left (encode m σ) t (pos 0) i (subst (i <_) (inv encode-long) g)
+          ∙ ap (λ (l : List ℤ). getD ((a ∷ b ∷ G m t σ) ++ l) i (pos 0)) (inv (append-assoc (P m t σ) (C m t σ) (Z m t σ)))
+          ∙ ap (λ (l : List ℤ). getD l i (pos 0)) (inv (append-assoc (a ∷ b ∷ G m t σ) (P m t σ ++ C m t σ) (Z m t σ)))
+          ∙ get-right f (Z m t σ) (pos 0) 1154 (i - 1154) i
+          (length-append (a ∷ b ∷ G m t σ) (P m t σ ++ C m t σ) ∙ ap₂ _+_ (ap (λ n. suc (suc n)) (lg m t σ)) (length-append (P m t σ) (C m t σ) ∙ ap₂ _+_ (lp m t σ) (lc m t σ))) (omega arith)
+          ∙ getD-replicate 894 (i - 1154) (pos 0) (pos 0) (omega arith)
+
+  -- ---- numbers that say the same
+  module _ (s t : List ℤ) (x : Shown m σ s) (y : Shown m σ t) where
+    cells-same : (i : ℕ) → i < 2048 → cellOf s i ≡ cellOf t i
+    cells-same i h = go (ℕ-discrete i 0) (ℕ-discrete i 1) (decLt i 66) (decLt i 610) (decLt i 1154)
+      where
+        go : Dec (i ≡ 0) → Dec (i ≡ 1) → Dec (i < 66) → Dec (i < 610) → Dec (i < 1154) → cellOf s i ≡ cellOf t i
+        go (yes e) b c d f = ap (cellOf s) e ∙ x .processes-count ∙ inv (y .processes-count) ∙ ap (cellOf t) (inv e)
+        go (no a) (yes e) c d f = ap (cellOf s) e ∙ x .channels-count ∙ inv (y .channels-count) ∙ ap (cellOf t) (inv e)
+        go (no a) (no b) (yes c) d f =
+            let e : i ≡ globalAt (i - 2) = omega arith in
+            ap (cellOf s) e ∙ x .globals (i - 2) (omega arith) ∙ inv (y .globals (i - 2) (omega arith)) ∙ ap (cellOf t) (inv e)
+        go (no a) (no b) (no c) (yes d) f =
+            let e : i ≡ processAt ((i - 66) / 34) + (i - 66) % 34 = omega arith in
+            ap (cellOf s) e ∙ x .processes ((i - 66) / 34) ((i - 66) % 34) (omega arith) (omega arith)
+            ∙ inv (y .processes ((i - 66) / 34) ((i - 66) % 34) (omega arith) (omega arith)) ∙ ap (cellOf t) (inv e)
+        go (no a) (no b) (no c) (no d) (yes f) =
+            let e : i ≡ channelAt ((i - 610) / 34) + (i - 610) % 34 = omega arith in
+            ap (cellOf s) e ∙ x .channels ((i - 610) / 34) ((i - 610) % 34) (omega arith) (omega arith)
+            ∙ inv (y .channels ((i - 610) / 34) ((i - 610) % 34) (omega arith) (omega arith)) ∙ ap (cellOf t) (inv e)
+        go (no a) (no b) (no c) (no d) (no f) = x .rest i (omega arith) h ∙ inv (y .rest i (omega arith) h)
+
+  front-same : (e s : List ℤ) → length e ≤ length s → ((i : ℕ) → i < length e → getD s i (pos 0) ≡ getD e i (pos 0)) → s ≡ e ++ drop (length e) s
+  front-same [] s h g = refl
+  front-same (x ∷ e) [] h g = absurd (omega arith)
+  front-same (x ∷ e) (y ∷ s) h g = ap₂ (λ (a : ℤ) (l : List ℤ). a ∷ l) (g 0 (omega arith)) (front-same e s (omega arith) (λ i k. g (suc i) (omega arith)))
+
+  -- ARE THE STATE'S
+  pub shown-same : (s : List ℤ) → 2048 ≤ length s → Shown m σ s → s ≡ encode m σ ++ drop 2048 s
+  shown-same s h x =
+      let e = encode-long in
+      front-same (encode m σ) s (subst (_≤ length s) (inv e) h)
+      (λ i g. cells-same s (encode m σ ++ []) x (encode-shown []) i (subst (i <_) e g) ∙ get-left (encode m σ) [] (pos 0) i g)
+      ∙ ap (λ n. encode m σ ++ drop n s) e

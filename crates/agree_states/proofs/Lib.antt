@@ -1,0 +1,14 @@
+pub mod Begun
+pub mod Cells
+pub mod Charts
+pub mod Decode
+pub mod Held
+pub mod Initial
+pub mod Lasting
+pub mod Making
+pub mod Read
+pub mod Seen
+pub mod Single
+pub mod Sites
+pub mod Slices
+pub mod Texts

@@ -1,0 +1,14 @@
+-- What a statement of an accepted text sees and can change over its tables: mechanism, one stage for its whole body. `t` is the text, `a` what makes it accepted, `s` a state, p the number of
+-- a process, u the item that begins its unit.
+use Prim.Native.Nat.{ℕ}
+use mathlib.Core.List.{List}
+use lib.IntN.{ℤ}
+use Rattle.syntax.specs.Tree.{action, Tree}
+use Rattle.accepting.specs.Meaning.{Accepts}
+use Rattle.spec_machine.specs.Stage.{Stage, Ways}
+use Rattle.spec_machine.specs.Program.{startIn, Statement}
+use Rattle.doing.specs.Stages.{stageAt}
+
+module _ (t : List ℕ) (a : Accepts t) (s : List ℤ) (p u : ℕ) where
+  abbrev pub stageOf : {j : ℕ} {x : Tree action} {h : Ways} → Statement (a .tree) u x j h → Stage (List ℤ)
+  stageOf f = stageAt t a s p (startIn (f .own) (f .at))

@@ -1,0 +1,4 @@
+pub mod Machines
+pub mod Statements
+pub mod Transfer
+pub mod Ways

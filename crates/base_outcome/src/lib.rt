@@ -1,0 +1,10 @@
+// What came of taking a step, for the specification and the code alike.
+use value::Fault;
+
+// It is done, its assertion failed, it faulted; or there is none to take.
+pub enum Taken {
+    Done,
+    Refuted,
+    Faulted(Fault),
+    Idle,
+}

@@ -1,0 +1,163 @@
+-- ONLY A STEP THAT WAS TAKEN CHANGES ANYTHING, and what the entries leave is a state of the model.
+use Prim.Native.Nat.{ℕ}
+use native.Mathlib.Omega.{arith}
+use mathlib.Core.Path.{_≡_, refl, sym as inv, ap, _∙_, subst}
+use mathlib.Core.Bool.{Bool, true, false}
+use mathlib.Core.Option.{Option, none, some}
+use mathlib.Core.List.{List, []}
+use lib.ListN.{length, drop}
+use lib.IntN.{ℤ}
+use lib.Dec.{ltb}
+use Rattle.base.specs.Choice.{pick}
+use Rattle.syntax.specs.Tree.{Model}
+use Rattle.genuine.specs.Genuine.{written}
+use Rattle.frames.specs.Layout.{stateSize}
+use Rattle.standing.specs.Standing.{isStateOf}
+use Rattle.base_outcome.specs.declared.Taken.{Taken}
+use Rattle.base_outcome.specs.declared.Taken.the-variants.{Done, Refuted, Faulted, Idle}
+use Rattle.steps.specs.Entries.{foreignOf, startLeft, Outcome, refusedBy, printRoom, outcomeOf}
+use Rattle.steps.specs.declared.Stepped.the-variants as stepped
+use Rattle.runs.specs.Entries.{ranOf}
+use Rattle.records.specs.Forms.{form, formOf}
+use Rattle.trails.specs.Entries.{replayedOf}
+use Rattle.spec_machine.specs.State.{State}
+use Rattle.spec_machine.specs.Begins.{initial}
+use Rattle.spec_machine.specs.Places.{Belongs}
+use Rattle.spec_machine.specs.Fits.{Fits}
+use Rattle.spec_machine.specs.Machine.{Step, offered, asked}
+use Rattle.spec_trails.specs.Replays.{Claim, replayFrom}
+use Rattle.spec_trails.specs.Trails.{Recorded}
+use Rattle.spec_trails.specs.Runs.{runFrom}
+use Rattle.spec_machine.specs.Steps.{machineOf}
+use Rattle.agree_machine.proofs.Entries as entries
+use Rattle.demands.specs.Lent.{Rooms, Tables, of-text, Holds, Lent, no-room, no-model, no-state, a-state}
+use Rattle.demands.specs.Answers.{doneBy, claimBy}
+use Rattle.demands.specs.Entries.{leaves, takenBy, formedBy, refusalBy, steppedBy}
+use Rattle.demands.specs.InWords.{Unchanged, Leaves}
+use Rattle.demands.proofs.Lent.{tables-genuine, numbers-state, state-is, foreign-room, foreign-is}
+use Rattle.demands.proofs.Demand2.{demand2}
+
+-- ---- what a step that was not taken leaves
+abbrev Keeps : List ℤ → List ℕ → Outcome → Type 0
+Keeps s out o = ((n : ℕ) → o .answer ≡ stepped.Took n → ⊥) → (o .state ≡ s) × (o .printed ≡ out)
+
+module _ (s : List ℤ) (out : List ℕ) where
+  done-keeps : (k : Taken) (after : List ℤ) (text : List ℕ) → Keeps s out (doneBy s out k after text)
+  done-keeps Done after text h = absurd (h (length text) refl)
+  done-keeps Refuted after text h = (refl, refl)
+  done-keeps (Faulted f) after text h = (refl, refl)
+  done-keeps Idle after text h = (refl, refl)
+
+  taken-keeps : (m : Model) (σ : State) (o : Option Step) → Keeps s out (takenBy s m σ out o)
+  taken-keeps m σ none h = (refl, refl)
+  taken-keeps m σ (some x) h =
+      let T = machineOf m .take σ (x .process) (x .place) in
+      done-keeps (T .0) (leaves s m (T .1)) (machineOf m .printed σ (x .process) (x .place)) h
+
+  stepped-keeps : {ts : List ℕ} (x : Lent ts s) (p k : ℕ) → Keeps s out (steppedBy x p k out)
+  stepped-keeps (no-room h) p k g = (refl, refl)
+  stepped-keeps (no-model r h) p k g = (refl, refl)
+  stepped-keeps (no-state m r h i) p k g = (refl, refl)
+  stepped-keeps (a-state m σ h) p k g = taken-keeps m σ (asked (machineOf m) p k (offered (machineOf m) σ)) g
+
+  room-keeps : (b : Bool) (o : Outcome) → Keeps s out o → Keeps s out (pick b (refusedBy 7 s out) o)
+  room-keeps true o h g = (refl, refl)
+  room-keeps false o h g = h g
+
+pub unchanged : Unchanged
+unchanged ts s p k out =
+    let D = demand2 ts s in
+    let x = D .cases .some-case in
+    subst (Keeps s out) (inv (D .step x p k out)) (room-keeps s out (ltb (length out) printRoom) (steppedBy x p k out) (stepped-keeps s out x p k))
+
+-- ---- what is left is a state of the model
+module _ (ts : List ℕ) (s : List ℤ) where
+  abbrev Stands : List ℤ → Type 0
+  Stands l = isStateOf (written ts) l ≡ true
+
+  left : (m : Model) → Tables ts m → (τ : State) → Fits (Belongs m) m τ → Stands (leaves s m τ)
+  unfolding leaves
+  left m h τ f = numbers-state ts m τ (drop stateSize s) h f
+
+  pub initial-fits : (m : Model) → Rooms ts s → Tables ts m → Fits (Belongs m) m (initial m)
+  initial-fits m r (of-text t a e) = entries.initially ts (r .tables) (tables-genuine ts (a .tree) (of-text t a e)) t a e
+
+  step-fits : (m : Model) (σ : State) → Rooms ts s → Tables ts m → Fits (Belongs m) m σ → (p k : ℕ) (x : Step) → asked (machineOf m) p k (offered (machineOf m) σ) ≡ some x
+      → Fits (Belongs m) m (machineOf m .take σ (x .process) (x .place) .1)
+  step-fits m σ r (of-text t a e) f p k x q = entries.keeps ts (r .tables) (tables-genuine ts (a .tree) (of-text t a e)) t a e σ [] f p k x q
+
+  run-fits : (m : Model) (σ : State) → Rooms ts s → Tables ts m → Fits (Belongs m) m σ → (n : ℕ) → Fits (Belongs m) m (runFrom (machineOf m) n σ .state)
+  run-fits m σ r (of-text t a e) f n = entries.run-fits ts (r .tables) (tables-genuine ts (a .tree) (of-text t a e)) t a e σ [] f n
+
+  replay-fits : (m : Model) → Rooms ts s → Tables ts m → (c : Claim) (l : List Recorded) → Fits (Belongs m) m (replayFrom (machineOf m) c l 1 none (initial m) .1)
+  replay-fits m r (of-text t a e) c l = entries.replay-fits ts (r .tables) (tables-genuine ts (a .tree) (of-text t a e)) t a e c l
+
+  module _ (m : Model) (σ : State) (h : Holds ts s m σ) where
+    same : Stands s
+    same = state-is ts m s σ (h .tables) (h .numbers)
+
+    done : (out : List ℕ) (k : Taken) (τ : State) (text : List ℕ) → Fits (Belongs m) m τ → Stands (doneBy s out k (leaves s m τ) text .state)
+    done out Done τ text f = left m (h .tables) τ f
+    done out Refuted τ text f = same
+    done out (Faulted g) τ text f = same
+    done out Idle τ text f = same
+
+    taken : (p k : ℕ) (out : List ℕ) (o : Option Step) → asked (machineOf m) p k (offered (machineOf m) σ) ≡ o → Stands (takenBy s m σ out o .state)
+    taken p k out none e = same
+    taken p k out (some x) e =
+        let T = machineOf m .take σ (x .process) (x .place) in
+        done out (T .0) (T .1) (machineOf m .printed σ (x .process) (x .place)) (step-fits m σ (h .rooms) (h .tables) (h .numbers .fits) p k x e)
+
+    roomy : (out : List ℕ) (b : Bool) (o : Outcome) → Stands (o .state) → Stands (pick b (refusedBy 7 s out) o .state)
+    roomy out true o g = same
+    roomy out false o g = g
+
+    stepping : (p k : ℕ) (out : List ℕ) → Stands (outcomeOf ts s p k out .state)
+    stepping p k out =
+        subst (λ (o : Outcome). Stands (o .state)) (inv (demand2 ts s .step (a-state m σ h) p k out))
+        (roomy out (ltb (length out) printRoom) (steppedBy (a-state m σ h) p k out) (taken p k out (asked (machineOf m) p k (offered (machineOf m) σ)) refl))
+
+    ran : (n : ℕ) → Stands (ranOf ts s n .1)
+    ran n =
+        subst Stands (inv (ap (λ r. r .1) (demand2 ts s .run (a-state m σ h) n))) (left m (h .tables) (runFrom (machineOf m) n σ .state) (run-fits m σ (h .rooms) (h .tables) (h .numbers .fits) n))
+
+  started : (x : Lent ts s) → foreignOf ts s ≡ 0 → Stands (startLeft ts s)
+  started (no-room h) e = let f = foreign-room ts s h in absurd (omega arith)
+  started (no-model r h) e = let f = foreign-is ts s r h in absurd (omega arith)
+  started (no-state m r h g) e = subst Stands (inv (ap (λ z. z .1) (demand2 ts s .start (no-state m r h g)))) (left m h (initial m) (initial-fits m r h))
+  started (a-state m σ h) e = subst Stands (inv (ap (λ z. z .1) (demand2 ts s .start (a-state m σ h)))) (left m (h .tables) (initial m) (initial-fits m (h .rooms) (h .tables)))
+
+  replayed : (m : Model) → Rooms ts s → Tables ts m → (trail : List ℕ) (l : List Recorded) (v : ℕ) → formOf trail ≡ form l v → replayedOf ts trail s ≡ formedBy s m (formOf trail)
+      → Stands (replayedOf ts trail s .1)
+  replayed m r h trail l v e d =
+      let R = replayFrom (machineOf m) (claimBy v) l 1 none (initial m) in
+      subst Stands (inv (ap (λ z. z .1) (d ∙ ap (formedBy s m) e))) (left m h (R .1) (replay-fits m r h (claimBy v) l))
+
+  by-replay : (x : Lent ts s) → foreignOf ts s ≡ 0 → (trail : List ℕ) (l : List Recorded) (v : ℕ) → formOf trail ≡ form l v → Stands (replayedOf ts trail s .1)
+  by-replay (no-room h) e trail l v q = let f = foreign-room ts s h in absurd (omega arith)
+  by-replay (no-model r h) e trail l v q = let f = foreign-is ts s r h in absurd (omega arith)
+  by-replay (no-state m r h g) e trail l v q = replayed m r h trail l v q (demand2 ts s .replay (no-state m r h g) trail)
+  by-replay (a-state m σ h) e trail l v q = replayed m (h .rooms) (h .tables) trail l v q (demand2 ts s .replay (a-state m σ h) trail)
+
+  by-step : (x : Lent ts s) → refusalBy x ≡ 0 → (p k : ℕ) (out : List ℕ) → Stands (outcomeOf ts s p k out .state)
+  by-step (no-room h) e p k out = absurd (omega arith)
+  by-step (no-model r h) e p k out = absurd (omega arith)
+  by-step (no-state m r h g) e p k out = absurd (omega arith)
+  by-step (a-state m σ h) e p k out = stepping m σ h p k out
+
+  by-run : (x : Lent ts s) → refusalBy x ≡ 0 → (n : ℕ) → Stands (ranOf ts s n .1)
+  by-run (no-room h) e n = absurd (omega arith)
+  by-run (no-model r h) e n = absurd (omega arith)
+  by-run (no-state m r h g) e n = absurd (omega arith)
+  by-run (a-state m σ h) e n = ran m σ h n
+
+  pub states-left : Leaves ts s
+  states-left =
+      let D = demand2 ts s in
+      let x = D .cases .some-case in
+      record {
+        start = started x;
+        step = λ e. by-step x (inv (D .refusal x) ∙ e);
+        run = λ e. by-run x (inv (D .refusal x) ∙ e);
+        replay = by-replay x;
+      }

@@ -1,0 +1,157 @@
+-- EVERY LENT PAIR IS IN ONE CASE, and refusals 7, 8 and 9 are given in theirs.
+use Prim.Native.Nat.{ℕ, _+_, _<_}
+use native.Mathlib.Omega.{arith}
+use mathlib.Core.Path.{_≡_, refl, sym as inv, ap, ap₂, _∙_, subst}
+use mathlib.Core.Bool.{Bool, true, false}
+use mathlib.Core.Logic.{_⊎_, inl, inr}
+use mathlib.Core.List.{List, _++_}
+use lib.ListN.{length, drop}
+use lib.IntN.{ℤ}
+use lib.Dec.{eqb, ltb}
+use borrow.Author.Tests.{lt-ltb, le-ltb, ltb-true, ltb-false}
+use Rattle.base.specs.Choice.{pick}
+use Rattle.base.proofs.Tests.{true-false}
+use Rattle.syntax.specs.Tree.{Model}
+use Rattle.reader.specs.Entries.{room}
+use Rattle.accepting.specs.Meaning.{Accepts}
+use Rattle.accepting.proofs.Main.{accepted-means, means-accepted}
+use Rattle.accepting.proofs.Tables.{tables-tree}
+use Rattle.genuine.specs.Genuine.{written, genuine}
+use Rattle.signing.proofs.Owners.{genuine-owned, owned-genuine}
+use Rattle.frames.specs.Layout.{stateSize}
+use Rattle.standing.specs.Standing.{isStateOf}
+use Rattle.steps.specs.Entries.{foreignOf, refusalOf}
+use Rattle.spec_machine.specs.State.{State}
+use Rattle.state_encode.specs.Encode.{encode}
+use Rattle.spec_machine.specs.Places.{Belongs}
+use Rattle.spec_machine.specs.Fits.{Fits}
+use Rattle.agree_states.proofs.Texts.{text-holds, text-held-state, text-single}
+use Rattle.agree_machine.proofs.Survey.{text-modest, text-surveyed}
+use Rattle.demands.specs.Lent.{Rooms, Tables, of-text, Numbers, Lent, no-room, no-model, no-state, a-state, Case, seven, eight, nine, holds, caseOf}
+use Rattle.demands.specs.Entries.{refusalBy}
+use Rattle.demands.specs.Demand2.{OneCase}
+
+-- ---- 8: exactly when no accepted text has these tables
+pub tables-genuine : (ts : List ℕ) (m : Model) → Tables ts m → genuine ts ≡ true
+tables-genuine ts m (of-text t a e) = owned-genuine ts (record { text = t; accepted = means-accepted t a; own = inv e })
+
+record Owner (ts : List ℕ) : Type 0 where
+  tree : Model
+  tables : Tables ts tree
+
+owner : (ts : List ℕ) → genuine ts ≡ true → Owner ts
+owner ts e =
+    let o = genuine-owned ts e in
+    let a : Accepts (o .text) = accepted-means (o .text) (o .accepted) in
+    record { tree = a .tree; tables = of-text (o .text) a (inv (o .own)) }
+
+pub one-model : (ts : List ℕ) (m n : Model) → Tables ts m → Tables ts n → m ≡ n
+one-model ts m n (of-text t a e) (of-text u b f) = tables-tree t u a b (inv e ∙ f)
+
+-- ---- 9: exactly when the numbers are those of no state that fits
+record Found (m : Model) (s : List ℤ) : Type 0 where
+  state : State
+  numbers : Numbers m s state
+
+found : (ts : List ℕ) (m : Model) (s : List ℤ) → Tables ts m → isStateOf (written ts) s ≡ true → Found m s
+found ts m s (of-text t a e) h =
+    let r = text-holds t a (text-modest t a) (text-surveyed t a) s (ap (λ w. isStateOf w s) (inv e) ∙ h) in
+    record { state = r .0; numbers = record { fits = r .1 .0; are = r .1 .1 } }
+
+pub numbers-state : (ts : List ℕ) (m : Model) (σ : State) (rest : List ℤ) → Tables ts m → Fits (Belongs m) m σ → isStateOf (written ts) (encode m σ ++ rest) ≡ true
+numbers-state ts m σ rest (of-text t a e) f = ap (λ w. isStateOf w (encode (a .tree) σ ++ rest)) e ∙ text-held-state t a (text-modest t a) (text-surveyed t a) σ rest f
+
+pub state-is : (ts : List ℕ) (m : Model) (s : List ℤ) (σ : State) → Tables ts m → Numbers m s σ → isStateOf (written ts) s ≡ true
+state-is ts m s σ h n = ap (isStateOf (written ts)) (n .are) ∙ numbers-state ts m σ (drop stateSize s) h (n .fits)
+
+one-state : (ts : List ℕ) (m : Model) (s : List ℤ) (σ τ : State) → Tables ts m → Numbers m s σ → Numbers m s τ → σ ≡ τ
+one-state ts m s σ τ (of-text t a e) p q =
+    text-single t a (text-modest t a) (text-surveyed t a) s σ τ (drop stateSize s) (drop stateSize s) (p .fits) (q .fits) (p .are) (q .are)
+
+-- ---- every pair is in some case
+module _ (ts : List ℕ) (s : List ℤ) where
+  by-numbers : (m : Model) → Rooms ts s → Tables ts m → (b : Bool) → isStateOf (written ts) s ≡ b → Lent ts s
+  by-numbers m r h true e = let x = found ts m s h e in a-state m (x .state) (record { rooms = r; tables = h; numbers = x .numbers })
+  by-numbers m r h false e = no-state m r h (λ σ n. true-false (inv (state-is ts m s σ h n) ∙ e))
+
+  by-tables : Rooms ts s → (b : Bool) → genuine ts ≡ b → Lent ts s
+  by-tables r true e = let o = owner ts e in by-numbers (o .tree) r (o .tables) (isStateOf (written ts) s) refl
+  by-tables r false e = no-model r (λ m h. true-false (inv (tables-genuine ts m h) ∙ e))
+
+  some-case : Lent ts s
+  some-case = go (ltb (length ts) room) (ltb (length s) stateSize) refl refl
+    where
+      go : (b c : Bool) → ltb (length ts) room ≡ b → ltb (length s) stateSize ≡ c → Lent ts s
+      go true c e f = no-room (inl (ltb-true (length ts) room e))
+      go false true e f = no-room (inr (ltb-true (length s) stateSize f))
+      go false false e f = by-tables (record { tables = ltb-false (length ts) room e; state = ltb-false (length s) stateSize f }) (genuine ts) refl
+
+  -- ---- the refusals
+  pub foreign-room : (length ts < room) ⊎ (length s < stateSize) → foreignOf ts s ≡ 7
+  unfolding foreignOf
+  foreign-room (inl h) = rw (lt-ltb (length ts) room h)
+  foreign-room (inr h) = go (ltb (length ts) room)
+    where
+      go : (b : Bool) → _≡_ {A = ℕ} (pick b 7 (pick (ltb (length s) stateSize) 7 (pick (genuine ts) 0 8))) 7
+      go true = refl
+      go false = rw (lt-ltb (length s) stateSize h)
+
+  foreign-by : Rooms ts s → (b : Bool) → genuine ts ≡ b → foreignOf ts s ≡ pick b 0 8
+  unfolding foreignOf
+  foreign-by r b e = rw (le-ltb (length ts) room (r .tables), le-ltb (length s) stateSize (r .state), e)
+
+  not-genuine : ((m : Model) → Tables ts m → ⊥) → (b : Bool) → genuine ts ≡ b → b ≡ false
+  not-genuine h true e = let o = owner ts e in absurd (h (o .tree) (o .tables))
+  not-genuine h false e = refl
+
+  no-such : (m : Model) → Tables ts m → ((σ : State) → Numbers m s σ → ⊥) → (b : Bool) → isStateOf (written ts) s ≡ b → b ≡ false
+  no-such m h g true e = let x = found ts m s h e in absurd (g (x .state) (x .numbers))
+  no-such m h g false e = refl
+
+  pub foreign-none : (m : Model) → Rooms ts s → Tables ts m → foreignOf ts s ≡ 0
+  foreign-none m r h = foreign-by r true (tables-genuine ts m h)
+
+  pub foreign-is : Rooms ts s → ((m : Model) → Tables ts m → ⊥) → foreignOf ts s ≡ 8
+  foreign-is r h = foreign-by r (genuine ts) refl ∙ ap (λ b. pick b 0 8) (not-genuine h (genuine ts) refl)
+
+  pub refusal-is : (x : Lent ts s) → refusalOf ts s ≡ refusalBy x
+  unfolding refusalOf
+  refusal-is (no-room h) = ap (λ i. pick (eqb i 0) (pick (isStateOf (written ts) s) 0 9) i) (foreign-room h)
+  refusal-is (no-model r h) = ap (λ i. pick (eqb i 0) (pick (isStateOf (written ts) s) 0 9) i) (foreign-is r h)
+  refusal-is (no-state m r h g) =
+      ap (λ i. pick (eqb i 0) (pick (isStateOf (written ts) s) 0 9) i) (foreign-none m r h) ∙ ap (λ b. pick b 0 9) (no-such m h g (isStateOf (written ts) s) refl)
+  refusal-is (a-state m σ h) =
+      ap (λ i. pick (eqb i 0) (pick (isStateOf (written ts) s) 0 9) i) (foreign-none m (h .rooms) (h .tables)) ∙ ap (λ b. pick b 0 9) (state-is ts m s σ (h .tables) (h .numbers))
+
+  -- ---- no pair is in two
+  abbrev numberOf : Case → ℕ
+  numberOf seven = 7
+  numberOf eight = 8
+  numberOf (nine m) = 9
+  numberOf (holds m σ) = 0
+
+  one-case : (x y : Lent ts s) → caseOf x ≡ caseOf y
+  one-case x y = go x y (inv (refusal-is x) ∙ refusal-is y)
+    where
+      go : (x y : Lent ts s) → refusalBy x ≡ refusalBy y → caseOf x ≡ caseOf y
+      go (no-room h) (no-room g) e = refl
+      go (no-room h) (no-model r g) e = absurd (omega arith)
+      go (no-room h) (no-state m r g k) e = absurd (omega arith)
+      go (no-room h) (a-state m σ g) e = absurd (omega arith)
+      go (no-model r h) (no-room g) e = absurd (omega arith)
+      go (no-model r h) (no-model q g) e = refl
+      go (no-model r h) (no-state m q g k) e = absurd (omega arith)
+      go (no-model r h) (a-state m σ g) e = absurd (omega arith)
+      go (no-state m r h k) (no-room g) e = absurd (omega arith)
+      go (no-state m r h k) (no-model q g) e = absurd (omega arith)
+      go (no-state m r h k) (no-state n q g l) e = ap nine (one-model ts m n h g)
+      go (no-state m r h k) (a-state n σ g) e = absurd (omega arith)
+      go (a-state m σ h) (no-room g) e = absurd (omega arith)
+      go (a-state m σ h) (no-model q g) e = absurd (omega arith)
+      go (a-state m σ h) (no-state n q g l) e = absurd (omega arith)
+      go (a-state m σ h) (a-state n τ g) e =
+          let z = one-model ts m n (h .tables) (g .tables) in
+          ap₂ holds z (one-state ts n s σ τ (g .tables) (subst (λ k. Numbers k s σ) z (h .numbers)) (g .numbers))
+
+  pub cases : OneCase ts s
+  cases = record { some-case = some-case; one-case = one-case }

@@ -1,0 +1,12 @@
+pub mod Lent
+pub mod Answers
+pub mod Claims
+pub mod Demand2
+pub mod Offers
+pub mod TextOrder
+pub mod Verdicts
+pub mod Walks
+pub mod Good
+pub mod Leaves
+pub mod InWords
+pub mod Trails

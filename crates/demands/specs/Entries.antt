@@ -1,0 +1,110 @@
+-- WHAT EACH ENTRY ANSWERS AND LEAVES, by the cases of what is lent: "Every public entry states one answer and one content of lent memory per input". "A refusal changes no lent number or byte".
+use Prim.Native.Nat.{ℕ}
+use mathlib.Core.Option.{Option, none, some}
+use mathlib.Core.List.{List, _++_}
+use lib.ListN.{length, drop}
+use lib.IntN.{ℤ}
+use lib.Dec.{ltb}
+use Rattle.base.specs.Choice.{pick}
+use Rattle.syntax.specs.Tree.{Model}
+use Rattle.frames.specs.Layout.{stateSize}
+use Rattle.steps.specs.Entries.{Outcome, refusedBy, printRoom}
+use Rattle.steps.specs.declared.Listed.{Listed}
+use Rattle.steps.specs.declared.Listed.the-variants as listed
+use Rattle.steps.specs.declared.Standing.{Standing}
+use Rattle.steps.specs.declared.Standing.the-variants as standing
+use Rattle.runs.specs.declared.Ran.{Ran}
+use Rattle.runs.specs.declared.Ran.the-variants as ran
+use Rattle.records.specs.Forms.{Form, form, spoiled, formOf}
+use Rattle.spec_trails.specs.Trails.{trail-most}
+use Rattle.trails.specs.declared.Replayed as trails
+use Rattle.trails.specs.declared.Replayed.the-variants as replayed
+use Rattle.spec_machine.specs.State.{State}
+use Rattle.spec_machine.specs.Begins.{initial}
+use Rattle.state_encode.specs.Encode.{encode}
+use Rattle.spec_machine.specs.Machine.{Step, offered, verdict, asked}
+use Rattle.spec_trails.specs.Runs.{Ran as Run, runFrom}
+use Rattle.spec_trails.specs.Replays.{Replayed, replayFrom}
+use Rattle.spec_machine.specs.Steps.{machineOf}
+use Rattle.demands.specs.Lent.{Lent, no-room, no-model, no-state, a-state}
+use Rattle.demands.specs.Answers.{standingBy, listedBy, doneBy, endingBy, claimBy, replayedBy}
+
+-- ## where nothing is refused, `s` being the lent numbers
+module _ (s : List ℤ) where
+  -- "A state is always written whole"; "What lies beyond the written part stays"
+  unfoldable pub leaves : Model → State → List ℤ
+  leaves m σ = encode m σ ++ drop stateSize s
+
+  -- `step`: 11 where the step that is asked for is not offered
+  abbrev pub takenBy : Model → State → List ℕ → Option Step → Outcome
+  takenBy m σ out none = refusedBy 11 s out
+  takenBy m σ out (some x) =
+      let M = machineOf m in doneBy s out (M .take σ (x .process) (x .place) .0) (leaves m (M .take σ (x .process) (x .place) .1)) (M .printed σ (x .process) (x .place))
+
+  -- `run`: the machine's run with its count
+  abbrev pub ranBy : Model → Run State → Ran × List ℤ
+  ranBy m r = (ran.Ended (endingBy (r .ending)) (r .count), leaves m (r .state))
+
+  -- `replay`: the machine's replay of the records, and the state that it leaves
+  abbrev pub answeredBy : Model → ℕ → Replayed × State → trails.Replayed × List ℤ
+  answeredBy m claim r = (replayedBy claim (r .0), leaves m (r .1))
+
+  -- by the form of the trail, whose refusals begin with that of length
+  abbrev pub formedBy : Model → Form → trails.Replayed × List ℤ
+  formedBy m (spoiled x line) = (replayed.Refused x line, s)
+  formedBy m (form l claim) = answeredBy m claim (replayFrom (machineOf m) (claimBy claim) l 1 none (initial m))
+
+-- ## each entry by the cases
+module _ {ts : List ℕ} {s : List ℤ} where
+  -- the number of the refusal, 0 for none
+  abbrev pub refusalBy : Lent ts s → ℕ
+  refusalBy (no-room h) = 7
+  refusalBy (no-model r h) = 8
+  refusalBy (no-state m r h g) = 9
+  refusalBy (a-state m σ h) = 0
+
+  -- `start`, whose lent numbers are room alone: the number of the refusal, and the numbers left
+  abbrev pub startBy : Lent ts s → ℕ × List ℤ
+  startBy (no-room h) = (7, s)
+  startBy (no-model r h) = (8, s)
+  startBy (no-state m r h g) = (0, leaves s m (initial m))
+  startBy (a-state m σ h) = (0, leaves s m (initial m))
+
+  -- `offered`: the n-th of all offered steps
+  abbrev pub offeredBy : Lent ts s → ℕ → Listed
+  offeredBy (no-room h) n = listed.Refused 7
+  offeredBy (no-model r h) n = listed.Refused 8
+  offeredBy (no-state m r h g) n = listed.Refused 9
+  offeredBy (a-state m σ h) n = listedBy (length (offered (machineOf m) σ)) n (offered (machineOf m) σ)
+
+  -- `verdict`
+  abbrev pub verdictBy : Lent ts s → Standing
+  verdictBy (no-room h) = standing.Refused 7
+  verdictBy (no-model r h) = standing.Refused 8
+  verdictBy (no-state m r h g) = standing.Refused 9
+  verdictBy (a-state m σ h) = standingBy (verdict (machineOf m) σ)
+
+  -- `step`: the k-th offered step of process p
+  abbrev pub steppedBy : Lent ts s → ℕ → ℕ → List ℕ → Outcome
+  steppedBy (no-room h) p k out = refusedBy 7 s out
+  steppedBy (no-model r h) p k out = refusedBy 8 s out
+  steppedBy (no-state m r h g) p k out = refusedBy 9 s out
+  steppedBy (a-state m σ h) p k out = takenBy s m σ out (asked (machineOf m) p k (offered (machineOf m) σ))
+
+  -- "printed text of one step as 128 bytes": 7 comes first
+  abbrev pub stepBy : Lent ts s → ℕ → ℕ → List ℕ → Outcome
+  stepBy x p k out = pick (ltb (length out) printRoom) (refusedBy 7 s out) (steppedBy x p k out)
+
+  -- `run`
+  abbrev pub runBy : Lent ts s → ℕ → Ran × List ℤ
+  runBy (no-room h) n = (ran.Refused 7, s)
+  runBy (no-model r h) n = (ran.Refused 8, s)
+  runBy (no-state m r h g) n = (ran.Refused 9, s)
+  runBy (a-state m σ h) n = ranBy s m (runFrom (machineOf m) n σ)
+
+  -- `replay`, whose lent numbers are room alone: "7, length, 8, form .., then steps"
+  abbrev pub replayBy : Lent ts s → List ℕ → trails.Replayed × List ℤ
+  replayBy (no-room h) trail = (replayed.Refused 7 0, s)
+  replayBy (no-model r h) trail = pick (ltb trail-most (length trail)) (replayed.Refused 2 0, s) (replayed.Refused 8 0, s)
+  replayBy (no-state m r h g) trail = formedBy s m (formOf trail)
+  replayBy (a-state m σ h) trail = formedBy s m (formOf trail)

@@ -1,0 +1,95 @@
+-- DEMAND 2 IN DOCUMENT 01'S WORDS: what follows from specs/Demand2.antt, each with its sentence. `m` is the model of the lent tables, σ the state of the lent numbers.
+use Prim.Native.Nat.{ℕ, _≤_, _<_}
+use mathlib.Core.Path.{_≡_}
+use mathlib.Core.Bool.{true, false}
+use mathlib.Core.Logic.{_⊎_, _↔_}
+use mathlib.Core.List.{List, _++_}
+use lib.ListN.{length, drop}
+use lib.IntN.{ℤ}
+use Rattle.value.specs.declared.Fault.{Fault}
+use Rattle.syntax.specs.Tree.{Model}
+use Rattle.genuine.specs.Genuine.{written}
+use Rattle.standing.specs.Standing.{isStateOf}
+use Rattle.base_outcome.specs.declared.Taken.the-variants.{Done, Refuted, Faulted}
+use Rattle.steps.specs.Entries.{foreignOf, refusalOf, startLeft, offeredOf, verdictFor, printRoom, outcomeOf}
+use Rattle.steps.specs.declared.Listed.the-variants as listed
+use Rattle.steps.specs.declared.Standing.the-variants as standing
+use Rattle.steps.specs.declared.Stepped.the-variants as stepped
+use Rattle.runs.specs.Entries.{ranOf}
+use Rattle.runs.specs.declared.Ran.the-variants as ran
+use Rattle.records.specs.Forms.{form, formOf}
+use Rattle.trails.specs.Entries.{replayedOf}
+use Rattle.spec_machine.specs.State.{State}
+use Rattle.spec_machine.specs.Machine.{Step}
+use Rattle.spec_trails.specs.Runs.{Ending}
+use Rattle.spec_machine.specs.Steps.{machineOf}
+use Rattle.demands.specs.Lent.{Rooms, Tables, Numbers, Holds}
+use Rattle.demands.specs.Answers.{endingBy}
+use Rattle.demands.specs.Entries.{leaves}
+use Rattle.demands.specs.Walks.{Offers, Runs}
+use Rattle.spec_trails.specs.Trails.{Recorded}
+
+-- ## refusals
+pub record Refusals (ts : List ℕ) (s : List ℤ) : Type 0 where
+  -- "8: tables are those of no accepted text"
+  pub eight : refusalOf ts s ≡ 8 ↔ Rooms ts s × ((m : Model) → Tables ts m → ⊥)
+  -- "9: numbers are no state of the model"
+  pub nine : refusalOf ts s ≡ 9 ↔ (m : Model) × Rooms ts s × Tables ts m × ((σ : State) → Numbers m s σ → ⊥)
+
+-- ## a state of the model
+module _ (ts : List ℕ) (s : List ℤ) (m : Model) (σ : State) where
+  pub record Offering : Type 0 where
+    -- a step is listed exactly when the machine offers it
+    pub exactly : (p k q : ℕ) → ((n : ℕ) × (offeredOf ts s n ≡ listed.Step p k q)) ↔ Offers (machineOf m) σ p k q
+    -- "Offered steps are listed by process number, then text order": a place lies behind another where it stands behind it in the text
+    pub in-text : (p k k′ q q′ : ℕ) → Offers (machineOf m) σ p k q → Offers (machineOf m) σ p k′ q′ → k < k′ → q < q′
+    pub in-order : (n n′ p p′ k k′ q q′ : ℕ) → n < n′ → offeredOf ts s n ≡ listed.Step p k q → offeredOf ts s n′ ≡ listed.Step p′ k′ q′ → (p < p′) ⊎ ((p ≡ p′) × (k < k′))
+
+  -- `step`, with room for what it prints: the state that the machine gives, and the text whole
+  pub record Taking (p k : ℕ) (out : List ℕ) : Type 0 where
+    -- "11: .. asked step not offered"
+    pub not-offered : (outcomeOf ts s p k out .answer ≡ stepped.Refused 11) ↔ ((q : ℕ) → Offers (machineOf m) σ p k q → ⊥)
+    pub done : (q : ℕ) (τ : State) → Offers (machineOf m) σ p k q → machineOf m .take σ p q ≡ (Done, τ) → let text = machineOf m .printed σ p q in outcomeOf ts s p k out
+        ≡ record { answer = stepped.Took (length text); state = leaves s m τ; printed = text ++ drop (length text) out }
+    -- "A failed assertion or fault changes no state and prints nothing"
+    pub asserted : (q : ℕ) (τ : State) → Offers (machineOf m) σ p k q → machineOf m .take σ p q ≡ (Refuted, τ) → outcomeOf ts s p k out ≡ record { answer = stepped.Assert; state = s; printed = out }
+    pub faulty : (q : ℕ) (τ : State) (f : Fault) → Offers (machineOf m) σ p k q → machineOf m .take σ p q ≡ (Faulted f, τ)
+        → outcomeOf ts s p k out ≡ record { answer = stepped.Fault f; state = s; printed = out }
+
+  -- "Verdicts: .. `finished` (all ended), `blocked`, `open` (some step offered)"
+  pub record Verdicts : Type 0 where
+    pub finished : verdictFor ts s ≡ standing.Finished ↔ ((p : ℕ) → p < length (σ .processes) → machineOf m .ended σ p ≡ true)
+    pub blocked : verdictFor ts s ≡ standing.Blocked ↔ ((p k q : ℕ) → Offers (machineOf m) σ p k q → ⊥) × ((p : ℕ) × (p < length (σ .processes)) × (machineOf m .ended σ p ≡ false))
+    pub opened : verdictFor ts s ≡ standing.Open ↔ (p : ℕ) × (k : ℕ) × (q : ℕ) × Offers (machineOf m) σ p k q
+
+  -- "the count it reports is the number of steps taken, a failing one included": there is a run of the machine, and any is what is answered
+  pub record Running (limit : ℕ) : Type 0 where
+    pub steps : List Step
+    pub ending : Ending
+    pub state : State
+    pub runs : Runs (machineOf m) limit σ steps ending state
+    pub answer : (l : List Step) (e : Ending) (τ : State) → Runs (machineOf m) limit σ l e τ → ranOf ts s limit ≡ (ran.Ended (endingBy e) (length l), leaves s m τ)
+
+-- ## whatever is lent
+-- "A refusal changes no lent number or byte", "A failed assertion or fault changes no state and prints nothing": only a step that was taken changes anything
+abbrev pub Unchanged : Type 0
+Unchanged =
+    (ts : List ℕ) (s : List ℤ) (p k : ℕ) (out : List ℕ) → ((n : ℕ) → outcomeOf ts s p k out .answer ≡ stepped.Took n → ⊥)
+    → (outcomeOf ts s p k out .state ≡ s) × (outcomeOf ts s p k out .printed ≡ out)
+
+-- "A state of the model": what the entries leave is one
+pub record Leaves (ts : List ℕ) (s : List ℤ) : Type 0 where
+  pub start : foreignOf ts s ≡ 0 → isStateOf (written ts) (startLeft ts s) ≡ true
+  pub step : refusalOf ts s ≡ 0 → (p k : ℕ) (out : List ℕ) → isStateOf (written ts) (outcomeOf ts s p k out .state) ≡ true
+  pub run : refusalOf ts s ≡ 0 → (limit : ℕ) → isStateOf (written ts) (ranOf ts s limit .1) ≡ true
+  pub replay : foreignOf ts s ≡ 0 → (trail : List ℕ) (l : List Recorded) (v : ℕ) → formOf trail ≡ form l v → isStateOf (written ts) (replayedOf ts trail s .1) ≡ true
+
+-- ## all of it, proved as `in-words` (proofs/InWords.antt)
+pub record InWords : Type 0 where
+  pub refusals : (ts : List ℕ) (s : List ℤ) → Refusals ts s
+  pub offering : (ts : List ℕ) (s : List ℤ) (m : Model) (σ : State) → Holds ts s m σ → Offering ts s m σ
+  pub taking : (ts : List ℕ) (s : List ℤ) (m : Model) (σ : State) → Holds ts s m σ → (p k : ℕ) (out : List ℕ) → printRoom ≤ length out → Taking ts s m σ p k out
+  pub verdicts : (ts : List ℕ) (s : List ℤ) (m : Model) (σ : State) → Holds ts s m σ → Verdicts ts s m σ
+  pub running : (ts : List ℕ) (s : List ℤ) (m : Model) (σ : State) → Holds ts s m σ → (limit : ℕ) → Running ts s m σ limit
+  pub unchanged : Unchanged
+  pub states-left : (ts : List ℕ) (s : List ℤ) → Leaves ts s

@@ -1,5 +1,0 @@
-pub mod Ready
-pub mod Offers
-pub mod Steps
-pub mod Order
-pub mod Verdicts

@@ -1,4 +1,0 @@
-pub mod Executable
-pub mod Offered
-pub mod Nested
-pub mod Verdicts

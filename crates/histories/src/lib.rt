@@ -1,1 +1,0 @@
-// What runs and accepted trails are, as relations: definitions and theorems alone.

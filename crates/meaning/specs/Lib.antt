@@ -1,2 +1,0 @@
-pub mod Eval
-pub mod Scenes

@@ -1,2 +1,0 @@
-pub mod Motion
-pub mod Proctypes

@@ -1,0 +1,116 @@
+-- Document 01, "How it moves": "Within a statement work goes left to right in the text, but a channel's number and field count are tested first", "Faults: .. index out of range, a channel
+-- number that was never made, wrong field count at run time", "each constant and `eval` equals its field, tried left to right to the first difference". Targets, channel operands and
+-- arguments worked out; the first fault ends the work.
+use Prim.Native.Nat.{ℕ, _+_}
+use mathlib.Core.List.{List, [], _∷_}
+use lib.IntN.{ℤ, pos, negsuc}
+use lib.Dec.{eqb, ltb}
+use Rattle.base.specs.Choice.{pick}
+use Rattle.value.specs.Operators.{isTrue, same, oneIf}
+use Rattle.value.specs.declared.Fault.{Fault}
+use Rattle.value.specs.declared.Fault.the-variants.{Index, Channel, Fields}
+use Rattle.value.specs.declared.Answer.{Answer}
+use Rattle.value.specs.declared.Answer.the-variants.{Value, Fails}
+use Rattle.syntax.specs.Tree.{Name, Expr, Ref, plain, indexed, Received, into, equal, exactly, exactly-true, exactly-false}
+use Rattle.spec_machine.specs.Eval.{Scene, eval}
+use Rattle.spec_machine.specs.Stage.{Stage}
+
+-- ## references
+abbrev pub nameOf : Ref → Name
+nameOf (plain w) = w
+nameOf (indexed w e) = w
+
+-- which number of its variable a reference means, or a fault
+pub data Aim : Type 0 where
+  hit : ℕ → Aim
+  miss : Fault → Aim
+
+-- "index out of range"
+abbrev pub aimBy : Scene → Name → Answer → Aim
+aimBy c w (Value (pos i)) = pick (ltb i (c .size w)) (hit i) (miss Index)
+aimBy c w (Value (negsuc i)) = miss Index
+aimBy c w (Fails f) = miss f
+
+abbrev pub aim : Scene → Ref → Aim
+aim c (plain w) = hit 0
+aim c (indexed w e) = aimBy c w (eval c e)
+
+-- ## channel operands
+-- the number of a channel that was made, or a fault
+pub data Reach : Type 0 where
+  channel : ℤ → Reach
+  astray : Fault → Reach
+
+-- "a channel number that was never made, wrong field count at run time", for n arguments
+abbrev pub reachBy : {S : Type 0} → Stage S → ℕ → ℤ → Reach
+reachBy c n v = pick (c .scene .made v) (pick (eqb (c .fields v) n) (channel v) (astray Fields)) (astray Channel)
+
+abbrev pub reachAt : {S : Type 0} → Stage S → ℕ → Name → Aim → Reach
+reachAt c n w (hit k) = reachBy c n (c .scene .element w k)
+reachAt c n w (miss f) = astray f
+
+abbrev pub reach : {S : Type 0} → Stage S → Ref → ℕ → Reach
+reach c r n = reachAt c n (nameOf r) (aim (c .scene) r)
+
+-- ## the arguments of a send, a run or a printf
+pub data Values : Type 0 where
+  all : List ℤ → Values
+  stopped : Fault → Values
+
+abbrev pub first : ℤ → Values → Values
+first v (all vs) = all (v ∷ vs)
+first v (stopped f) = stopped f
+
+abbrev pub valuesBy : Answer → Values → Values
+valuesBy (Value v) vs = first v vs
+valuesBy (Fails f) vs = stopped f
+
+unfoldable pub values : Scene → List Expr → Values
+values c [] = all []
+values c (e ∷ es) = valuesBy (eval c e) (values c es)
+
+-- ## the arguments of a receive, against the fields of the oldest message of channel v
+abbrev pub equalBy : Answer → ℤ → Answer
+equalBy (Value v) w = Value (oneIf (same v w))
+equalBy (Fails f) w = Fails f
+
+-- 1 where it agrees with field f, 0 where it differs; a variable agrees with every field, and is stored to later
+abbrev pub agree : {S : Type 0} → Stage S → ℤ → ℕ → Received → Answer
+agree c v f (into r) = pick (c .constant (nameOf r)) (equalBy (eval (c .scene) r) (c .oldest v f)) (Value (pos 1))
+agree c v f (equal e) = equalBy (eval (c .scene) e) (c .oldest v f)
+agree c v f (exactly n) = equalBy (Value (pos n)) (c .oldest v f)
+agree c v f exactly-true = equalBy (Value (pos 1)) (c .oldest v f)
+agree c v f exactly-false = equalBy (Value (pos 0)) (c .oldest v f)
+
+-- "each constant and `eval` equals its field, tried left to right to the first difference"
+abbrev pub agreeBy : Answer → Answer → Answer
+agreeBy (Value v) y = pick (isTrue v) y (Value v)
+agreeBy (Fails f) y = Fails f
+
+unfoldable pub agrees : {S : Type 0} → Stage S → ℤ → ℕ → List Received → Answer
+agrees c v f [] = Value (pos 1)
+agrees c v f (x ∷ xs) = agreeBy (agree c v f x) (agrees c v (f + 1) xs)
+
+-- ## the targets of a receive: which number of its variable each argument means; one that is compared has none
+pub data Aims : Type 0 where
+  hits : List ℕ → Aims
+  missed : Fault → Aims
+
+abbrev pub before : ℕ → Aims → Aims
+before k (hits ks) = hits (k ∷ ks)
+before k (missed f) = missed f
+
+abbrev pub aimsBy : Aim → Aims → Aims
+aimsBy (hit k) ks = before k ks
+aimsBy (miss f) ks = missed f
+
+abbrev pub target : {S : Type 0} → Stage S → Received → Aim
+target c (into r) = pick (c .constant (nameOf r)) (hit 0) (aim (c .scene) r)
+target c (equal e) = hit 0
+target c (exactly n) = hit 0
+target c exactly-true = hit 0
+target c exactly-false = hit 0
+
+unfoldable pub targets : {S : Type 0} → Stage S → List Received → Aims
+targets c [] = hits []
+targets c (x ∷ xs) = aimsBy (target c x) (targets c xs)

@@ -1,0 +1,156 @@
+-- Document 01, "How it moves": "Taking: target indices are worked out in the state before the step, then stores go left to right. .. A failed assertion or fault changes no state and prints
+-- nothing", "a receive's tests come before its targets. Arguments of a send or `run` are worked out only when there is room for it", "`v = run` stores 0 where nothing fits", "`goto` and
+-- `break` are steps of their own (H)". What a statement does, and what it prints: what came of it, and the state after.
+use Prim.Native.Nat.{ℕ, _+_}
+use mathlib.Core.List.{List, [], _∷_, _++_}
+use lib.ListN.{length}
+use lib.IntN.{ℤ, pos, negsuc, _+ℤ_}
+use Rattle.base.specs.Choice.{pick}
+use Rattle.value.specs.Bits.{wrap32}
+use Rattle.value.specs.Operators.{isTrue}
+use Rattle.value.specs.declared.Answer.{Answer}
+use Rattle.value.specs.declared.Answer.the-variants.{Value, Fails}
+use Rattle.base_outcome.specs.declared.Taken.{Taken}
+use Rattle.base_outcome.specs.declared.Taken.the-variants.{Done, Refuted, Faulted, Idle}
+use Rattle.value.specs.declared.Fault.{Fault}
+use Rattle.spec_text.specs.Formats.{written, opened, counted}
+use Rattle.syntax.specs.Tree.{Name, Received, into, equal, exactly, exactly-true, exactly-false, action, Tree, express, assign, increment, decrement, send, receive, assert, print, skip, goto, break, timeout, else, run, set-run, select, loop}
+use Rattle.spec_machine.specs.Eval.{eval}
+use Rattle.spec_machine.specs.Stage.{Stage, Ways, Change}
+use Rattle.spec_machine.specs.Arguments.{nameOf, Aim, hit, miss, aim, Reach, channel, astray, reach, Values, all, stopped, values, agrees, Aims, hits, missed, targets}
+
+-- what came of it, and the state after
+abbrev pub Outcome : Type 0 → Type 0
+Outcome S = Taken × S
+
+abbrev pub fault : {S : Type 0} → S → Fault → Outcome S
+fault s f = (Faulted f, s)
+
+module _ {S : Type 0} (c : Stage S) where
+  -- ## stores of a receive: the fields of the oldest message of channel v, from field f on, left to right
+  abbrev pub delivery : ℤ → ℕ → Received → ℕ → Change S
+  delivery v f (into r) k s = pick (c .constant (nameOf r)) s (c .store (nameOf r) k (c .oldest v f) s)
+  delivery v f (equal e) k s = s
+  delivery v f (exactly n) k s = s
+  delivery v f exactly-true k s = s
+  delivery v f exactly-false k s = s
+
+  unfoldable pub deliveries : ℤ → ℕ → List Received → List ℕ → Change S
+  deliveries v f [] ks s = s
+  deliveries v f (x ∷ xs) [] s = s
+  deliveries v f (x ∷ xs) (k ∷ ks) s = deliveries v (f + 1) xs ks (delivery v f x k s)
+
+  -- ## by what was worked out, n being the place that follows
+  abbrev pub goOn : ℕ → S → Outcome S
+  goOn n s = (Done, c .go n s)
+
+  abbrev pub expressedBy : ℕ → S → Answer → Outcome S
+  expressedBy n s (Value v) = goOn n s
+  expressedBy n s (Fails f) = fault s f
+
+  abbrev pub assertedBy : ℕ → S → Answer → Outcome S
+  assertedBy n s (Value v) = pick (isTrue v) (goOn n s) (Refuted, s)
+  assertedBy n s (Fails f) = fault s f
+
+  abbrev pub storedBy : ℕ → S → Name → ℕ → Answer → Outcome S
+  storedBy n s w k (Value v) = goOn n (c .store w k v s)
+  storedBy n s w k (Fails f) = fault s f
+
+  -- the target's index comes first, then the right side
+  abbrev pub assignedBy : ℕ → S → Name → Answer → Aim → Outcome S
+  assignedBy n s w x (hit k) = storedBy n s w k x
+  assignedBy n s w x (miss f) = fault s f
+
+  -- `++` and `--`, by d
+  abbrev pub steppedBy : ℕ → S → Name → ℤ → Aim → Outcome S
+  steppedBy n s w d (hit k) = goOn n (c .store w k (wrap32 (c .scene .element w k +ℤ d)) s)
+  steppedBy n s w d (miss f) = fault s f
+
+  abbrev pub sentTo : ℕ → S → ℤ → Values → Outcome S
+  sentTo n s v (all vs) = goOn n (c .put v vs s)
+  sentTo n s v (stopped f) = fault s f
+
+  abbrev pub sentBy : ℕ → S → Values → Reach → Outcome S
+  sentBy n s vs (channel v) = sentTo n s v vs
+  sentBy n s vs (astray f) = fault s f
+
+  -- the message goes out, then the stores
+  abbrev pub receivedAt : ℕ → S → ℤ → List Received → Aims → Outcome S
+  receivedAt n s v xs (hits ks) = goOn n (deliveries v 0 xs ks (c .take v s))
+  receivedAt n s v xs (missed f) = fault s f
+
+  -- "a receive's tests come before its targets"
+  abbrev pub receivedIf : ℕ → S → ℤ → List Received → Answer → Outcome S
+  receivedIf n s v xs (Value z) = receivedAt n s v xs (targets c xs)
+  receivedIf n s v xs (Fails f) = fault s f
+
+  abbrev pub receivedBy : ℕ → S → List Received → Reach → Outcome S
+  receivedBy n s xs (channel v) = receivedIf n s v xs (agrees c v 0 xs)
+  receivedBy n s xs (astray f) = fault s f
+
+  abbrev pub printedBy : ℕ → S → Values → Outcome S
+  printedBy n s (all vs) = goOn n s
+  printedBy n s (stopped f) = fault s f
+
+  abbrev pub ranBy : ℕ → S → Name → Values → Outcome S
+  ranBy n s w (all vs) = goOn n (c .begin w vs s)
+  ranBy n s w (stopped f) = fault s f
+
+  -- `v = run`: the number of the new process, stored in number k of variable x
+  abbrev pub setBy : ℕ → S → Name → ℕ → Name → Values → Outcome S
+  setBy n s x k w (all vs) = goOn n (c .store x k (c .newest) (c .begin w vs s))
+  setBy n s x k w (stopped f) = fault s f
+
+  abbrev pub setRunBy : ℕ → S → Name → Name → Values → Aim → Outcome S
+  setRunBy n s x w vs (hit k) = pick (c .room w) (setBy n s x k w vs) (goOn n (c .store x k (pos 0) s))
+  setRunBy n s x w vs (miss f) = fault s f
+
+  -- ## statements; `if` and `do` are "themselves no steps", and a `run` that finds no room is none
+  unfoldable pub effect : Ways → S → Tree action → Outcome S
+  effect h s (express e) = expressedBy (h .next) s (eval (c .scene) e)
+  effect h s (assign r e) = assignedBy (h .next) s (nameOf r) (eval (c .scene) e) (aim (c .scene) r)
+  effect h s (increment r) = steppedBy (h .next) s (nameOf r) (pos 1) (aim (c .scene) r)
+  effect h s (decrement r) = steppedBy (h .next) s (nameOf r) (negsuc 0) (aim (c .scene) r)
+  effect h s (send r es) = sentBy (h .next) s (values (c .scene) es) (reach c r (length es))
+  effect h s (receive r xs) = receivedBy (h .next) s xs (reach c r (length xs))
+  effect h s (assert e) = assertedBy (h .next) s (eval (c .scene) e)
+  effect h s (print w es) = printedBy (h .next) s (values (c .scene) es)
+  effect h s skip = goOn (h .next) s
+  effect h s (goto w) = goOn (h .label w) s
+  effect h s break = goOn (h .out) s
+  effect h s timeout = goOn (h .next) s
+  effect h s else = goOn (h .next) s
+  effect h s (run w es) = pick (c .room w) (ranBy (h .next) s w (values (c .scene) es)) (Idle, s)
+  effect h s (set-run r w es) = setRunBy (h .next) s (nameOf r) w (values (c .scene) es) (aim (c .scene) r)
+  effect h s (select os) = (Idle, s)
+  effect h s (loop os) = (Idle, s)
+
+-- ## what is printed
+-- the bytes of a format, behind `was`, where k values are written before (specs/Formats.antt of `spec_text`)
+unfoldable pub format : List ℤ → ℕ → ℕ → List ℕ → List ℕ
+format vs was k [] = []
+format vs was k (b ∷ bs) = written vs was b k ++ format vs (opened was b) (counted was b k) bs
+
+abbrev pub textBy : List ℕ → Values → List ℕ
+textBy w (all vs) = format vs 0 0 w
+textBy w (stopped f) = []
+
+-- a printf its text, any other statement nothing
+abbrev pub prints : {S : Type 0} → Stage S → Tree action → List ℕ
+prints c (express e) = []
+prints c (assign r e) = []
+prints c (increment r) = []
+prints c (decrement r) = []
+prints c (send r es) = []
+prints c (receive r xs) = []
+prints c (assert e) = []
+prints c (print w es) = textBy w (values (c .scene) es)
+prints c skip = []
+prints c (goto w) = []
+prints c break = []
+prints c timeout = []
+prints c else = []
+prints c (run w es) = []
+prints c (set-run r w es) = []
+prints c (select os) = []
+prints c (loop os) = []

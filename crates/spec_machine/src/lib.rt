@@ -1,0 +1,1 @@
+// The machine of the specification is definitions alone (specs/).

@@ -1,0 +1,1 @@
+// What the specification says of texts is definitions alone (specs/).

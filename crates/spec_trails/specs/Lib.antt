@@ -1,0 +1,7 @@
+pub mod Runs
+pub mod Trails
+pub mod Replays
+pub mod Examples
+pub mod ExamplesRuns
+pub mod ExamplesReplays
+pub mod ExamplesFactorial

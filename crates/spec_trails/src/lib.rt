@@ -1,0 +1,1 @@
+// Runs and trails of the specification are definitions alone (specs/).

@@ -1,0 +1,7 @@
+pub mod Fitting
+pub mod Grows
+pub mod Numbers
+pub mod Queues
+pub mod Rows
+pub mod Totals
+pub mod Units
