@@ -28,8 +28,13 @@ use Rattle.runs.specs.declared.Ending.the-variants as ending
 use Rattle.trails.specs.Replay.{judged, recordedOf, reachedOf, replayFrom, replayForm}
 use Rattle.trails.specs.declared.Replayed.{Replayed}
 use Rattle.trails.specs.declared.Replayed.the-variants.{Accepted, Refused}
-use Rattle.samples.specs.Samples.{initial}
+use Rattle.samples.specs.Samples.{cleared}
+use Rattle.starting.specs.Starting.{initialOf}
 use Rattle.samples.proofs.Opened.{reads, moves}
+
+-- the initial state of a model, from its tables
+abbrev initial : List ℕ → List ℤ
+initial t = initialOf t cleared
 
 -- to unfold these is to unfold all that the examples compute with, besides reading and moving
 unfoldable forming : Unit {0}

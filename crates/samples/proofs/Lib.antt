@@ -1,2 +1,3 @@
 pub mod Opened
+pub mod Asked
 pub mod Sheet

@@ -37,6 +37,7 @@ use Rattle.starting.specs.Values as startingValues
 use Rattle.executing.specs.Executing as executing
 use Rattle.offering.specs.Offers as offering
 use Rattle.moving.specs.Moving as moving
+use Rattle.printing.specs.Printing as printing
 use Rattle.statements.specs.Statements as statements
 use Rattle.effects.specs.Effects as effects
 use Rattle.lettering.specs.Tokens as lettering
@@ -82,9 +83,10 @@ unfolding
     evaluatingExpressions.nodeOf evaluatingExpressions.plainOf evaluatingExpressions.evalT evaluatingExpressions.locateOf evaluatingVariables.slotOf
     startingStarting.filled startingStarting.variableMade startingStarting.entered startingStarting.unitLength startingStarting.processMade startingStarting.globalMade
     startingStarting.startsOf startingStarting.unitStarted startingStarting.scanned startingStarting.initialOf startingValues.valueAt startingValues.valueOf
-    executing.isAlone executing.markOf executing.readyBy
-    offering.offersFrom
-    moving.anyFrom moving.lateOf moving.endedFrom moving.verdictOf
+    executing.isAlone executing.isAlways executing.markOf executing.readyBy
+    offering.firstOf offering.eachOption offering.offersFrom
+    moving.anyFrom moving.lateOf moving.stepAt moving.endedFrom moving.verdictOf
+    offering.pickAt printing.puts printing.printedAt
     statements.assigned
     effects.targeted effects.takenAs
 moves = tt

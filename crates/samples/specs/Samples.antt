@@ -1,7 +1,6 @@
 -- The sample sheet of document 01 as one list: "Sample sheet (P: prove as one list, one result for all)". Each sample has its text, what it asks and the answer that the
 -- sheet gives; that all of them hold is `samples-hold` (proofs/Sheet.antt). All is worked out from the bytes of the text, by the definitions that contracts name.
--- Refusals and normal text are the entries' own answers (`readOf`, `answerOf`, `leftOf`). Values, stores and verdicts are those of `evalOf`, `takenOf` and `verdictOf`, under the stepper's
--- entries, whose test that numbers are a state of the model takes too long to compute here.
+-- Each is asked of the public entries: `read` on room for tables, `start` on room for a state, then `step` or `verdict`; refusals of `read`, normal text of `normal`.
 use mathlib.Core.List.{List, [], _∷_, _++_}
 use mathlib.Core.Path.{_≡_}
 use Prim.Native.Nat.{ℕ}
@@ -9,23 +8,17 @@ use lib.ListN.{length, replicate}
 use lib.IntN.{ℤ, pos, negℤ}
 use Rattle.tokens.specs.Kinds.{bytes}
 use Rattle.judging.specs.declared.Judged.the-variants.{Accepted, Refused}
-use Rattle.judging.specs.Judging.{tablesText}
 use Rattle.reader.specs.Entries.{room, readOf}
+use Rattle.reader.specs.Entries.{leftOf as tablesLeft}
 use Rattle.normal.specs.declared.Written.the-variants.{Text}
 use Rattle.normal.specs.Entries.{answerOf, leftOf}
 use Rattle.value.specs.declared.Fault.{Fault}
 use Rattle.value.specs.declared.Fault.the-variants.{Divide, Shift}
-use Rattle.value.specs.declared.Answer.{Answer}
-use Rattle.value.specs.declared.Answer.the-variants.{Value, Fails}
-use Rattle.frames.specs.Layout.{stateSize, globalAt, cellOf, placeOf}
-use Rattle.evaluating.specs.Expressions.{evalOf}
-use Rattle.starting.specs.Starting.{initialOf}
-use Rattle.executing.specs.Executing.{markOf}
-use Rattle.base_outcome.specs.declared.Taken.{Taken}
-use Rattle.base_outcome.specs.declared.Taken.the-variants.{Done}
-use Rattle.effects.specs.Effects.{takenOf}
-use Rattle.moving.specs.Moving.{verdictOf}
-use Rattle.moving.specs.declared.Verdict.the-variants.{Blocked}
+use Rattle.frames.specs.Layout.{stateSize, globalAt, cellOf}
+use Rattle.steps.specs.Entries.{startLeft, verdictFor, Outcome, outcomeOf, printRoom}
+use Rattle.steps.specs.declared.Stepped.the-variants.{Took}
+use Rattle.steps.specs.declared.Stepped.the-variants as stepped
+use Rattle.steps.specs.declared.Standing.the-variants.{Blocked}
 
 abbrev pub Bytes : Type 0
 Bytes = List ℕ
@@ -80,41 +73,45 @@ sheet =
 abbrev pub lent : List ℕ
 lent = replicate room 0
 
--- the initial state of a model, from its tables
-abbrev pub initial : List ℕ → List ℤ
-initial t = initialOf t (replicate stateSize (pos 0))
+-- what `read` leaves there of a text, and `start` in a state's room, for these tables
+abbrev pub tables : Bytes → List ℕ
+tables m = tablesLeft m lent
 
--- an expression's value: `init{EXPRESSION}` is accepted, and this is what the expression at which process 0 stands in the initial state is worth
-abbrev pub standing : Bytes → Bytes
-standing e = bytes "init{" ++ (e ++ bytes "}")
+abbrev pub cleared : List ℤ
+cleared = replicate stateSize (pos 0)
 
-abbrev pub valueIn : List ℕ → List ℤ → Answer
-valueIn t s = evalOf t s 0 (placeOf s 0) (markOf t (placeOf s 0))
+abbrev pub started : Bytes → List ℤ
+started m = startLeft (tables m) cleared
 
-abbrev pub WorkedOut : Bytes → Answer → Type 0
-WorkedOut m x = (readOf m lent ≡ Accepted) × (valueIn (tablesText m) (initial (tablesText m)) ≡ x)
+-- the first step that process 0 is offered in the initial state, taken with room for what it prints
+abbrev pub paper : List ℕ
+paper = replicate printRoom 0
 
--- a store: `TYPE x;init{x=EXPRESSION}` is accepted, and the step at which process 0 stands in the initial state is done and leaves this in x, the first global number
+abbrev pub firstStep : Bytes → Outcome
+firstStep m = outcomeOf (tables m) (started m) 0 1 paper
+
+-- `TYPE x;init{x=EXPRESSION}`
 abbrev pub storing : Bytes → Bytes → Bytes
 storing e w = w ++ (bytes " x;init{x=" ++ (e ++ bytes "}"))
 
-abbrev pub stepIn : List ℕ → List ℤ → Taken × List ℤ
-stepIn t s = takenOf t 0 (placeOf s 0) s
-
+-- it is accepted, the step is taken, prints nothing, and leaves this in x, the first global number
 abbrev pub Stored : Bytes → ℤ → Type 0
-Stored m z =
-    (readOf m lent ≡ Accepted) × (stepIn (tablesText m) (initial (tablesText m)) .0 ≡ Done)
-    × (cellOf (stepIn (tablesText m) (initial (tablesText m)) .1) (globalAt 0) ≡ z)
+Stored m z = (readOf m lent ≡ Accepted) × (firstStep m .answer ≡ Took 0) × (cellOf (firstStep m .state) (globalAt 0) ≡ z)
+
+-- it is accepted, and the step is this fault
+abbrev pub Faulted : Bytes → Fault → Type 0
+Faulted m f = (readOf m lent ≡ Accepted) × (firstStep m .answer ≡ stepped.Fault f)
 
 -- normal text: where just its room is lent, it is all that is there afterwards
 abbrev pub roomFor : Bytes → List ℕ
 roomFor u = replicate (length u) 0
 
 abbrev pub Holds : Sample → Type 0
-Holds (gives e v) = WorkedOut (standing e) (Value v)
-Holds (faults e f) = WorkedOut (standing e) (Fails f)
+-- a value is one that an `int` takes unchanged
+Holds (gives e v) = Stored (storing e (bytes "int")) v
+Holds (faults e f) = Faulted (storing e (bytes "int")) f
 Holds (stores e w z) = Stored (storing e w) z
-Holds (blocks m) = (readOf m lent ≡ Accepted) × (verdictOf (tablesText m) (initial (tablesText m)) ≡ Blocked)
+Holds (blocks m) = (readOf m lent ≡ Accepted) × (verdictFor (tables m) (started m) ≡ Blocked)
 Holds (refuses m x i n) = readOf m lent ≡ Refused x i n
 Holds (becomes m u) = (answerOf m (roomFor u) ≡ Text (length u)) × (leftOf m (roomFor u) ≡ u)
 
