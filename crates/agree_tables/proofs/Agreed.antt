@@ -1,4 +1,4 @@
--- THE STAGE OF TABLES AND NUMBERS AGREES WITH THE PLAIN ONE, for tables that say of the model what specs/Tabled.antt names.
+-- THE STAGE OF TABLES AND NUMBERS AGREES WITH THE PLAIN ONE, for tables that say of the model what specs/Tabled.antt of `state_encode` names.
 use Prim.Native.Nat.{ℕ, suc, _+_, _-_, _<_, _≤_, min}
 use native.Mathlib.Omega.{arith}
 use borrow.Author.Tests.{lt-ltb, ltb-true, leb-true, eqb-false}

@@ -1,4 +1,4 @@
--- What searches over the items find for the names of a body's statements, in terms of its place in the tree (specs/Statements.antt). The statements stand from item `from` to before item `to`;
+-- What searches over the items find for the names of a body's statements, in terms of its place in the tree (specs/Statements.antt of `lawful`). The statements stand from item `from` to before item `to`;
 -- `xs` are the items, `cs` their codes, `vs` what their tokens say, `hs` the bodies that they are in, h the number of this body (specs/Homes.antt of `sheets`).
 use Prim.Native.Nat.{ℕ, _≤_, _<_}
 use mathlib.Core.Path.{_≡_}

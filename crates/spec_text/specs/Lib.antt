@@ -1,3 +1,4 @@
 pub mod Ceilings
 pub mod Names
 pub mod Formats
+pub mod Examples
