@@ -1,2 +1,1 @@
-// Where expressions start in the items of a model and how high they are is definitions and theorems alone (specs/ and proofs/). This constant is the greatest height.
-pub const HEIGHT_MOST: usize = 32;
+// Where expressions start in the items of a model and how high they are is definitions and theorems alone (specs/ and proofs/).
