@@ -10,11 +10,11 @@ use mathlib.Core.List.{List, [], _∷_, _++_}
 use lib.IntN.{ℤ}
 use lib.Dec.{eqb, ltb}
 use borrow.Author.Tests.{lt-ltb, le-ltb, ne-eqb, eq-eqb}
-use Rattle.base.specs.Choice.{pick}
-use Rattle.offering.specs.Offers.{pickAt}
-use Rattle.offering.specs.declared.Walk.{Walk}
-use Rattle.offering.specs.declared.Walk.the-variants.{Found, Left}
-use Rattle.moving.specs.Moving.{processes, stepsBy, lateOf, stepAt}
+use Rattle.base_bytes.specs.Choice.{pick}
+use Rattle.step_offers.specs.Offers.{pickAt}
+use Rattle.step_offers.specs.declared.Walk.{Walk}
+use Rattle.step_offers.specs.declared.Walk.the-variants.{Found, Left}
+use Rattle.step_all.specs.Moving.{processes, stepsBy, lateOf, stepAt}
 use Rattle.spec_machine.specs.Machine.{Machine, Step, numbered, late, listFrom, offered, asked}
 use Rattle.agree_transfer.specs.Alike.{In, first, behind}
 use Rattle.agree_tables.specs.Tables.{machineIn}

@@ -4,14 +4,14 @@ use mathlib.Core.Bool.{Bool, true, false}
 use mathlib.Core.List.{List}
 use lib.ListN.{length}
 use lib.IntN.{ℤ, pos, negsuc}
-use Rattle.base.specs.Choice.{pick}
-use Rattle.base.proofs.Tests.{true-false}
-use Rattle.value.specs.Operators.{isTrue}
-use Rattle.value.specs.declared.Answer.{Answer}
-use Rattle.value.specs.declared.Answer.the-variants.{Value, Fails}
+use Rattle.base_bytes.specs.Choice.{pick}
+use Rattle.base_bytes.proofs.Tests.{true-false}
+use Rattle.base_values.specs.Operators.{isTrue}
+use Rattle.base_values.specs.declared.Answer.{Answer}
+use Rattle.base_values.specs.declared.Answer.the-variants.{Value, Fails}
 use Rattle.base_outcome.specs.declared.Taken.{Taken}
 use Rattle.base_outcome.specs.declared.Taken.the-variants.{Done, Refuted, Faulted, Idle}
-use Rattle.syntax.specs.Tree.{Name, Received, action, Tree, express, assign, increment, decrement, send, receive, assert, print, skip, goto, break, timeout, else, run, set-run, select, loop}
+use Rattle.spec_grammar.specs.Tree.{Name, Received, action, Tree, express, assign, increment, decrement, send, receive, assert, print, skip, goto, break, timeout, else, run, set-run, select, loop}
 use Rattle.spec_machine.specs.Eval.{eval}
 use Rattle.spec_machine.specs.Stage.{Stage, Ways}
 use Rattle.spec_machine.specs.Arguments.{nameOf, Aim, hit, miss, aim, Reach, channel, astray, reach, Values, all, stopped, values, agrees, Aims, hits, missed, targets}

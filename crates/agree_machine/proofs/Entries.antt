@@ -9,28 +9,28 @@ use lib.ListN.{length, drop, length-append}
 use lib.IntN.{ℤ}
 use lib.Dec.{eqb, ltb}
 use borrow.Author.Tests.{le-ltb}
-use Rattle.base.specs.Choice.{pick}
-use Rattle.syntax.specs.Tree.{Model}
-use Rattle.reader.specs.Entries.{room}
-use Rattle.judging.specs.Judging.{tablesText}
-use Rattle.accepting.specs.Meaning.{Accepts}
-use Rattle.genuine.specs.Genuine.{written, genuine}
-use Rattle.starting.specs.Starting.{initialOf}
-use Rattle.standing.specs.Standing.{isStateOf}
-use Rattle.moving.specs.Moving.{nthIn, nthOf, verdictOf}
-use Rattle.moving.specs.declared.Offer.{Offer}
-use Rattle.steps.specs.Entries.{foreignOf, refusalOf, startLeft, standingOf, verdictFor, offerBy, offeredOf}
-use Rattle.steps.specs.declared.Listed.the-variants as listed
-use Rattle.steps.specs.declared.Standing.the-variants as standing
-use Rattle.runs.specs.Runs as runs
-use Rattle.runs.specs.declared.Ran.the-variants as ran
-use Rattle.runs.specs.Entries.{ranOf}
-use Rattle.records.specs.Forms.{Form, form, formOf}
+use Rattle.base_bytes.specs.Choice.{pick}
+use Rattle.spec_grammar.specs.Tree.{Model}
+use Rattle.read_entry.specs.Entries.{room}
+use Rattle.read_passes.specs.Judging.{tablesText}
+use Rattle.read_accepts_proof.specs.Meaning.{Accepts}
+use Rattle.table_genuine.specs.Genuine.{written, genuine}
+use Rattle.state_start.specs.Starting.{initialOf}
+use Rattle.state_check.specs.Standing.{isStateOf}
+use Rattle.step_all.specs.Moving.{nthIn, nthOf, verdictOf}
+use Rattle.step_all.specs.declared.Offer.{Offer}
+use Rattle.step_entry.specs.Entries.{foreignOf, refusalOf, startLeft, standingOf, verdictFor, offerBy, offeredOf}
+use Rattle.step_entry.specs.declared.Listed.the-variants as listed
+use Rattle.step_entry.specs.declared.Standing.the-variants as standing
+use Rattle.run_entry.specs.Runs as runs
+use Rattle.run_entry.specs.declared.Ran.the-variants as ran
+use Rattle.run_entry.specs.Entries.{ranOf}
+use Rattle.trail_form.specs.Forms.{Form, form, formOf}
 use Rattle.spec_trails.specs.Trails.{trail-most}
-use Rattle.trails.specs.Replay as trails
-use Rattle.trails.specs.Entries as trailsEntries
-use Rattle.trails.specs.Entries.{replayedOf}
-use Rattle.trails.specs.declared.Replayed.the-variants as replayed
+use Rattle.trail_replay.specs.Replay as trails
+use Rattle.trail_replay.specs.Entries as trailsEntries
+use Rattle.trail_replay.specs.Entries.{replayedOf}
+use Rattle.trail_replay.specs.declared.Replayed.the-variants as replayed
 use Rattle.spec_machine.specs.State.{State}
 use Rattle.spec_machine.specs.Begins.{initial}
 use Rattle.state_encode.specs.Encode.{encode}

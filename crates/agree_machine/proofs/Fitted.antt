@@ -1,4 +1,4 @@
--- A TEXT THAT FITS is written whole by the pen of crate `printing`, which stops at the end, where that of `pens` goes one past it.
+-- A TEXT THAT FITS is written whole by the pen of crate `step_prints`, which stops at the end, where that of `base_pens` goes one past it.
 use Prim.Native.Nat.{ℕ, suc, _+_, _≤_, _<_}
 use native.Mathlib.Omega.{arith}
 use native.Mathlib.Numerals.{add-one}
@@ -8,8 +8,8 @@ use mathlib.Core.List.{List, [], _∷_, _++_}
 use lib.ListN.{length, set, drop, length-set}
 use lib.Seq.{sets, sets-eq}
 use borrow.Author.Tests.{lt-ltb}
-use Rattle.base.specs.Choice.{pick}
-use Rattle.printing.specs.Printing.{pen, putP, puts}
+use Rattle.base_bytes.specs.Choice.{pick}
+use Rattle.step_prints.specs.Printing.{pen, putP, puts}
 
 put-in : (l : List ℕ) (p v : ℕ) → p < length l → putP v (pen l p) ≡ pen (set l p v) (p + 1)
 put-in l p v h = ap (λ b. pen (set l p v) (pick b (p + 1) p)) (lt-ltb p (length l) h)

@@ -8,20 +8,20 @@ use lib.ListN.{length, getD, length-append}
 use lib.IntN.{ℤ, pos, negsuc}
 use lib.Dec.{eqb}
 use borrow.Author.Tests.{eqb-true}
-use Rattle.base.specs.Choice.{pick}
-use Rattle.base.proofs.Tests.{true-false, both-true}
-use Rattle.lexemes.specs.Bytes.{isEscape}
-use Rattle.spacing.specs.Spelled.{Between, empty, plain, escape}
+use Rattle.base_bytes.specs.Choice.{pick}
+use Rattle.base_bytes.proofs.Tests.{true-false, both-true}
+use Rattle.text_pieces.specs.Bytes.{isEscape}
+use Rattle.text_spacing_proof.specs.Spelled.{Between, empty, plain, escape}
 use Rattle.spec_text.specs.Formats.{moveOf, formatFrom, formatOf}
-use Rattle.syntax.specs.Tree.{action, Tree, express, assign, increment, decrement, send, receive, assert, print, skip, goto, break, timeout, else, run, set-run, select, loop}
+use Rattle.spec_grammar.specs.Tree.{action, Tree, express, assign, increment, decrement, send, receive, assert, print, skip, goto, break, timeout, else, run, set-run, select, loop}
 use Rattle.spec_text.specs.Formats.{decimal, escaped, written, opened, counted}
-use Rattle.lawful.specs.Expressions.{whole}
-use Rattle.lawful.specs.Statements as statements
-use Rattle.lawful.specs.Statements.{Place, sense, formats, allowed}
+use Rattle.spec_rules.specs.Expressions.{whole}
+use Rattle.spec_rules.specs.Statements as statements
+use Rattle.spec_rules.specs.Statements.{Place, sense, formats, allowed}
 use Rattle.spec_machine.specs.Stage.{Stage}
 use Rattle.spec_machine.specs.Arguments.{Values, all, stopped, values}
 use Rattle.spec_machine.specs.Effect.{format, textBy, prints}
-use Rattle.lettering.proofs.Tokens.{digits-short}
+use Rattle.normal_letters.proofs.Tokens.{digits-short}
 use Rattle.agree_machine.proofs.Strings.{Fair, Worded}
 
 -- ---- numbers

@@ -5,21 +5,21 @@ use mathlib.Core.Bool.{Bool, true, false}
 use mathlib.Core.List.{List, [], _∷_, _++_}
 use lib.IntN.{ℤ}
 use lib.Dec.{eqb}
-use Rattle.base.specs.Choice.{pick}
-use Rattle.tables.specs.Access.{codeOf}
-use Rattle.frames.specs.Layout.{placeOf}
-use Rattle.offering.specs.Offers as offering
-use Rattle.moving.specs.Moving as moving
-use Rattle.moving.specs.Moving.{Choice, processes, stepsBy, lateOf, listOf, nthIn, nthOf, verdictOf}
-use Rattle.statements.specs.Statements.{Result}
+use Rattle.base_bytes.specs.Choice.{pick}
+use Rattle.table_layout.specs.Access.{codeOf}
+use Rattle.state_layout.specs.Layout.{placeOf}
+use Rattle.step_offers.specs.Offers as offering
+use Rattle.step_all.specs.Moving as moving
+use Rattle.step_all.specs.Moving.{Choice, processes, stepsBy, lateOf, listOf, nthIn, nthOf, verdictOf}
+use Rattle.step_statements.specs.Statements.{Result}
 use Rattle.base_outcome.specs.declared.Taken.{Taken}
 use Rattle.base_outcome.specs.declared.Taken.the-variants.{Done, Refuted, Faulted, Idle}
-use Rattle.runs.specs.Runs as runs
-use Rattle.runs.specs.Runs.{Run, turnBy, turnOf, endingOf}
-use Rattle.runs.specs.declared.Ending as endings
-use Rattle.runs.specs.declared.Ending.the-variants as ending
-use Rattle.moving.specs.declared.Verdict as mv
-use Rattle.moving.specs.declared.Verdict.the-variants as mvs
+use Rattle.run_entry.specs.Runs as runs
+use Rattle.run_entry.specs.Runs.{Run, turnBy, turnOf, endingOf}
+use Rattle.run_entry.specs.declared.Ending as endings
+use Rattle.run_entry.specs.declared.Ending.the-variants as ending
+use Rattle.step_all.specs.declared.Verdict as mv
+use Rattle.step_all.specs.declared.Verdict.the-variants as mvs
 use Rattle.spec_trails.specs.Runs as machine
 use Rattle.spec_machine.specs.Machine.{Machine, Step, numbered, isSome, Verdict, finished, blocked, «open», anyFrom, late, listFrom, offered, endedFrom, verdictBy, verdict}
 use Rattle.spec_trails.specs.Runs.{Ending, stood, refuted, faulted, Ran, firstTaken, runFrom}

@@ -6,31 +6,31 @@ use mathlib.Core.Bool.{true}
 use mathlib.Core.Logic.{inl}
 use mathlib.Core.List.{List, [], _∷_, _++_, map, append-nil}
 use lib.ListN.{length, getD, length-append, length-map}
-use Rattle.syntax.specs.Tree.{Sort, action, statement, sequence, options, Tree, bare, Body, body, Model}
-use Rattle.syntax.specs.Code.{i-local, i-end-body, each, code-tree, code-declaration, code}
-use Rattle.entries.specs.Items as items
-use Rattle.places.specs.Places.{isPart, isMark}
-use Rattle.phrases.specs.Phrases.{At}
-use Rattle.phrases.proofs.Inside as inside
-use Rattle.phrases.proofs.Starts.{at-front, at-back}
-use Rattle.tables.specs.Access.{itemsOf, codeOf}
-use Rattle.holdings.proofs.Accepted.{accepted-known}
-use Rattle.judging.specs.Judging.{tablesText}
-use Rattle.accepting.specs.Meaning.{Accepts}
-use Rattle.expressions.proofs.Codes.{codes-are}
-use Rattle.expressions.proofs.Operators.{known-front, known-back}
-use Rattle.nesting.proofs.Begun.{full-model}
-use Rattle.fitness.specs.Facts.{linksIn, Facts}
-use Rattle.fitness.specs.Held.{Held}
-use Rattle.fitness.proofs.Tables.{codesAt, saidAt, text-held}
-use Rattle.fitness.proofs.Known.{text-facts}
-use Rattle.fitness.proofs.Marks.{stop-of}
+use Rattle.spec_grammar.specs.Tree.{Sort, action, statement, sequence, options, Tree, bare, Body, body, Model}
+use Rattle.spec_grammar.specs.Code.{i-local, i-end-body, each, code-tree, code-declaration, code}
+use Rattle.table_entries.specs.Items as items
+use Rattle.link_places.specs.Places.{isPart, isMark}
+use Rattle.link_phrases_proof.specs.Phrases.{At}
+use Rattle.link_phrases_proof.proofs.Inside as inside
+use Rattle.link_phrases_proof.proofs.Starts.{at-front, at-back}
+use Rattle.table_layout.specs.Access.{itemsOf, codeOf}
+use Rattle.table_proof.proofs.Accepted.{accepted-known}
+use Rattle.read_passes.specs.Judging.{tablesText}
+use Rattle.read_accepts_proof.specs.Meaning.{Accepts}
+use Rattle.agree_eval.proofs.Codes.{codes-are}
+use Rattle.agree_eval.proofs.Operators.{known-front, known-back}
+use Rattle.agree_nesting.proofs.Begun.{full-model}
+use Rattle.keep_tables.specs.Facts.{linksIn, Facts}
+use Rattle.keep_tables.specs.Held.{Held}
+use Rattle.keep_tables.proofs.Tables.{codesAt, saidAt, text-held}
+use Rattle.keep_tables.proofs.Known.{text-facts}
+use Rattle.keep_tables.proofs.Marks.{stop-of}
 use Rattle.spec_machine.specs.Program.{sizeIn, Within, itself, in-if, in-do, unlabelled, behind-label, in-first, in-rest, in-option, in-others, Holds, startIn, endIn, statementsOf}
-use Rattle.following.proofs.Begins.{dull-last, dull-declarations, statement-from}
-use Rattle.following.proofs.Bodies.{Whole, unit-whole}
-use Rattle.following.proofs.Follows.{statement-last, Here, here-if, here-do, here-bare, here-labelled, here-first, here-rest, here-option, here-others}
-use Rattle.following.proofs.Main.{text-unit}
-use Rattle.fitness.specs.Well as well
+use Rattle.agree_control.proofs.Begins.{dull-last, dull-declarations, statement-from}
+use Rattle.agree_control.proofs.Bodies.{Whole, unit-whole}
+use Rattle.agree_control.proofs.Follows.{statement-last, Here, here-if, here-do, here-bare, here-labelled, here-first, here-rest, here-option, here-others}
+use Rattle.agree_control.proofs.Main.{text-unit}
+use Rattle.keep_tables.specs.Well as well
 use Rattle.spec_machine.specs.Names.{unitAt}
 use Rattle.spec_machine.specs.Begins.{itemsBefore, bodyOf}
 use Rattle.state_encode.specs.Encode.{headOf}

@@ -7,18 +7,18 @@ use mathlib.Core.List.{List, [], _++_}
 use lib.ListN.{length, getD}
 use lib.IntN.{ℤ}
 use lib.Dec.{leb}
-use Rattle.base.specs.Choice.{both}
-use Rattle.base.proofs.Tests.{true-false, both-true}
-use Rattle.syntax.specs.Tree.{action, Tree, Body, body, Model}
-use Rattle.judging.specs.Judging.{tablesText}
-use Rattle.accepting.specs.Meaning.{Accepts}
-use Rattle.printing.specs.Printing.{printedAt}
-use Rattle.lawful.specs.Statements.{allowed}
-use Rattle.lawful.specs.Units.{ofModel, partsLawful, mtypesIn, initsIn, tally, modelLawful}
+use Rattle.base_bytes.specs.Choice.{both}
+use Rattle.base_bytes.proofs.Tests.{true-false, both-true}
+use Rattle.spec_grammar.specs.Tree.{action, Tree, Body, body, Model}
+use Rattle.read_passes.specs.Judging.{tablesText}
+use Rattle.read_accepts_proof.specs.Meaning.{Accepts}
+use Rattle.step_prints.specs.Printing.{printedAt}
+use Rattle.spec_rules.specs.Statements.{allowed}
+use Rattle.spec_rules.specs.Units.{ofModel, partsLawful, mtypesIn, initsIn, tally, modelLawful}
 use Rattle.spec_machine.specs.Program.{sizeIn, startIn, endIn, labelIn, statementsOf, Statement}
 use Rattle.agree_stage.specs.Tables.{stageOf}
-use Rattle.expressions.specs.Names.{declAt}
-use Rattle.doing.specs.Stages as doing
+use Rattle.agree_eval.specs.Names.{declAt}
+use Rattle.agree_effects.specs.Stages as doing
 use Rattle.agree_tables.proofs.Statements.{within-within, statement-prints}
 use Rattle.agree_transfer.specs.Agrees.{takable}
 use Rattle.spec_machine.specs.State.{State, noProcess}

@@ -6,32 +6,32 @@ use mathlib.Core.Option.{Option, none, some}
 use mathlib.Core.List.{List, [], _∷_}
 use lib.IntN.{ℤ, pos, negsuc}
 use lib.Dec.{eqb}
-use Rattle.base.specs.Choice.{pick}
-use Rattle.value.specs.declared.Answer.{Answer}
-use Rattle.value.specs.declared.Answer.the-variants.{Value, Fails}
-use Rattle.evaluating.specs.declared.Located.{Located}
-use Rattle.evaluating.specs.declared.Located.the-variants.{At, Astray}
-use Rattle.evaluating.specs.declared.Reached.{Reached}
-use Rattle.evaluating.specs.declared.Reached.the-variants.{Record, Unmade}
-use Rattle.evaluating.specs.Expressions.{evalOf, locateOf}
-use Rattle.executing.specs.Channels.{matchesOf}
-use Rattle.executing.specs.Executing.{markOf, messageOf, fitsOf}
-use Rattle.tables.specs.Access.{codeOf, linkOf}
-use Rattle.value.specs.Operators.{isTrue}
-use Rattle.messages.specs.declared.Gathered.{Gathered}
-use Rattle.messages.specs.declared.Gathered.the-variants.{Upto, Failed}
-use Rattle.messages.specs.Messages.{onValue, onPlace, gatherEnd, aimEnd}
-use Rattle.statements.specs.Statements.{Result, fault, onEnd, onChannel, expressed, asserted, stepped, assigned, sent, receivedFrom, received, printed}
+use Rattle.base_bytes.specs.Choice.{pick}
+use Rattle.base_values.specs.declared.Answer.{Answer}
+use Rattle.base_values.specs.declared.Answer.the-variants.{Value, Fails}
+use Rattle.step_eval.specs.declared.Located.{Located}
+use Rattle.step_eval.specs.declared.Located.the-variants.{At, Astray}
+use Rattle.step_eval.specs.declared.Reached.{Reached}
+use Rattle.step_eval.specs.declared.Reached.the-variants.{Record, Unmade}
+use Rattle.step_eval.specs.Expressions.{evalOf, locateOf}
+use Rattle.step_ready.specs.Channels.{matchesOf}
+use Rattle.step_ready.specs.Executing.{markOf, messageOf, fitsOf}
+use Rattle.table_layout.specs.Access.{codeOf, linkOf}
+use Rattle.base_values.specs.Operators.{isTrue}
+use Rattle.step_messages.specs.declared.Gathered.{Gathered}
+use Rattle.step_messages.specs.declared.Gathered.the-variants.{Upto, Failed}
+use Rattle.step_messages.specs.Messages.{onValue, onPlace, gatherEnd, aimEnd}
+use Rattle.step_statements.specs.Statements.{Result, fault, onEnd, onChannel, expressed, asserted, stepped, assigned, sent, receivedFrom, received, printed}
 use Rattle.base_outcome.specs.declared.Taken.{Taken}
 use Rattle.base_outcome.specs.declared.Taken.the-variants.{Done, Refuted, Faulted, Idle}
-use Rattle.effects.specs.Effects.{ran, setRunAt, setRan, targeted, takenAs, takenOf}
-use Rattle.offering.specs.declared.Walk.{Walk}
-use Rattle.offering.specs.declared.Walk.the-variants.{Found, Left}
-use Rattle.moving.specs.Moving.{stepAt, verdictOf}
-use Rattle.trails.specs.Replay as trails
-use Rattle.trails.specs.Replay.{Replay, numberOf, failureOf, recordedBy, recordedOf, reachedOf, nextBy}
-use Rattle.trails.specs.declared.Replayed as answers
-use Rattle.trails.specs.declared.Replayed.the-variants as replayed
+use Rattle.step_take.specs.Effects.{ran, setRunAt, setRan, targeted, takenAs, takenOf}
+use Rattle.step_offers.specs.declared.Walk.{Walk}
+use Rattle.step_offers.specs.declared.Walk.the-variants.{Found, Left}
+use Rattle.step_all.specs.Moving.{stepAt, verdictOf}
+use Rattle.trail_replay.specs.Replay as trails
+use Rattle.trail_replay.specs.Replay.{Replay, numberOf, failureOf, recordedBy, recordedOf, reachedOf, nextBy}
+use Rattle.trail_replay.specs.declared.Replayed as answers
+use Rattle.trail_replay.specs.declared.Replayed.the-variants as replayed
 use Rattle.spec_machine.specs.Machine.{Machine, Step, Verdict, finished, blocked, «open», offered, verdict, asked}
 use Rattle.spec_trails.specs.Replays.{Claim, assertion, fault as faulting, standing, claimed, Replayed, accepted, refused, judged, followed, recorded, replayFrom}
 use Rattle.spec_trails.specs.Trails.{Recorded}

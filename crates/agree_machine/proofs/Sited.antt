@@ -7,25 +7,25 @@ use mathlib.Core.Bool.{true, false}
 use mathlib.Core.Logic.{_⊎_, inl, inr}
 use mathlib.Core.List.{List, [], _∷_, _++_, append-assoc}
 use lib.ListN.{length, getD, length-append}
-use Rattle.base.specs.Choice.{pick}
-use Rattle.sheets.specs.Walks.{sum}
-use Rattle.sheets.specs.Homes.{insideOf}
-use Rattle.finding.specs.Sets.{among}
-use Rattle.finding.specs.Search.{last}
-use Rattle.rules.specs.Rules.{isArray}
-use Rattle.ceilings.specs.Ceilings.{numbersAt}
-use Rattle.syntax.specs.Tree.{Name, Model, Value, unset, Variable, variable, Declaration, declare, Group, group, body, Part, mtypes, global, process, init}
-use Rattle.syntax.specs.Code.{Item, i-name, i-type, i-declared, i-local, i-global, i-group, i-parameter, each, code-size, code-value, code-variable, code-declaration, code-parameter, code-group, code-body, code-activity, code-part, code}
-use Rattle.entries.specs.Items.{codeOf}
-use Rattle.lawful.specs.Ceilings.{sizeOf}
-use Rattle.legal_items.specs.Says.{itemAt, Says}
-use Rattle.governing.proofs.Items.{Low, all-append, all-size, all-value, valued, settled, all-declaration, global-settled}
-use Rattle.governing.proofs.Standing.{Lies, lies-front, lies-back, lies-all, long, code-is, valued-at, settled-at}
-use Rattle.governing.proofs.Homes.{inside-none, home-most}
-use Rattle.governing.proofs.Judging.{hs, last-here, last-skip, last-over}
-use Rattle.governing.proofs.Variables.{low-one, After}
-use Rattle.governing.proofs.Declarations.{after-groups, after-declarations}
-use Rattle.governing.proofs.Bodies.{Frame, frame-behind, home-in}
+use Rattle.base_bytes.specs.Choice.{pick}
+use Rattle.rule_sheets.specs.Walks.{sum}
+use Rattle.rule_sheets.specs.Homes.{insideOf}
+use Rattle.rule_search.specs.Sets.{among}
+use Rattle.rule_search.specs.Search.{last}
+use Rattle.rule_item.specs.Rules.{isArray}
+use Rattle.rule_ceilings.specs.Ceilings.{numbersAt}
+use Rattle.spec_grammar.specs.Tree.{Name, Model, Value, unset, Variable, variable, Declaration, declare, Group, group, body, Part, mtypes, global, process, init}
+use Rattle.spec_grammar.specs.Code.{Item, i-name, i-type, i-declared, i-local, i-global, i-group, i-parameter, each, code-size, code-value, code-variable, code-declaration, code-parameter, code-group, code-body, code-activity, code-part, code}
+use Rattle.table_entries.specs.Items.{codeOf}
+use Rattle.spec_rules.specs.Ceilings.{sizeOf}
+use Rattle.legal_terms.specs.Says.{itemAt, Says}
+use Rattle.legal_declarations.proofs.Items.{Low, all-append, all-size, all-value, valued, settled, all-declaration, global-settled}
+use Rattle.legal_declarations.proofs.Standing.{Lies, lies-front, lies-back, lies-all, long, code-is, valued-at, settled-at}
+use Rattle.legal_declarations.proofs.Homes.{inside-none, home-most}
+use Rattle.legal_declarations.proofs.Judging.{hs, last-here, last-skip, last-over}
+use Rattle.legal_declarations.proofs.Variables.{low-one, After}
+use Rattle.legal_declarations.proofs.Declarations.{after-groups, after-declarations}
+use Rattle.legal_declarations.proofs.Bodies.{Frame, frame-behind, home-in}
 use Rattle.spec_machine.specs.Names.{Var, ofVariable, ofParameter, globalIn, messageIn, unitAt}
 use Rattle.spec_machine.specs.Begins.{itemsBefore, bodyIn, bodyOf}
 use Rattle.state_encode.specs.Encode.{headIn}
@@ -36,7 +36,7 @@ use Rattle.agree_names.specs.Entries.{slot, Entry, entriesIn}
 use Rattle.agree_names.proofs.Scopes.{Declares, Quiet, Scoped, scoped-start, numbers-next, quiet-numbers, good-adds, starts}
 use Rattle.agree_names.proofs.Ends.{free-after}
 use Rattle.agree_names.proofs.Declared.{sets, type-at, one-number, size-is}
-use Rattle.governing.proofs.Variables.{low-three}
+use Rattle.legal_declarations.proofs.Variables.{low-three}
 use Rattle.agree_names.proofs.Units.{flat, inner-declarations, body-long, unit-behind, first-stands}
 use Rattle.agree_states.proofs.Sites.{some-items}
 use Rattle.agree_states.specs.Sites.{Site, sitesOf, sitesIn, localSites, nameSites, groupIn, groupSites, unitSites, globalHere, globalSites}

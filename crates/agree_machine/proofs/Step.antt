@@ -9,20 +9,20 @@ use lib.ListN.{length, drop}
 use lib.IntN.{ℤ}
 use lib.Dec.{eqb}
 use borrow.Author.Tests.{le-ltb}
-use Rattle.base.specs.Choice.{pick}
-use Rattle.printing.specs.Printing.{Pen, pen, puts}
+use Rattle.base_bytes.specs.Choice.{pick}
+use Rattle.step_prints.specs.Printing.{Pen, pen, puts}
 use Rattle.base_outcome.specs.declared.Taken.{Taken}
 use Rattle.base_outcome.specs.declared.Taken.the-variants.{Done, Refuted, Faulted, Idle}
-use Rattle.syntax.specs.Tree.{action, Tree, express, assign, increment, decrement, send, receive, assert, print, skip, goto, break, timeout, else, run, set-run, select, loop, Model}
-use Rattle.reader.specs.Entries.{room}
-use Rattle.judging.specs.Judging.{tablesText}
-use Rattle.accepting.specs.Meaning.{Accepts}
-use Rattle.genuine.specs.Genuine.{written, genuine}
-use Rattle.offering.specs.declared.Walk.{Walk}
-use Rattle.offering.specs.declared.Walk.the-variants.{Found, Left}
-use Rattle.moving.specs.Moving.{stepAt}
-use Rattle.effects.specs.Effects.{takenOf}
-use Rattle.steps.specs.Entries.{Outcome, tookBy, refusedBy, tookAt, outcomeBy, printRoom, stepRefusal, outcomeOf}
+use Rattle.spec_grammar.specs.Tree.{action, Tree, express, assign, increment, decrement, send, receive, assert, print, skip, goto, break, timeout, else, run, set-run, select, loop, Model}
+use Rattle.read_entry.specs.Entries.{room}
+use Rattle.read_passes.specs.Judging.{tablesText}
+use Rattle.read_accepts_proof.specs.Meaning.{Accepts}
+use Rattle.table_genuine.specs.Genuine.{written, genuine}
+use Rattle.step_offers.specs.declared.Walk.{Walk}
+use Rattle.step_offers.specs.declared.Walk.the-variants.{Found, Left}
+use Rattle.step_all.specs.Moving.{stepAt}
+use Rattle.step_take.specs.Effects.{takenOf}
+use Rattle.step_entry.specs.Entries.{Outcome, tookBy, refusedBy, tookAt, outcomeBy, printRoom, stepRefusal, outcomeOf}
 use Rattle.spec_machine.specs.Stage.{Stage, Ways}
 use Rattle.spec_machine.specs.Arguments.{Values, all, stopped, values}
 use Rattle.spec_machine.specs.Effect.{printedBy, effect, textBy, prints}

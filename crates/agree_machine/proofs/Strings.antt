@@ -6,24 +6,24 @@ use mathlib.Core.Bool.{true}
 use mathlib.Core.List.{List, [], _∷_, _++_}
 use lib.ListN.{length}
 use borrow.Author.Tests.{leb-true}
-use Rattle.base.proofs.Tests.{both-true}
-use Rattle.tokens.specs.Kinds.{Token, name}
-use Rattle.lexemes.specs.Bytes.{quote}
-use Rattle.spacing.specs.Spelled.{Between, Spelled, word, digits, string, mark}
-use Rattle.spacing.specs.Writing.{AllSound}
-use Rattle.spacing.proofs.Tables.{mark-range, word-range}
-use Rattle.spacing.proofs.Written.{tokens-sound}
-use Rattle.syntax.specs.Marks.{'lpar, 'rpar, 'rbrace, 'fi, 'od, 'proctype}
-use Rattle.syntax.specs.Tree.{Sort, action, Tree, express, assign, increment, decrement, send, receive, assert, print, skip, goto, break, timeout, else, run, set-run, select, loop, bare, labelled, end, then, over, option, Body, Part, process, init, Model}
-use Rattle.syntax.specs.Grammar.{D, s-express, s-assign, s-increment, s-decrement, s-send, s-receive, s-assert, s-print-alone, s-print, s-skip, s-goto, s-break, s-timeout, s-else, s-run, s-set-run, s-if, s-do, s-bare, s-label, q-last, q-then, o-last, o-also, Items, statements, declared, A-body, a-body, A-unit, u-mtypes, u-global, u-process, u-init, Gram, g-last, g-more}
-use Rattle.accepting.specs.Meaning.{Accepts}
-use Rattle.lawful.specs.Statements.{all}
-use Rattle.lawful.specs.Ceilings.{narrow, light}
+use Rattle.base_bytes.proofs.Tests.{both-true}
+use Rattle.base_kinds.specs.Kinds.{Token, name}
+use Rattle.text_pieces.specs.Bytes.{quote}
+use Rattle.text_spacing_proof.specs.Spelled.{Between, Spelled, word, digits, string, mark}
+use Rattle.text_spacing_proof.specs.Writing.{AllSound}
+use Rattle.text_spacing_proof.proofs.Tables.{mark-range, word-range}
+use Rattle.text_spacing_proof.proofs.Written.{tokens-sound}
+use Rattle.spec_grammar.specs.Marks.{'lpar, 'rpar, 'rbrace, 'fi, 'od, 'proctype}
+use Rattle.spec_grammar.specs.Tree.{Sort, action, Tree, express, assign, increment, decrement, send, receive, assert, print, skip, goto, break, timeout, else, run, set-run, select, loop, bare, labelled, end, then, over, option, Body, Part, process, init, Model}
+use Rattle.spec_grammar.specs.Grammar.{D, s-express, s-assign, s-increment, s-decrement, s-send, s-receive, s-assert, s-print-alone, s-print, s-skip, s-goto, s-break, s-timeout, s-else, s-run, s-set-run, s-if, s-do, s-bare, s-label, q-last, q-then, o-last, o-also, Items, statements, declared, A-body, a-body, A-unit, u-mtypes, u-global, u-process, u-init, Gram, g-last, g-more}
+use Rattle.read_accepts_proof.specs.Meaning.{Accepts}
+use Rattle.spec_rules.specs.Statements.{all}
+use Rattle.spec_rules.specs.Ceilings.{narrow, light}
 use Rattle.spec_machine.specs.Program.{Within, itself, in-if, in-do, unlabelled, behind-label, in-first, in-rest, in-option, in-others, statementsOf}
 use Rattle.spec_machine.specs.Names.{unitAt}
 use Rattle.spec_machine.specs.Begins.{bodyOf}
-use Rattle.holdings.proofs.Tokens.{unquoted}
-use Rattle.normals.proofs.Algebra.{sound-front, sound-back}
+use Rattle.table_proof.proofs.Tokens.{unquoted}
+use Rattle.normal_shortest_proof.proofs.Algebra.{sound-front, sound-back}
 use Rattle.state_encode.proofs.Totals.{light-narrow, modest-few}
 use Rattle.agree_machine.proofs.Survey.{text-modest}
 

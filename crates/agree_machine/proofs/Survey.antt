@@ -8,22 +8,22 @@ use mathlib.Core.Logic.{_⊎_, inl, inr}
 use mathlib.Core.List.{List, [], _∷_}
 use lib.ListN.{length, getD}
 use lib.IntN.{ℤ, pos}
-use Rattle.base.specs.Choice.{pick}
-use Rattle.base.specs.Lists.{same}
-use Rattle.base.proofs.Tests.{true-false}
-use Rattle.syntax.specs.Tree.{Name, Value, set-name, set-channel, Part, mtypes, global, process, init, Model}
-use Rattle.syntax.specs.Code.{i-name, i-named, code-value, code}
-use Rattle.judging.specs.Judging.{tablesText}
-use Rattle.accepting.specs.Meaning.{Accepts}
-use Rattle.tables.specs.Access.{linkOf}
-use Rattle.frames.specs.Layout.{kept, globalAt, localAt}
-use Rattle.lawful.specs.Ceilings.{modest}
-use Rattle.legal_items.specs.Says.{itemAt, Says}
-use Rattle.lawful.specs.Units.{modelLawful}
-use Rattle.saying.proofs.Modest.{passed-modest}
-use Rattle.governing.proofs.Standing.{Lies, long, code-is}
-use Rattle.governing.proofs.Judging.{hs}
-use Rattle.expressions.specs.Names.{codesAt, saidAt, homesAt}
+use Rattle.base_bytes.specs.Choice.{pick}
+use Rattle.base_bytes.specs.Lists.{same}
+use Rattle.base_bytes.proofs.Tests.{true-false}
+use Rattle.spec_grammar.specs.Tree.{Name, Value, set-name, set-channel, Part, mtypes, global, process, init, Model}
+use Rattle.spec_grammar.specs.Code.{i-name, i-named, code-value, code}
+use Rattle.read_passes.specs.Judging.{tablesText}
+use Rattle.read_accepts_proof.specs.Meaning.{Accepts}
+use Rattle.table_layout.specs.Access.{linkOf}
+use Rattle.state_layout.specs.Layout.{kept, globalAt, localAt}
+use Rattle.spec_rules.specs.Ceilings.{modest}
+use Rattle.legal_terms.specs.Says.{itemAt, Says}
+use Rattle.spec_rules.specs.Units.{modelLawful}
+use Rattle.legal_items.proofs.Modest.{passed-modest}
+use Rattle.legal_declarations.proofs.Standing.{Lies, long, code-is}
+use Rattle.legal_declarations.proofs.Judging.{hs}
+use Rattle.agree_eval.specs.Names.{codesAt, saidAt, homesAt}
 use Rattle.spec_machine.specs.Names.{Var, variablesOf, globalsOf, messagesOf, unitAt, message, messageFrom, numberOf}
 use Rattle.spec_machine.specs.State.{Channel, State}
 use Rattle.spec_machine.specs.Plain.{noVar, madeBy}

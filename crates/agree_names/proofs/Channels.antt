@@ -10,16 +10,16 @@ use lib.ListN.{length, getD, length-append, length-map, List·getD-append}
 use lib.Seq.{getD-append-add}
 use lib.Dec.{ltb, leb}
 use borrow.Author.Tests.{leb-true, ltb-true, ltb-false}
-use Rattle.base.specs.Choice.{pick, both}
-use Rattle.base.proofs.Tests.{both-true}
-use Rattle.syntax.specs.Tree.{Name, Model, sequence, Tree, Value, unset, set-channel, Variable, variable, Declaration, declare, Group, group, body, Part, mtypes, global, process, init}
-use Rattle.syntax.specs.Code.{Item, i-name, i-declared, i-local, i-global, i-body, i-end-body, each, code-size, code-value, code-variable, code-declaration, code-group, code-tree, code-body, code-activity, code-part, code}
-use Rattle.lawful.specs.Senses.{Sense, Scope, fresh, senseOf}
-use Rattle.lawful.specs.Ceilings.{madeBy}
-use Rattle.lawful.specs.Units as units
-use Rattle.lawful.specs.Units.{ofPart, sized, valued, localLawful, globalLawful, variables, declarations, joins, bodyLawful, partLawful, partsLawful}
-use Rattle.legal_items.specs.Says.{Says}
-use Rattle.governing.proofs.Standing.{Lies, lies-front, lies-back}
+use Rattle.base_bytes.specs.Choice.{pick, both}
+use Rattle.base_bytes.proofs.Tests.{both-true}
+use Rattle.spec_grammar.specs.Tree.{Name, Model, sequence, Tree, Value, unset, set-channel, Variable, variable, Declaration, declare, Group, group, body, Part, mtypes, global, process, init}
+use Rattle.spec_grammar.specs.Code.{Item, i-name, i-declared, i-local, i-global, i-body, i-end-body, each, code-size, code-value, code-variable, code-declaration, code-group, code-tree, code-body, code-activity, code-part, code}
+use Rattle.spec_rules.specs.Senses.{Sense, Scope, fresh, senseOf}
+use Rattle.spec_rules.specs.Ceilings.{madeBy}
+use Rattle.spec_rules.specs.Units as units
+use Rattle.spec_rules.specs.Units.{ofPart, sized, valued, localLawful, globalLawful, variables, declarations, joins, bodyLawful, partLawful, partsLawful}
+use Rattle.legal_terms.specs.Says.{Says}
+use Rattle.legal_declarations.proofs.Standing.{Lies, lies-front, lies-back}
 use Rattle.spec_machine.specs.Names.{Var, ofVariable, ofDeclaration, ofDeclarations, ofParameter, ofGroup, ofGroups, variablesOf, unitAt}
 use Rattle.spec_machine.specs.Begins.{itemsBefore}
 use Rattle.spec_machine.specs.Plain.{noVar}

@@ -7,26 +7,26 @@ use mathlib.Core.Option.{Option, none, some}
 use mathlib.Core.Logic.{_⊎_, inl, inr}
 use mathlib.Core.List.{List, [], _∷_, _++_, map, append-assoc, append-nil}
 use lib.ListN.{length, getD, length-append}
-use Rattle.base.specs.Choice.{pick}
-use Rattle.finding.specs.Sets.{among}
-use Rattle.finding.specs.Search.{last}
-use Rattle.rules.specs.Rules.{isArray}
-use Rattle.syntax.specs.Tree.{Name, Model, Value, unset, set-number, set-minus, set-true, set-false, set-name, set-channel, Variable, variable, Declaration, declare, Group, group}
-use Rattle.syntax.specs.Code.{Item, i-name, i-number, i-type, i-declared, i-size, i-value, i-minus, i-named, i-channel, i-local, i-group, i-parameter, i-message, each, code-size, code-value, code-variable, code-declaration, code-parameter, code-group, code-message, code}
-use Rattle.entries.specs.Items.{codeOf, Known}
-use Rattle.lawful.specs.Ceilings.{sizeOf}
-use Rattle.legal_items.specs.Says.{itemAt, Says}
-use Rattle.governing.proofs.Items.{Low, type-code, all-append, all-size, all-value, valued}
-use Rattle.governing.proofs.Standing.{Lies, lies-front, lies-back, lies-all, long, known-at, code-is, valued-at}
-use Rattle.governing.proofs.Judging.{hs, last-here, last-skip, last-over}
-use Rattle.governing.proofs.Variables.{low-one, After, array-none}
-use Rattle.governing.proofs.Declarations.{after-groups, after-declarations}
+use Rattle.base_bytes.specs.Choice.{pick}
+use Rattle.rule_search.specs.Sets.{among}
+use Rattle.rule_search.specs.Search.{last}
+use Rattle.rule_item.specs.Rules.{isArray}
+use Rattle.spec_grammar.specs.Tree.{Name, Model, Value, unset, set-number, set-minus, set-true, set-false, set-name, set-channel, Variable, variable, Declaration, declare, Group, group}
+use Rattle.spec_grammar.specs.Code.{Item, i-name, i-number, i-type, i-declared, i-size, i-value, i-minus, i-named, i-channel, i-local, i-group, i-parameter, i-message, each, code-size, code-value, code-variable, code-declaration, code-parameter, code-group, code-message, code}
+use Rattle.table_entries.specs.Items.{codeOf, Known}
+use Rattle.spec_rules.specs.Ceilings.{sizeOf}
+use Rattle.legal_terms.specs.Says.{itemAt, Says}
+use Rattle.legal_declarations.proofs.Items.{Low, type-code, all-append, all-size, all-value, valued}
+use Rattle.legal_declarations.proofs.Standing.{Lies, lies-front, lies-back, lies-all, long, known-at, code-is, valued-at}
+use Rattle.legal_declarations.proofs.Judging.{hs, last-here, last-skip, last-over}
+use Rattle.legal_declarations.proofs.Variables.{low-one, After, array-none}
+use Rattle.legal_declarations.proofs.Declarations.{after-groups, after-declarations}
 use Rattle.spec_machine.specs.Names.{Var, ofVariable, ofDeclaration, ofDeclarations, ofParameter, ofGroup, ofGroups}
 use Rattle.state_encode.specs.Tabled.{totalOf}
 use Rattle.state_encode.proofs.Totals.{total-append}
 use Rattle.agree_names.specs.Entries.{slot, number, Entry, entry, slots, numbers}
 use Rattle.agree_names.proofs.Scopes.{Scoped, scoped-over, scoped-one, scoped-more, message-good}
-use Rattle.governing.proofs.Variables.{low-three}
+use Rattle.legal_declarations.proofs.Variables.{low-three}
 
 -- ---- lists of variables
 pub slots-append : (xs ys : List Var) (o : ℕ) → slots o (xs ++ ys) ≡ slots o xs ++ slots (o + totalOf xs) ys

@@ -5,14 +5,14 @@ use native.Mathlib.Decide.{ℕ-discrete, decLt}
 use mathlib.Core.Path.{_≡_, ap, _∙_, subst}
 use mathlib.Core.List.{List, [], _∷_, _++_}
 use lib.ListN.{length, getD, length-append}
-use Rattle.syntax.specs.Tree.{Model, sequence, Tree, Variable, variable, Declaration, declare, body, idle, once, times, mtypes, global, process, init}
-use Rattle.syntax.specs.Code.{Item, i-name, i-number, i-type, i-declared, i-local, i-global, i-mtypes, i-init, i-proctype, i-active, i-body, i-end-body, each, code-tree, code-variable, code-declaration, code-body, code}
-use Rattle.entries.specs.Items.{Known}
-use Rattle.legal_items.specs.Says.{itemAt, Says}
-use Rattle.governing.proofs.Items.{spoken, type-code, all-tree}
-use Rattle.governing.proofs.Standing.{Lies, lies-front, lies-back, lies-all, known-at, code-is, spoken-at}
-use Rattle.governing.proofs.Variables.{After}
-use Rattle.governing.proofs.Parts.{beyond}
+use Rattle.spec_grammar.specs.Tree.{Model, sequence, Tree, Variable, variable, Declaration, declare, body, idle, once, times, mtypes, global, process, init}
+use Rattle.spec_grammar.specs.Code.{Item, i-name, i-number, i-type, i-declared, i-local, i-global, i-mtypes, i-init, i-proctype, i-active, i-body, i-end-body, each, code-tree, code-variable, code-declaration, code-body, code}
+use Rattle.table_entries.specs.Items.{Known}
+use Rattle.legal_terms.specs.Says.{itemAt, Says}
+use Rattle.legal_declarations.proofs.Items.{spoken, type-code, all-tree}
+use Rattle.legal_declarations.proofs.Standing.{Lies, lies-front, lies-back, lies-all, known-at, code-is, spoken-at}
+use Rattle.legal_declarations.proofs.Variables.{After}
+use Rattle.legal_declarations.proofs.Parts.{beyond}
 
 -- size (213), value, minus, named, channel, field (218)
 abbrev pub Says-more : ℕ → Type 0
@@ -26,7 +26,7 @@ module _ (m : Model) (cs vs : List ℕ) (S : Says m cs vs) where
   abbrev xs : List Item
   xs = code m
 
-  -- no size (crate `governing`)
+  -- no size (crate `legal_declarations`)
   pub free-after : (e : ℕ) → Free cs e → After m cs vs S e
   free-after e f = (λ z. f .0 (omega arith, omega arith), λ z. f .1 (omega arith, omega arith))
 

@@ -8,17 +8,17 @@ use mathlib.Core.List.{List, [], _∷_}
 use lib.ListN.{length, getD}
 use lib.Dec.{eqb, ltb}
 use borrow.Author.Tests.{eq-eqb, ne-eqb, lt-ltb, le-ltb}
-use Rattle.base.specs.Choice.{pick}
-use Rattle.syntax.specs.Tree.{Model, set-channel}
-use Rattle.syntax.specs.Code.{i-number, i-type, i-field, each, code-field, code-value, code}
-use Rattle.legal_items.specs.Says.{Says}
-use Rattle.tables.specs.Access.{itemsOf, codeOf, numberOf}
-use Rattle.executing.specs.Channels.{capacityOf, fieldsOf}
-use Rattle.messages.specs.Messages.{fieldType}
-use Rattle.governing.proofs.Standing.{Lies, long, code-is}
-use Rattle.fitness.specs.Facts.{linksIn}
-use Rattle.fitness.specs.Held.{Held}
-use Rattle.fitness.proofs.Variables.{past-none}
+use Rattle.base_bytes.specs.Choice.{pick}
+use Rattle.spec_grammar.specs.Tree.{Model, set-channel}
+use Rattle.spec_grammar.specs.Code.{i-number, i-type, i-field, each, code-field, code-value, code}
+use Rattle.legal_terms.specs.Says.{Says}
+use Rattle.table_layout.specs.Access.{itemsOf, codeOf, numberOf}
+use Rattle.step_ready.specs.Channels.{capacityOf, fieldsOf}
+use Rattle.step_messages.specs.Messages.{fieldType}
+use Rattle.legal_declarations.proofs.Standing.{Lies, long, code-is}
+use Rattle.keep_tables.specs.Facts.{linksIn}
+use Rattle.keep_tables.specs.Held.{Held}
+use Rattle.keep_tables.proofs.Variables.{past-none}
 use Rattle.agree_names.proofs.Channels.{Made}
 
 -- at most four fields are counted

@@ -8,21 +8,21 @@ use mathlib.Core.List.{List}
 use lib.ListN.{length, getD}
 use lib.Dec.{eqb}
 use borrow.Author.Tests.{ne-eqb}
-use Rattle.base.specs.Choice.{pick}
-use Rattle.finding.specs.Search.{lookup, last, count}
-use Rattle.sheets.specs.Walks.{sum}
-use Rattle.rules.specs.Rules.{isArray}
-use Rattle.ceilings.specs.Ceilings.{numbersAt}
-use Rattle.links.specs.Links as links
-use Rattle.links.specs.Links.{typeAt, sizeAt, offsetAt, slotAt, classOf, linkBy}
-use Rattle.tables.specs.Access.{codeOf, linkOf}
-use Rattle.frames.specs.Layout.{localAt, globalAt}
-use Rattle.evaluating.specs.Variables.{slotOf}
-use Rattle.expressions.proofs.Lookups.{lookup-most}
-use Rattle.fitness.specs.Facts.{homes, starts, linksIn, Facts}
-use Rattle.fitness.specs.Held.{Held}
-use Rattle.fitness.proofs.Links.{link-is}
-use Rattle.fitness.proofs.Variables.{size-is, slot-of, item-there}
+use Rattle.base_bytes.specs.Choice.{pick}
+use Rattle.rule_search.specs.Search.{lookup, last, count}
+use Rattle.rule_sheets.specs.Walks.{sum}
+use Rattle.rule_item.specs.Rules.{isArray}
+use Rattle.rule_ceilings.specs.Ceilings.{numbersAt}
+use Rattle.link_items.specs.Links as links
+use Rattle.link_items.specs.Links.{typeAt, sizeAt, offsetAt, slotAt, classOf, linkBy}
+use Rattle.table_layout.specs.Access.{codeOf, linkOf}
+use Rattle.state_layout.specs.Layout.{localAt, globalAt}
+use Rattle.step_eval.specs.Variables.{slotOf}
+use Rattle.agree_eval.proofs.Lookups.{lookup-most}
+use Rattle.keep_tables.specs.Facts.{homes, starts, linksIn, Facts}
+use Rattle.keep_tables.specs.Held.{Held}
+use Rattle.keep_tables.proofs.Links.{link-is}
+use Rattle.keep_tables.proofs.Variables.{size-is, slot-of, item-there}
 use Rattle.spec_machine.specs.Names.{Var}
 use Rattle.state_encode.specs.Tabled.{Linked}
 use Rattle.agree_names.proofs.Scopes.{Declares}

@@ -11,46 +11,46 @@ use lib.ListN.{length, getD}
 use lib.IntN.{ℤ}
 use lib.Dec.{eqb, leb}
 use borrow.Author.Tests.{leb-true, lt-ltb, le-ltb, eq-eqb, ne-eqb, eqb-true}
-use Rattle.base.specs.Choice.{pick, both}
-use Rattle.base.specs.Lists.{same}
-use Rattle.base.proofs.Tests.{true-false, both-true}
+use Rattle.base_bytes.specs.Choice.{pick, both}
+use Rattle.base_bytes.specs.Lists.{same}
+use Rattle.base_bytes.proofs.Tests.{true-false, both-true}
 use Rattle.spec_text.specs.Names.{pid}
-use Rattle.sheets.specs.Homes.{heads, insideOf}
-use Rattle.finding.specs.Search.{find, lookup}
-use Rattle.syntax.specs.Tree.{Sort, Name, action, Tree, express, assign, increment, decrement, send, receive, assert, print, skip, goto, break, timeout, else, run, set-run, select, loop, set-channel, Body, body, mtypes, process, init, Model}
-use Rattle.syntax.specs.Tree as tree
-use Rattle.syntax.specs.Code.{Item, i-name, code}
-use Rattle.judging.specs.Judging.{tablesText}
-use Rattle.accepting.specs.Meaning.{Accepts}
-use Rattle.tables.specs.Access.{codeOf, linkOf}
-use Rattle.frames.specs.Layout.{localAt, globalAt}
-use Rattle.executing.specs.Channels.{capacityOf, fieldsOf}
-use Rattle.executing.specs.Executing.{channelsFrom, channelsIn}
-use Rattle.messages.specs.Messages.{fieldType}
-use Rattle.effects.specs.Effects.{called}
-use Rattle.lawful.specs.Senses as senses
-use Rattle.lawful.specs.Senses.{Sense, constant, procedure, unknown, Scope, senseIn, isUnknown, isConstant, hides, senseOf}
-use Rattle.lawful.specs.Expressions.{Role, operand, received, target, suits, usable, lawful, whole}
-use Rattle.lawful.specs.Statements.{all, Place, sense, takes, runs, allowed}
-use Rattle.lawful.specs.Ceilings.{madeByBody, narrow, modest}
-use Rattle.lawful.specs.Units.{ofPart, ofModel, partsLawful, mtypesIn, initsIn, tally, modelLawful}
-use Rattle.legal_items.specs.Says.{itemAt, Says}
+use Rattle.rule_sheets.specs.Homes.{heads, insideOf}
+use Rattle.rule_search.specs.Search.{find, lookup}
+use Rattle.spec_grammar.specs.Tree.{Sort, Name, action, Tree, express, assign, increment, decrement, send, receive, assert, print, skip, goto, break, timeout, else, run, set-run, select, loop, set-channel, Body, body, mtypes, process, init, Model}
+use Rattle.spec_grammar.specs.Tree as tree
+use Rattle.spec_grammar.specs.Code.{Item, i-name, code}
+use Rattle.read_passes.specs.Judging.{tablesText}
+use Rattle.read_accepts_proof.specs.Meaning.{Accepts}
+use Rattle.table_layout.specs.Access.{codeOf, linkOf}
+use Rattle.state_layout.specs.Layout.{localAt, globalAt}
+use Rattle.step_ready.specs.Channels.{capacityOf, fieldsOf}
+use Rattle.step_ready.specs.Executing.{channelsFrom, channelsIn}
+use Rattle.step_messages.specs.Messages.{fieldType}
+use Rattle.step_take.specs.Effects.{called}
+use Rattle.spec_rules.specs.Senses as senses
+use Rattle.spec_rules.specs.Senses.{Sense, constant, procedure, unknown, Scope, senseIn, isUnknown, isConstant, hides, senseOf}
+use Rattle.spec_rules.specs.Expressions.{Role, operand, received, target, suits, usable, lawful, whole}
+use Rattle.spec_rules.specs.Statements.{all, Place, sense, takes, runs, allowed}
+use Rattle.spec_rules.specs.Ceilings.{madeByBody, narrow, modest}
+use Rattle.spec_rules.specs.Units.{ofPart, ofModel, partsLawful, mtypesIn, initsIn, tally, modelLawful}
+use Rattle.legal_terms.specs.Says.{itemAt, Says}
 use Rattle.spec_machine.specs.Program.{Within, itself, in-if, in-do, unlabelled, behind-label, in-first, in-rest, in-option, in-others, sizeIn, startIn, endIn, statementsOf}
-use Rattle.expressions.specs.Names.{codesAt, saidAt, homesAt, meantAt, declAt}
-use Rattle.expressions.proofs.Said.{first-said}
-use Rattle.doing.specs.Stages as stages
-use Rattle.doing.specs.Few as arguments
+use Rattle.agree_eval.specs.Names.{codesAt, saidAt, homesAt, meantAt, declAt}
+use Rattle.agree_eval.proofs.Said.{first-said}
+use Rattle.agree_effects.specs.Stages as stages
+use Rattle.agree_effects.specs.Few as arguments
 use Rattle.agree_transfer.proofs.Ways.{within-lawful}
-use Rattle.beginnings.proofs.Units.{unit-long}
-use Rattle.saying.proofs.Says.{text-says}
-use Rattle.saying.proofs.Modest.{passed-modest}
-use Rattle.governing.proofs.Homes.{no-head, home-inside}
-use Rattle.governing.proofs.Standing.{long}
-use Rattle.governing.proofs.Bodies.{Frame, home-in}
-use Rattle.fitness.specs.Facts.{linksIn, Facts}
-use Rattle.fitness.specs.Held.{Held}
-use Rattle.fitness.proofs.Tables.{text-held}
-use Rattle.fitness.proofs.Known.{text-facts}
+use Rattle.agree_start.proofs.Units.{unit-long}
+use Rattle.legal_items.proofs.Says.{text-says}
+use Rattle.legal_items.proofs.Modest.{passed-modest}
+use Rattle.legal_declarations.proofs.Homes.{no-head, home-inside}
+use Rattle.legal_declarations.proofs.Standing.{long}
+use Rattle.legal_declarations.proofs.Bodies.{Frame, home-in}
+use Rattle.keep_tables.specs.Facts.{linksIn, Facts}
+use Rattle.keep_tables.specs.Held.{Held}
+use Rattle.keep_tables.proofs.Tables.{text-held}
+use Rattle.keep_tables.proofs.Known.{text-facts}
 use Rattle.agree_transfer.specs.Agrees.{storable}
 use Rattle.agree_transfer.specs.Agrees as agrees
 use Rattle.spec_machine.specs.Names.{variablesOf, parametersOf, globalsOf, messagesOf, unitAt, proctypeOf, Meaning, local, global, message, self, variableFrom, messageFrom, meant}

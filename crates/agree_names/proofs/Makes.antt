@@ -9,25 +9,25 @@ use mathlib.Core.List.{List, [], _∷_, _++_}
 use lib.ListN.{length, getD, length-append}
 use lib.Dec.{eqb}
 use borrow.Author.Tests.{eq-eqb, ne-eqb}
-use Rattle.base.specs.Choice.{pick}
-use Rattle.base.proofs.Tests.{true-false}
-use Rattle.sheets.specs.Homes.{heads}
-use Rattle.syntax.specs.Tree.{Name, Model, sequence, Tree, Value, unset, set-number, set-minus, set-true, set-false, set-name, set-channel, Variable, variable, Declaration, declare, Group, group, body, Activity, idle, once, times, Part, mtypes, global, process, init}
-use Rattle.syntax.specs.Code.{Item, i-name, i-number, i-type, i-true, i-false, i-declared, i-size, i-value, i-minus, i-named, i-channel, i-field, i-local, i-group, i-parameter, i-body, i-end-body, each, code-tree, code-field, code-size, code-value, code-variable, code-declaration, code-parameter, code-group, code-body, code-activity, code-part, code}
-use Rattle.entries.specs.Items as items
-use Rattle.entries.specs.Items.{Known}
-use Rattle.lawful.specs.Ceilings.{madeBy, madeByVariable, madeByDeclaration, madeByBody}
-use Rattle.lawful.specs.Units.{tally}
-use Rattle.legal_items.specs.Says.{itemAt, Says}
-use Rattle.tables.specs.Access.{codeOf}
-use Rattle.executing.specs.Executing.{channelsFrom}
+use Rattle.base_bytes.specs.Choice.{pick}
+use Rattle.base_bytes.proofs.Tests.{true-false}
+use Rattle.rule_sheets.specs.Homes.{heads}
+use Rattle.spec_grammar.specs.Tree.{Name, Model, sequence, Tree, Value, unset, set-number, set-minus, set-true, set-false, set-name, set-channel, Variable, variable, Declaration, declare, Group, group, body, Activity, idle, once, times, Part, mtypes, global, process, init}
+use Rattle.spec_grammar.specs.Code.{Item, i-name, i-number, i-type, i-true, i-false, i-declared, i-size, i-value, i-minus, i-named, i-channel, i-field, i-local, i-group, i-parameter, i-body, i-end-body, each, code-tree, code-field, code-size, code-value, code-variable, code-declaration, code-parameter, code-group, code-body, code-activity, code-part, code}
+use Rattle.table_entries.specs.Items as items
+use Rattle.table_entries.specs.Items.{Known}
+use Rattle.spec_rules.specs.Ceilings.{madeBy, madeByVariable, madeByDeclaration, madeByBody}
+use Rattle.spec_rules.specs.Units.{tally}
+use Rattle.legal_terms.specs.Says.{itemAt, Says}
+use Rattle.table_layout.specs.Access.{codeOf}
+use Rattle.step_ready.specs.Executing.{channelsFrom}
 use Rattle.spec_machine.specs.Program.{sizeIn, startIn, endIn}
-use Rattle.governing.proofs.Items.{type-code}
-use Rattle.governing.proofs.Standing.{Lies, lies-front, lies-back, long, known-at, code-is}
-use Rattle.governing.proofs.Homes.{no-head}
-use Rattle.governing.proofs.Bodies.{Frame}
-use Rattle.fitness.specs.Facts.{linksIn}
-use Rattle.fitness.specs.Held.{Held}
+use Rattle.legal_declarations.proofs.Items.{type-code}
+use Rattle.legal_declarations.proofs.Standing.{Lies, lies-front, lies-back, long, known-at, code-is}
+use Rattle.legal_declarations.proofs.Homes.{no-head}
+use Rattle.legal_declarations.proofs.Bodies.{Frame}
+use Rattle.keep_tables.specs.Facts.{linksIn}
+use Rattle.keep_tables.specs.Held.{Held}
 use Rattle.spec_machine.specs.Begins.{bodyIn, bodyOf}
 use Rattle.state_encode.specs.Encode.{headIn}
 use Rattle.spec_machine.specs.Places.{Bodied}

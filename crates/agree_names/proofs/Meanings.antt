@@ -1,4 +1,4 @@
--- What names stand for in the tree, said of the entries: senses (crate `lawful`) and meanings (`spec_machine`) are those of the first entry of a name. Nothing here knows of items.
+-- What names stand for in the tree, said of the entries: senses (crate `spec_rules`) and meanings (`spec_machine`) are those of the first entry of a name. Nothing here knows of items.
 use Prim.Native.Nat.{ℕ, zero, suc, _+_, _≤_, _<_}
 use native.Mathlib.Omega.{arith}
 use mathlib.Core.Path.{_≡_, refl, sym as inv, ap, _∙_, subst}
@@ -7,17 +7,17 @@ use mathlib.Core.Option.{Option, none, some}
 use mathlib.Core.List.{List, [], _∷_, _++_, map, append-assoc, append-nil}
 use lib.ListN.{length, getD, length-append, length-map, List·getD-append}
 use lib.Seq.{getD-append-add}
-use Rattle.base.specs.Choice.{pick, both}
-use Rattle.base.specs.Lists.{same}
-use Rattle.base.proofs.Tests.{true-false, both-true}
-use Rattle.base.proofs.Lists.{same-eq}
+use Rattle.base_bytes.specs.Choice.{pick, both}
+use Rattle.base_bytes.specs.Lists.{same}
+use Rattle.base_bytes.proofs.Tests.{true-false, both-true}
+use Rattle.base_bytes.proofs.Lists.{same-eq}
 use Rattle.spec_text.specs.Names.{pid}
-use Rattle.syntax.specs.Tree.{Name, Variable, variable, Declaration, declare, Group, group, body, Part, mtypes, global, process, init, Model}
-use Rattle.syntax.specs.Code.{code-part}
-use Rattle.lawful.specs.Senses as senses
-use Rattle.lawful.specs.Senses.{Sense, constant, procedure, unknown, Scope, senseIn, isUnknown, fresh, senseOf}
-use Rattle.lawful.specs.Units as units
-use Rattle.lawful.specs.Units.{ofMessage, ofPart, ofModel, globalLawful, variables, bodyLawful, partLawful, partsLawful, joins, sized, valued}
+use Rattle.spec_grammar.specs.Tree.{Name, Variable, variable, Declaration, declare, Group, group, body, Part, mtypes, global, process, init, Model}
+use Rattle.spec_grammar.specs.Code.{code-part}
+use Rattle.spec_rules.specs.Senses as senses
+use Rattle.spec_rules.specs.Senses.{Sense, constant, procedure, unknown, Scope, senseIn, isUnknown, fresh, senseOf}
+use Rattle.spec_rules.specs.Units as units
+use Rattle.spec_rules.specs.Units.{ofMessage, ofPart, ofModel, globalLawful, variables, bodyLawful, partLawful, partsLawful, joins, sized, valued}
 use Rattle.spec_machine.specs.Names.{Var, ofVariable, ofDeclaration, ofDeclarations, ofParameter, ofGroup, ofGroups, variablesOf, parametersOf, globalIn, globalsOf, messageIn, messagesOf, unitAt, proctypeFrom, Meaning, message, variableFrom, messageFrom}
 use Rattle.spec_machine.specs.Names as names
 use Rattle.spec_machine.specs.Begins.{itemsBefore}

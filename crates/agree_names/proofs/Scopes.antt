@@ -11,23 +11,23 @@ use mathlib.Core.List.{List, [], _∷_, _++_}
 use lib.ListN.{length, getD}
 use lib.Dec.{eqb, ltb, leb}
 use borrow.Author.Tests.{lt-ltb, le-ltb, ne-eqb, eq-eqb, le-leb, leb-true}
-use Rattle.base.specs.Choice.{pick, both, either}
-use Rattle.base.specs.Lists.{same}
-use Rattle.base.proofs.Tests.{true-false, both-true}
-use Rattle.base.proofs.Lists.{same-eq}
+use Rattle.base_bytes.specs.Choice.{pick, both, either}
+use Rattle.base_bytes.specs.Lists.{same}
+use Rattle.base_bytes.proofs.Tests.{true-false, both-true}
+use Rattle.base_bytes.proofs.Lists.{same-eq}
 use Rattle.spec_text.specs.Names.{pid}
-use Rattle.sheets.specs.Walks.{sum}
-use Rattle.finding.specs.Sets.{among}
-use Rattle.finding.specs.Search.{declares, find, last, one, count}
-use Rattle.rules.specs.Rules.{isArray}
-use Rattle.ceilings.specs.Ceilings.{numbersAt}
-use Rattle.syntax.specs.Tree.{Name, Model}
-use Rattle.syntax.specs.Code.{i-name, code}
-use Rattle.legal_items.specs.Says.{itemAt, Says}
-use Rattle.fitness.proofs.Sums.{sum-next}
+use Rattle.rule_sheets.specs.Walks.{sum}
+use Rattle.rule_search.specs.Sets.{among}
+use Rattle.rule_search.specs.Search.{declares, find, last, one, count}
+use Rattle.rule_item.specs.Rules.{isArray}
+use Rattle.rule_ceilings.specs.Ceilings.{numbersAt}
+use Rattle.spec_grammar.specs.Tree.{Name, Model}
+use Rattle.spec_grammar.specs.Code.{i-name, code}
+use Rattle.legal_terms.specs.Says.{itemAt, Says}
+use Rattle.keep_tables.proofs.Sums.{sum-next}
 use Rattle.spec_machine.specs.Names.{Var}
 use Rattle.agree_names.specs.Entries.{What, slot, number, proctype, Entry, entry, whatIn, sizeIn, namedIn}
-use Rattle.governing.proofs.Scopes.{find-more, find-start, declares-is}
+use Rattle.legal_declarations.proofs.Scopes.{find-more, find-start, declares-is}
 
 -- ---- one entry more
 abbrev pub orElse : Option What → Option What → Option What

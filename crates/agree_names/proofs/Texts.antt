@@ -4,14 +4,14 @@ use mathlib.Core.Path.{_≡_}
 use mathlib.Core.Bool.{true}
 use mathlib.Core.List.{List, map}
 use lib.IntN.{ℤ}
-use Rattle.spacing.specs.Writing.{tokensIn}
-use Rattle.machine.specs.Machine.{place-of}
-use Rattle.judging.specs.Judging.{tablesText}
-use Rattle.accepting.specs.Meaning.{Accepts}
-use Rattle.lawful.specs.Units.{modelLawful}
-use Rattle.expressions.specs.Names.{codesAt, saidAt}
-use Rattle.saying.proofs.Says.{text-says}
-use Rattle.legal.proofs.Main.{rules}
+use Rattle.text_spacing_proof.specs.Writing.{tokensIn}
+use Rattle.parse_machine_proof.specs.Machine.{place-of}
+use Rattle.read_passes.specs.Judging.{tablesText}
+use Rattle.read_accepts_proof.specs.Meaning.{Accepts}
+use Rattle.spec_rules.specs.Units.{modelLawful}
+use Rattle.agree_eval.specs.Names.{codesAt, saidAt}
+use Rattle.legal_items.proofs.Says.{text-says}
+use Rattle.legal_texts.proofs.Main.{rules}
 use Rattle.agree_transfer.specs.Alike.{Alike}
 use Rattle.spec_machine.specs.Steps.{machineOf}
 use Rattle.agree_tables.specs.Tables.{machineIn}

@@ -9,20 +9,20 @@ use mathlib.Core.List.{List, [], _∷_, _++_, append-assoc, append-nil}
 use lib.ListN.{length, getD, length-append}
 use lib.Dec.{leb}
 use borrow.Author.Tests.{leb-true}
-use Rattle.sheets.specs.Homes.{heads, insideOf}
-use Rattle.finding.specs.Sets.{among}
-use Rattle.syntax.specs.Tree.{Name, Model, sequence, Tree, Declaration, declare, Group, body, Activity, idle, once, times, Part, mtypes, global, process, init}
-use Rattle.syntax.specs.Code.{Item, i-name, i-number, i-mtypes, i-global, i-local, i-init, i-proctype, i-active, i-active-many, i-body, i-end-body, each, code-tree, code-declaration, code-group, code-body, code-activity, code-message, code-part, code}
-use Rattle.entries.specs.Items.{codeOf}
-use Rattle.legal_items.specs.Says.{itemAt, Says}
+use Rattle.rule_sheets.specs.Homes.{heads, insideOf}
+use Rattle.rule_search.specs.Sets.{among}
+use Rattle.spec_grammar.specs.Tree.{Name, Model, sequence, Tree, Declaration, declare, Group, body, Activity, idle, once, times, Part, mtypes, global, process, init}
+use Rattle.spec_grammar.specs.Code.{Item, i-name, i-number, i-mtypes, i-global, i-local, i-init, i-proctype, i-active, i-active-many, i-body, i-end-body, each, code-tree, code-declaration, code-group, code-body, code-activity, code-message, code-part, code}
+use Rattle.table_entries.specs.Items.{codeOf}
+use Rattle.legal_terms.specs.Says.{itemAt, Says}
 use Rattle.spec_machine.specs.Program.{sizeIn, startIn, endIn}
-use Rattle.governing.proofs.Items.{settled, all-declaration, global-settled, All, all-each}
-use Rattle.governing.proofs.Standing.{Lies, lies-front, lies-back, lies-all, lies-whole, long, code-at, code-is, settled-at}
-use Rattle.governing.proofs.Homes.{no-head, inside-none, inside-over, home-inside, home-of-head, home-most}
-use Rattle.governing.proofs.Judging.{hs}
-use Rattle.governing.proofs.Variables.{After}
-use Rattle.governing.proofs.Declarations.{after-declarations}
-use Rattle.governing.proofs.Bodies.{Frame, frame-made, frame-behind, home-in, inside-after}
+use Rattle.legal_declarations.proofs.Items.{settled, all-declaration, global-settled, All, all-each}
+use Rattle.legal_declarations.proofs.Standing.{Lies, lies-front, lies-back, lies-all, lies-whole, long, code-at, code-is, settled-at}
+use Rattle.legal_declarations.proofs.Homes.{no-head, inside-none, inside-over, home-inside, home-of-head, home-most}
+use Rattle.legal_declarations.proofs.Judging.{hs}
+use Rattle.legal_declarations.proofs.Variables.{After}
+use Rattle.legal_declarations.proofs.Declarations.{after-declarations}
+use Rattle.legal_declarations.proofs.Bodies.{Frame, frame-made, frame-behind, home-in, inside-after}
 use Rattle.spec_machine.specs.Names.{ofGroups, ofDeclaration, ofDeclarations, variablesOf, globalIn, messageIn, unitAt}
 use Rattle.spec_machine.specs.Begins.{itemsBefore, bodyIn, bodyOf}
 use Rattle.state_encode.specs.Encode.{headIn}

@@ -10,26 +10,26 @@ use mathlib.Core.List.{List, []}
 use lib.ListN.{length, getD}
 use lib.Dec.{ltb}
 use borrow.Author.Tests.{eqb-true}
-use Rattle.base.specs.Choice.{pick}
-use Rattle.base.specs.Lists.{same}
-use Rattle.base.proofs.Tests.{true-false}
-use Rattle.base.proofs.Lists.{same-eq}
+use Rattle.base_bytes.specs.Choice.{pick}
+use Rattle.base_bytes.specs.Lists.{same}
+use Rattle.base_bytes.proofs.Tests.{true-false}
+use Rattle.base_bytes.proofs.Lists.{same-eq}
 use Rattle.spec_text.specs.Names.{pid}
-use Rattle.finding.specs.Sets.{among}
-use Rattle.finding.specs.Search.{find, lookup}
-use Rattle.syntax.specs.Tree.{Name, Model}
-use Rattle.syntax.specs.Code.{i-name, code}
-use Rattle.judging.specs.Judging.{tablesText}
-use Rattle.accepting.specs.Meaning.{Accepts}
-use Rattle.tables.specs.Access.{linkOf}
-use Rattle.lawful.specs.Units.{ofModel, modelLawful}
-use Rattle.legal_items.specs.Says.{itemAt, Says}
-use Rattle.expressions.specs.Names.{codesAt, saidAt, homesAt}
-use Rattle.expressions.proofs.Lookups.{lookup-most}
-use Rattle.governing.proofs.Standing.{long, code-is}
-use Rattle.governing.proofs.Scopes.{lookup-pid}
-use Rattle.governing.proofs.Judging.{rule-named}
-use Rattle.governing.proofs.Bodies.{home-in}
+use Rattle.rule_search.specs.Sets.{among}
+use Rattle.rule_search.specs.Search.{find, lookup}
+use Rattle.spec_grammar.specs.Tree.{Name, Model}
+use Rattle.spec_grammar.specs.Code.{i-name, code}
+use Rattle.read_passes.specs.Judging.{tablesText}
+use Rattle.read_accepts_proof.specs.Meaning.{Accepts}
+use Rattle.table_layout.specs.Access.{linkOf}
+use Rattle.spec_rules.specs.Units.{ofModel, modelLawful}
+use Rattle.legal_terms.specs.Says.{itemAt, Says}
+use Rattle.agree_eval.specs.Names.{codesAt, saidAt, homesAt}
+use Rattle.agree_eval.proofs.Lookups.{lookup-most}
+use Rattle.legal_declarations.proofs.Standing.{long, code-is}
+use Rattle.legal_declarations.proofs.Scopes.{lookup-pid}
+use Rattle.legal_declarations.proofs.Judging.{rule-named}
+use Rattle.legal_declarations.proofs.Bodies.{home-in}
 use Rattle.spec_machine.specs.Names.{variablesOf, globalsOf, messagesOf, unitAt, variableFrom, messageFrom, numberOf}
 use Rattle.spec_machine.specs.Names as names
 use Rattle.spec_machine.specs.Places.{Bodied, bodyAt, startOf, endOf}

@@ -4,11 +4,11 @@ use Prim.Native.Nat.{ℕ, zero, suc, _+_}
 use mathlib.Core.Option.{Option, none, some}
 use mathlib.Core.List.{List, [], _∷_, _++_}
 use lib.ListN.{length}
-use Rattle.base.specs.Choice.{pick}
-use Rattle.base.specs.Lists.{same}
-use Rattle.syntax.specs.Tree.{Name, Part, mtypes, process, init, Model}
-use Rattle.syntax.specs.Tree as tree
-use Rattle.syntax.specs.Code.{code-part}
+use Rattle.base_bytes.specs.Choice.{pick}
+use Rattle.base_bytes.specs.Lists.{same}
+use Rattle.spec_grammar.specs.Tree.{Name, Part, mtypes, process, init, Model}
+use Rattle.spec_grammar.specs.Tree as tree
+use Rattle.spec_grammar.specs.Code.{code-part}
 use Rattle.spec_machine.specs.Names.{Var, ofDeclaration, globalIn, messageIn}
 use Rattle.state_encode.specs.Encode.{headIn}
 use Rattle.state_encode.specs.Tabled.{totalOf}

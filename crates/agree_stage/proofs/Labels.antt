@@ -6,12 +6,12 @@ use mathlib.Core.Bool.{Bool, true, false}
 use mathlib.Core.Logic.{_⊎_, inl, inr}
 use mathlib.Core.List.{List, [], _∷_, _++_}
 use lib.ListN.{length}
-use Rattle.base.specs.Choice.{pick}
-use Rattle.base.specs.Lists.{same}
-use Rattle.base.proofs.Lists.{same-refl, same-eq}
-use Rattle.base.proofs.Tests.{true-false}
-use Rattle.syntax.specs.Tree.{Name, Sort, action, Tree, express, assign, increment, decrement, send, receive, assert, print, skip, goto, break, timeout, else, run, set-run, select, loop, bare, labelled, end, then, over, option}
-use Rattle.syntax.specs.Code.{Item, i-if, i-fi, i-do, i-od, i-option, i-end-option, i-name, i-label, code-tree}
+use Rattle.base_bytes.specs.Choice.{pick}
+use Rattle.base_bytes.specs.Lists.{same}
+use Rattle.base_bytes.proofs.Lists.{same-refl, same-eq}
+use Rattle.base_bytes.proofs.Tests.{true-false}
+use Rattle.spec_grammar.specs.Tree.{Name, Sort, action, Tree, express, assign, increment, decrement, send, receive, assert, print, skip, goto, break, timeout, else, run, set-run, select, loop, bare, labelled, end, then, over, option}
+use Rattle.spec_grammar.specs.Code.{Item, i-if, i-fi, i-do, i-od, i-option, i-end-option, i-name, i-label, code-tree}
 use Rattle.spec_machine.specs.Program.{sizeIn, labelIn}
 use Rattle.agree_stage.proofs.Stands.{Lying, lying-behind, lying-before, lying-whole}
 

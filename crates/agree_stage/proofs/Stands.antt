@@ -4,8 +4,8 @@ use native.Mathlib.Omega.{arith}
 use mathlib.Core.Path.{_≡_, refl, sym, ap, _∙_}
 use mathlib.Core.List.{List, [], _∷_, _++_, append-assoc, append-nil}
 use lib.ListN.{length, length-append}
-use Rattle.syntax.specs.Tree.{Sort, action, Tree, Body, body, Model}
-use Rattle.syntax.specs.Code.{Item, i-if, i-fi, i-do, i-od, i-option, i-end-option, i-name, i-label, i-local, i-init, i-body, i-end-body, each, code-tree, code-declaration, code-group, code-body, code-activity, code-part, code}
+use Rattle.spec_grammar.specs.Tree.{Sort, action, Tree, Body, body, Model}
+use Rattle.spec_grammar.specs.Code.{Item, i-if, i-fi, i-do, i-od, i-option, i-end-option, i-name, i-label, i-local, i-init, i-body, i-end-body, each, code-tree, code-declaration, code-group, code-body, code-activity, code-part, code}
 use Rattle.spec_machine.specs.Stage.{Ways}
 use Rattle.spec_machine.specs.Program.{sizeIn, Within, itself, in-if, in-do, unlabelled, behind-label, in-first, in-rest, in-option, in-others, Holds, in-process, in-init, later, startIn, statementsOf, Statement}
 

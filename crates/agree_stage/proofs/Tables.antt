@@ -11,28 +11,28 @@ use lib.ListN.{length, length-append}
 use lib.IntN.{ℤ, pos, negsuc}
 use lib.Dec.{eqb, ltb}
 use borrow.Author.Tests.{lt-leb, ne-eqb, le-ltb}
-use Rattle.base.specs.Choice.{pick}
-use Rattle.base.specs.Lists.{same}
+use Rattle.base_bytes.specs.Choice.{pick}
+use Rattle.base_bytes.specs.Lists.{same}
 use Rattle.spec_text.specs.Names.{pid}
-use Rattle.tables.specs.Access.{codeOf, linkOf}
-use Rattle.frames.specs.Layout.{kept, cellOf, waitingOf}
-use Rattle.base.specs.Numbers.{nat}
-use Rattle.value.specs.Operators.{isTrue, oneIf}
-use Rattle.value.specs.declared.Fault.the-variants as fault
-use Rattle.value.specs.declared.Answer.{Answer}
-use Rattle.value.specs.declared.Answer.the-variants.{Value, Fails}
-use Rattle.syntax.specs.Tree.{Name, Shape, Exp, Ref, plain, indexed, num, tru, fls, get, len, unary, binary, choice}
-use Rattle.syntax.specs.Grammar.{Is-unary, is-minus, is-not, is-flip}
-use Rattle.syntax.specs.Code.{code-exp, i-index, i-len, i-unary, i-binary, i-otherwise, i-choice}
-use Rattle.entries.specs.Items as items
-use Rattle.phrases.specs.Phrases.{Proper}
-use Rattle.lawful.specs.Heights.{height}
-use Rattle.evaluating.specs.declared.Located.the-variants.{At, Astray}
-use Rattle.evaluating.specs.declared.Reached.the-variants.{Record, Unmade}
-use Rattle.evaluating.specs.declared.Node.{Node}
-use Rattle.evaluating.specs.declared.Node.the-variants.{Number, True, False, Plain, Index, Length, Unary, Lazy, Binary, Choice}
-use Rattle.evaluating.specs.Variables.{variableOf, sizeOf, slotOf, elementOf, loadOf, madeOf, channelOf, lengthOf}
-use Rattle.evaluating.specs.Expressions.{nodeOf, truthOf, unaryBy, bothBy, lazyBy, choiceBy, startOf, plainOf, byNode, evalT, evalOf, locateOf}
+use Rattle.table_layout.specs.Access.{codeOf, linkOf}
+use Rattle.state_layout.specs.Layout.{kept, cellOf, waitingOf}
+use Rattle.base_bytes.specs.Numbers.{nat}
+use Rattle.base_values.specs.Operators.{isTrue, oneIf}
+use Rattle.base_values.specs.declared.Fault.the-variants as fault
+use Rattle.base_values.specs.declared.Answer.{Answer}
+use Rattle.base_values.specs.declared.Answer.the-variants.{Value, Fails}
+use Rattle.spec_grammar.specs.Tree.{Name, Shape, Exp, Ref, plain, indexed, num, tru, fls, get, len, unary, binary, choice}
+use Rattle.spec_grammar.specs.Grammar.{Is-unary, is-minus, is-not, is-flip}
+use Rattle.spec_grammar.specs.Code.{code-exp, i-index, i-len, i-unary, i-binary, i-otherwise, i-choice}
+use Rattle.table_entries.specs.Items as items
+use Rattle.link_phrases_proof.specs.Phrases.{Proper}
+use Rattle.spec_rules.specs.Heights.{height}
+use Rattle.step_eval.specs.declared.Located.the-variants.{At, Astray}
+use Rattle.step_eval.specs.declared.Reached.the-variants.{Record, Unmade}
+use Rattle.step_eval.specs.declared.Node.{Node}
+use Rattle.step_eval.specs.declared.Node.the-variants.{Number, True, False, Plain, Index, Length, Unary, Lazy, Binary, Choice}
+use Rattle.step_eval.specs.Variables.{variableOf, sizeOf, slotOf, elementOf, loadOf, madeOf, channelOf, lengthOf}
+use Rattle.step_eval.specs.Expressions.{nodeOf, truthOf, unaryBy, bothBy, lazyBy, choiceBy, startOf, plainOf, byNode, evalT, evalOf, locateOf}
 use Rattle.spec_machine.specs.Eval.{Scene, elementBy, lengthBy, signBy, truth, orBy, andBy, joinBy, operateBy, chooseBy, eval}
 use Rattle.agree_stage.specs.Scenes.{numberAt, sceneOf, sizeIn, Stands, Meant, Named, locate, Linked}
 

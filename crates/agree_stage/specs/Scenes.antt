@@ -7,19 +7,19 @@ use mathlib.Core.Logic.{_⊎_}
 use lib.ListN.{length}
 use lib.IntN.{ℤ, pos}
 use lib.Dec.{eqb}
-use Rattle.base.specs.Choice.{pick}
-use Rattle.base.specs.Lists.{same}
+use Rattle.base_bytes.specs.Choice.{pick}
+use Rattle.base_bytes.specs.Lists.{same}
 use Rattle.spec_text.specs.Names.{pid}
 use mathlib.Core.Bool.{true}
-use Rattle.tables.specs.Access.{codeOf, linkOf, numberOf}
-use Rattle.frames.specs.Layout.{kept, cellOf, waitingOf}
-use Rattle.base.specs.Numbers.{nat}
-use Rattle.syntax.specs.Tree.{Name, Shape, Exp, Ref, plain, indexed, num, tru, fls, get, len, unary, binary, choice}
-use Rattle.syntax.specs.Code.{code-exp, i-unary, i-binary}
-use Rattle.entries.specs.Items as items
-use Rattle.evaluating.specs.declared.Located.{Located}
-use Rattle.evaluating.specs.declared.Located.the-variants.{At}
-use Rattle.evaluating.specs.Variables.{sizeOf, slotOf, madeOf, elementOf}
+use Rattle.table_layout.specs.Access.{codeOf, linkOf, numberOf}
+use Rattle.state_layout.specs.Layout.{kept, cellOf, waitingOf}
+use Rattle.base_bytes.specs.Numbers.{nat}
+use Rattle.spec_grammar.specs.Tree.{Name, Shape, Exp, Ref, plain, indexed, num, tru, fls, get, len, unary, binary, choice}
+use Rattle.spec_grammar.specs.Code.{code-exp, i-unary, i-binary}
+use Rattle.table_entries.specs.Items as items
+use Rattle.step_eval.specs.declared.Located.{Located}
+use Rattle.step_eval.specs.declared.Located.the-variants.{At}
+use Rattle.step_eval.specs.Variables.{sizeOf, slotOf, madeOf, elementOf}
 use Rattle.spec_machine.specs.Eval.{Scene, eval}
 
 -- a plain reference to declaration d: the number of an mtype name (220), `_pid` (its own name, 70), or a variable

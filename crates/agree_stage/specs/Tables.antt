@@ -6,17 +6,17 @@ use mathlib.Core.List.{List}
 use lib.ListN.{set}
 use lib.IntN.{ℤ}
 use lib.Dec.{eqb}
-use Rattle.tables.specs.Access.{codeOf, linkOf}
-use Rattle.value.specs.Types.{castOf}
-use Rattle.frames.specs.Layout.{kept, processesOf, declaredOf, fieldOf}
-use Rattle.base.specs.Numbers.{nat}
-use Rattle.evaluating.specs.Variables.{typeOf, slotOf}
-use Rattle.executing.specs.Channels.{capacityOf, fieldsOf}
-use Rattle.executing.specs.Executing.{fitsOf}
-use Rattle.messages.specs.Messages.{appended, removed}
-use Rattle.statements.specs.Statements.{moved}
-use Rattle.effects.specs.Effects.{called}
-use Rattle.syntax.specs.Tree.{Name, action, Tree, express, assign, increment, decrement, send, receive, assert, print, skip, goto, break, timeout, else, run, set-run, select, loop}
+use Rattle.table_layout.specs.Access.{codeOf, linkOf}
+use Rattle.base_values.specs.Types.{castOf}
+use Rattle.state_layout.specs.Layout.{kept, processesOf, declaredOf, fieldOf}
+use Rattle.base_bytes.specs.Numbers.{nat}
+use Rattle.step_eval.specs.Variables.{typeOf, slotOf}
+use Rattle.step_ready.specs.Channels.{capacityOf, fieldsOf}
+use Rattle.step_ready.specs.Executing.{fitsOf}
+use Rattle.step_messages.specs.Messages.{appended, removed}
+use Rattle.step_statements.specs.Statements.{moved}
+use Rattle.step_take.specs.Effects.{called}
+use Rattle.spec_grammar.specs.Tree.{Name, action, Tree, express, assign, increment, decrement, send, receive, assert, print, skip, goto, break, timeout, else, run, set-run, select, loop}
 use Rattle.agree_stage.specs.Scenes.{sceneOf}
 use Rattle.spec_machine.specs.Stage.{Stage, Ways}
 use Rattle.spec_machine.specs.Program.{sizeIn}

@@ -9,17 +9,17 @@ use mathlib.Core.List.{List, [], _∷_, _++_, map, append-assoc, append-nil}
 use lib.ListN.{length, getD, set, drop, replicate, length-append, length-replicate}
 use lib.IntN.{ℤ, pos}
 use lib.Dec.{ltb}
-use Rattle.base.specs.Choice.{pick}
-use Rattle.tables.specs.Access.{linkOf}
-use Rattle.value.specs.Types.{castOf, signedWidth, widthOf, within, inType}
-use Rattle.value.proofs.Laws.{cast-id}
-use Rattle.frames.specs.Layout.{kept, localAt, processAt}
-use Rattle.evaluating.specs.Variables.{typeOf, slotOf}
-use Rattle.beginnings.specs.Beginnings.{valuedIn, variableIn, variablesIn, declarationIn, localsIn, setOut, beginsIn, namesIn, groupsIn, calledIn}
-use Rattle.syntax.specs.Tree.{Name, Value, unset, set-number, set-minus, set-true, set-false, set-name, set-channel, Variable, variable, Declaration, declare, Group, group, Body, body, Part, process, init, Model}
-use Rattle.syntax.specs.Code.{i-local, code-variable, code-declaration, code-group, code-activity}
-use Rattle.lawful.specs.Units.{tally}
-use Rattle.lawful.specs.Ceilings.{madeByVariable, madeByDeclaration, madeByBody}
+use Rattle.base_bytes.specs.Choice.{pick}
+use Rattle.table_layout.specs.Access.{linkOf}
+use Rattle.base_values.specs.Types.{castOf, signedWidth, widthOf, within, inType}
+use Rattle.base_values.proofs.Laws.{cast-id}
+use Rattle.state_layout.specs.Layout.{kept, localAt, processAt}
+use Rattle.step_eval.specs.Variables.{typeOf, slotOf}
+use Rattle.agree_start.specs.Beginnings.{valuedIn, variableIn, variablesIn, declarationIn, localsIn, setOut, beginsIn, namesIn, groupsIn, calledIn}
+use Rattle.spec_grammar.specs.Tree.{Name, Value, unset, set-number, set-minus, set-true, set-false, set-name, set-channel, Variable, variable, Declaration, declare, Group, group, Body, body, Part, process, init, Model}
+use Rattle.spec_grammar.specs.Code.{i-local, code-variable, code-declaration, code-group, code-activity}
+use Rattle.spec_rules.specs.Units.{tally}
+use Rattle.spec_rules.specs.Ceilings.{madeByVariable, madeByDeclaration, madeByBody}
 use Rattle.spec_machine.specs.State.{Channel, Process, State, noProcess}
 use Rattle.spec_machine.specs.Names.{Var, ofParameter, ofGroups, parametersOf, localsOf, variablesOf, unitAt}
 use Rattle.spec_machine.specs.Begins.{Made, makes, makesAll, given, itemsBefore, bodyIn, bodyOf, firstIn, begins}

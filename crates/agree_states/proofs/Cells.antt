@@ -6,8 +6,8 @@ use mathlib.Core.Path.{_≡_, refl, sym as inv, ap, ap₂, _∙_, subst}
 use mathlib.Core.List.{List, [], _∷_, _++_, map, append-assoc}
 use lib.ListN.{length, getD, drop, length-append, length-replicate, getD-replicate}
 use lib.IntN.{ℤ, pos}
-use Rattle.frames.specs.Layout.{kept, cellOf, globalAt, processAt, channelAt}
-use Rattle.syntax.specs.Tree.{Model}
+use Rattle.state_layout.specs.Layout.{kept, cellOf, globalAt, processAt, channelAt}
+use Rattle.spec_grammar.specs.Tree.{Model}
 use Rattle.spec_machine.specs.State.{State}
 use Rattle.state_encode.specs.Encode.{pad, rows, flat, processRow, channelRow, encode}
 use Rattle.state_encode.proofs.Rows.{get-left, get-right, length-pad, get-pad, off, get-process, get-channel, get-global}

@@ -9,35 +9,35 @@ use mathlib.Core.Logic.{_⊎_, inl, inr}
 use lib.ListN.{length, getD}
 use lib.IntN.{pos}
 use lib.Dec.{eqb}
-use Rattle.base.specs.Choice.{pick}
-use Rattle.base.proofs.Tests.{both-true, either-true, true-false}
-use Rattle.syntax.specs.Tree.{Name, sequence, Value, unset, set-number, set-minus, set-true, set-false, set-name, set-channel, Variable, variable, Declaration, Group, group, Body, Part, mtypes, global, process, init, Model}
-use Rattle.syntax.specs.Grammar.{Listed, one, more, A-value, v-number, v-minus, v-true, v-false, v-name, A-variable, x-bare, x-set, x-array, x-array-set, x-channel, A-declaration, declaration, Items, statements, declared, A-body, a-body, A-unit, u-mtypes, u-global, u-process, u-init, Gram, g-last, g-more}
-use Rattle.syntax.specs.Code.{code-value, code-part, code}
-use Rattle.judging.specs.Judging.{tablesText}
-use Rattle.accepting.specs.Meaning.{Accepts}
-use Rattle.tables.specs.Access.{itemsOf, codeOf, linkOf}
-use Rattle.entries.specs.Items.{AllKnown}
-use Rattle.expressions.specs.Held.{Held}
-use Rattle.expressions.proofs.Main.{items-long}
-use Rattle.starting.specs.Starting.{unitLength, scanned}
-use Rattle.frames.specs.Layout.{kept, globalAt, localAt}
-use Rattle.evaluating.specs.Variables.{sizeOf, slotOf}
-use Rattle.fitting.specs.Fits.{isGlobal, isLocal}
-use Rattle.fitness.proofs.Tables.{text-held}
+use Rattle.base_bytes.specs.Choice.{pick}
+use Rattle.base_bytes.proofs.Tests.{both-true, either-true, true-false}
+use Rattle.spec_grammar.specs.Tree.{Name, sequence, Value, unset, set-number, set-minus, set-true, set-false, set-name, set-channel, Variable, variable, Declaration, Group, group, Body, Part, mtypes, global, process, init, Model}
+use Rattle.spec_grammar.specs.Grammar.{Listed, one, more, A-value, v-number, v-minus, v-true, v-false, v-name, A-variable, x-bare, x-set, x-array, x-array-set, x-channel, A-declaration, declaration, Items, statements, declared, A-body, a-body, A-unit, u-mtypes, u-global, u-process, u-init, Gram, g-last, g-more}
+use Rattle.spec_grammar.specs.Code.{code-value, code-part, code}
+use Rattle.read_passes.specs.Judging.{tablesText}
+use Rattle.read_accepts_proof.specs.Meaning.{Accepts}
+use Rattle.table_layout.specs.Access.{itemsOf, codeOf, linkOf}
+use Rattle.table_entries.specs.Items.{AllKnown}
+use Rattle.agree_eval.specs.Held.{Held}
+use Rattle.agree_eval.proofs.Main.{items-long}
+use Rattle.state_start.specs.Starting.{unitLength, scanned}
+use Rattle.state_layout.specs.Layout.{kept, globalAt, localAt}
+use Rattle.step_eval.specs.Variables.{sizeOf, slotOf}
+use Rattle.state_types.specs.Fits.{isGlobal, isLocal}
+use Rattle.keep_tables.proofs.Tables.{text-held}
 use Rattle.agree_stage.proofs.Stands.{lying-whole}
-use Rattle.choosing.proofs.Places.{known-there}
-use Rattle.beginnings.proofs.Units.{here, body-ends, unit-long}
-use Rattle.fitness.specs.Well as well
-use Rattle.fitness.proofs.Whole.{text-well}
-use Rattle.lawful.specs.Ceilings.{modest}
+use Rattle.agree_offers.proofs.Places.{known-there}
+use Rattle.agree_start.proofs.Units.{here, body-ends, unit-long}
+use Rattle.keep_tables.specs.Well as well
+use Rattle.keep_tables.proofs.Whole.{text-well}
+use Rattle.spec_rules.specs.Ceilings.{modest}
 use Rattle.spec_machine.specs.Program.{Within, Holds, in-process, in-init, later, startIn, endIn, statementsOf}
-use Rattle.following.proofs.Main.{text-unit}
-use Rattle.placing.proofs.Whole.{text-head, text-stated}
+use Rattle.agree_control.proofs.Main.{text-unit}
+use Rattle.agree_places.proofs.Whole.{text-head, text-stated}
 use Rattle.spec_machine.specs.Names.{Var, ofVariable, ofDeclaration, ofDeclarations, ofParameter, ofGroups, localsOf, variablesOf, globalsOf, unitAt}
 use Rattle.spec_machine.specs.Begins.{itemsBefore, bodyIn, bodyOf, valueOf}
-use Rattle.value.specs.Operators.{unaryOf}
-use Rattle.beginnings.specs.Beginnings.{valueIn}
+use Rattle.base_values.specs.Operators.{unaryOf}
+use Rattle.agree_start.specs.Beginnings.{valueIn}
 use Rattle.spec_machine.specs.State.{Channel}
 use Rattle.spec_machine.specs.Plain.{noVar, madeBy}
 use Rattle.state_encode.specs.Encode.{headIn, headOf, channelItem}

@@ -5,10 +5,10 @@ use mathlib.Core.Bool.{true}
 use mathlib.Core.List.{List, _++_}
 use lib.ListN.{drop}
 use lib.IntN.{ℤ}
-use Rattle.standing.specs.Standing.{isStateOf}
-use Rattle.standing.proofs.Meaning.{is-state-stands}
-use Rattle.standing.proofs.Exact.{stands-is-state}
-use Rattle.syntax.specs.Tree.{Model}
+use Rattle.state_check.specs.Standing.{isStateOf}
+use Rattle.state_check.proofs.Meaning.{is-state-stands}
+use Rattle.state_check.proofs.Exact.{stands-is-state}
+use Rattle.spec_grammar.specs.Tree.{Model}
 use Rattle.spec_machine.specs.State.{State}
 use Rattle.state_encode.specs.Encode.{encode}
 use Rattle.spec_machine.specs.Places.{Belongs}

@@ -10,19 +10,19 @@ use lib.ListN.{length, getD, length-append}
 use lib.IntN.{ℤ, pos}
 use borrow.Author.Tests.{ltb-true}
 use lib.Dec.{ltb}
-use Rattle.base.specs.Choice.{pick}
-use Rattle.tables.specs.Access.{itemsOf, codeOf, linkOf}
-use Rattle.value.specs.Types.{castOf}
-use Rattle.frames.specs.Layout.{kept, cellOf, countOf, globalAt, processAt, localAt, channelAt, fieldAt, processesOf, channelsOf, unitOf, placeOf, declaredOf, waitingOf}
-use Rattle.base.specs.Numbers.{nat}
-use Rattle.evaluating.specs.Variables.{typeOf, sizeOf, slotOf}
-use Rattle.starting.specs.Starting.{unitLength, scanned}
-use Rattle.executing.specs.Channels.{capacityOf, fieldsOf}
-use Rattle.fitting.specs.Fits.{isGlobal, isLocal, fieldType}
-use Rattle.standing.specs.Standing.{itemsLast}
-use Rattle.standing.specs.Meaning as standing
-use Rattle.standing.specs.Meaning.{InType, Counted, Used, global-number, process-unit, process-place, local-number, channel-item, channel-count, field-number}
-use Rattle.syntax.specs.Tree.{Model}
+use Rattle.base_bytes.specs.Choice.{pick}
+use Rattle.table_layout.specs.Access.{itemsOf, codeOf, linkOf}
+use Rattle.base_values.specs.Types.{castOf}
+use Rattle.state_layout.specs.Layout.{kept, cellOf, countOf, globalAt, processAt, localAt, channelAt, fieldAt, processesOf, channelsOf, unitOf, placeOf, declaredOf, waitingOf}
+use Rattle.base_bytes.specs.Numbers.{nat}
+use Rattle.step_eval.specs.Variables.{typeOf, sizeOf, slotOf}
+use Rattle.state_start.specs.Starting.{unitLength, scanned}
+use Rattle.step_ready.specs.Channels.{capacityOf, fieldsOf}
+use Rattle.state_types.specs.Fits.{isGlobal, isLocal, fieldType}
+use Rattle.state_check.specs.Standing.{itemsLast}
+use Rattle.state_check.specs.Meaning as standing
+use Rattle.state_check.specs.Meaning.{InType, Counted, Used, global-number, process-unit, process-place, local-number, channel-item, channel-count, field-number}
+use Rattle.spec_grammar.specs.Tree.{Model}
 use Rattle.spec_machine.specs.State.{Channel, Process, State, noChannel, noProcess}
 use Rattle.spec_machine.specs.Names.{Var, variablesOf, globalsOf, unitAt}
 use Rattle.spec_machine.specs.Plain.{noVar}

@@ -7,15 +7,15 @@ use mathlib.Core.Bool.{true, false}
 use mathlib.Core.List.{List, [], _∷_, _++_, map, append-assoc, append-nil}
 use lib.ListN.{length, getD, set, drop, replicate, length-append, length-replicate, length-drop, getD-replicate}
 use lib.IntN.{ℤ, pos}
-use Rattle.tables.specs.Access.{linkOf}
-use Rattle.frames.specs.Layout.{cleared, cellOf, globalAt, processAt, channelAt}
-use Rattle.beginnings.specs.Beginnings as numeric
-use Rattle.beginnings.specs.Beginnings.{repeated, startsIn, beginsIn, globalsIn, startedIn, allStarted, initialIn}
-use Rattle.syntax.specs.Tree.{Name, Body, Activity, idle, once, times, Part, mtypes, global, process, init, Model}
-use Rattle.syntax.specs.Code.{each, code-group, code-activity, code-part}
-use Rattle.lawful.specs.Statements.{all}
-use Rattle.lawful.specs.Units.{tally}
-use Rattle.lawful.specs.Ceilings.{madeByDeclaration, madeByBody, startedBy, startsOf, channelsOf, modest}
+use Rattle.table_layout.specs.Access.{linkOf}
+use Rattle.state_layout.specs.Layout.{cleared, cellOf, globalAt, processAt, channelAt}
+use Rattle.agree_start.specs.Beginnings as numeric
+use Rattle.agree_start.specs.Beginnings.{repeated, startsIn, beginsIn, globalsIn, startedIn, allStarted, initialIn}
+use Rattle.spec_grammar.specs.Tree.{Name, Body, Activity, idle, once, times, Part, mtypes, global, process, init, Model}
+use Rattle.spec_grammar.specs.Code.{each, code-group, code-activity, code-part}
+use Rattle.spec_rules.specs.Statements.{all}
+use Rattle.spec_rules.specs.Units.{tally}
+use Rattle.spec_rules.specs.Ceilings.{madeByDeclaration, madeByBody, startedBy, startsOf, channelsOf, modest}
 use Rattle.spec_machine.specs.State.{Channel, State}
 use Rattle.spec_machine.specs.Names as names
 use Rattle.spec_machine.specs.Names.{Var, variablesOf, globalsOf, unitAt}

@@ -7,11 +7,11 @@ use mathlib.Core.Bool.{true}
 use mathlib.Core.List.{List, [], _∷_, _++_, map, append-assoc, append-nil}
 use lib.ListN.{length, getD, replicate, length-append, length-replicate, getD-replicate}
 use lib.IntN.{ℤ, pos}
-use Rattle.value.specs.Types.{castOf}
-use Rattle.value.proofs.Laws.{cast-twice}
-use Rattle.syntax.specs.Tree.{Value, unset, set-number, set-minus, set-true, set-false, set-name, set-channel, action, Tree, sequence, bare, labelled, end, then, Body, body, Part, Model}
+use Rattle.base_values.specs.Types.{castOf}
+use Rattle.base_values.proofs.Laws.{cast-twice}
+use Rattle.spec_grammar.specs.Tree.{Value, unset, set-number, set-minus, set-true, set-false, set-name, set-channel, action, Tree, sequence, bare, labelled, end, then, Body, body, Part, Model}
 use Rattle.spec_machine.specs.Program.{Within, itself, unlabelled, behind-label, in-first, startIn, endIn, statementsOf}
-use Rattle.lawful.specs.Ceilings.{madeByBody}
+use Rattle.spec_rules.specs.Ceilings.{madeByBody}
 use Rattle.spec_machine.specs.State.{Channel, State, noChannel, noProcess}
 use Rattle.spec_machine.specs.Names.{Var, parametersOf, localsOf, variablesOf, unitAt}
 use Rattle.spec_machine.specs.Begins.{Made, valueOf, plainly, makes, makesAll, given, itemsBefore, bodyOf, firstIn, begins}

@@ -7,14 +7,14 @@ use mathlib.Core.List.{List, [], _∷_, _++_, map, append-assoc}
 use lib.ListN.{length, getD, set, drop, replicate, length-append, length-set, length-replicate}
 use lib.Seq.{getD-set-same, set-getD, set-set}
 use lib.IntN.{ℤ, pos}
-use Rattle.tables.specs.Access.{linkOf}
-use Rattle.value.specs.Types.{castOf}
-use Rattle.frames.specs.Layout.{kept, channelsOf}
-use Rattle.frames.specs.Walks.{walk}
-use Rattle.evaluating.specs.Variables.{typeOf, slotOf}
-use Rattle.starting.specs.Starting.{filled, stored, channelMade}
-use Rattle.beginnings.specs.Beginnings.{everywhere, valueIn, valuedIn}
-use Rattle.syntax.specs.Tree.{Value, unset, set-number, set-minus, set-true, set-false, set-name, set-channel, Model}
+use Rattle.table_layout.specs.Access.{linkOf}
+use Rattle.base_values.specs.Types.{castOf}
+use Rattle.state_layout.specs.Layout.{kept, channelsOf}
+use Rattle.state_layout.specs.Walks.{walk}
+use Rattle.step_eval.specs.Variables.{typeOf, slotOf}
+use Rattle.state_start.specs.Starting.{filled, stored, channelMade}
+use Rattle.agree_start.specs.Beginnings.{everywhere, valueIn, valuedIn}
+use Rattle.spec_grammar.specs.Tree.{Value, unset, set-number, set-minus, set-true, set-false, set-name, set-channel, Model}
 use Rattle.spec_machine.specs.State.{Channel}
 use Rattle.spec_machine.specs.Names.{Var}
 use Rattle.spec_machine.specs.Begins.{valueOf, plainly, makes, makesAll}

@@ -8,16 +8,16 @@ use mathlib.Core.List.{List, [], _∷_, _++_, map}
 use mathlib.Core.Logic.{_⊎_, inl, inr}
 use lib.ListN.{length, getD, drop}
 use lib.IntN.{ℤ, pos}
-use Rattle.tables.specs.Access.{linkOf}
-use Rattle.value.specs.Types.{castOf}
-use Rattle.frames.specs.Layout.{kept, cellOf, countOf, globalAt, processAt, localAt, channelAt, fieldAt, processesOf, channelsOf, unitOf, placeOf, declaredOf, waitingOf}
-use Rattle.evaluating.specs.Variables.{typeOf, sizeOf, slotOf}
-use Rattle.starting.specs.Starting.{unitLength}
-use Rattle.executing.specs.Channels.{fieldsOf}
-use Rattle.fitting.specs.Fits.{isLocal}
-use Rattle.standing.specs.Meaning as standing
-use Rattle.standing.specs.Meaning.{InType, Used, global-number, process-unit, process-place, local-number, channel-item, channel-count, field-number}
-use Rattle.syntax.specs.Tree.{set-channel, Model}
+use Rattle.table_layout.specs.Access.{linkOf}
+use Rattle.base_values.specs.Types.{castOf}
+use Rattle.state_layout.specs.Layout.{kept, cellOf, countOf, globalAt, processAt, localAt, channelAt, fieldAt, processesOf, channelsOf, unitOf, placeOf, declaredOf, waitingOf}
+use Rattle.step_eval.specs.Variables.{typeOf, sizeOf, slotOf}
+use Rattle.state_start.specs.Starting.{unitLength}
+use Rattle.step_ready.specs.Channels.{fieldsOf}
+use Rattle.state_types.specs.Fits.{isLocal}
+use Rattle.state_check.specs.Meaning as standing
+use Rattle.state_check.specs.Meaning.{InType, Used, global-number, process-unit, process-place, local-number, channel-item, channel-count, field-number}
+use Rattle.spec_grammar.specs.Tree.{set-channel, Model}
 use Rattle.spec_machine.specs.State.{Channel, Process, State, noChannel, noProcess}
 use Rattle.spec_machine.specs.Names.{Var, variablesOf, globalsOf, unitAt}
 use Rattle.spec_machine.specs.Plain.{noVar, madeBy}

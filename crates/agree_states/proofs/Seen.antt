@@ -8,15 +8,15 @@ use mathlib.Core.Option.{Option, none, some}
 use mathlib.Core.Logic.{_⊎_, inl, inr}
 use mathlib.Core.List.{List, [], _∷_, _++_}
 use lib.ListN.{length, getD, length-append}
-use Rattle.syntax.specs.Tree.{Name, Value, unset, set-number, set-minus, set-true, set-false, set-name, set-channel, Variable, variable, Declaration, declare, Group, group, Body, body, Activity, idle, once, times, Part, mtypes, global, process, init, Model}
-use Rattle.syntax.specs.Code.{Item, i-name, i-number, i-true, i-false, i-declared, i-size, i-value, i-minus, i-named, i-channel, i-field, i-mtypes, i-message, i-group, i-parameter, i-proctype, i-active, i-active-many, i-type, i-local, i-global, i-init, i-body, i-end-body, each, code-tree, code-field, code-size, code-value, code-variable, code-declaration, code-parameter, code-group, code-body, code-activity, code-message, code-part, code}
-use Rattle.entries.specs.Items as items
-use Rattle.entries.specs.Items.{AllKnown}
-use Rattle.tables.specs.Access.{codeOf}
-use Rattle.expressions.specs.Held.{Held}
-use Rattle.expressions.proofs.Items.{held-front, held-back}
-use Rattle.expressions.proofs.Operators.{known-front, known-back}
-use Rattle.beginnings.proofs.Items.{type-below, Below, below-tree}
+use Rattle.spec_grammar.specs.Tree.{Name, Value, unset, set-number, set-minus, set-true, set-false, set-name, set-channel, Variable, variable, Declaration, declare, Group, group, Body, body, Activity, idle, once, times, Part, mtypes, global, process, init, Model}
+use Rattle.spec_grammar.specs.Code.{Item, i-name, i-number, i-true, i-false, i-declared, i-size, i-value, i-minus, i-named, i-channel, i-field, i-mtypes, i-message, i-group, i-parameter, i-proctype, i-active, i-active-many, i-type, i-local, i-global, i-init, i-body, i-end-body, each, code-tree, code-field, code-size, code-value, code-variable, code-declaration, code-parameter, code-group, code-body, code-activity, code-message, code-part, code}
+use Rattle.table_entries.specs.Items as items
+use Rattle.table_entries.specs.Items.{AllKnown}
+use Rattle.table_layout.specs.Access.{codeOf}
+use Rattle.agree_eval.specs.Held.{Held}
+use Rattle.agree_eval.proofs.Items.{held-front, held-back}
+use Rattle.agree_eval.proofs.Operators.{known-front, known-back}
+use Rattle.agree_start.proofs.Items.{type-below, Below, below-tree}
 use Rattle.spec_machine.specs.Names.{unitAt}
 use Rattle.spec_machine.specs.Program.{endIn}
 use Rattle.spec_machine.specs.Begins.{itemsBefore, bodyIn, bodyOf}

@@ -5,9 +5,9 @@ use mathlib.Core.Path.{_≡_, refl, sym as inv, ap, ap₂, _∙_, subst}
 use mathlib.Core.List.{List, [], _∷_, _++_}
 use lib.ListN.{length, getD}
 use lib.IntN.{ℤ, pos}
-use Rattle.frames.specs.Layout.{cellOf, globalAt, localAt, fieldAt, processesOf, channelsOf, unitOf, placeOf, declaredOf, waitingOf}
-use Rattle.executing.specs.Channels.{fieldsOf}
-use Rattle.syntax.specs.Tree.{Model}
+use Rattle.state_layout.specs.Layout.{cellOf, globalAt, localAt, fieldAt, processesOf, channelsOf, unitOf, placeOf, declaredOf, waitingOf}
+use Rattle.step_ready.specs.Channels.{fieldsOf}
+use Rattle.spec_grammar.specs.Tree.{Model}
 use Rattle.spec_machine.specs.State.{Channel, Process, State, noChannel, noProcess}
 use Rattle.spec_machine.specs.Names.{Var, variablesOf, globalsOf, unitAt}
 use Rattle.spec_machine.specs.Plain.{noVar}

@@ -8,10 +8,10 @@ use mathlib.Core.Bool.{true, false}
 use mathlib.Core.List.{List, [], _∷_, _++_, map}
 use lib.ListN.{length, getD, length-append}
 use lib.Dec.{ltb}
-use Rattle.base.specs.Choice.{pick}
-use Rattle.base.proofs.Tests.{true-false}
-use Rattle.syntax.specs.Tree.{Name, Value, unset, set-number, set-minus, set-true, set-false, set-name, set-channel, Variable, variable, Declaration, declare, Group, group, Body, body, Activity, idle, once, times, Part, mtypes, global, process, init, Model}
-use Rattle.syntax.specs.Code.{Item, i-local, i-global, i-end-body, each, code-tree, code-size, code-value, code-variable, code-declaration, code-group, code-body, code-activity, code-part}
+use Rattle.base_bytes.specs.Choice.{pick}
+use Rattle.base_bytes.proofs.Tests.{true-false}
+use Rattle.spec_grammar.specs.Tree.{Name, Value, unset, set-number, set-minus, set-true, set-false, set-name, set-channel, Variable, variable, Declaration, declare, Group, group, Body, body, Activity, idle, once, times, Part, mtypes, global, process, init, Model}
+use Rattle.spec_grammar.specs.Code.{Item, i-local, i-global, i-end-body, each, code-tree, code-size, code-value, code-variable, code-declaration, code-group, code-body, code-activity, code-part}
 use Rattle.spec_machine.specs.State.{Channel}
 use Rattle.spec_machine.specs.Names.{Var, ofVariable, ofDeclaration, ofDeclarations, ofParameter, ofGroup, ofGroups, localsOf, variablesOf, unitAt}
 use Rattle.spec_machine.specs.Begins.{itemsBefore, bodyIn}

@@ -6,8 +6,8 @@ use mathlib.Core.Path.{_≡_, refl, sym as inv, ap, ap₂, _∙_, subst}
 use mathlib.Core.List.{List, [], _∷_, _++_, map}
 use lib.ListN.{length, getD}
 use lib.IntN.{ℤ, pos}
-use Rattle.value.specs.Types.{castOf}
-use Rattle.frames.specs.Layout.{cellOf}
+use Rattle.base_values.specs.Types.{castOf}
+use Rattle.state_layout.specs.Layout.{cellOf}
 use Rattle.spec_machine.specs.Names.{Var}
 use Rattle.spec_machine.specs.Plain.{noVar}
 use Rattle.state_encode.specs.Encode.{flat}

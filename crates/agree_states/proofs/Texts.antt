@@ -6,19 +6,19 @@ use mathlib.Core.Bool.{true}
 use mathlib.Core.List.{List, [], _∷_, _++_}
 use lib.ListN.{length, drop}
 use lib.IntN.{ℤ}
-use Rattle.syntax.specs.Tree.{Group, mtypes, global, process, init, Model}
-use Rattle.syntax.specs.Code.{i-init, each, code-group, code-body, code-activity, code-part, code}
-use Rattle.judging.specs.Judging.{tablesText}
-use Rattle.accepting.specs.Meaning.{Accepts}
-use Rattle.standing.specs.Standing.{isStateOf}
-use Rattle.starting.specs.Starting.{initialOf}
-use Rattle.effects.specs.Effects.{called}
-use Rattle.lawful.specs.Ceilings.{madeByBody, modest}
+use Rattle.spec_grammar.specs.Tree.{Group, mtypes, global, process, init, Model}
+use Rattle.spec_grammar.specs.Code.{i-init, each, code-group, code-body, code-activity, code-part, code}
+use Rattle.read_passes.specs.Judging.{tablesText}
+use Rattle.read_accepts_proof.specs.Meaning.{Accepts}
+use Rattle.state_check.specs.Standing.{isStateOf}
+use Rattle.state_start.specs.Starting.{initialOf}
+use Rattle.step_take.specs.Effects.{called}
+use Rattle.spec_rules.specs.Ceilings.{madeByBody, modest}
 use Rattle.agree_stage.proofs.Stands.{lying-behind, lying-before, lying-whole}
-use Rattle.placing.proofs.Heads.{Between}
-use Rattle.beginnings.specs.Beginnings.{calledIn}
-use Rattle.beginnings.proofs.Called.{text-called}
-use Rattle.beginnings.proofs.Initial.{text-initial}
+use Rattle.agree_places.proofs.Heads.{Between}
+use Rattle.agree_start.specs.Beginnings.{calledIn}
+use Rattle.agree_start.proofs.Called.{text-called}
+use Rattle.agree_start.proofs.Initial.{text-initial}
 use Rattle.spec_machine.specs.State.{State}
 use Rattle.spec_machine.specs.Names.{unitAt}
 use Rattle.spec_machine.specs.Begins.{itemsBefore, bodyIn, bodyOf, begins, initial}

@@ -6,14 +6,14 @@ use mathlib.Core.List.{List}
 use mathlib.Core.Logic.{_⊎_}
 use lib.ListN.{length, getD}
 use lib.IntN.{pos}
-use Rattle.tables.specs.Access.{itemsOf, codeOf, linkOf}
-use Rattle.frames.specs.Layout.{kept, globalAt, localAt}
-use Rattle.starting.specs.Starting.{unitLength, scanned}
-use Rattle.executing.specs.Channels.{capacityOf, fieldsOf}
-use Rattle.fitting.specs.Fits.{isGlobal, isLocal, fieldType}
-use Rattle.standing.specs.Standing.{placeAt}
-use Rattle.beginnings.specs.Beginnings.{valueIn}
-use Rattle.syntax.specs.Tree.{Name, set-name, set-channel, Model}
+use Rattle.table_layout.specs.Access.{itemsOf, codeOf, linkOf}
+use Rattle.state_layout.specs.Layout.{kept, globalAt, localAt}
+use Rattle.state_start.specs.Starting.{unitLength, scanned}
+use Rattle.step_ready.specs.Channels.{capacityOf, fieldsOf}
+use Rattle.state_types.specs.Fits.{isGlobal, isLocal, fieldType}
+use Rattle.state_check.specs.Standing.{placeAt}
+use Rattle.agree_start.specs.Beginnings.{valueIn}
+use Rattle.spec_grammar.specs.Tree.{Name, set-name, set-channel, Model}
 use Rattle.spec_machine.specs.State.{Channel}
 use Rattle.spec_machine.specs.Names.{variablesOf, globalsOf, messagesOf, unitAt, messageFrom, numberOf}
 use Rattle.spec_machine.specs.Begins.{valueOf}

@@ -4,8 +4,8 @@ use Prim.Native.Nat.{ℕ, _+_}
 use mathlib.Core.Bool.{Bool, true, false}
 use mathlib.Core.List.{List, [], _∷_, _++_}
 use lib.ListN.{length}
-use Rattle.syntax.specs.Tree.{Name, Value, unset, set-number, set-minus, set-true, set-false, set-name, set-channel, Variable, variable, Declaration, declare, Group, group, Body, body, Part, mtypes, global, process, init, Model}
-use Rattle.syntax.specs.Code.{i-local, code-size, code-variable, code-declaration, code-group, code-activity, code-part}
+use Rattle.spec_grammar.specs.Tree.{Name, Value, unset, set-number, set-minus, set-true, set-false, set-name, set-channel, Variable, variable, Declaration, declare, Group, group, Body, body, Part, mtypes, global, process, init, Model}
+use Rattle.spec_grammar.specs.Code.{i-local, code-size, code-variable, code-declaration, code-group, code-activity, code-part}
 use Rattle.spec_machine.specs.Names.{Var, ofVariable, ofParameter, unitAt}
 use Rattle.spec_machine.specs.Begins.{itemsBefore, bodyIn}
 use Rattle.spec_machine.specs.Plain.{noVar}

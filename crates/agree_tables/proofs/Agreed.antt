@@ -9,24 +9,24 @@ use lib.ListN.{length, getD, set, drop, length-append, length-set}
 use lib.Seq.{getD-set-same}
 use lib.IntN.{ℤ, pos}
 use lib.Dec.{eqb, ltb, leb}
-use Rattle.base.specs.Choice.{pick, both}
-use Rattle.base.specs.Lists.{same}
+use Rattle.base_bytes.specs.Choice.{pick, both}
+use Rattle.base_bytes.specs.Lists.{same}
 use Rattle.spec_text.specs.Names.{pid}
-use Rattle.base.proofs.Tests.{true-false, both-true}
-use Rattle.tables.specs.Access.{linkOf}
-use Rattle.value.specs.Types.{castOf}
-use Rattle.frames.specs.Layout.{kept, cellOf, localAt, globalAt, channelAt, fieldAt, declaredOf, waitingOf, fieldOf}
-use Rattle.base.specs.Numbers.{nat}
-use Rattle.evaluating.specs.Variables.{typeOf, sizeOf, slotOf, madeOf}
-use Rattle.executing.specs.Channels.{capacityOf, fieldsOf}
-use Rattle.executing.specs.Executing.{fitsOf}
-use Rattle.messages.specs.Messages.{fieldType, appended, removed}
-use Rattle.statements.specs.Statements.{moved}
-use Rattle.effects.specs.Effects.{called}
-use Rattle.syntax.specs.Tree.{Name, Model}
-use Rattle.lawful.specs.Expressions.{operand, usable}
-use Rattle.lawful.specs.Ceilings.{madeByBody}
-use Rattle.lawful.specs.Statements.{Place, sense, runs}
+use Rattle.base_bytes.proofs.Tests.{true-false, both-true}
+use Rattle.table_layout.specs.Access.{linkOf}
+use Rattle.base_values.specs.Types.{castOf}
+use Rattle.state_layout.specs.Layout.{kept, cellOf, localAt, globalAt, channelAt, fieldAt, declaredOf, waitingOf, fieldOf}
+use Rattle.base_bytes.specs.Numbers.{nat}
+use Rattle.step_eval.specs.Variables.{typeOf, sizeOf, slotOf, madeOf}
+use Rattle.step_ready.specs.Channels.{capacityOf, fieldsOf}
+use Rattle.step_ready.specs.Executing.{fitsOf}
+use Rattle.step_messages.specs.Messages.{fieldType, appended, removed}
+use Rattle.step_statements.specs.Statements.{moved}
+use Rattle.step_take.specs.Effects.{called}
+use Rattle.spec_grammar.specs.Tree.{Name, Model}
+use Rattle.spec_rules.specs.Expressions.{operand, usable}
+use Rattle.spec_rules.specs.Ceilings.{madeByBody}
+use Rattle.spec_rules.specs.Statements.{Place, sense, runs}
 use Rattle.agree_stage.specs.Scenes.{numberAt}
 use Rattle.agree_stage.specs.Tables.{stageOf}
 use Rattle.agree_transfer.specs.Agrees.{Agrees}

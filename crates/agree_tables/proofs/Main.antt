@@ -7,25 +7,25 @@ use mathlib.Core.List.{List, [], _∷_, _++_}
 use lib.ListN.{length, getD}
 use lib.IntN.{ℤ}
 use lib.Dec.{eqb, leb}
-use Rattle.base.specs.Choice.{both}
-use Rattle.base.proofs.Tests.{true-false, both-true}
-use Rattle.syntax.specs.Tree.{action, Tree, Body, body, Model}
-use Rattle.judging.specs.Judging.{tablesText}
-use Rattle.accepting.specs.Meaning.{Accepts}
-use Rattle.frames.specs.Layout.{processesOf, placeOf}
-use Rattle.tables.specs.Access.{codeOf}
+use Rattle.base_bytes.specs.Choice.{both}
+use Rattle.base_bytes.proofs.Tests.{true-false, both-true}
+use Rattle.spec_grammar.specs.Tree.{action, Tree, Body, body, Model}
+use Rattle.read_passes.specs.Judging.{tablesText}
+use Rattle.read_accepts_proof.specs.Meaning.{Accepts}
+use Rattle.state_layout.specs.Layout.{processesOf, placeOf}
+use Rattle.table_layout.specs.Access.{codeOf}
 use borrow.Author.Tests.{eq-eqb, ne-eqb}
-use Rattle.offering.specs.Offers.{offersOf}
-use Rattle.effects.specs.Effects.{takenOf}
-use Rattle.lawful.specs.Statements.{has, allowed}
-use Rattle.lawful.specs.Units.{ofModel, partsLawful, mtypesIn, initsIn, tally, modelLawful}
+use Rattle.step_offers.specs.Offers.{offersOf}
+use Rattle.step_take.specs.Effects.{takenOf}
+use Rattle.spec_rules.specs.Statements.{has, allowed}
+use Rattle.spec_rules.specs.Units.{ofModel, partsLawful, mtypesIn, initsIn, tally, modelLawful}
 use Rattle.spec_machine.specs.Stage.{Ways}
 use Rattle.spec_machine.specs.Effect.{effect}
 use Rattle.spec_machine.specs.Program.{sizeIn, startIn, endIn, labelIn, statementsOf, Statement}
 use Rattle.agree_stage.specs.Tables.{stageOf}
-use Rattle.expressions.specs.Names.{declAt}
-use Rattle.choosing.proofs.Main.{text-ended, text-ends}
-use Rattle.doing.specs.Stages as doing
+use Rattle.agree_eval.specs.Names.{declAt}
+use Rattle.agree_offers.proofs.Main.{text-ended, text-ends}
+use Rattle.agree_effects.specs.Stages as doing
 use Rattle.agree_tables.proofs.Statements.{within-within, statement-offers, statement-takes}
 use Rattle.agree_transfer.specs.Agrees.{Agrees, Related}
 use Rattle.spec_machine.specs.State.{State, noProcess}
@@ -33,7 +33,7 @@ use Rattle.spec_machine.specs.Names.{unitAt}
 use Rattle.spec_machine.specs.Begins.{itemsBefore, bodyOf}
 use Rattle.spec_machine.specs.Plain.{plainStage}
 use Rattle.agree_transfer.specs.Alike.{In, first, behind, Alike}
-use Rattle.doing.specs.Few.{Few}
+use Rattle.agree_effects.specs.Few.{Few}
 use Rattle.agree_tables.specs.Tables.{machineIn}
 use Rattle.spec_machine.specs.Steps.{stepsBy, takeBy, stepsOf, endedOf, takeOf, machineOf}
 use Rattle.state_encode.specs.Encode.{headOf, encode}

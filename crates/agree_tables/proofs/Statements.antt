@@ -4,13 +4,13 @@ use mathlib.Core.Path.{_≡_, ap, _∙_, subst}
 use mathlib.Core.Bool.{Bool}
 use mathlib.Core.List.{List}
 use lib.IntN.{ℤ}
-use Rattle.syntax.specs.Tree.{Sort, action, Tree}
-use Rattle.judging.specs.Judging.{tablesText}
-use Rattle.accepting.specs.Meaning.{Accepts}
-use Rattle.executing.specs.Executing.{readyOf}
-use Rattle.offering.specs.Offers.{offersOf}
-use Rattle.effects.specs.Effects.{takenOf}
-use Rattle.printing.specs.Printing.{printedAt}
+use Rattle.spec_grammar.specs.Tree.{Sort, action, Tree}
+use Rattle.read_passes.specs.Judging.{tablesText}
+use Rattle.read_accepts_proof.specs.Meaning.{Accepts}
+use Rattle.step_ready.specs.Executing.{readyOf}
+use Rattle.step_offers.specs.Offers.{offersOf}
+use Rattle.step_take.specs.Effects.{takenOf}
+use Rattle.step_prints.specs.Printing.{printedAt}
 use Rattle.spec_machine.specs.Stage.{Ways}
 use Rattle.spec_machine.specs.Ready.{ready}
 use Rattle.spec_machine.specs.Effect.{effect, prints}
@@ -18,14 +18,14 @@ use Rattle.spec_machine.specs.Offers.{offers}
 use Rattle.spec_machine.specs.Program.{Within, itself, in-if, in-do, unlabelled, behind-label, in-first, in-rest, in-option, in-others, Statement}
 use Rattle.agree_stage.proofs.Stands.{statement-lies}
 use Rattle.agree_stage.proofs.Offers.{offers-same}
-use Rattle.following.proofs.Main.{text-leads}
-use Rattle.choosing.proofs.Main.{text-offers}
-use Rattle.doing.specs.Few.{Few}
-use Rattle.doing.proofs.Ready.{text-ready}
-use Rattle.doing.proofs.Takes.{text-takes}
-use Rattle.doing.proofs.Prints.{text-prints}
-use Rattle.doing.proofs.Bodies.{text-stage}
-use Rattle.placing.proofs.Jumps.{text-label}
+use Rattle.agree_control.proofs.Main.{text-leads}
+use Rattle.agree_offers.proofs.Main.{text-offers}
+use Rattle.agree_effects.specs.Few.{Few}
+use Rattle.agree_effects.proofs.Ready.{text-ready}
+use Rattle.agree_effects.proofs.Takes.{text-takes}
+use Rattle.agree_effects.proofs.Prints.{text-prints}
+use Rattle.agree_effects.proofs.Bodies.{text-stage}
+use Rattle.agree_places.proofs.Jumps.{text-label}
 use Rattle.agree_tables.specs.Stages.{stageOf}
 
 -- a statement inside of a statement

@@ -3,11 +3,11 @@
 use Prim.Native.Nat.{ℕ}
 use mathlib.Core.List.{List}
 use lib.IntN.{ℤ}
-use Rattle.syntax.specs.Tree.{action, Tree}
-use Rattle.accepting.specs.Meaning.{Accepts}
+use Rattle.spec_grammar.specs.Tree.{action, Tree}
+use Rattle.read_accepts_proof.specs.Meaning.{Accepts}
 use Rattle.spec_machine.specs.Stage.{Stage, Ways}
 use Rattle.spec_machine.specs.Program.{startIn, Statement}
-use Rattle.doing.specs.Stages.{stageAt}
+use Rattle.agree_effects.specs.Stages.{stageAt}
 
 module _ (t : List ℕ) (a : Accepts t) (s : List ℤ) (p u : ℕ) where
   abbrev pub stageOf : {j : ℕ} {x : Tree action} {h : Ways} → Statement (a .tree) u x j h → Stage (List ℤ)

@@ -3,12 +3,12 @@ use Prim.Native.Nat.{ℕ}
 use mathlib.Core.List.{List}
 use lib.IntN.{ℤ}
 use lib.Dec.{eqb}
-use Rattle.tables.specs.Access.{codeOf}
-use Rattle.frames.specs.Layout.{placeOf}
-use Rattle.offering.specs.Offers.{offersOf}
-use Rattle.effects.specs.Effects.{takenOf}
-use Rattle.printing.specs.Printing.{printedAt}
-use Rattle.moving.specs.Moving.{processes}
+use Rattle.table_layout.specs.Access.{codeOf}
+use Rattle.state_layout.specs.Layout.{placeOf}
+use Rattle.step_offers.specs.Offers.{offersOf}
+use Rattle.step_take.specs.Effects.{takenOf}
+use Rattle.step_prints.specs.Printing.{printedAt}
+use Rattle.step_all.specs.Moving.{processes}
 use Rattle.spec_machine.specs.Machine.{Machine}
 
 abbrev pub machineIn : List ℕ → Machine (List ℤ)

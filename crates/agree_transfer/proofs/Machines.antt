@@ -6,7 +6,7 @@ use mathlib.Core.Bool.{Bool, true, false}
 use mathlib.Core.Option.{Option, none, some}
 use mathlib.Core.List.{List, [], _∷_, _++_}
 use lib.Dec.{eqb}
-use Rattle.base.specs.Choice.{pick}
+use Rattle.base_bytes.specs.Choice.{pick}
 use Rattle.base_outcome.specs.declared.Taken.{Taken}
 use Rattle.base_outcome.specs.declared.Taken.the-variants.{Done, Refuted, Faulted, Idle}
 use Rattle.agree_transfer.specs.Agrees.{Related}

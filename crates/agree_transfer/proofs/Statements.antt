@@ -6,15 +6,15 @@ use mathlib.Core.Path.{_≡_, refl, ap, ap₂, subst}
 use mathlib.Core.Bool.{Bool, true, false}
 use mathlib.Core.List.{List, [], _∷_, _++_}
 use lib.ListN.{length, length-append}
-use Rattle.base.specs.Choice.{pick}
+use Rattle.base_bytes.specs.Choice.{pick}
 use mathlib.Core.Logic.{_⊎_, inl, inr}
-use Rattle.syntax.specs.Tree.{Name, Sort, action, statement, sequence, options, Tree, express, assign, increment, decrement, send, receive, assert, print, skip, goto, break, timeout, else, run, set-run, select, loop, bare, labelled, end, then, over, option}
-use Rattle.syntax.specs.Code.{i-name, i-text, i-end, i-express, i-target, i-assign, i-increment, i-decrement, i-send, i-receive, i-assert, i-run, i-set-run, i-fi, i-od, i-end-option, each, code-exp, code-argument, code-received, code-tree}
+use Rattle.spec_grammar.specs.Tree.{Name, Sort, action, statement, sequence, options, Tree, express, assign, increment, decrement, send, receive, assert, print, skip, goto, break, timeout, else, run, set-run, select, loop, bare, labelled, end, then, over, option}
+use Rattle.spec_grammar.specs.Code.{i-name, i-text, i-end, i-express, i-target, i-assign, i-increment, i-decrement, i-send, i-receive, i-assert, i-run, i-set-run, i-fi, i-od, i-end-option, each, code-exp, code-argument, code-received, code-tree}
 use Rattle.spec_machine.specs.Program.{sizeIn, enter, Within, itself, in-if, in-do, unlabelled, behind-label, in-first, in-rest, in-option, in-others}
 use Rattle.spec_machine.specs.Stage.{Stage}
 use Rattle.spec_machine.specs.Ready.{ready}
 use Rattle.spec_machine.specs.Offers.{elseOf, offers}
-use Rattle.base.specs.Lists.{orElse}
+use Rattle.base_bytes.specs.Lists.{orElse}
 use Rattle.agree_transfer.specs.Agrees.{takable}
 use Rattle.agree_transfer.specs.Alike.{In, first, behind}
 use Rattle.spec_machine.specs.Steps.{nothing, found, orFound, here, statementAt}

@@ -7,23 +7,23 @@ use mathlib.Core.List.{List, [], _∷_, _++_}
 use lib.ListN.{length}
 use lib.IntN.{ℤ, pos, negsuc, _+ℤ_}
 use lib.Dec.{eqb, ltb}
-use Rattle.base.specs.Choice.{pick, both}
-use Rattle.base.specs.Lists.{same, orElse}
-use Rattle.base.proofs.Tests.{true-false, both-true}
+use Rattle.base_bytes.specs.Choice.{pick, both}
+use Rattle.base_bytes.specs.Lists.{same, orElse}
+use Rattle.base_bytes.proofs.Tests.{true-false, both-true}
 use Rattle.spec_text.specs.Names.{pid}
-use Rattle.value.specs.Operators.{isTrue}
-use Rattle.value.specs.declared.Fault.{Fault}
-use Rattle.value.specs.declared.Fault.the-variants.{Index, Channel, Fields}
-use Rattle.value.specs.declared.Answer.{Answer}
-use Rattle.value.specs.declared.Answer.the-variants.{Value, Fails}
-use Rattle.lawful.specs.Heights.{height}
+use Rattle.base_values.specs.Operators.{isTrue}
+use Rattle.base_values.specs.declared.Fault.{Fault}
+use Rattle.base_values.specs.declared.Fault.the-variants.{Index, Channel, Fields}
+use Rattle.base_values.specs.declared.Answer.{Answer}
+use Rattle.base_values.specs.declared.Answer.the-variants.{Value, Fails}
+use Rattle.spec_rules.specs.Heights.{height}
 use lib.Dec.{leb}
 use borrow.Author.Tests.{lt-ltb, eqb-true}
-use Rattle.syntax.specs.Tree.{Received, into, equal, exactly, exactly-true, exactly-false, Sort, action, Tree, express, assign, increment, decrement, send, receive, assert, print, skip, goto, break, timeout, else, run, set-run, select, loop, bare, labelled, end, then, over, option}
-use Rattle.syntax.specs.Tree.{Name, Shape, Exp, Expr, Ref, plain, indexed, num, tru, fls, get, len, unary, binary, choice}
-use Rattle.lawful.specs.Senses.{Sense, variable, constant, procedure, unknown, isConstant}
-use Rattle.lawful.specs.Expressions.{Role, operand, channel, target, received, forConstant, forPid, forChan, alike, suits, usable, named, lawful, whole}
-use Rattle.lawful.specs.Statements.{Place, all, isElse, sense, runs, receives, formats, allowed}
+use Rattle.spec_grammar.specs.Tree.{Received, into, equal, exactly, exactly-true, exactly-false, Sort, action, Tree, express, assign, increment, decrement, send, receive, assert, print, skip, goto, break, timeout, else, run, set-run, select, loop, bare, labelled, end, then, over, option}
+use Rattle.spec_grammar.specs.Tree.{Name, Shape, Exp, Expr, Ref, plain, indexed, num, tru, fls, get, len, unary, binary, choice}
+use Rattle.spec_rules.specs.Senses.{Sense, variable, constant, procedure, unknown, isConstant}
+use Rattle.spec_rules.specs.Expressions.{Role, operand, channel, target, received, forConstant, forPid, forChan, alike, suits, usable, named, lawful, whole}
+use Rattle.spec_rules.specs.Statements.{Place, all, isElse, sense, runs, receives, formats, allowed}
 use Rattle.spec_machine.specs.Eval.{elementBy, lengthBy, signBy, operateBy, chooseBy, eval}
 use Rattle.spec_machine.specs.Stage.{Stage, Ways}
 use Rattle.spec_machine.specs.Arguments.{nameOf, Aim, hit, miss, aimBy, aim, Reach, astray, reachBy, reachAt, reach, Values, stopped, valuesBy, values, equalBy, agree, agreeBy, agrees, Aims, hits, missed, aimsBy, targets}
@@ -32,7 +32,7 @@ use Rattle.spec_machine.specs.Ready.{passes, sendable, receivable, ready}
 use Rattle.spec_machine.specs.Effect.{fault, delivery, deliveries, goOn, expressedBy, assertedBy, assignedBy, steppedBy, sentBy, receivedAt, receivedIf, receivedBy, printedBy, ranBy, setBy, setRunBy, effect, textBy, prints}
 use Rattle.spec_machine.specs.Offers.{elseOf, offers}
 use Rattle.spec_machine.specs.Program.{sizeIn}
-use Rattle.value.specs.Bits.{wrap32}
+use Rattle.base_values.specs.Bits.{wrap32}
 use Rattle.base_outcome.specs.declared.Taken.the-variants.{Refuted}
 use Rattle.agree_transfer.specs.Agrees.{isVariable, storable, Agrees, Leading, Related, takable}
 

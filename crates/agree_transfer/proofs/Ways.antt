@@ -4,11 +4,11 @@ use mathlib.Core.Path.{_≡_, refl, ap, _∙_}
 use mathlib.Core.Bool.{Bool, true, false}
 use mathlib.Core.List.{List, [], _∷_, _++_}
 use lib.Dec.{leb}
-use Rattle.base.specs.Choice.{pick, either}
-use Rattle.base.specs.Lists.{same}
-use Rattle.base.proofs.Tests.{true-false, both-true}
-use Rattle.syntax.specs.Tree.{Name, Sort, action, sequence, Tree, express, assign, increment, decrement, send, receive, assert, print, skip, goto, break, timeout, else, run, set-run, select, loop, bare, labelled, end, then, over, option}
-use Rattle.lawful.specs.Statements.{Place, has, labelsOf, isElse, allowed}
+use Rattle.base_bytes.specs.Choice.{pick, either}
+use Rattle.base_bytes.specs.Lists.{same}
+use Rattle.base_bytes.proofs.Tests.{true-false, both-true}
+use Rattle.spec_grammar.specs.Tree.{Name, Sort, action, sequence, Tree, express, assign, increment, decrement, send, receive, assert, print, skip, goto, break, timeout, else, run, set-run, select, loop, bare, labelled, end, then, over, option}
+use Rattle.spec_rules.specs.Statements.{Place, has, labelsOf, isElse, allowed}
 use Rattle.spec_machine.specs.Program.{sizeIn, enter, labelIn, Within, itself, in-if, in-do, unlabelled, behind-label, in-first, in-rest, in-option, in-others}
 
 module _ (P : ℕ → Type 0) where

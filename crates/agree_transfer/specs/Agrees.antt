@@ -8,13 +8,13 @@ use mathlib.Core.List.{List}
 use lib.ListN.{length}
 use lib.IntN.{ℤ}
 use lib.Dec.{eqb, ltb}
-use Rattle.base.specs.Choice.{pick}
-use Rattle.base.specs.Lists.{same}
+use Rattle.base_bytes.specs.Choice.{pick}
+use Rattle.base_bytes.specs.Lists.{same}
 use Rattle.spec_text.specs.Names.{pid}
-use Rattle.syntax.specs.Tree.{Name, action, Tree, express, assign, increment, decrement, send, receive, assert, print, skip, goto, break, timeout, else, run, set-run, select, loop}
-use Rattle.lawful.specs.Senses.{Sense, variable, constant, procedure, unknown, isConstant}
-use Rattle.lawful.specs.Expressions.{operand, received, usable}
-use Rattle.lawful.specs.Statements.{Place, has, sense, runs}
+use Rattle.spec_grammar.specs.Tree.{Name, action, Tree, express, assign, increment, decrement, send, receive, assert, print, skip, goto, break, timeout, else, run, set-run, select, loop}
+use Rattle.spec_rules.specs.Senses.{Sense, variable, constant, procedure, unknown, isConstant}
+use Rattle.spec_rules.specs.Expressions.{operand, received, usable}
+use Rattle.spec_rules.specs.Statements.{Place, has, sense, runs}
 use Rattle.spec_machine.specs.Stage.{Stage, Ways}
 use Rattle.spec_machine.specs.Ready.{ready}
 use Rattle.spec_machine.specs.Effect.{Outcome}

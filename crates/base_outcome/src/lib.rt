@@ -1,5 +1,5 @@
 // What came of taking a step, for the specification and the code alike.
-use value::Fault;
+use base_values::Fault;
 
 // It is done, its assertion failed, it faulted; or there is none to take.
 pub enum Taken {

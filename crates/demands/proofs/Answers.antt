@@ -7,11 +7,11 @@ use lib.ListN.{length, drop}
 use lib.IntN.{ℤ}
 use Rattle.base_outcome.specs.declared.Taken.{Taken}
 use Rattle.base_outcome.specs.declared.Taken.the-variants.{Done, Refuted, Faulted, Idle}
-use Rattle.moving.specs.Moving.{nthIn}
-use Rattle.steps.specs.Entries.{Outcome, tookBy, standingOf, offerBy}
-use Rattle.steps.specs.declared.Listed.the-variants as listed
-use Rattle.steps.specs.declared.Stepped.{Stepped}
-use Rattle.steps.specs.declared.Stepped.the-variants as stepped
+use Rattle.step_all.specs.Moving.{nthIn}
+use Rattle.step_entry.specs.Entries.{Outcome, tookBy, standingOf, offerBy}
+use Rattle.step_entry.specs.declared.Listed.the-variants as listed
+use Rattle.step_entry.specs.declared.Stepped.{Stepped}
+use Rattle.step_entry.specs.declared.Stepped.the-variants as stepped
 use Rattle.spec_machine.specs.Machine.{Step, Verdict, finished, blocked, «open»}
 use Rattle.spec_trails.specs.Runs.{Ending, stood, refuted, faulted}
 use Rattle.spec_trails.specs.Replays.{Replayed, accepted, refused}

@@ -5,16 +5,16 @@ use mathlib.Core.Bool.{Bool, true, false}
 use mathlib.Core.List.{List, [], _∷_}
 use lib.Dec.{eqb, ltb}
 use lib.ListN.{length, take, drop, getD}
-use Rattle.base.specs.Choice.{pick, both}
-use Rattle.base.specs.Lists.{same}
-use Rattle.tokens.specs.Kinds.{bytes}
-use Rattle.spellings.specs.Find.{find}
+use Rattle.base_bytes.specs.Choice.{pick, both}
+use Rattle.base_bytes.specs.Lists.{same}
+use Rattle.base_kinds.specs.Kinds.{bytes}
+use Rattle.text_spellings.specs.Find.{find}
 use Rattle.spec_trails.specs.Trails.{tab}
-use Rattle.records.specs.Records.{wellFormed, field, behindField, stepOf, claimOf, recordOf}
+use Rattle.trail_form.specs.Records.{wellFormed, field, behindField, stepOf, claimOf, recordOf}
 use Rattle.spec_trails.specs.Trails.{Recorded, trail-most}
-use Rattle.records.specs.Forms.{Form, form, spoiled, before, lineOf, follow, formFrom, formOf}
-use Rattle.records.specs.declared.Record.{Record}
-use Rattle.records.specs.declared.Record.the-variants.{Step, Claim, Malformed}
+use Rattle.trail_form.specs.Forms.{Form, form, spoiled, before, lineOf, follow, formFrom, formOf}
+use Rattle.trail_form.specs.declared.Record.{Record}
+use Rattle.trail_form.specs.declared.Record.the-variants.{Step, Claim, Malformed}
 use Rattle.spec_trails.specs.Replays.{claimed}
 use Rattle.demands.specs.Answers.{claimBy}
 

@@ -8,23 +8,23 @@ use lib.ListN.{length, drop}
 use lib.IntN.{ℤ}
 use lib.Dec.{eqb, ltb}
 use borrow.Author.Tests.{le-ltb, ltb-false}
-use Rattle.base.specs.Choice.{pick}
-use Rattle.syntax.specs.Tree.{Model}
-use Rattle.genuine.specs.Genuine.{written}
-use Rattle.frames.specs.Layout.{stateSize}
-use Rattle.starting.specs.Starting.{initialOf}
-use Rattle.moving.specs.Moving.{stepAt, nthOf, verdictOf}
-use Rattle.steps.specs.Entries.{foreignOf, refusalOf, startLeft, standingOf, offerBy, offeredOf, verdictFor, refusedBy, outcomeBy, printRoom, stepRefusal, outcomeOf}
-use Rattle.steps.specs.declared.Listed.the-variants as listed
-use Rattle.steps.specs.declared.Standing.the-variants as standing
-use Rattle.runs.specs.Runs as runs
-use Rattle.runs.specs.declared.Ran.the-variants as ran
-use Rattle.runs.specs.Entries.{ranOf}
-use Rattle.records.specs.Forms.{Form, form, spoiled, formFrom, formOf}
+use Rattle.base_bytes.specs.Choice.{pick}
+use Rattle.spec_grammar.specs.Tree.{Model}
+use Rattle.table_genuine.specs.Genuine.{written}
+use Rattle.state_layout.specs.Layout.{stateSize}
+use Rattle.state_start.specs.Starting.{initialOf}
+use Rattle.step_all.specs.Moving.{stepAt, nthOf, verdictOf}
+use Rattle.step_entry.specs.Entries.{foreignOf, refusalOf, startLeft, standingOf, offerBy, offeredOf, verdictFor, refusedBy, outcomeBy, printRoom, stepRefusal, outcomeOf}
+use Rattle.step_entry.specs.declared.Listed.the-variants as listed
+use Rattle.step_entry.specs.declared.Standing.the-variants as standing
+use Rattle.run_entry.specs.Runs as runs
+use Rattle.run_entry.specs.declared.Ran.the-variants as ran
+use Rattle.run_entry.specs.Entries.{ranOf}
+use Rattle.trail_form.specs.Forms.{Form, form, spoiled, formFrom, formOf}
 use Rattle.spec_trails.specs.Trails.{trail-most, steps-most}
-use Rattle.trails.specs.Entries as trails
-use Rattle.trails.specs.Entries.{replayedOf}
-use Rattle.trails.specs.declared.Replayed.the-variants as replayed
+use Rattle.trail_replay.specs.Entries as trails
+use Rattle.trail_replay.specs.Entries.{replayedOf}
+use Rattle.trail_replay.specs.declared.Replayed.the-variants as replayed
 use Rattle.spec_machine.specs.State.{State}
 use Rattle.spec_machine.specs.Begins.{initial}
 use Rattle.state_encode.specs.Encode.{encode}

@@ -7,7 +7,7 @@ use mathlib.Core.List.{List, []}
 use lib.ListN.{getD}
 use lib.IntN.{ℤ}
 use borrow.Author.Tests.{eqb-true}
-use Rattle.syntax.specs.Tree.{Body, body, Model}
+use Rattle.spec_grammar.specs.Tree.{Body, body, Model}
 use Rattle.spec_machine.specs.Program.{sizeIn, startIn, endIn, statementsOf}
 use Rattle.spec_machine.specs.State.{State, noProcess}
 use Rattle.spec_machine.specs.Names.{unitAt}

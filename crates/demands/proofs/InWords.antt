@@ -8,13 +8,13 @@ use mathlib.Core.Bool.{true}
 use lib.ListN.{length}
 use lib.IntN.{ℤ}
 use borrow.Author.Tests.{le-ltb}
-use Rattle.base.specs.Choice.{pick}
-use Rattle.syntax.specs.Tree.{Model}
+use Rattle.base_bytes.specs.Choice.{pick}
+use Rattle.spec_grammar.specs.Tree.{Model}
 use Rattle.base_outcome.specs.declared.Taken.{Taken}
 use Rattle.base_outcome.specs.declared.Taken.the-variants.{Done, Refuted, Faulted, Idle}
-use Rattle.steps.specs.Entries.{Outcome, refusedBy, printRoom, outcomeOf}
-use Rattle.steps.specs.declared.Stepped.{Stepped}
-use Rattle.steps.specs.declared.Stepped.the-variants as stepped
+use Rattle.step_entry.specs.Entries.{Outcome, refusedBy, printRoom, outcomeOf}
+use Rattle.step_entry.specs.declared.Stepped.{Stepped}
+use Rattle.step_entry.specs.declared.Stepped.the-variants as stepped
 use Rattle.spec_machine.specs.State.{State}
 use Rattle.spec_machine.specs.Places.{Belongs}
 use Rattle.spec_machine.specs.Fits.{Fits}

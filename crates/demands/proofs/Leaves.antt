@@ -8,18 +8,18 @@ use mathlib.Core.List.{List, []}
 use lib.ListN.{length, drop}
 use lib.IntN.{ℤ}
 use lib.Dec.{ltb}
-use Rattle.base.specs.Choice.{pick}
-use Rattle.syntax.specs.Tree.{Model}
-use Rattle.genuine.specs.Genuine.{written}
-use Rattle.frames.specs.Layout.{stateSize}
-use Rattle.standing.specs.Standing.{isStateOf}
+use Rattle.base_bytes.specs.Choice.{pick}
+use Rattle.spec_grammar.specs.Tree.{Model}
+use Rattle.table_genuine.specs.Genuine.{written}
+use Rattle.state_layout.specs.Layout.{stateSize}
+use Rattle.state_check.specs.Standing.{isStateOf}
 use Rattle.base_outcome.specs.declared.Taken.{Taken}
 use Rattle.base_outcome.specs.declared.Taken.the-variants.{Done, Refuted, Faulted, Idle}
-use Rattle.steps.specs.Entries.{foreignOf, startLeft, Outcome, refusedBy, printRoom, outcomeOf}
-use Rattle.steps.specs.declared.Stepped.the-variants as stepped
-use Rattle.runs.specs.Entries.{ranOf}
-use Rattle.records.specs.Forms.{form, formOf}
-use Rattle.trails.specs.Entries.{replayedOf}
+use Rattle.step_entry.specs.Entries.{foreignOf, startLeft, Outcome, refusedBy, printRoom, outcomeOf}
+use Rattle.step_entry.specs.declared.Stepped.the-variants as stepped
+use Rattle.run_entry.specs.Entries.{ranOf}
+use Rattle.trail_form.specs.Forms.{form, formOf}
+use Rattle.trail_replay.specs.Entries.{replayedOf}
 use Rattle.spec_machine.specs.State.{State}
 use Rattle.spec_machine.specs.Begins.{initial}
 use Rattle.spec_machine.specs.Places.{Belongs}

@@ -9,18 +9,18 @@ use lib.ListN.{length, drop}
 use lib.IntN.{ℤ}
 use lib.Dec.{eqb, ltb}
 use borrow.Author.Tests.{lt-ltb, le-ltb, ltb-true, ltb-false}
-use Rattle.base.specs.Choice.{pick}
-use Rattle.base.proofs.Tests.{true-false}
-use Rattle.syntax.specs.Tree.{Model}
-use Rattle.reader.specs.Entries.{room}
-use Rattle.accepting.specs.Meaning.{Accepts}
-use Rattle.accepting.proofs.Main.{accepted-means, means-accepted}
-use Rattle.accepting.proofs.Tables.{tables-tree}
-use Rattle.genuine.specs.Genuine.{written, genuine}
-use Rattle.signing.proofs.Owners.{genuine-owned, owned-genuine}
-use Rattle.frames.specs.Layout.{stateSize}
-use Rattle.standing.specs.Standing.{isStateOf}
-use Rattle.steps.specs.Entries.{foreignOf, refusalOf}
+use Rattle.base_bytes.specs.Choice.{pick}
+use Rattle.base_bytes.proofs.Tests.{true-false}
+use Rattle.spec_grammar.specs.Tree.{Model}
+use Rattle.read_entry.specs.Entries.{room}
+use Rattle.read_accepts_proof.specs.Meaning.{Accepts}
+use Rattle.read_accepts_proof.proofs.Main.{accepted-means, means-accepted}
+use Rattle.read_accepts_proof.proofs.Tables.{tables-tree}
+use Rattle.table_genuine.specs.Genuine.{written, genuine}
+use Rattle.normal_proof.proofs.Owners.{genuine-owned, owned-genuine}
+use Rattle.state_layout.specs.Layout.{stateSize}
+use Rattle.state_check.specs.Standing.{isStateOf}
+use Rattle.step_entry.specs.Entries.{foreignOf, refusalOf}
 use Rattle.spec_machine.specs.State.{State}
 use Rattle.state_encode.specs.Encode.{encode}
 use Rattle.spec_machine.specs.Places.{Belongs}

@@ -9,12 +9,12 @@ use mathlib.Core.List.{List, [], _∷_, _++_}
 use lib.ListN.{length}
 use lib.Dec.{eqb}
 use borrow.Author.Tests.{eqb-true, ne-eqb}
-use Rattle.base.specs.Choice.{pick}
-use Rattle.offering.specs.Offers.{pickAt}
-use Rattle.offering.specs.declared.Walk.{Walk}
-use Rattle.offering.specs.declared.Walk.the-variants.{Found, Left}
-use Rattle.steps.specs.declared.Listed.{Listed}
-use Rattle.steps.specs.declared.Listed.the-variants as listed
+use Rattle.base_bytes.specs.Choice.{pick}
+use Rattle.step_offers.specs.Offers.{pickAt}
+use Rattle.step_offers.specs.declared.Walk.{Walk}
+use Rattle.step_offers.specs.declared.Walk.the-variants.{Found, Left}
+use Rattle.step_entry.specs.declared.Listed.{Listed}
+use Rattle.step_entry.specs.declared.Listed.the-variants as listed
 use Rattle.spec_machine.specs.Machine.{Machine, Step, numbered, late, listFrom, offered, asked}
 use Rattle.agree_machine.proofs.Asked.{Met, there}
 use Rattle.demands.specs.Answers.{listedBy}

@@ -5,10 +5,10 @@ use mathlib.Core.Path.{_≡_, refl, ap}
 use mathlib.Core.Bool.{Bool, true, false}
 use mathlib.Core.List.{List, [], _∷_, _++_}
 use lib.ListN.{length, getD, length-append}
-use Rattle.base.specs.Choice.{pick}
-use Rattle.base.specs.Lists.{orElse}
-use Rattle.syntax.specs.Tree.{Model, Sort, action, statement, sequence, options, Tree, express, assign, increment, decrement, send, receive, assert, print, skip, goto, break, timeout, else, run, set-run, select, loop, bare, labelled, end, then, over, option}
-use Rattle.syntax.specs.Code.{Item, each, code-exp, code-argument, code-received, code-tree, i-express, i-target, i-assign, i-increment, i-decrement, i-send, i-end, i-receive, i-assert, i-fi, i-od, i-end-option, i-name, i-set-run}
+use Rattle.base_bytes.specs.Choice.{pick}
+use Rattle.base_bytes.specs.Lists.{orElse}
+use Rattle.spec_grammar.specs.Tree.{Model, Sort, action, statement, sequence, options, Tree, express, assign, increment, decrement, send, receive, assert, print, skip, goto, break, timeout, else, run, set-run, select, loop, bare, labelled, end, then, over, option}
+use Rattle.spec_grammar.specs.Code.{Item, each, code-exp, code-argument, code-received, code-tree, i-express, i-target, i-assign, i-increment, i-decrement, i-send, i-end, i-receive, i-assert, i-fi, i-od, i-end-option, i-name, i-set-run}
 use Rattle.spec_machine.specs.Program.{sizeIn}
 use Rattle.spec_machine.specs.Offers.{elseOf, itself, offers}
 use Rattle.spec_machine.specs.Ready.{ready}

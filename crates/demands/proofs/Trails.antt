@@ -8,15 +8,15 @@ use mathlib.Core.List.{List}
 use lib.ListN.{length}
 use lib.IntN.{ℤ}
 use lib.Dec.{ltb}
-use Rattle.base.specs.Choice.{pick}
-use Rattle.syntax.specs.Tree.{Model}
-use Rattle.moving.specs.declared.Verdict.the-variants as verdicts
-use Rattle.records.specs.Forms.{Form, form, spoiled, formOf}
+use Rattle.base_bytes.specs.Choice.{pick}
+use Rattle.spec_grammar.specs.Tree.{Model}
+use Rattle.step_all.specs.declared.Verdict.the-variants as verdicts
+use Rattle.trail_form.specs.Forms.{Form, form, spoiled, formOf}
 use Rattle.spec_trails.specs.Trails.{trail-most}
-use Rattle.trails.specs.Entries.{replayedOf}
-use Rattle.trails.specs.declared.Replayed as trails
-use Rattle.trails.specs.declared.Replayed.the-variants as replayed
-use Rattle.records.proofs.Written.{trail-formed}
+use Rattle.trail_replay.specs.Entries.{replayedOf}
+use Rattle.trail_replay.specs.declared.Replayed as trails
+use Rattle.trail_replay.specs.declared.Replayed.the-variants as replayed
+use Rattle.trail_form.proofs.Written.{trail-formed}
 use Rattle.spec_machine.specs.State.{State}
 use Rattle.spec_machine.specs.Begins.{initial}
 use Rattle.spec_machine.specs.Places.{Belongs}

@@ -7,10 +7,10 @@ use mathlib.Core.Bool.{Bool, true, false}
 use mathlib.Core.Logic.{_↔_}
 use mathlib.Core.List.{List, [], _∷_}
 use lib.ListN.{length}
-use Rattle.base.specs.Choice.{pick}
-use Rattle.base.proofs.Tests.{true-false}
-use Rattle.steps.specs.declared.Standing.{Standing}
-use Rattle.steps.specs.declared.Standing.the-variants as standing
+use Rattle.base_bytes.specs.Choice.{pick}
+use Rattle.base_bytes.proofs.Tests.{true-false}
+use Rattle.step_entry.specs.declared.Standing.{Standing}
+use Rattle.step_entry.specs.declared.Standing.the-variants as standing
 use Rattle.spec_machine.specs.Machine.{Machine, Step, late, offered, endedFrom, verdictBy, verdict}
 use Rattle.demands.specs.Answers.{standingBy}
 use Rattle.demands.specs.Walks.{Nth, here, later, Offers}

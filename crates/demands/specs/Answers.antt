@@ -4,19 +4,19 @@ use mathlib.Core.List.{List, [], _∷_, _++_}
 use lib.ListN.{length, drop}
 use lib.IntN.{ℤ}
 use lib.Dec.{eqb}
-use Rattle.base.specs.Choice.{pick}
+use Rattle.base_bytes.specs.Choice.{pick}
 use Rattle.base_outcome.specs.declared.Taken.{Taken}
 use Rattle.base_outcome.specs.declared.Taken.the-variants.{Done, Refuted, Faulted, Idle}
-use Rattle.steps.specs.Entries.{Outcome, refusedBy}
-use Rattle.steps.specs.declared.Listed.{Listed}
-use Rattle.steps.specs.declared.Listed.the-variants as listed
-use Rattle.steps.specs.declared.Standing.{Standing}
-use Rattle.steps.specs.declared.Standing.the-variants as standing
-use Rattle.steps.specs.declared.Stepped.the-variants as stepped
-use Rattle.runs.specs.declared.Ending as runs
-use Rattle.runs.specs.declared.Ending.the-variants as ending
-use Rattle.trails.specs.declared.Replayed as trails
-use Rattle.trails.specs.declared.Replayed.the-variants as replayed
+use Rattle.step_entry.specs.Entries.{Outcome, refusedBy}
+use Rattle.step_entry.specs.declared.Listed.{Listed}
+use Rattle.step_entry.specs.declared.Listed.the-variants as listed
+use Rattle.step_entry.specs.declared.Standing.{Standing}
+use Rattle.step_entry.specs.declared.Standing.the-variants as standing
+use Rattle.step_entry.specs.declared.Stepped.the-variants as stepped
+use Rattle.run_entry.specs.declared.Ending as runs
+use Rattle.run_entry.specs.declared.Ending.the-variants as ending
+use Rattle.trail_replay.specs.declared.Replayed as trails
+use Rattle.trail_replay.specs.declared.Replayed.the-variants as replayed
 use Rattle.spec_machine.specs.Machine.{Step, Verdict, finished, blocked, «open»}
 use Rattle.spec_trails.specs.Runs.{Ending, stood, refuted, faulted}
 use Rattle.spec_trails.specs.Replays.{Claim, assertion, fault, standing, Replayed, accepted, refused}

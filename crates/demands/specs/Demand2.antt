@@ -4,9 +4,9 @@ use Prim.Native.Nat.{ℕ}
 use mathlib.Core.Path.{_≡_}
 use mathlib.Core.List.{List}
 use lib.IntN.{ℤ}
-use Rattle.steps.specs.Entries.{foreignOf, refusalOf, startLeft, offeredOf, verdictFor, outcomeOf}
-use Rattle.runs.specs.Entries.{ranOf}
-use Rattle.trails.specs.Entries.{replayedOf}
+use Rattle.step_entry.specs.Entries.{foreignOf, refusalOf, startLeft, offeredOf, verdictFor, outcomeOf}
+use Rattle.run_entry.specs.Entries.{ranOf}
+use Rattle.trail_replay.specs.Entries.{replayedOf}
 use Rattle.demands.specs.Lent.{Lent, caseOf}
 use Rattle.demands.specs.Entries.{refusalBy, startBy, offeredBy, verdictBy, stepBy, runBy, replayBy}
 

@@ -5,20 +5,20 @@ use mathlib.Core.List.{List, _++_}
 use lib.ListN.{length, drop}
 use lib.IntN.{ℤ}
 use lib.Dec.{ltb}
-use Rattle.base.specs.Choice.{pick}
-use Rattle.syntax.specs.Tree.{Model}
-use Rattle.frames.specs.Layout.{stateSize}
-use Rattle.steps.specs.Entries.{Outcome, refusedBy, printRoom}
-use Rattle.steps.specs.declared.Listed.{Listed}
-use Rattle.steps.specs.declared.Listed.the-variants as listed
-use Rattle.steps.specs.declared.Standing.{Standing}
-use Rattle.steps.specs.declared.Standing.the-variants as standing
-use Rattle.runs.specs.declared.Ran.{Ran}
-use Rattle.runs.specs.declared.Ran.the-variants as ran
-use Rattle.records.specs.Forms.{Form, form, spoiled, formOf}
+use Rattle.base_bytes.specs.Choice.{pick}
+use Rattle.spec_grammar.specs.Tree.{Model}
+use Rattle.state_layout.specs.Layout.{stateSize}
+use Rattle.step_entry.specs.Entries.{Outcome, refusedBy, printRoom}
+use Rattle.step_entry.specs.declared.Listed.{Listed}
+use Rattle.step_entry.specs.declared.Listed.the-variants as listed
+use Rattle.step_entry.specs.declared.Standing.{Standing}
+use Rattle.step_entry.specs.declared.Standing.the-variants as standing
+use Rattle.run_entry.specs.declared.Ran.{Ran}
+use Rattle.run_entry.specs.declared.Ran.the-variants as ran
+use Rattle.trail_form.specs.Forms.{Form, form, spoiled, formOf}
 use Rattle.spec_trails.specs.Trails.{trail-most}
-use Rattle.trails.specs.declared.Replayed as trails
-use Rattle.trails.specs.declared.Replayed.the-variants as replayed
+use Rattle.trail_replay.specs.declared.Replayed as trails
+use Rattle.trail_replay.specs.declared.Replayed.the-variants as replayed
 use Rattle.spec_machine.specs.State.{State}
 use Rattle.spec_machine.specs.Begins.{initial}
 use Rattle.state_encode.specs.Encode.{encode}

@@ -6,19 +6,19 @@ use mathlib.Core.Logic.{_⊎_, _↔_}
 use mathlib.Core.List.{List, _++_}
 use lib.ListN.{length, drop}
 use lib.IntN.{ℤ}
-use Rattle.value.specs.declared.Fault.{Fault}
-use Rattle.syntax.specs.Tree.{Model}
-use Rattle.genuine.specs.Genuine.{written}
-use Rattle.standing.specs.Standing.{isStateOf}
+use Rattle.base_values.specs.declared.Fault.{Fault}
+use Rattle.spec_grammar.specs.Tree.{Model}
+use Rattle.table_genuine.specs.Genuine.{written}
+use Rattle.state_check.specs.Standing.{isStateOf}
 use Rattle.base_outcome.specs.declared.Taken.the-variants.{Done, Refuted, Faulted}
-use Rattle.steps.specs.Entries.{foreignOf, refusalOf, startLeft, offeredOf, verdictFor, printRoom, outcomeOf}
-use Rattle.steps.specs.declared.Listed.the-variants as listed
-use Rattle.steps.specs.declared.Standing.the-variants as standing
-use Rattle.steps.specs.declared.Stepped.the-variants as stepped
-use Rattle.runs.specs.Entries.{ranOf}
-use Rattle.runs.specs.declared.Ran.the-variants as ran
-use Rattle.records.specs.Forms.{form, formOf}
-use Rattle.trails.specs.Entries.{replayedOf}
+use Rattle.step_entry.specs.Entries.{foreignOf, refusalOf, startLeft, offeredOf, verdictFor, printRoom, outcomeOf}
+use Rattle.step_entry.specs.declared.Listed.the-variants as listed
+use Rattle.step_entry.specs.declared.Standing.the-variants as standing
+use Rattle.step_entry.specs.declared.Stepped.the-variants as stepped
+use Rattle.run_entry.specs.Entries.{ranOf}
+use Rattle.run_entry.specs.declared.Ran.the-variants as ran
+use Rattle.trail_form.specs.Forms.{form, formOf}
+use Rattle.trail_replay.specs.Entries.{replayedOf}
 use Rattle.spec_machine.specs.State.{State}
 use Rattle.spec_machine.specs.Machine.{Step}
 use Rattle.spec_trails.specs.Runs.{Ending}

@@ -5,12 +5,12 @@ use mathlib.Core.Logic.{_⊎_}
 use mathlib.Core.List.{List, _++_}
 use lib.ListN.{length, drop}
 use lib.IntN.{ℤ}
-use Rattle.syntax.specs.Tree.{Model}
-use Rattle.reader.specs.Entries.{room}
-use Rattle.judging.specs.Judging.{tablesText}
-use Rattle.accepting.specs.Meaning.{Accepts}
-use Rattle.genuine.specs.Genuine.{written}
-use Rattle.frames.specs.Layout.{stateSize}
+use Rattle.spec_grammar.specs.Tree.{Model}
+use Rattle.read_entry.specs.Entries.{room}
+use Rattle.read_passes.specs.Judging.{tablesText}
+use Rattle.read_accepts_proof.specs.Meaning.{Accepts}
+use Rattle.table_genuine.specs.Genuine.{written}
+use Rattle.state_layout.specs.Layout.{stateSize}
 use Rattle.spec_machine.specs.State.{State}
 use Rattle.state_encode.specs.Encode.{encode}
 use Rattle.spec_machine.specs.Places.{Belongs}

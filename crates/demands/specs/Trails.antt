@@ -5,11 +5,11 @@ use mathlib.Core.Logic.{_↔_}
 use mathlib.Core.List.{List}
 use lib.ListN.{length}
 use lib.IntN.{ℤ}
-use Rattle.syntax.specs.Tree.{Model}
-use Rattle.records.specs.Forms.{form, formOf}
+use Rattle.spec_grammar.specs.Tree.{Model}
+use Rattle.trail_form.specs.Forms.{form, formOf}
 use Rattle.spec_trails.specs.Trails.{Recorded, steps-most}
-use Rattle.trails.specs.Entries.{replayedOf}
-use Rattle.trails.specs.declared.Replayed.the-variants as replayed
+use Rattle.trail_replay.specs.Entries.{replayedOf}
+use Rattle.trail_replay.specs.declared.Replayed.the-variants as replayed
 use Rattle.spec_trails.specs.Trails.{trailOf, Small}
 use Rattle.spec_machine.specs.State.{State}
 use Rattle.spec_machine.specs.Begins.{initial}

@@ -3,7 +3,7 @@ use Prim.Native.Nat.{ℕ, zero, suc, _+_, _<_}
 use mathlib.Core.Path.{_≡_}
 use mathlib.Core.List.{List, [], _∷_}
 use lib.ListN.{length}
-use Rattle.value.specs.declared.Fault.{Fault}
+use Rattle.base_values.specs.declared.Fault.{Fault}
 use Rattle.base_outcome.specs.declared.Taken.the-variants.{Done, Refuted, Faulted}
 use Rattle.spec_machine.specs.Machine.{Machine, Step, late, offered, verdict}
 use Rattle.spec_trails.specs.Runs.{Ending, stood, refuted, faulted}

@@ -1,2 +1,2 @@
-pub mod Says
-pub mod Setting
+pub mod Parses
+pub mod Legal

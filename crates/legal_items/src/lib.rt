@@ -1,1 +1,1 @@
-// What the items of a model say, in terms of its tree, is definitions alone (specs/).
+// That the items of a text say what its tree says is definitions and theorems alone (specs/, proofs/).

@@ -1,7 +1,7 @@
 -- What a batch counts: of each command its status, 1 where something is wrong, 2 for an error.
 use Prim.Native.Nat.{ℕ, _+_}
 use lib.Dec.{eqb, ltb}
-use Rattle.base.specs.Choice.{pick}
+use Rattle.base_bytes.specs.Choice.{pick}
 
 -- one more, unless there are as many as can be counted
 unfoldable pub more : ℕ → ℕ

@@ -2,9 +2,9 @@
 ghost use mathlib.Core.Path.{_≡_};
 ghost use Prim.Native.Nat.{_≤_};
 ghost use Rattle.pluskaro.specs.Counts as counts;
-use display::part;
-use display::put;
-use display::seek;
+use show_answers::part;
+use show_answers::put;
+use show_answers::seek;
 
 // The most bytes of a line of a list.
 const LINE_MOST: usize = 4096;
@@ -34,7 +34,7 @@ fn words_behind(line: &[u8]) -> usize {
     let mut i: usize = 0;
     while i < line.len() {
         if line[i] == b' ' {
-            n = base::least(n, 8) + 1;
+            n = base_bytes::least(n, 8) + 1;
         }
         i += 1;
     }
@@ -120,7 +120,7 @@ fn take_byte(b: u8, line: &mut [u8], r: Reading) -> Reading {
     let t = r.tally;
     keep(line, held, b);
     Reading {
-        held: base::least(held, LINE_MOST) + 1,
+        held: base_bytes::least(held, LINE_MOST) + 1,
         tally: t,
     }
 }
@@ -214,7 +214,7 @@ fn main() {
         put(b"error: a file's name is missing or too long\n");
         return;
     }
-    if base::same(part(&command, 0, c), b"batch") {
+    if base_bytes::same(part(&command, 0, c), b"batch") {
         if count > 3 {
             put(b"error: too many words\n");
             return;

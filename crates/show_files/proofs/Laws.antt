@@ -5,15 +5,15 @@ use mathlib.Core.Path.{_≡_, refl, sym, ap, _∙_, subst}
 use mathlib.Core.Bool.{Bool, true, false}
 use mathlib.Core.List.{List}
 use lib.ListN.{replicate}
-use Rattle.base.specs.Choice.{pick}
-use Rattle.base.specs.Lists.{same}
-use Rattle.judging.specs.declared.Judged.{Judged}
-use Rattle.judging.specs.declared.Judged.the-variants as judged
-use Rattle.reader.specs.Entries.{readOf, leftOf}
-use Rattle.normal.specs.Entries.{answerOf}
-use Rattle.normal.specs.declared.Written.{Written}
-use Rattle.normal.specs.declared.Written.the-variants as text
-use Rattle.commands.proofs.Laws.{start-small, run-small, replay-small}
+use Rattle.base_bytes.specs.Choice.{pick}
+use Rattle.base_bytes.specs.Lists.{same}
+use Rattle.read_passes.specs.declared.Judged.{Judged}
+use Rattle.read_passes.specs.declared.Judged.the-variants as judged
+use Rattle.read_entry.specs.Entries.{readOf, leftOf}
+use Rattle.normal_entry.specs.Entries.{answerOf}
+use Rattle.normal_entry.specs.declared.Written.{Written}
+use Rattle.normal_entry.specs.declared.Written.the-variants as text
+use Rattle.show_commands.proofs.Laws.{start-small, run-small, replay-small}
 use Rattle.show_files.specs.Statuses.{writtenStatus, normalStatus, w-read, w-normal, w-start, w-run, w-replay, w-steps, w-state, commandStatus, judgedStatus, textStatus}
 
 -- ---- `normal`

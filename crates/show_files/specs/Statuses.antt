@@ -3,15 +3,15 @@
 use Prim.Native.Nat.{ℕ}
 use mathlib.Core.List.{List, [], _∷_}
 use lib.ListN.{replicate}
-use Rattle.base.specs.Choice.{pick}
-use Rattle.base.specs.Lists.{same}
-use Rattle.judging.specs.declared.Judged.{Judged}
-use Rattle.judging.specs.declared.Judged.the-variants as judged
-use Rattle.reader.specs.Entries.{readOf, leftOf}
-use Rattle.normal.specs.Entries.{answerOf}
-use Rattle.normal.specs.declared.Written.{Written}
-use Rattle.normal.specs.declared.Written.the-variants as written
-use Rattle.commands.specs.Statuses.{startStatus, runStatus, replayStatus}
+use Rattle.base_bytes.specs.Choice.{pick}
+use Rattle.base_bytes.specs.Lists.{same}
+use Rattle.read_passes.specs.declared.Judged.{Judged}
+use Rattle.read_passes.specs.declared.Judged.the-variants as judged
+use Rattle.read_entry.specs.Entries.{readOf, leftOf}
+use Rattle.normal_entry.specs.Entries.{answerOf}
+use Rattle.normal_entry.specs.declared.Written.{Written}
+use Rattle.normal_entry.specs.declared.Written.the-variants as written
+use Rattle.show_commands.specs.Statuses.{startStatus, runStatus, replayStatus}
 
 abbrev pub writtenStatus : Written → ℕ
 writtenStatus (written.Text n) = 0

@@ -3,12 +3,12 @@
 ghost use mathlib.Core.Path.{_≡_};
 ghost use Prim.Native.Nat.{_≤_};
 ghost use Rattle.show_files.specs.Statuses as statuses;
-use display::part;
-use display::put;
-use display::put_bytes;
-use display::put_number;
-use judging::Judged;
-use normal::Written;
+use normal_entry::Written;
+use read_passes::Judged;
+use show_answers::part;
+use show_answers::put;
+use show_answers::put_bytes;
+use show_answers::put_number;
 
 // The most bytes of a model.
 const TEXT_MOST: usize = 8192;
@@ -28,7 +28,7 @@ fn refuse(text: &[u8], x: u8, place: usize, len: usize) -> u8
 {
     if x != 6 {
         if text.len() <= TEXT_MOST {
-            display::explain(text, place, len, reader::refused_part(text));
+            show_answers::explain(text, place, len, read_entry::refused_part(text));
         }
     }
     put(b"refused ");
@@ -56,7 +56,7 @@ fn show_normal(text: &[u8]) -> u8
     ensures { λ r. ⌜ r ≡ statuses.normalStatus (now (text .entry)) ⌝ }
 {
     let mut out = [0u8; 8192];
-    let w = normal::normal(text, &mut out);
+    let w = normal_entry::normal(text, &mut out);
     match w {
         Written::Text(n) => {
             put(part(&out, 0, n));
@@ -71,24 +71,24 @@ fn show_normal(text: &[u8]) -> u8
 fn perform_on(command: &[u8], tables: &[u32], trail: &[u8], limit: u32) -> u8
     ensures { λ r. ⌜ r ≡ statuses.commandStatus (now (command .entry)) (now (tables .entry)) (now (trail .entry)) limit ⌝ }
 {
-    if base::same(command, b"read") {
+    if base_bytes::same(command, b"read") {
         put(b"accepted\n");
         return 0;
     }
-    if base::same(command, b"start") {
-        return commands::start(tables);
+    if base_bytes::same(command, b"start") {
+        return show_commands::start(tables);
     }
-    if base::same(command, b"run") {
-        return commands::run(tables, limit);
+    if base_bytes::same(command, b"run") {
+        return show_commands::run(tables, limit);
     }
-    if base::same(command, b"replay") {
-        return commands::replay(tables, trail);
+    if base_bytes::same(command, b"replay") {
+        return show_commands::replay(tables, trail);
     }
-    if base::same(command, b"steps") {
-        return commands::steps(tables, trail);
+    if base_bytes::same(command, b"steps") {
+        return show_commands::steps(tables, trail);
     }
-    if base::same(command, b"state") {
-        return commands::state(tables, trail);
+    if base_bytes::same(command, b"state") {
+        return show_commands::state(tables, trail);
     }
     unknown(command)
 }
@@ -97,11 +97,11 @@ fn perform_on(command: &[u8], tables: &[u32], trail: &[u8], limit: u32) -> u8
 fn perform_text(command: &[u8], text: &[u8], trail: &[u8], limit: u32) -> u8
     ensures { λ r. ⌜ r ≡ statuses.textStatus (now (command .entry)) (now (text .entry)) (now (trail .entry)) limit ⌝ }
 {
-    if base::same(command, b"normal") {
+    if base_bytes::same(command, b"normal") {
         return show_normal(text);
     }
     let mut tables = [0u32; 16384];
-    let j = reader::read(text, &mut tables);
+    let j = read_entry::read(text, &mut tables);
     match j {
         Judged::Accepted => perform_on(command, &tables, trail, limit),
         Judged::Refused(x, place, len) => refuse(text, x, place, len),
@@ -140,14 +140,14 @@ fn words_least(command: &[u8]) -> usize {
     if is_replay(command) {
         return 2;
     }
-    if base::same(command, b"run") {
+    if base_bytes::same(command, b"run") {
         return 1;
     }
     if is_plain(command) { 1 } else { 0 }
 }
 
 fn words_most(command: &[u8]) -> usize {
-    if base::same(command, b"run") {
+    if base_bytes::same(command, b"run") {
         2
     } else {
         words_least(command)
@@ -156,24 +156,24 @@ fn words_most(command: &[u8]) -> usize {
 
 // A command over a model alone.
 fn is_plain(command: &[u8]) -> bool {
-    if base::same(command, b"read") {
+    if base_bytes::same(command, b"read") {
         return true;
     }
-    if base::same(command, b"normal") {
+    if base_bytes::same(command, b"normal") {
         return true;
     }
-    base::same(command, b"start")
+    base_bytes::same(command, b"start")
 }
 
 // A command over a model and a trail.
 fn is_replay(command: &[u8]) -> bool {
-    if base::same(command, b"replay") {
+    if base_bytes::same(command, b"replay") {
         return true;
     }
-    if base::same(command, b"steps") {
+    if base_bytes::same(command, b"steps") {
         return true;
     }
-    base::same(command, b"state")
+    base_bytes::same(command, b"state")
 }
 
 // A command with its model and its trail, from their files.
@@ -223,7 +223,7 @@ fn perform_run(model: &[u8], word: &[u8]) -> u8
     ensures { λ r. ⌜ r ≤ 2 ⌝ }
 {
     if is_limit(word) {
-        return perform_files(b"run", model, b"", lexemes::value(word) as u32);
+        return perform_files(b"run", model, b"", text_pieces::value(word) as u32);
     }
     put(b"error: a limit is a number of at most 9 digits\n");
     2

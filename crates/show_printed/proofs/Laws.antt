@@ -9,9 +9,9 @@ use lib.ListN.{length, getD, drop, drop-of-length-le, length-append}
 use lib.Seq.{drop-cons}
 use borrow.Author.Tests.{ne-eqb}
 use lib.Dec.{eqb, ltb}
-use Rattle.base.specs.Choice.{pick}
-use Rattle.pens.specs.Pen.{Pen, write, puts}
-use Rattle.pens.proofs.Pen.{puts-append}
+use Rattle.base_bytes.specs.Choice.{pick}
+use Rattle.base_pens.specs.Pen.{Pen, write, puts}
+use Rattle.base_pens.proofs.Pen.{puts-append}
 use Rattle.show_printed.specs.Printed.{isPlain, hexDigit, escaped, margin, shownByte, shown, indented}
 
 -- the rest of the text, behind one byte more

@@ -1,9 +1,9 @@
 // What a model prints, as it is shown: each line two blanks in, a byte that cannot be shown by its number. So nothing that a model prints begins a line like an answer or a heading.
 ghost use mathlib.Core.Path.{_≡_};
 ghost use mathlib.Core.Bool.{Bool};
-ghost use Rattle.pens.specs.Pen.{pen, puts};
+ghost use Rattle.base_pens.specs.Pen.{pen, puts};
 ghost use Rattle.show_printed.specs.Printed as shown;
-use quills::put;
+use text_pens::put;
 
 fn is_plain(b: u8) -> bool
     ensures { λ r. ⌜ r ≡ shown.isPlain b ⌝ }

@@ -5,13 +5,13 @@ use Prim.Native.Nat.{ℕ, _+_}
 use mathlib.Core.List.{List, [], _∷_}
 use lib.IntN.{ℤ, pos, negsuc}
 use lib.Dec.{eqb, ltb}
-use Rattle.base.specs.Choice.{pick}
-use Rattle.value.specs.Operators.{isTrue, same, oneIf}
-use Rattle.value.specs.declared.Fault.{Fault}
-use Rattle.value.specs.declared.Fault.the-variants.{Index, Channel, Fields}
-use Rattle.value.specs.declared.Answer.{Answer}
-use Rattle.value.specs.declared.Answer.the-variants.{Value, Fails}
-use Rattle.syntax.specs.Tree.{Name, Expr, Ref, plain, indexed, Received, into, equal, exactly, exactly-true, exactly-false}
+use Rattle.base_bytes.specs.Choice.{pick}
+use Rattle.base_values.specs.Operators.{isTrue, same, oneIf}
+use Rattle.base_values.specs.declared.Fault.{Fault}
+use Rattle.base_values.specs.declared.Fault.the-variants.{Index, Channel, Fields}
+use Rattle.base_values.specs.declared.Answer.{Answer}
+use Rattle.base_values.specs.declared.Answer.the-variants.{Value, Fails}
+use Rattle.spec_grammar.specs.Tree.{Name, Expr, Ref, plain, indexed, Received, into, equal, exactly, exactly-true, exactly-false}
 use Rattle.spec_machine.specs.Eval.{Scene, eval}
 use Rattle.spec_machine.specs.Stage.{Stage}
 

@@ -5,11 +5,11 @@ use Prim.Native.Nat.{ℕ, zero, suc, _+_}
 use mathlib.Core.List.{List, [], _∷_, _++_}
 use lib.ListN.{length, getD, replicate}
 use lib.IntN.{ℤ, pos}
-use Rattle.value.specs.Types.{castOf}
-use Rattle.value.specs.Operators.{unaryOf}
-use Rattle.syntax.specs.Tree.{Name, end, Value, unset, set-number, set-minus, set-true, set-false, set-name, set-channel, Body, body, Activity, idle, once, times, Part, mtypes, global, process, init, Model}
-use Rattle.syntax.specs.Code.{each, code-group, code-activity, code-part}
-use Rattle.lawful.specs.Ceilings.{startedBy}
+use Rattle.base_values.specs.Types.{castOf}
+use Rattle.base_values.specs.Operators.{unaryOf}
+use Rattle.spec_grammar.specs.Tree.{Name, end, Value, unset, set-number, set-minus, set-true, set-false, set-name, set-channel, Body, body, Activity, idle, once, times, Part, mtypes, global, process, init, Model}
+use Rattle.spec_grammar.specs.Code.{each, code-group, code-activity, code-part}
+use Rattle.spec_rules.specs.Ceilings.{startedBy}
 use Rattle.spec_machine.specs.Program.{enter, startIn, endIn}
 use Rattle.spec_machine.specs.State.{Channel, Process, State}
 use Rattle.spec_machine.specs.Names.{Var, variablesOf, parametersOf, localsOf, globalIn, messagesOf, unitAt, messageFrom, numberOf}

@@ -5,16 +5,16 @@ use Prim.Native.Nat.{ℕ, _+_}
 use mathlib.Core.List.{List, [], _∷_, _++_}
 use lib.ListN.{length}
 use lib.IntN.{ℤ, pos, negsuc, _+ℤ_}
-use Rattle.base.specs.Choice.{pick}
-use Rattle.value.specs.Bits.{wrap32}
-use Rattle.value.specs.Operators.{isTrue}
-use Rattle.value.specs.declared.Answer.{Answer}
-use Rattle.value.specs.declared.Answer.the-variants.{Value, Fails}
+use Rattle.base_bytes.specs.Choice.{pick}
+use Rattle.base_values.specs.Bits.{wrap32}
+use Rattle.base_values.specs.Operators.{isTrue}
+use Rattle.base_values.specs.declared.Answer.{Answer}
+use Rattle.base_values.specs.declared.Answer.the-variants.{Value, Fails}
 use Rattle.base_outcome.specs.declared.Taken.{Taken}
 use Rattle.base_outcome.specs.declared.Taken.the-variants.{Done, Refuted, Faulted, Idle}
-use Rattle.value.specs.declared.Fault.{Fault}
+use Rattle.base_values.specs.declared.Fault.{Fault}
 use Rattle.spec_text.specs.Formats.{written, opened, counted}
-use Rattle.syntax.specs.Tree.{Name, Received, into, equal, exactly, exactly-true, exactly-false, action, Tree, express, assign, increment, decrement, send, receive, assert, print, skip, goto, break, timeout, else, run, set-run, select, loop}
+use Rattle.spec_grammar.specs.Tree.{Name, Received, into, equal, exactly, exactly-true, exactly-false, action, Tree, express, assign, increment, decrement, send, receive, assert, print, skip, goto, break, timeout, else, run, set-run, select, loop}
 use Rattle.spec_machine.specs.Eval.{eval}
 use Rattle.spec_machine.specs.Stage.{Stage, Ways, Change}
 use Rattle.spec_machine.specs.Arguments.{nameOf, Aim, hit, miss, aim, Reach, channel, astray, reach, Values, all, stopped, values, agrees, Aims, hits, missed, targets}

@@ -5,12 +5,12 @@ use Prim.Native.Nat.{ℕ}
 use mathlib.Core.Bool.{Bool}
 use lib.IntN.{ℤ, pos, negsuc}
 use lib.Dec.{eqb, ltb}
-use Rattle.base.specs.Choice.{pick}
-use Rattle.value.specs.Operators.{isTrue, oneIf, applyOf, unaryOf}
-use Rattle.value.specs.declared.Fault.the-variants.{Index, Channel}
-use Rattle.value.specs.declared.Answer.{Answer}
-use Rattle.value.specs.declared.Answer.the-variants.{Value, Fails}
-use Rattle.syntax.specs.Tree.{Name, Shape, Exp, plain, indexed, num, tru, fls, get, len, unary, binary, choice}
+use Rattle.base_bytes.specs.Choice.{pick}
+use Rattle.base_values.specs.Operators.{isTrue, oneIf, applyOf, unaryOf}
+use Rattle.base_values.specs.declared.Fault.the-variants.{Index, Channel}
+use Rattle.base_values.specs.declared.Answer.{Answer}
+use Rattle.base_values.specs.declared.Answer.the-variants.{Value, Fails}
+use Rattle.spec_grammar.specs.Tree.{Name, Shape, Exp, plain, indexed, num, tru, fls, get, len, unary, binary, choice}
 
 -- what names and numbers of channels stand for, in a state and for a process
 pub record Scene : Type 0 where

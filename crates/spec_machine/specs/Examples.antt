@@ -7,11 +7,11 @@ use mathlib.Core.Option.{none}
 use mathlib.Core.List.{List, [], _∷_}
 use lib.ListN.{getD}
 use lib.IntN.{ℤ, pos}
-use Rattle.base.specs.Lists.{same}
-use Rattle.tokens.specs.Kinds.{bytes}
-use Rattle.value.specs.Types.{widthOf, castOf}
+use Rattle.base_bytes.specs.Lists.{same}
+use Rattle.base_kinds.specs.Kinds.{bytes}
+use Rattle.base_values.specs.Types.{widthOf, castOf}
 use Rattle.base_outcome.specs.declared.Taken.the-variants.{Done}
-use Rattle.syntax.specs.Tree.{Name, num, plain, into, express, send, receive, bare, end, then, unset, set-channel, variable, declare, body, once, global, process, init, Model}
+use Rattle.spec_grammar.specs.Tree.{Name, num, plain, into, express, send, receive, bare, end, then, unset, set-channel, variable, declare, body, once, global, process, init, Model}
 use Rattle.spec_machine.specs.Eval.{eval}
 use Rattle.spec_machine.specs.Arguments.{values, agrees, targets}
 use Rattle.spec_machine.specs.Ready.{ready}

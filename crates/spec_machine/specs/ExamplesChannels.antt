@@ -5,9 +5,9 @@ use Prim.Native.Nat.{ℕ}
 use mathlib.Core.Path.{_≡_, refl}
 use mathlib.Core.List.{List, [], _∷_}
 use lib.IntN.{ℤ, pos}
-use Rattle.value.specs.declared.Fault.the-variants.{Divide}
+use Rattle.base_values.specs.declared.Fault.the-variants.{Divide}
 use Rattle.base_outcome.specs.declared.Taken.the-variants.{Done}
-use Rattle.syntax.specs.Tree.{Expr, Received, action, Tree, plain, indexed, num, get, len, binary, into, equal, exactly, exactly-true, exactly-false, express, send, receive, unset, Declaration, mtypes, global, Model}
+use Rattle.spec_grammar.specs.Tree.{Expr, Received, action, Tree, plain, indexed, num, get, len, binary, into, equal, exactly, exactly-true, exactly-false, express, send, receive, unset, Declaration, mtypes, global, Model}
 use Rattle.spec_machine.specs.State.{Channel, State}
 use Rattle.spec_machine.specs.Machine.{offered}
 use Rattle.spec_machine.specs.Steps.{machineOf}

@@ -5,8 +5,8 @@ use Prim.Native.Nat.{ℕ}
 use mathlib.Core.Path.{refl}
 use mathlib.Core.List.{List, [], _∷_}
 use lib.IntN.{ℤ, pos}
-use Rattle.value.specs.declared.Fault.the-variants.{Divide, Shift, Index, Channel, Fields}
-use Rattle.syntax.specs.Tree.{Expr, action, Tree, plain, indexed, num, get, len, binary, choice, into, equal, exactly, express, assign, increment, send, receive, unset, set-number, Declaration}
+use Rattle.base_values.specs.declared.Fault.the-variants.{Divide, Shift, Index, Channel, Fields}
+use Rattle.spec_grammar.specs.Tree.{Expr, action, Tree, plain, indexed, num, get, len, binary, choice, into, equal, exactly, express, assign, increment, send, receive, unset, set-number, Declaration}
 use Rattle.spec_machine.specs.State as states
 use Rattle.spec_machine.specs.ExamplesWords.{working, a, c, d, x, minus, byte, chan, int, neg, quotient, sum, faulty, scalar, array, channel, channel-of, one, Gives, Leaves, Faults, Turns, FaultsAt, WaitsAt}
 

@@ -5,7 +5,7 @@ use mathlib.Core.List.{List, [], _∷_}
 use lib.IntN.{ℤ, pos}
 use Rattle.base_outcome.specs.declared.Taken.the-variants.{Done}
 use Rattle.spec_text.specs.Names as text
-use Rattle.syntax.specs.Tree.{plain, num, into, assign, receive, skip, unset, set-number, set-name, Declaration, group, body, once, mtypes, global, process, Model}
+use Rattle.spec_grammar.specs.Tree.{plain, num, into, assign, receive, skip, unset, set-number, set-name, Declaration, group, body, once, mtypes, global, process, Model}
 use Rattle.spec_machine.specs.State.{State}
 use Rattle.spec_machine.specs.Names.{variablesOf}
 use Rattle.spec_machine.specs.Begins.{initial}

@@ -3,9 +3,9 @@
 use Prim.Native.Nat.{ℕ}
 use mathlib.Core.Path.{_≡_, refl}
 use mathlib.Core.List.{List, [], _∷_}
-use Rattle.tokens.specs.Kinds.{bytes}
-use Rattle.value.specs.declared.Fault.the-variants.{Divide}
-use Rattle.syntax.specs.Tree.{Expr, action, Tree, num, assert, print, skip, set-minus, Declaration}
+use Rattle.base_kinds.specs.Kinds.{bytes}
+use Rattle.base_values.specs.declared.Fault.the-variants.{Divide}
+use Rattle.spec_grammar.specs.Tree.{Expr, action, Tree, num, assert, print, skip, set-minus, Declaration}
 use Rattle.spec_machine.specs.Begins.{initial}
 use Rattle.spec_machine.specs.Steps.{machineOf}
 use Rattle.spec_machine.specs.Places.{startOf}

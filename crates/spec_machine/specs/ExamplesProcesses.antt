@@ -6,9 +6,9 @@ use mathlib.Core.Path.{_≡_, refl}
 use mathlib.Core.List.{List, [], _∷_, _++_}
 use lib.ListN.{replicate}
 use lib.IntN.{pos}
-use Rattle.value.specs.declared.Fault.the-variants.{Divide, Index}
+use Rattle.base_values.specs.declared.Fault.the-variants.{Divide, Index}
 use Rattle.base_outcome.specs.declared.Taken.the-variants.{Done, Faulted, Idle}
-use Rattle.syntax.specs.Tree.{action, Tree, plain, indexed, num, express, skip, timeout, run, set-run, unset, set-number, Declaration, group, Part, mtypes, global, Model}
+use Rattle.spec_grammar.specs.Tree.{action, Tree, plain, indexed, num, express, skip, timeout, run, set-run, unset, set-number, Declaration, group, Part, mtypes, global, Model}
 use Rattle.spec_machine.specs.State.{Channel, Process, State}
 use Rattle.spec_machine.specs.Begins.{initial}
 use Rattle.spec_machine.specs.Machine.{finished, blocked, «open», offered, verdict}

@@ -6,7 +6,7 @@ use mathlib.Core.Path.{_≡_, refl}
 use mathlib.Core.List.{List, [], _∷_}
 use lib.IntN.{pos}
 use Rattle.base_outcome.specs.declared.Taken.the-variants.{Done}
-use Rattle.syntax.specs.Tree.{Expr, action, Tree, plain, num, express, decrement, skip, break, timeout, else, set-number, Model}
+use Rattle.spec_grammar.specs.Tree.{Expr, action, Tree, plain, num, express, decrement, skip, break, timeout, else, set-number, Model}
 use Rattle.spec_machine.specs.State.{State}
 use Rattle.spec_machine.specs.Begins.{initial}
 use Rattle.spec_machine.specs.Machine.{Step, offered}

@@ -6,7 +6,7 @@ use mathlib.Core.Path.{_≡_, refl}
 use mathlib.Core.Option.{none, some}
 use mathlib.Core.List.{List, [], _∷_}
 use lib.IntN.{ℤ, pos}
-use Rattle.syntax.specs.Tree.{labelled, end, then, skip, unset, set-number, set-minus, set-true, set-false, set-name, set-channel, variable, Declaration, declare, group, body, once, times, mtypes, global, process, init, Model}
+use Rattle.spec_grammar.specs.Tree.{labelled, end, then, skip, unset, set-number, set-minus, set-true, set-false, set-name, set-channel, variable, Declaration, declare, group, body, once, times, mtypes, global, process, init, Model}
 use Rattle.spec_machine.specs.Begins.{initial}
 use Rattle.spec_machine.specs.Places.{startOf}
 use Rattle.spec_machine.specs.ExamplesWords.{working, a, b, c, d, m, n, P, x, y, minus, bit, bool, byte, mtype, chan, short, int, line, scalar, array, channel, main, active, proctype, state, process-at, channel-of, one}

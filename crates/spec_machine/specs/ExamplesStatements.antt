@@ -5,10 +5,10 @@ use Prim.Native.Nat.{ℕ}
 use mathlib.Core.Path.{_≡_, refl}
 use mathlib.Core.List.{[], _∷_}
 use lib.IntN.{pos}
-use Rattle.tokens.specs.Kinds.{bytes}
-use Rattle.value.specs.declared.Fault.the-variants.{Divide}
+use Rattle.base_kinds.specs.Kinds.{bytes}
+use Rattle.base_values.specs.declared.Fault.the-variants.{Divide}
 use Rattle.base_outcome.specs.declared.Taken.the-variants.{Done, Idle}
-use Rattle.syntax.specs.Tree.{Name, plain, num, tru, fls, express, assign, increment, decrement, assert, print, skip, goto, break, timeout, select, loop, bare, labelled, end, then, over, option, unset, set-number, body, init, Model}
+use Rattle.spec_grammar.specs.Tree.{Name, plain, num, tru, fls, express, assign, increment, decrement, assert, print, skip, goto, break, timeout, select, loop, bare, labelled, end, then, over, option, unset, set-number, body, init, Model}
 use Rattle.spec_machine.specs.State.{State}
 use Rattle.spec_machine.specs.Begins.{initial}
 use Rattle.spec_machine.specs.Machine.{offered}

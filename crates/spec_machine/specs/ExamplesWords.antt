@@ -4,12 +4,12 @@ use mathlib.Core.Path.{_≡_}
 use mathlib.Core.Option.{Option, none, some}
 use mathlib.Core.List.{List, [], _∷_}
 use lib.IntN.{ℤ, pos, negℤ}
-use Rattle.tokens.specs.Kinds.{bytes}
-use Rattle.value.specs.Operators.{applyOf, unaryOf, divideOf, remainderOf, shiftLeftOf, shiftRightOf}
-use Rattle.value.specs.declared.Fault.{Fault}
+use Rattle.base_kinds.specs.Kinds.{bytes}
+use Rattle.base_values.specs.Operators.{applyOf, unaryOf, divideOf, remainderOf, shiftLeftOf, shiftRightOf}
+use Rattle.base_values.specs.declared.Fault.{Fault}
 use Rattle.base_outcome.specs.declared.Taken.the-variants.{Done, Refuted, Faulted, Idle}
 use Rattle.spec_text.specs.Formats.{digitsBy, escaped, written, opened, counted}
-use Rattle.syntax.specs.Tree.{Name, Expr, plain, num, get, unary, binary, action, sequence, options, Tree, select, loop, bare, end, then, over, option, Value, set-channel, variable, Declaration, declare, Group, body, idle, once, Part, process, init, Model}
+use Rattle.spec_grammar.specs.Tree.{Name, Expr, plain, num, get, unary, binary, action, sequence, options, Tree, select, loop, bare, end, then, over, option, Value, set-channel, variable, Declaration, declare, Group, body, idle, once, Part, process, init, Model}
 use Rattle.spec_machine.specs.Effect.{Outcome, format}
 use Rattle.spec_machine.specs.State.{Channel, Process, State}
 use Rattle.spec_machine.specs.Begins.{initial}

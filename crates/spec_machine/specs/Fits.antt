@@ -5,9 +5,9 @@ use mathlib.Core.Path.{_≡_}
 use mathlib.Core.List.{List, [], _∷_}
 use lib.ListN.{length, getD}
 use lib.IntN.{ℤ, pos}
-use Rattle.value.specs.Types.{castOf}
+use Rattle.base_values.specs.Types.{castOf}
 use Rattle.spec_text.specs.Ceilings.{processesMost, channelsMost}
-use Rattle.syntax.specs.Tree.{set-channel, Model}
+use Rattle.spec_grammar.specs.Tree.{set-channel, Model}
 use Rattle.spec_machine.specs.State.{Channel, Process, State, noChannel, noProcess}
 use Rattle.spec_machine.specs.Names.{Var, variablesOf, globalsOf, unitAt}
 use Rattle.spec_machine.specs.Plain.{noVar, madeBy}

@@ -6,7 +6,7 @@ use mathlib.Core.Bool.{Bool, true, false}
 use mathlib.Core.Option.{Option, none, some}
 use mathlib.Core.List.{List, [], _∷_, _++_}
 use lib.Dec.{eqb}
-use Rattle.base.specs.Choice.{pick}
+use Rattle.base_bytes.specs.Choice.{pick}
 use Rattle.spec_machine.specs.Effect.{Outcome}
 
 -- ## a machine: all that is seen and done from outside. Steps are told by their process and their place

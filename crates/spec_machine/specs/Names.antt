@@ -4,12 +4,12 @@ use Prim.Native.Nat.{ℕ, suc, _+_}
 use mathlib.Core.Bool.{Bool, true, false}
 use mathlib.Core.List.{List, [], _∷_, _++_, map}
 use lib.ListN.{length, getD}
-use Rattle.base.specs.Choice.{pick}
-use Rattle.base.specs.Lists.{same}
+use Rattle.base_bytes.specs.Choice.{pick}
+use Rattle.base_bytes.specs.Lists.{same}
 use Rattle.spec_text.specs.Names.{pid}
-use Rattle.syntax.specs.Tree.{Name, Value, unset, set-number, set-minus, set-true, set-false, set-name, set-channel, Variable, variable, Declaration, declare, Group, group, Body, body, Activity, Part, mtypes, process, init, Model}
-use Rattle.syntax.specs.Tree as tree
-use Rattle.lawful.specs.Ceilings.{sizeOf}
+use Rattle.spec_grammar.specs.Tree.{Name, Value, unset, set-number, set-minus, set-true, set-false, set-name, set-channel, Variable, variable, Declaration, declare, Group, group, Body, body, Activity, Part, mtypes, process, init, Model}
+use Rattle.spec_grammar.specs.Tree as tree
+use Rattle.spec_rules.specs.Ceilings.{sizeOf}
 
 -- ## declarations
 -- a variable: its type (the kind of the type's token), how many numbers it has, and its value

@@ -3,9 +3,9 @@
 use Prim.Native.Nat.{ℕ, _+_}
 use mathlib.Core.Bool.{Bool}
 use mathlib.Core.List.{List, [], _∷_, _++_}
-use Rattle.base.specs.Choice.{pick}
-use Rattle.syntax.specs.Tree.{Sort, action, Tree, express, assign, increment, decrement, send, receive, assert, print, skip, goto, break, timeout, else, run, set-run, select, loop, bare, labelled, end, then, over, option}
-use Rattle.base.specs.Lists.{orElse}
+use Rattle.base_bytes.specs.Choice.{pick}
+use Rattle.spec_grammar.specs.Tree.{Sort, action, Tree, express, assign, increment, decrement, send, receive, assert, print, skip, goto, break, timeout, else, run, set-run, select, loop, bare, labelled, end, then, over, option}
+use Rattle.base_bytes.specs.Lists.{orElse}
 use Rattle.spec_machine.specs.Program.{sizeIn}
 
 -- the place of a statement, if it is `else`

@@ -3,10 +3,10 @@
 use Prim.Native.Nat.{ℕ, zero, suc, _+_}
 use mathlib.Core.Path.{_≡_}
 use mathlib.Core.List.{List, [], _∷_, _++_}
-use Rattle.syntax.specs.Tree.{action, sequence, Tree, Body, body, Part, mtypes, global, process, init, Model}
-use Rattle.lawful.specs.Senses.{Scope}
-use Rattle.lawful.specs.Statements.{Place, labelsOf}
-use Rattle.lawful.specs.Units.{ofGroups, ofDeclarations, ofPart, ofModel}
+use Rattle.spec_grammar.specs.Tree.{action, sequence, Tree, Body, body, Part, mtypes, global, process, init, Model}
+use Rattle.spec_rules.specs.Senses.{Scope}
+use Rattle.spec_rules.specs.Statements.{Place, labelsOf}
+use Rattle.spec_rules.specs.Units.{ofGroups, ofDeclarations, ofPart, ofModel}
 use Rattle.spec_machine.specs.Program.{Within, startIn, endIn, statementsOf}
 use Rattle.spec_machine.specs.Names.{unitAt}
 use Rattle.spec_machine.specs.Begins.{itemsBefore, bodyIn, bodyOf}

@@ -6,12 +6,12 @@ use mathlib.Core.List.{List, [], _∷_, _++_}
 use lib.ListN.{length, getD, set, drop}
 use lib.IntN.{ℤ, pos}
 use lib.Dec.{ltb, leb}
-use Rattle.base.specs.Choice.{both}
+use Rattle.base_bytes.specs.Choice.{both}
 use Rattle.spec_text.specs.Ceilings.{processesMost, channelsMost}
-use Rattle.base.specs.Numbers.{nat}
-use Rattle.value.specs.Types.{castOf}
-use Rattle.syntax.specs.Tree.{Name, Value, unset, set-number, set-minus, set-true, set-false, set-name, set-channel, Part, Model}
-use Rattle.lawful.specs.Ceilings.{madeByBody}
+use Rattle.base_bytes.specs.Numbers.{nat}
+use Rattle.base_values.specs.Types.{castOf}
+use Rattle.spec_grammar.specs.Tree.{Name, Value, unset, set-number, set-minus, set-true, set-false, set-name, set-channel, Part, Model}
+use Rattle.spec_rules.specs.Ceilings.{madeByBody}
 use Rattle.spec_machine.specs.Eval.{Scene}
 use Rattle.spec_machine.specs.Stage.{Stage}
 use Rattle.spec_machine.specs.State.{Channel, Process, State, noChannel, noProcess}

@@ -1,14 +1,14 @@
 -- Document 01, "How it moves": "(an ended option leads past `fi`, or back to `do`)", "`goto` and `break` are steps of their own (H)". The statements of a model in text order, each with its
--- place and the place that follows it. A place is the number of the item in the tree's code (crate `syntax`) with which a statement begins, behind its label; the end of a process is the
+-- place and the place that follows it. A place is the number of the item in the tree's code (crate `spec_grammar`) with which a statement begins, behind its label; the end of a process is the
 -- item that ends its body.
 use Prim.Native.Nat.{ℕ, suc, _+_}
 use mathlib.Core.Path.{_≡_}
 use mathlib.Core.List.{List, _∷_}
 use lib.ListN.{length}
-use Rattle.base.specs.Choice.{pick}
-use Rattle.base.specs.Lists.{same}
-use Rattle.syntax.specs.Tree.{Name, Sort, action, statement, sequence, options, Tree, express, assign, increment, decrement, send, receive, assert, print, skip, goto, break, timeout, else, run, set-run, select, loop, bare, labelled, end, then, over, option, Group, Body, body, Activity, Part, process, init, Model}
-use Rattle.syntax.specs.Code.{each, code-tree, code-declaration, code-group, code-activity, code-part, i-local}
+use Rattle.base_bytes.specs.Choice.{pick}
+use Rattle.base_bytes.specs.Lists.{same}
+use Rattle.spec_grammar.specs.Tree.{Name, Sort, action, statement, sequence, options, Tree, express, assign, increment, decrement, send, receive, assert, print, skip, goto, break, timeout, else, run, set-run, select, loop, bare, labelled, end, then, over, option, Group, Body, body, Activity, Part, process, init, Model}
+use Rattle.spec_grammar.specs.Code.{each, code-tree, code-declaration, code-group, code-activity, code-part, i-local}
 use Rattle.spec_machine.specs.Stage.{Ways}
 
 -- how many items a tree has

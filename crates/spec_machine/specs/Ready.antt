@@ -5,11 +5,11 @@ use mathlib.Core.Bool.{Bool, true, false}
 use mathlib.Core.List.{List}
 use lib.ListN.{length}
 use lib.Dec.{eqb, ltb}
-use Rattle.base.specs.Choice.{pick}
-use Rattle.value.specs.Operators.{isTrue}
-use Rattle.value.specs.declared.Answer.{Answer}
-use Rattle.value.specs.declared.Answer.the-variants.{Value, Fails}
-use Rattle.syntax.specs.Tree.{Received, action, Tree, express, assign, increment, decrement, send, receive, assert, print, skip, goto, break, timeout, else, run, set-run, select, loop}
+use Rattle.base_bytes.specs.Choice.{pick}
+use Rattle.base_values.specs.Operators.{isTrue}
+use Rattle.base_values.specs.declared.Answer.{Answer}
+use Rattle.base_values.specs.declared.Answer.the-variants.{Value, Fails}
+use Rattle.spec_grammar.specs.Tree.{Received, action, Tree, express, assign, increment, decrement, send, receive, assert, print, skip, goto, break, timeout, else, run, set-run, select, loop}
 use Rattle.spec_machine.specs.Eval.{eval}
 use Rattle.spec_machine.specs.Stage.{Stage}
 use Rattle.spec_machine.specs.Arguments.{Reach, channel, astray, reach, agrees}

@@ -4,7 +4,7 @@ use Prim.Native.Nat.{ℕ}
 use mathlib.Core.Bool.{Bool}
 use mathlib.Core.List.{List}
 use lib.IntN.{ℤ}
-use Rattle.syntax.specs.Tree.{Name}
+use Rattle.spec_grammar.specs.Tree.{Name}
 use Rattle.spec_machine.specs.Eval.{Scene}
 
 -- what becomes of a state, whatever states are

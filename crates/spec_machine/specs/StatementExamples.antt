@@ -7,15 +7,15 @@ use mathlib.Core.List.{List, [], _∷_}
 use lib.ListN.{getD, set}
 use lib.IntN.{ℤ, pos}
 use lib.Dec.{eqb}
-use Rattle.base.specs.Choice.{pick}
-use Rattle.base.specs.Lists.{same}
-use Rattle.base.specs.Numbers.{nat}
-use Rattle.value.specs.Operators.{applyOf, divideOf}
-use Rattle.value.specs.declared.Fault.the-variants.{Divide, Index, Fields}
-use Rattle.value.specs.declared.Answer.{Answer}
-use Rattle.value.specs.declared.Answer.the-variants.{Value, Fails}
+use Rattle.base_bytes.specs.Choice.{pick}
+use Rattle.base_bytes.specs.Lists.{same}
+use Rattle.base_bytes.specs.Numbers.{nat}
+use Rattle.base_values.specs.Operators.{applyOf, divideOf}
+use Rattle.base_values.specs.declared.Fault.the-variants.{Divide, Index, Fields}
+use Rattle.base_values.specs.declared.Answer.{Answer}
+use Rattle.base_values.specs.declared.Answer.the-variants.{Value, Fails}
 use Rattle.base_outcome.specs.declared.Taken.the-variants.{Done, Faulted}
-use Rattle.syntax.specs.Tree.{Name, Expr, Tree, action, plain, indexed, num, get, binary, choice, into, express, send, receive, skip, else, select, bare, labelled, end, then, over, option}
+use Rattle.spec_grammar.specs.Tree.{Name, Expr, Tree, action, plain, indexed, num, get, binary, choice, into, express, send, receive, skip, else, select, bare, labelled, end, then, over, option}
 use Rattle.spec_machine.specs.Eval.{eval}
 use Rattle.spec_machine.specs.Stage.{Stage, Ways}
 use Rattle.spec_machine.specs.Arguments.{values, agrees, targets}

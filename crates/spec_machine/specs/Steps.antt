@@ -5,8 +5,8 @@ use mathlib.Core.Bool.{Bool, true, false}
 use mathlib.Core.List.{List, [], _∷_, _++_}
 use lib.ListN.{length, getD}
 use lib.Dec.{eqb, ltb}
-use Rattle.base.specs.Choice.{pick}
-use Rattle.syntax.specs.Tree.{Name, Sort, action, Tree, express, assign, increment, decrement, send, receive, assert, print, skip, goto, break, timeout, else, run, set-run, select, loop, bare, labelled, end, then, over, option, Model}
+use Rattle.base_bytes.specs.Choice.{pick}
+use Rattle.spec_grammar.specs.Tree.{Name, Sort, action, Tree, express, assign, increment, decrement, send, receive, assert, print, skip, goto, break, timeout, else, run, set-run, select, loop, bare, labelled, end, then, over, option, Model}
 use Rattle.base_outcome.specs.declared.Taken.the-variants.{Idle}
 use Rattle.spec_machine.specs.Stage.{Stage, Ways}
 use Rattle.spec_machine.specs.Ready.{ready}

@@ -5,8 +5,8 @@ use mathlib.Core.Path.{_≡_, refl}
 use mathlib.Core.Option.{none}
 use mathlib.Core.List.{List, [], _∷_}
 use lib.IntN.{ℤ, pos}
-use Rattle.syntax.specs.Tree.{num, assert, bare, end, then, body, init, Model}
-use Rattle.tokens.specs.Kinds.{bytes}
+use Rattle.spec_grammar.specs.Tree.{num, assert, bare, end, then, body, init, Model}
+use Rattle.base_kinds.specs.Kinds.{bytes}
 use Rattle.spec_text.specs.Formats.{digitsBy}
 use Rattle.spec_machine.specs.Begins.{initial}
 use Rattle.spec_machine.specs.Machine.{finished, blocked, asked}

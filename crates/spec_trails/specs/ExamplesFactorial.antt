@@ -3,8 +3,8 @@ use Prim.Native.Nat.{ℕ}
 use mathlib.Core.Path.{_≡_, refl}
 use mathlib.Core.List.{[], _∷_}
 use lib.ListN.{length}
-use Rattle.tokens.specs.Kinds.{bytes}
-use Rattle.syntax.specs.Tree.{Name, plain, num, binary, into, express, send, receive, print, run, unset, group, Model}
+use Rattle.base_kinds.specs.Kinds.{bytes}
+use Rattle.spec_grammar.specs.Tree.{Name, plain, num, binary, into, express, send, receive, print, run, unset, group, Model}
 use Rattle.spec_machine.specs.State.{State}
 use Rattle.spec_machine.specs.Begins.{initial}
 use Rattle.spec_machine.specs.Machine.{finished, «open», offered}

@@ -6,8 +6,8 @@ use mathlib.Core.Path.{_≡_, refl}
 use mathlib.Core.Option.{none}
 use mathlib.Core.List.{List, [], _∷_}
 use lib.IntN.{pos}
-use Rattle.tokens.specs.Kinds.{bytes}
-use Rattle.syntax.specs.Tree.{plain, num, express, assign, assert, unset, Model}
+use Rattle.base_kinds.specs.Kinds.{bytes}
+use Rattle.spec_grammar.specs.Tree.{plain, num, express, assign, assert, unset, Model}
 use Rattle.spec_machine.specs.State.{State}
 use Rattle.spec_machine.specs.Begins.{initial}
 use Rattle.spec_machine.specs.Machine.{finished, blocked, «open»}

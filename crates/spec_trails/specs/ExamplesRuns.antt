@@ -4,8 +4,8 @@ use Prim.Native.Nat.{ℕ}
 use mathlib.Core.Path.{_≡_, refl}
 use mathlib.Core.List.{[], _∷_}
 use lib.IntN.{pos}
-use Rattle.value.specs.declared.Fault.the-variants.{Divide}
-use Rattle.syntax.specs.Tree.{action, Tree, plain, num, express, assign, assert, skip, timeout, unset, Model}
+use Rattle.base_values.specs.declared.Fault.the-variants.{Divide}
+use Rattle.spec_grammar.specs.Tree.{action, Tree, plain, num, express, assign, assert, skip, timeout, unset, Model}
 use Rattle.spec_machine.specs.State.{State}
 use Rattle.spec_machine.specs.Begins.{initial}
 use Rattle.spec_machine.specs.Machine.{finished, blocked, «open»}

@@ -2,7 +2,7 @@
 -- is, one fails or an unsigned limit is met; the count it reports is the number of steps taken, a failing one included." Said over any machine.
 use Prim.Native.Nat.{ℕ, zero, suc}
 use mathlib.Core.List.{List, [], _∷_}
-use Rattle.value.specs.declared.Fault.{Fault}
+use Rattle.base_values.specs.declared.Fault.{Fault}
 use Rattle.base_outcome.specs.declared.Taken.{Taken}
 use Rattle.base_outcome.specs.declared.Taken.the-variants.{Done, Refuted, Faulted, Idle}
 use Rattle.spec_machine.specs.Effect.{Outcome}

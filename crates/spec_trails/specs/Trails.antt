@@ -3,7 +3,7 @@
 use Prim.Native.Nat.{ℕ, _-_, _<_}
 use mathlib.Core.List.{List, [], _∷_, _++_}
 use lib.ListN.{getD}
-use Rattle.tokens.specs.Kinds.{bytes}
+use Rattle.base_kinds.specs.Kinds.{bytes}
 use Rattle.spec_text.specs.Formats.{digitsOf}
 
 abbrev pub trail-most : ℕ

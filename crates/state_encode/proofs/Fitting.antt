@@ -5,9 +5,9 @@ use mathlib.Core.Path.{_≡_, refl, sym as inv, ap, ap₂, _∙_, subst}
 use mathlib.Core.List.{List, [], _∷_, _++_}
 use lib.ListN.{length, getD, set, length-append, length-set}
 use lib.IntN.{ℤ, pos}
-use Rattle.value.specs.Types.{castOf}
-use Rattle.value.proofs.Laws.{cast-twice}
-use Rattle.syntax.specs.Tree.{Model}
+use Rattle.base_values.specs.Types.{castOf}
+use Rattle.base_values.proofs.Laws.{cast-twice}
+use Rattle.spec_grammar.specs.Tree.{Model}
 use Rattle.spec_machine.specs.State.{Channel, Process, State, noChannel, noProcess}
 use Rattle.spec_machine.specs.Names.{Var, globalsOf}
 use Rattle.spec_machine.specs.Plain.{noVar, oneStored, withGlobals, withProcess, withChannel, castAll, goes}

@@ -5,9 +5,9 @@ use mathlib.Core.Path.{_≡_, refl, sym as inv, ap, ap₂, _∙_}
 use mathlib.Core.List.{List, [], _∷_, _++_, append-assoc}
 use lib.ListN.{length, set, length-append, length-set}
 use lib.IntN.{ℤ}
-use Rattle.frames.specs.Layout.{kept, processAt, channelAt}
-use Rattle.starting.specs.Starting.{channelMade}
-use Rattle.syntax.specs.Tree.{Model}
+use Rattle.state_layout.specs.Layout.{kept, processAt, channelAt}
+use Rattle.state_start.specs.Starting.{channelMade}
+use Rattle.spec_grammar.specs.Tree.{Model}
 use Rattle.spec_machine.specs.State.{Channel, Process, State}
 use Rattle.state_encode.specs.Encode.{pad, rows, flat, headOf, channelItem, messageRow, processRow, channelRow, encode}
 use Rattle.state_encode.proofs.Rows.{set-left, set-right, length-pad, off, set-process, set-channel}

@@ -5,10 +5,10 @@ use mathlib.Core.Path.{_≡_, refl, sym as inv, ap, ap₂, _∙_}
 use mathlib.Core.List.{List, [], _∷_, _++_}
 use lib.ListN.{length, getD, set, replicate, length-set}
 use lib.IntN.{ℤ, pos}
-use Rattle.frames.specs.Layout.{kept, cellOf, processAt, localAt, globalAt, channelAt, processesOf, channelsOf, placeOf, declaredOf, waitingOf}
-use Rattle.base.specs.Numbers.{nat}
-use Rattle.statements.specs.Statements.{moved}
-use Rattle.syntax.specs.Tree.{Model}
+use Rattle.state_layout.specs.Layout.{kept, cellOf, processAt, localAt, globalAt, channelAt, processesOf, channelsOf, placeOf, declaredOf, waitingOf}
+use Rattle.base_bytes.specs.Numbers.{nat}
+use Rattle.step_statements.specs.Statements.{moved}
+use Rattle.spec_grammar.specs.Tree.{Model}
 use Rattle.spec_machine.specs.State.{Channel, Process, State, noChannel, noProcess}
 use Rattle.spec_machine.specs.Plain.{oneStored, withGlobals, withProcess, goes}
 use Rattle.state_encode.specs.Encode.{pad, rows, flat, headOf, channelItem, processRow, channelRow, encode}

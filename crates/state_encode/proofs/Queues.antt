@@ -6,12 +6,12 @@ use mathlib.Core.List.{List, [], _∷_, _++_, append-assoc, append-nil}
 use lib.ListN.{length, getD, set, replicate, length-append, length-set}
 use lib.Seq.{getD-append-seam, set-append-seam}
 use lib.IntN.{ℤ, pos}
-use Rattle.frames.specs.Layout.{kept, cellOf, channelAt, fieldAt, declaredOf}
-use Rattle.frames.specs.Walks.{walk}
-use Rattle.value.specs.Types.{castOf}
-use Rattle.executing.specs.Channels.{fieldsOf}
-use Rattle.messages.specs.Messages.{fieldType, appended, removed}
-use Rattle.syntax.specs.Tree.{Model}
+use Rattle.state_layout.specs.Layout.{kept, cellOf, channelAt, fieldAt, declaredOf}
+use Rattle.state_layout.specs.Walks.{walk}
+use Rattle.base_values.specs.Types.{castOf}
+use Rattle.step_ready.specs.Channels.{fieldsOf}
+use Rattle.step_messages.specs.Messages.{fieldType, appended, removed}
+use Rattle.spec_grammar.specs.Tree.{Model}
 use Rattle.spec_machine.specs.State.{Channel, State, noChannel}
 use Rattle.spec_machine.specs.Plain.{castAll, withChannel}
 use Rattle.state_encode.specs.Encode.{pad, rows, channelItem, messageRow, channelRow, encode}

@@ -7,13 +7,13 @@ use mathlib.Core.List.{List, [], _∷_, _++_, map}
 use lib.ListN.{length, length-append, length-map}
 use lib.Dec.{leb}
 use borrow.Author.Tests.{leb-true}
-use Rattle.base.specs.Choice.{both}
-use Rattle.base.proofs.Tests.{both-true}
-use Rattle.syntax.specs.Tree.{Name, Variable, variable, Declaration, declare, Group, group, body, Part, mtypes, global, process, init, Model}
-use Rattle.lawful.specs.Ceilings as ceilings
-use Rattle.lawful.specs.Ceilings.{statementsOf, proctypesOf, light, narrow, startsOf, channelsOf, modest}
-use Rattle.lawful.specs.Statements.{all}
-use Rattle.lawful.specs.Units.{tally}
+use Rattle.base_bytes.specs.Choice.{both}
+use Rattle.base_bytes.proofs.Tests.{both-true}
+use Rattle.spec_grammar.specs.Tree.{Name, Variable, variable, Declaration, declare, Group, group, body, Part, mtypes, global, process, init, Model}
+use Rattle.spec_rules.specs.Ceilings as ceilings
+use Rattle.spec_rules.specs.Ceilings.{statementsOf, proctypesOf, light, narrow, startsOf, channelsOf, modest}
+use Rattle.spec_rules.specs.Statements.{all}
+use Rattle.spec_rules.specs.Units.{tally}
 use Rattle.spec_machine.specs.Names.{Var, ofVariable, ofDeclaration, ofDeclarations, ofParameter, ofGroup, ofGroups, variablesOf, parametersOf, globalIn, globalsOf, messageIn, messagesOf, unitAt}
 use Rattle.spec_machine.specs.Program.{statementsOf as statementsIn}
 use Rattle.spec_machine.specs.Begins.{bodyOf}

@@ -5,13 +5,13 @@ use mathlib.Core.Path.{_≡_, refl, subst}
 use mathlib.Core.Bool.{true, false}
 use mathlib.Core.List.{[], _∷_, _++_}
 use lib.ListN.{length}
-use Rattle.base.specs.Choice.{both}
-use Rattle.base.proofs.Tests.{both-true}
-use Rattle.syntax.specs.Tree.{Name, Body, body, Activity, idle, once, times, mtypes, global, process, init, Model}
-use Rattle.syntax.specs.Code.{each, code-activity, code-group, code-part}
-use Rattle.lawful.specs.Senses.{Scope, fresh}
-use Rattle.lawful.specs.Statements.{labelsOf, apart, allowed}
-use Rattle.lawful.specs.Units.{ofGroups, ofPart, declarations, joins, bodyLawful, partLawful, partsLawful}
+use Rattle.base_bytes.specs.Choice.{both}
+use Rattle.base_bytes.proofs.Tests.{both-true}
+use Rattle.spec_grammar.specs.Tree.{Name, Body, body, Activity, idle, once, times, mtypes, global, process, init, Model}
+use Rattle.spec_grammar.specs.Code.{each, code-activity, code-group, code-part}
+use Rattle.spec_rules.specs.Senses.{Scope, fresh}
+use Rattle.spec_rules.specs.Statements.{labelsOf, apart, allowed}
+use Rattle.spec_rules.specs.Units.{ofGroups, ofPart, declarations, joins, bodyLawful, partLawful, partsLawful}
 use Rattle.spec_machine.specs.Program.{statementsOf, Holds, in-process, in-init, later}
 use Rattle.spec_machine.specs.Names.{unitAt}
 use Rattle.spec_machine.specs.Begins.{itemsBefore, bodyIn, bodyOf}

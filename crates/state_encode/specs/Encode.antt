@@ -4,11 +4,11 @@ use mathlib.Core.List.{List, [], _∷_, _++_}
 use lib.ListN.{length, replicate}
 use lib.IntN.{ℤ, pos}
 use lib.Dec.{ltb}
-use Rattle.base.specs.Choice.{pick}
-use Rattle.frames.specs.Layout.{kept, processSize, channelSize}
+use Rattle.base_bytes.specs.Choice.{pick}
+use Rattle.state_layout.specs.Layout.{kept, processSize, channelSize}
 use Rattle.spec_text.specs.Ceilings.{globalsMost, processesMost, channelsMost, messagesMost, fieldsMost}
-use Rattle.syntax.specs.Tree.{Variable, variable, Declaration, declare, Group, group, Body, body, Part, mtypes, global, process, init, Model}
-use Rattle.syntax.specs.Code.{i-local, code-size, code-variable, code-declaration, code-activity}
+use Rattle.spec_grammar.specs.Tree.{Variable, variable, Declaration, declare, Group, group, Body, body, Part, mtypes, global, process, init, Model}
+use Rattle.spec_grammar.specs.Code.{i-local, code-size, code-variable, code-declaration, code-activity}
 use Rattle.spec_machine.specs.State.{Channel, Process, State}
 use Rattle.spec_machine.specs.Names.{unitAt}
 use Rattle.spec_machine.specs.Begins.{itemsBefore, bodyIn}

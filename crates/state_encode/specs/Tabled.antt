@@ -7,20 +7,20 @@ use mathlib.Core.List.{List, [], _∷_, _++_}
 use lib.ListN.{length, getD}
 use lib.IntN.{ℤ}
 use lib.Dec.{eqb}
-use Rattle.base.specs.Lists.{same}
+use Rattle.base_bytes.specs.Lists.{same}
 use Rattle.spec_text.specs.Names.{pid}
-use Rattle.tables.specs.Access.{codeOf, linkOf}
-use Rattle.frames.specs.Layout.{localAt, globalAt}
-use Rattle.evaluating.specs.Variables.{typeOf, sizeOf, slotOf}
-use Rattle.executing.specs.Channels.{capacityOf, fieldsOf}
-use Rattle.executing.specs.Executing.{channelsIn}
-use Rattle.messages.specs.Messages.{fieldType}
-use Rattle.effects.specs.Effects.{called}
-use Rattle.syntax.specs.Tree.{Name, set-channel, Model}
-use Rattle.lawful.specs.Senses.{isConstant}
-use Rattle.lawful.specs.Expressions.{operand, received, usable}
-use Rattle.lawful.specs.Ceilings.{madeByBody}
-use Rattle.lawful.specs.Statements.{Place, sense, runs}
+use Rattle.table_layout.specs.Access.{codeOf, linkOf}
+use Rattle.state_layout.specs.Layout.{localAt, globalAt}
+use Rattle.step_eval.specs.Variables.{typeOf, sizeOf, slotOf}
+use Rattle.step_ready.specs.Channels.{capacityOf, fieldsOf}
+use Rattle.step_ready.specs.Executing.{channelsIn}
+use Rattle.step_messages.specs.Messages.{fieldType}
+use Rattle.step_take.specs.Effects.{called}
+use Rattle.spec_grammar.specs.Tree.{Name, set-channel, Model}
+use Rattle.spec_rules.specs.Senses.{isConstant}
+use Rattle.spec_rules.specs.Expressions.{operand, received, usable}
+use Rattle.spec_rules.specs.Ceilings.{madeByBody}
+use Rattle.spec_rules.specs.Statements.{Place, sense, runs}
 use Rattle.agree_transfer.specs.Agrees.{storable}
 use Rattle.spec_machine.specs.State.{Channel, State}
 use Rattle.spec_machine.specs.Names.{Var, Meaning, local, global, message, variablesOf, globalsOf, unitAt, proctypeOf, meant}

@@ -6,7 +6,7 @@ use Rattle.show_files.proofs.perform_files.Statement.{statement}
 use Rattle.show_files.proofs.perform_files.Tie as tie
 use Rattle.show_files.proofs.perform_files.Reads as reads
 use Rattle.show_files.proofs.perform_files.Lts as lts
-use Rattle.display.proofs.part.Reads as part-reads
+use Rattle.show_answers.proofs.part.Reads as part-reads
 use Rattle.show_files.proofs.load.Reads as load-reads
 use Rattle.show_files.proofs.perform_text.Reads as perform-text-reads
 use Rattle.show_files.proofs.unreadable.Reads as unreadable-reads

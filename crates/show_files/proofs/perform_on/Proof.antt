@@ -5,13 +5,13 @@ use Rattle.show_files.proofs.perform_on.Statement.{statement}
 use Rattle.show_files.proofs.perform_on.Tie as tie
 use Rattle.show_files.proofs.perform_on.Reads as reads
 use Rattle.show_files.proofs.perform_on.Lts as lts
-use Rattle.base.proofs.same.Reads as same-reads
-use Rattle.commands.proofs.replay.Reads as replay-reads
-use Rattle.commands.proofs.run.Reads as run-reads
-use Rattle.commands.proofs.start.Reads as start-reads
-use Rattle.commands.proofs.state.Reads as state-reads
-use Rattle.commands.proofs.steps.Reads as steps-reads
-use Rattle.display.proofs.put.Reads as put-reads
+use Rattle.base_bytes.proofs.same.Reads as same-reads
+use Rattle.show_commands.proofs.replay.Reads as replay-reads
+use Rattle.show_commands.proofs.run.Reads as run-reads
+use Rattle.show_commands.proofs.start.Reads as start-reads
+use Rattle.show_commands.proofs.state.Reads as state-reads
+use Rattle.show_commands.proofs.steps.Reads as steps-reads
+use Rattle.show_answers.proofs.put.Reads as put-reads
 use Rattle.show_files.proofs.unknown.Reads as unknown-reads
 
 -- src/lib.rt:74:28

@@ -5,8 +5,8 @@ use Rattle.show_files.proofs.perform_text.Statement.{statement}
 use Rattle.show_files.proofs.perform_text.Tie as tie
 use Rattle.show_files.proofs.perform_text.Reads as reads
 use Rattle.show_files.proofs.perform_text.Lts as lts
-use Rattle.base.proofs.same.Reads as same-reads
-use Rattle.reader.proofs.read.Reads as read-reads
+use Rattle.base_bytes.proofs.same.Reads as same-reads
+use Rattle.read_entry.proofs.read.Reads as read-reads
 use Rattle.show_files.proofs.perform_on.Reads as perform-on-reads
 use Rattle.show_files.proofs.refuse.Reads as refuse-reads
 use Rattle.show_files.proofs.show_normal.Reads as show-normal-reads

@@ -5,9 +5,9 @@ use Rattle.show_files.proofs.show_normal.Statement.{statement}
 use Rattle.show_files.proofs.show_normal.Tie as tie
 use Rattle.show_files.proofs.show_normal.Reads as reads
 use Rattle.show_files.proofs.show_normal.Lts as lts
-use Rattle.display.proofs.part.Reads as part-reads
-use Rattle.display.proofs.put.Reads as put-reads
-use Rattle.normal.proofs.normal.Reads as normal-reads
+use Rattle.show_answers.proofs.part.Reads as part-reads
+use Rattle.show_answers.proofs.put.Reads as put-reads
+use Rattle.normal_entry.proofs.normal.Reads as normal-reads
 use Rattle.show_files.proofs.refuse.Reads as refuse-reads
 
 -- src/lib.rt:59:34

@@ -2,7 +2,7 @@ use Prim.Native.Nat.{_-_}
 use native.Mathlib.Omega.{arith}
 use mathlib.Core.Path.{sym, refl, _∙_, _≡_}
 use lib.ListN.{length, drop}
-use Rattle.pens.specs.Pen.{pen, puts}
+use Rattle.base_pens.specs.Pen.{pen, puts}
 use Rattle.show_printed.specs.Printed.{shown}
 use Rattle.show_printed.proofs.Laws as laws
 use borrow.Author.Needs.{needs}

@@ -1,0 +1,349 @@
+-- From each statement of a tree the links of its items lead where the tree does: behind its last item the place that follows is found, and from inside of it the place behind its loop.
+use Prim.Native.Nat.{ℕ, suc, _+_, _-_, _≤_, _<_, min}
+use native.Mathlib.Omega.{arith}
+use mathlib.Core.Path.{_≡_, refl, ap, _∙_, subst}
+use mathlib.Core.Bool.{true, false}
+use mathlib.Core.List.{List, [], _∷_, _++_}
+use lib.ListN.{length, getD, length-append}
+use lib.Dec.{eqb}
+use borrow.Author.Tests.{eq-eqb, ne-eqb}
+use Rattle.base_bytes.specs.Choice.{pick, both}
+use Rattle.spec_grammar.specs.Tree.{Sort, action, statement, sequence, options, Tree, express, assign, increment, decrement, send, receive, assert, print, skip, goto, break, timeout, else, run, set-run, select, loop, bare, labelled, end, then, option, Name}
+use Rattle.spec_grammar.specs.Code.{Item, i-name, i-text, i-end, i-express, i-target, i-assign, i-increment, i-decrement, i-send, i-receive, i-assert, i-skip, i-goto, i-break, i-timeout, i-else, i-run, i-set-run, i-if, i-fi, i-do, i-od, i-end-option, each, code-exp, code-argument, code-received, code-tree}
+use Rattle.table_entries.specs.Items.{codeOf, AllKnown}
+use Rattle.link_places.specs.Places.{isPart, isMark, isOpening, isClosing, shallower, closeOf, openOf, placeFrom, pastOption, nextFrom}
+use Rattle.link_items.specs.Links.{classOf, linkBy}
+use Rattle.link_phrases_proof.specs.Phrases.{At}
+use Rattle.link_phrases_proof.proofs.Starts.{at-front, at-back}
+use Rattle.agree_eval.proofs.Operators.{known-front, known-back}
+use Rattle.agree_nesting.specs.Full.{Full}
+use Rattle.agree_nesting.proofs.Skips.{selections, loops}
+use Rattle.agree_nesting.proofs.Trees.{tree-balanced}
+use Rattle.keep_tables.specs.Facts.{homes, starts, linksIn}
+use Rattle.keep_tables.proofs.Links.{link-is}
+use Rattle.spec_machine.specs.Program.{sizeIn, placeIn, enter, Within, itself, in-if, in-do, unlabelled, behind-label, in-first, in-rest, in-option, in-others}
+use Rattle.agree_control.specs.Onward.{Onward}
+use Rattle.agree_control.proofs.Passes.{back-pass, back-stop, back, close-skip, close-pass, close-stop}
+use Rattle.agree_control.proofs.Begins.{statement-from}
+
+-- ---- the last item of a statement
+pub record Ended (a : Tree action) : Type 0 where
+  pub front : List Item
+  pub last : Item
+  pub is : code-tree a ≡ front ++ (last ∷ [])
+  pub mark : isMark (codeOf last) ≡ true
+  pub onward : Onward a → classOf (codeOf last) ≡ 7
+
+pub ended : (a : Tree action) → Ended a
+unfolding isPart classOf
+ended (express e) = record { front = code-exp e; last = i-express; is = refl; mark = refl; onward = λ z. refl }
+ended (assign r e) = record { front = code-exp r ++ i-target ∷ code-exp e; last = i-assign; is = refl; mark = refl; onward = λ z. refl }
+ended (increment r) = record { front = code-exp r; last = i-increment; is = refl; mark = refl; onward = λ z. refl }
+ended (decrement r) = record { front = code-exp r; last = i-decrement; is = refl; mark = refl; onward = λ z. refl }
+ended (send r es) = record { front = code-exp r ++ i-send ∷ each code-argument es; last = i-end; is = refl; mark = refl; onward = λ z. refl }
+ended (receive r es) = record { front = code-exp r ++ i-receive ∷ each code-received es; last = i-end; is = refl; mark = refl; onward = λ z. refl }
+ended (assert e) = record { front = code-exp e; last = i-assert; is = refl; mark = refl; onward = λ z. refl }
+ended (print w es) = record { front = i-text w ∷ each code-argument es; last = i-end; is = refl; mark = refl; onward = λ z. refl }
+ended skip = record { front = []; last = i-skip; is = refl; mark = refl; onward = λ z. refl }
+ended (goto w) = record { front = i-name w ∷ []; last = i-goto; is = refl; mark = refl; onward = λ z. absurd z }
+ended break = record { front = []; last = i-break; is = refl; mark = refl; onward = λ z. absurd z }
+ended timeout = record { front = []; last = i-timeout; is = refl; mark = refl; onward = λ z. refl }
+ended else = record { front = []; last = i-else; is = refl; mark = refl; onward = λ z. refl }
+ended (run w es) = record { front = i-name w ∷ i-run ∷ each code-argument es; last = i-end; is = refl; mark = refl; onward = λ z. refl }
+ended (set-run r w es) = record { front = code-exp r ++ i-target ∷ i-name w ∷ i-set-run ∷ each code-argument es; last = i-end; is = refl; mark = refl; onward = λ z. refl }
+ended (select os) = record { front = i-if ∷ code-tree os; last = i-fi; is = refl; mark = refl; onward = λ z. refl }
+ended (loop os) = record { front = i-do ∷ code-tree os; last = i-od; is = refl; mark = refl; onward = λ z. refl }
+
+module _ (cs : List ℕ) where
+  -- it stands before the item behind the statement
+  pub last-at : (a : Tree action) (i : ℕ) → At cs i (code-tree a) → (1 ≤ sizeIn a) × (getD cs (i + sizeIn a - 1) 0 ≡ codeOf (ended a .last))
+  last-at a i h =
+      let r = ended a in
+      let n : sizeIn a ≡ length (r .front) + 1 = ap length (r .is) ∙ length-append (r .front) (r .last ∷ []) in
+      let z : i + sizeIn a - 1 ≡ i + length (r .front) = omega arith in
+      (omega arith, ap (λ j. getD cs j 0) z ∙ at-back cs (r .front) (r .last ∷ []) i (i + length (r .front)) refl (subst (At cs i) (r .is) h) .0)
+
+  pub statement-last : (s : Tree statement) (i : ℕ) → At cs i (code-tree s) → isMark (getD cs (i + sizeIn s - 1) 0) ≡ true
+  statement-last (bare a) i h = ap isMark (last-at a i h .1) ∙ ended a .mark
+  statement-last (labelled w a) i h =
+      ap (λ j. isMark (getD cs j 0)) (let z : i + suc (suc (sizeIn a)) - 1 ≡ suc (suc i) + sizeIn a - 1 = omega arith in z) ∙ ap isMark (last-at a (suc (suc i)) (h .1 .1) .1) ∙ ended a .mark
+
+-- ---- trees of a text, where they stand
+pub record Here (cs : List ℕ) (k : Sort) (t : Tree k) (i : ℕ) : Type 0 where
+  pub full : Full t
+  pub known : AllKnown (code-tree t)
+  pub stands : At cs i (code-tree t)
+  pub ends : i + sizeIn t < length cs
+
+module _ (cs : List ℕ) {i : ℕ} where
+  pub here-if : {os : Tree options} → Here cs action (select os) i → Here cs options os (i + 1)
+  here-if {os} h =
+      let n = length-append (code-tree os) (i-fi ∷ []) in
+      let e = h .ends in
+      record {
+        full = h .full;
+        known = known-front (code-tree os) (i-fi ∷ []) (h .known .1);
+        stands = subst (λ j. At cs j (code-tree os)) (let z : suc i ≡ i + 1 = omega arith in z) (at-front cs (suc i) (code-tree os) (i-fi ∷ []) (h .stands .1));
+        ends = omega arith;
+      }
+
+  pub here-do : {os : Tree options} → Here cs action (loop os) i → Here cs options os (i + 1)
+  here-do {os} h =
+      let n = length-append (code-tree os) (i-od ∷ []) in
+      let e = h .ends in
+      record {
+        full = h .full;
+        known = known-front (code-tree os) (i-od ∷ []) (h .known .1);
+        stands = subst (λ j. At cs j (code-tree os)) (let z : suc i ≡ i + 1 = omega arith in z) (at-front cs (suc i) (code-tree os) (i-od ∷ []) (h .stands .1));
+        ends = omega arith;
+      }
+
+  pub here-bare : {a : Tree action} → Here cs statement (bare a) i → Here cs action a i
+  here-bare h = record { full = h .full; known = h .known; stands = h .stands; ends = h .ends }
+
+  pub here-labelled : {w : Name} {a : Tree action} → Here cs statement (labelled w a) i → Here cs action a (i + 2)
+  here-labelled {w} {a} h =
+      let e = h .ends in
+      record { full = h .full; known = h .known .1 .1; stands = subst (λ j. At cs j (code-tree a)) (let z : suc (suc i) ≡ i + 2 = omega arith in z) (h .stands .1 .1); ends = omega arith }
+
+  pub here-first : {s : Tree statement} {q : Tree sequence} → Here cs sequence (then s q) i → Here cs statement s i
+  here-first {s} {q} h =
+      let n = length-append (code-tree s) (code-tree q) in
+      let e = h .ends in
+      record { full = h .full .0; known = known-front (code-tree s) (code-tree q) (h .known); stands = at-front cs i (code-tree s) (code-tree q) (h .stands); ends = omega arith }
+
+  pub here-rest : {s : Tree statement} {q : Tree sequence} → Here cs sequence (then s q) i → Here cs sequence q (i + sizeIn s)
+  here-rest {s} {q} h =
+      let n = length-append (code-tree s) (code-tree q) in
+      let e = h .ends in
+      record { full = h .full .1; known = known-back (code-tree s) (code-tree q) (h .known); stands = at-back cs (code-tree s) (code-tree q) i (i + sizeIn s) refl (h .stands); ends = omega arith }
+
+  pub here-option : {q : Tree sequence} {os : Tree options} → Here cs options (option q os) i → Here cs sequence q (i + 1)
+  here-option {q} {os} h =
+      let n = length-append (code-tree q) (i-end-option ∷ code-tree os) in
+      let e = h .ends in
+      record {
+        full = h .full .1;
+        known = known-front (code-tree q) (i-end-option ∷ code-tree os) (h .known .1);
+        stands = subst (λ j. At cs j (code-tree q)) (let z : suc i ≡ i + 1 = omega arith in z) (at-front cs (suc i) (code-tree q) (i-end-option ∷ code-tree os) (h .stands .1));
+        ends = omega arith;
+      }
+
+  pub option-behind : {q : Tree sequence} {os : Tree options} → Here cs options (option q os) i → At cs (i + 1 + sizeIn q) (i-end-option ∷ code-tree os)
+  option-behind {q} {os} h = at-back cs (code-tree q) (i-end-option ∷ code-tree os) (suc i) (i + 1 + sizeIn q) (omega arith) (h .stands .1)
+
+  pub here-others : {q : Tree sequence} {os : Tree options} → Here cs options (option q os) i → Here cs options os (i + 2 + sizeIn q)
+  here-others {q} {os} h =
+      let n = length-append (code-tree q) (i-end-option ∷ code-tree os) in
+      let e = h .ends in
+      record {
+        full = h .full .2;
+        known = known-back (code-tree q) (i-end-option ∷ code-tree os) (h .known .1) .1;
+        stands = subst (λ j. At cs j (code-tree os)) (let z : suc (i + 1 + sizeIn q) ≡ i + 2 + sizeIn q = omega arith in z) (option-behind h .1);
+        ends = omega arith;
+      }
+
+-- ---- codes of selections and options
+option-codes : (isClosing 0 205 ≡ true) × (isClosing 0 207 ≡ true) × (isClosing 0 209 ≡ false) × (isOpening 0 209 ≡ false) × (isOpening 0 204 ≡ true) × (isOpening 0 206 ≡ true)
+unfolding isClosing isOpening
+option-codes = (refl, refl, refl, refl, refl, refl)
+
+loop-codes : (isClosing 1 205 ≡ false) × (isOpening 1 205 ≡ false) × (isClosing 1 207 ≡ true) × (isClosing 1 209 ≡ false) × (isOpening 1 209 ≡ false)
+unfolding isClosing isOpening
+loop-codes = (refl, refl, refl, refl, refl)
+
+back-codes : (both (isOpening 0 208) true ≡ false) × (shallower 208 1 ≡ 1) × (both (isOpening 0 209) true ≡ false) × (shallower 209 1 ≡ 1)
+unfolding isClosing isOpening shallower
+back-codes = (refl, refl, refl, refl)
+
+closing-class : (classOf 205 ≡ 7) × (classOf 207 ≡ 7)
+unfolding classOf
+closing-class = (refl, refl)
+
+module _ (cs vs : List ℕ) (few : length cs ≤ 8192) where
+  abbrev pub L : List ℕ
+  L = linksIn cs vs
+
+  -- behind the item e - 1 place n follows, and place o is behind the loop there
+  pub record Behind (e n o : ℕ) : Type 0 where
+    pub goes : (m : List ℕ) → ((j : ℕ) → e ≤ j → getD m j 0 ≡ getD L j 0) → nextFrom cs m e ≡ n
+    pub small : n ≤ 8192
+    pub out : getD L (closeOf cs 1 e) 0 ≡ o
+
+  -- the options from item i to item e are those of a selection; behind each place n follows
+  pub record Choices (i e n o : ℕ) : Type 0 where
+    pub start : ℕ
+    pub opened : openOf cs i 1 ≡ start
+    pub closed : isClosing 0 (getD cs e 0) ≡ true
+    pub leads : pick (eqb (getD cs start 0) 206) start (getD L e 0) ≡ n
+    pub small : n ≤ 8192
+    pub out : getD L (closeOf cs 1 e) 0 ≡ o
+
+  -- the link of the last item of a statement
+  next-link : (m : List ℕ) (j : ℕ) → classOf (getD cs j 0) ≡ 7 → linkBy cs vs (homes cs) (starts cs) (classOf (getD cs j 0)) m j ≡ nextFrom cs m (j + 1)
+  unfolding linkBy
+  next-link m j h = rw h
+
+  pub link-next : (j n o : ℕ) → j < length cs → classOf (getD cs j 0) ≡ 7 → Behind (j + 1) n o → getD L j 0 ≡ n
+  link-next j n o h c b =
+      let l = link-is cs vs j few h in
+      let s = b .small in
+      l .1 ∙ ap (min 4294967295) (next-link (l .0) j c ∙ b .goes (l .0) (λ i g. l .2 i (omega arith))) ∙ (let z : min 4294967295 n ≡ n = omega arith in z)
+
+  move : (d e n o : ℕ) → d ≡ e → Behind d n o → Behind e n o
+  move d e n o z b = subst (λ i. Behind i n o) z b
+
+  pub next-plain : (m : List ℕ) (k : ℕ) → (getD cs k 0 ≡ 209 → ⊥) → nextFrom cs m k ≡ placeFrom cs k
+  unfolding nextFrom
+  next-plain m k z = rw (ne-eqb (getD cs k 0) 209 z)
+
+  next-option : (m : List ℕ) (k : ℕ) → getD cs k 0 ≡ 209 → nextFrom cs m k ≡ pick (eqb (getD cs (openOf cs k 1) 0) 206) (openOf cs k 1) (getD m (closeOf cs 0 k) 0)
+  unfolding nextFrom pastOption
+  next-option m k z = rw (eq-eqb (getD cs k 0) 209 z)
+
+  -- ---- selections
+  in-selection : {os : Tree options} {i n o : ℕ} → Here cs action (select os) i → Behind (i + sizeIn (select os)) n o → Choices (i + 1) (i + 1 + sizeIn os) n o
+  in-selection {os} {i} {n} {o} h b =
+      let l = length-append (code-tree os) (i-fi ∷ []) in
+      let g = h .ends in
+      let e = i + 1 + sizeIn os in
+      let c = at-back cs (code-tree os) (i-fi ∷ []) (suc i) e (omega arith) (h .stands .1) .0 in
+      let v = move (i + sizeIn (select os)) (e + 1) n o (omega arith) b in
+      record {
+        start = i;
+        opened = ap (λ j. openOf cs j 1) (let z : i + 1 ≡ suc i = omega arith in z) ∙ back-stop cs i 204 (h .stands .0) (option-codes .4);
+        closed = ap (isClosing 0) c ∙ option-codes .0;
+        leads = ap (λ d. pick (eqb d 206) i (getD L e 0)) (h .stands .0) ∙ link-next e n o (omega arith) (ap classOf c ∙ closing-class .0) v;
+        small = b .small;
+        out = ap (λ j. getD L j 0) (close-pass cs 1 e 205 (omega arith) c (loop-codes .0) (loop-codes .1)) ∙ v .out;
+      }
+
+  in-loop : {os : Tree options} {i n o : ℕ} → Here cs action (loop os) i → Behind (i + sizeIn (loop os)) n o → Choices (i + 1) (i + 1 + sizeIn os) i n
+  in-loop {os} {i} {n} {o} h b =
+      let l = length-append (code-tree os) (i-od ∷ []) in
+      let g = h .ends in
+      let e = i + 1 + sizeIn os in
+      let c = at-back cs (code-tree os) (i-od ∷ []) (suc i) e (omega arith) (h .stands .1) .0 in
+      let v = move (i + sizeIn (loop os)) (e + 1) n o (omega arith) b in
+      record {
+        start = i;
+        opened = ap (λ j. openOf cs j 1) (let z : i + 1 ≡ suc i = omega arith in z) ∙ back-stop cs i 206 (h .stands .0) (option-codes .5);
+        closed = ap (isClosing 0) c ∙ option-codes .1;
+        leads = ap (λ d. pick (eqb d 206) i (getD L e 0)) (h .stands .0);
+        small = omega arith;
+        out = ap (λ j. getD L j 0) (close-stop cs 1 e 207 (omega arith) c (loop-codes .2)) ∙ link-next e n o (omega arith) (ap classOf c ∙ closing-class .1) v;
+      }
+
+  -- ---- options
+  module _ {q : Tree sequence} {os : Tree options} {i n o : ℕ} (h : Here cs options (option q os) i) (c : Choices i (i + sizeIn (option q os)) n o) where
+    abbrev k : ℕ
+    k = i + 1 + sizeIn q
+
+    abbrev e : ℕ
+    e = i + sizeIn (option q os)
+
+    size : e ≡ k + 1 + sizeIn os
+    size = let l = length-append (code-tree q) (i-end-option ∷ code-tree os) in omega arith
+
+    ending : getD cs k 0 ≡ 209
+    ending = option-behind cs h .0
+
+    others : Here cs options os (i + 2 + sizeIn q)
+    others = here-others cs h
+
+    -- from the end of this option
+    back-to : openOf cs k 1 ≡ c .start
+    back-to =
+        let g = here-option cs h in
+        back cs (tree-balanced q (g .full) (g .known)) (i + 1) 1 (g .stands) (omega arith) ∙ ap (λ j. openOf cs j 1) (let z : i + 1 ≡ suc i = omega arith in z)
+        ∙ back-pass cs i 1 1 208 (h .stands .0) (back-codes .0) (back-codes .1) ∙ c .opened
+
+    -- on to the end of the selection
+    on-to : (p : ℕ) → closeOf cs p k ≡ closeOf cs p (k + 1) → closeOf cs p (i + 2 + sizeIn q) ≡ closeOf cs p (i + 2 + sizeIn q + sizeIn os) → closeOf cs p k ≡ closeOf cs p e
+    on-to p x y =
+        let s = size in
+        x ∙ ap (closeOf cs p) (let z : k + 1 ≡ i + 2 + sizeIn q = omega arith in z) ∙ y ∙ ap (closeOf cs p) (let z : i + 2 + sizeIn q + sizeIn os ≡ e = omega arith in z)
+
+    close-selection : closeOf cs 0 k ≡ e
+    close-selection =
+        let s = size in
+        let f = h .ends in
+        let g = others in
+        on-to 0 (close-pass cs 0 k 209 (omega arith) ending (option-codes .2) (option-codes .3))
+        (close-skip cs selections (tree-balanced os (g .full) (g .known)) (i + 2 + sizeIn q) (g .stands) (omega arith))
+        ∙ close-stop cs 0 e (getD cs e 0) f refl (c .closed)
+
+    close-loop : closeOf cs 1 k ≡ closeOf cs 1 e
+    close-loop =
+        let s = size in
+        let f = h .ends in
+        let g = others in
+        on-to 1 (close-pass cs 1 k 209 (omega arith) ending (loop-codes .3) (loop-codes .4))
+        (close-skip cs loops (tree-balanced os (g .full) (g .known)) (i + 2 + sizeIn q) (g .stands) (omega arith))
+
+    in-this : Behind k n o
+    in-this =
+        let s = size in
+        record {
+          goes = λ m a. (
+              next-option m k ending ∙ ap (λ j. pick (eqb (getD cs j 0) 206) j (getD m (closeOf cs 0 k) 0)) back-to
+              ∙ ap (pick (eqb (getD cs (c .start) 0) 206) (c .start)) (ap (λ j. getD m j 0) close-selection ∙ a e (omega arith)) ∙ c .leads);
+          small = c .small;
+          out = ap (λ j. getD L j 0) close-loop ∙ c .out;
+        }
+
+    in-next : Choices (i + 2 + sizeIn q) (i + 2 + sizeIn q + sizeIn os) n o
+    in-next =
+        let s = size in
+        subst (λ j. Choices (i + 2 + sizeIn q) j n o) (let z : e ≡ i + 2 + sizeIn q + sizeIn os = omega arith in z)
+        record {
+          start = c .start;
+          opened = ap (λ j. openOf cs j 1) (let z : i + 2 + sizeIn q ≡ suc k = omega arith in z) ∙ back-pass cs k 1 1 209 ending (back-codes .2) (back-codes .3) ∙ back-to;
+          closed = c .closed;
+          leads = c .leads;
+          small = c .small;
+          out = c .out;
+        }
+
+  -- ---- sequences
+  in-statement : (s : Tree statement) (q : Tree sequence) {i n o : ℕ} → Here cs sequence (then s q) i → Behind (i + sizeIn (then s q)) n o → Behind (i + sizeIn s) (enter q (i + sizeIn s) n) o
+  in-statement s end {i} {n} {o} h b = let l = length-append (code-tree s) [] in move (i + sizeIn (then s end)) (i + sizeIn s) n o (omega arith) b
+  in-statement s (then r q) {i} {n} {o} h b =
+      let l = length-append (code-tree s) (code-tree (then r q)) in
+      let f = here-first cs h in
+      let g = here-rest cs h in
+      let g1 = g .ends in
+      let w = here-first cs g in
+      let v = statement-from cs r (w .known) (i + sizeIn s) (w .stands) (w .ends) (statement-last cs s i (f .stands)) in
+      record {
+        goes = λ m a. (next-plain m (i + sizeIn s) (v .1) ∙ v .0);
+        small = place-small r (i + sizeIn s) (w .ends);
+        out =
+            ap (λ j. getD L j 0) (close-skip cs loops (tree-balanced (then r q) (g .full) (g .known)) (i + sizeIn s) (g .stands) (omega arith)
+            ∙ ap (closeOf cs 1) (let z : i + sizeIn s + sizeIn (then r q) ≡ i + sizeIn (then s (then r q)) = omega arith in z)) ∙ b .out;
+      }
+    where
+      place-small : (r : Tree statement) (p : ℕ) → p + sizeIn r < length cs → placeIn r p ≤ 8192
+      place-small (bare a) p g = omega arith
+      place-small (labelled w a) p g = omega arith
+
+  abbrev pub Inside : Sort → ℕ → ℕ → ℕ → ℕ → Type 0
+  Inside action i e n o = Behind e n o
+  Inside statement i e n o = Behind e n o
+  Inside sequence i e n o = Behind e n o
+  Inside options i e n o = Choices i e n o
+
+  -- ---- every statement of a tree
+  pub follow : {k : Sort} {t : Tree k} {i n o : ℕ} {a : Tree action} {j m u : ℕ} → Within k t i n o a j m u → Here cs k t i → Inside k i (i + sizeIn t) n o
+      → Behind (j + sizeIn a) m u × Here cs action a j
+  follow itself h b = (b, h)
+  follow (in-if p) h b = follow p (here-if cs h) (in-selection h b)
+  follow (in-do p) h b = follow p (here-do cs h) (in-loop h b)
+  follow (unlabelled p) h b = follow p (here-bare cs h) b
+  follow {i = i} {n = n} {o = o} (behind-label {w = w} {b = b} p) h c = follow p (here-labelled cs h) (move (i + sizeIn (labelled w b)) (i + 2 + sizeIn b) n o (omega arith) c)
+  follow (in-first {s = s} {q = q} p) h b = follow p (here-first cs h) (in-statement s q h b)
+  follow {i = i} {n = n} {o = o} (in-rest {s = s} {q = q} p) h b =
+      let l = length-append (code-tree s) (code-tree q) in
+      follow p (here-rest cs h) (move (i + sizeIn (then s q)) (i + sizeIn s + sizeIn q) n o (omega arith) b)
+  follow (in-option p) h c = follow p (here-option cs h) (in-this h c)
+  follow (in-others p) h c = follow p (here-others cs h) (in-next h c)

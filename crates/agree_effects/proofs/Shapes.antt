@@ -1,0 +1,160 @@
+-- STATEMENTS WITH ARGUMENTS as they stand in the tables of an accepted text: their marks, what they refer to, and the arguments behind them.
+use Prim.Native.Nat.{ℕ, _+_, _-_}
+use native.Mathlib.Omega.{arith}
+use mathlib.Core.Path.{_≡_, refl, sym, ap, subst, _∙_}
+use mathlib.Core.Bool.{true}
+use mathlib.Core.Logic.{inl, inr}
+use mathlib.Core.List.{List, [], _∷_, _++_, append-assoc}
+use lib.ListN.{length, length-append}
+use lib.IntN.{ℤ}
+use Rattle.table_layout.specs.Access.{codeOf, linkOf}
+use Rattle.spec_grammar.specs.Tree.{Name, Ref, Expr, Received, send, receive, print, run, set-run}
+use Rattle.spec_grammar.specs.Code.{Item, i-name, i-text, i-target, i-send, i-receive, i-run, i-set-run, i-end, each, code-exp, code-argument, code-received, code-tree, code}
+use Rattle.table_entries.specs.Items as items
+use Rattle.read_passes.specs.Judging.{tablesText}
+use Rattle.read_accepts_proof.specs.Meaning.{Accepts}
+use Rattle.link_places.specs.Places.{isPart, isMark}
+use Rattle.step_eval.specs.Expressions.{locateOf}
+use Rattle.step_ready.specs.Executing.{isAlone, markOf}
+use Rattle.agree_stage.specs.Scenes.{sizeIn, locate}
+use Rattle.agree_eval.specs.Names.{declAt}
+use Rattle.spec_machine.specs.Arguments.{nameOf}
+use Rattle.spec_machine.specs.Program as tree
+use Rattle.agree_stage.proofs.Stands.{lying-back}
+use Rattle.agree_effects.specs.Stages.{unitAt}
+use Rattle.agree_effects.specs.Walked.{Passed, Got}
+use Rattle.agree_effects.proofs.Meant.{Quiet, quiet-join}
+use Rattle.agree_effects.proofs.Parts.{Here, first-code}
+use Rattle.agree_effects.proofs.Phrases.{Refers, refers-target, refers-send, refers-receive, refers-linked, refers-located}
+use Rattle.agree_effects.proofs.Lists.{quiet-mark, quiet-phrase, mark-code, behind-there, arguments-there, received-there}
+use Rattle.agree_effects.proofs.Begins.{alone-mark, phrase-mark, name-mark, target-run, run-unit}
+
+run-mark : isMark 202 ≡ true
+unfolding isPart
+run-mark = refl
+
+text-alone : isAlone 72 ≡ true
+unfolding isAlone
+text-alone = refl
+
+module _ (t : List ℕ) (a : Accepts t) where
+  abbrev xs : List Item
+  xs = code (a .tree)
+
+  abbrev T : List ℕ
+  T = tablesText t
+
+  none-yet : (j : ℕ) → Quiet t a j j
+  none-yet j y u v = absurd (omega arith)
+
+  -- the reference that a statement begins with, and its mark m
+  pub record Reference (r : Ref) (x : Item) (j m : ℕ) : Type 0 where
+    pub mark : markOf (tablesText t) j ≡ m
+    pub coded : codeOf (tablesText t) m ≡ items.codeOf x
+    pub declared : linkOf (tablesText t) (m - 1) ≡ declAt t a j (nameOf r)
+    pub located : (s : List ℤ) (p : ℕ) → locateOf (tablesText t) s p j m ≡ locate (tablesText t) s p (declAt t a j) r
+
+  pub reference-there : (r : Ref) (x : Item) (z : List Item) (j : ℕ) → Refers x → Here t a (code-exp r ++ x ∷ z) j → Reference r x j (j + sizeIn r)
+  reference-there r x z j b p =
+      record {
+        mark = phrase-mark t a r x z j p (b .behind .mark);
+        coded = mark-code t a r x z j p;
+        declared = refers-linked t a j j (omega arith) (none-yet j) r x z p b;
+        located = refers-located t a j j (omega arith) (none-yet j) r x z p b;
+      }
+
+  -- ---- each of them
+  pub sending : (r : Ref) (es : List Expr) (j : ℕ) → Here t a (code-tree (send r es)) j
+      → Reference r i-send j (j + sizeIn r) × Passed (tablesText t) (declAt t a j) es (j + sizeIn r + 1) (j + tree.sizeIn (send r es) - 1)
+  sending r es j p =
+      let R = code-exp r in
+      let E = each code-argument es in
+      let h = subst (λ l. Here t a l j) (append-assoc R (i-send ∷ E) (i-end ∷ [])) p in
+      let n : length ((R ++ i-send ∷ E) ++ i-end ∷ []) ≡ sizeIn r + 1 + length E + 1 = omega (arith, length-append (R ++ i-send ∷ E) (i-end ∷ []), length-append R (i-send ∷ E)) in (
+        reference-there r i-send (E ++ i-end ∷ []) j refers-send h,
+        arguments-there t a es j (j + sizeIn r + 1) (j + tree.sizeIn (send r es) - 1) (omega arith)
+            (quiet-phrase t a j j (none-yet j) r i-send (E ++ i-end ∷ []) h (omega arith)) (behind-there t a r i-send (E ++ i-end ∷ []) j h) (omega arith),
+      )
+
+  pub receiving : (r : Ref) (ys : List Received) (j : ℕ) → Here t a (code-tree (receive r ys)) j
+      → Reference r i-receive j (j + sizeIn r) × Got (tablesText t) (declAt t a j) ys (j + sizeIn r + 1) (j + tree.sizeIn (receive r ys) - 1)
+  receiving r ys j p =
+      let R = code-exp r in
+      let E = each code-received ys in
+      let h = subst (λ l. Here t a l j) (append-assoc R (i-receive ∷ E) (i-end ∷ [])) p in
+      let n : length ((R ++ i-receive ∷ E) ++ i-end ∷ []) ≡ sizeIn r + 1 + length E + 1 = omega (arith, length-append (R ++ i-receive ∷ E) (i-end ∷ []), length-append R (i-receive ∷ E)) in (
+        reference-there r i-receive (E ++ i-end ∷ []) j refers-receive h,
+        received-there t a ys j (j + sizeIn r + 1) (j + tree.sizeIn (receive r ys) - 1) (omega arith)
+            (quiet-phrase t a j j (none-yet j) r i-receive (E ++ i-end ∷ []) h (omega arith)) (behind-there t a r i-receive (E ++ i-end ∷ []) j h) (omega arith),
+      )
+
+  pub record Printing (es : List Expr) (j z : ℕ) : Type 0 where
+    pub mark : markOf (tablesText t) j ≡ j
+    pub coded : codeOf (tablesText t) j ≡ 72
+    pub passed : Passed (tablesText t) (declAt t a j) es (j + 1) z
+
+  pub printing : (w : List ℕ) (es : List Expr) (j : ℕ) → Here t a (code-tree (print w es)) j → Printing es j (j + tree.sizeIn (print w es) - 1)
+  printing w es j p =
+      let E = each code-argument es in
+      let n : length (E ++ i-end ∷ []) ≡ length E + 1 = length-append E (i-end ∷ []) in
+      let k =
+      arguments-there t a es j (j + 1) (j + tree.sizeIn (print w es) - 1) (omega arith) (quiet-mark t a (i-text w) (E ++ i-end ∷ []) j p (omega arith))
+      (lying-back xs (i-text w ∷ []) (E ++ i-end ∷ []) 0 j (j + 1) refl p) (omega arith) in
+      record {
+        mark = alone-mark t a (i-text w) (E ++ i-end ∷ []) j p text-alone;
+        coded = first-code t a (i-text w) (E ++ i-end ∷ []) j p;
+        passed = k;
+      }
+
+  -- a name w and behind it the run m, of code c
+  pub record Running (w : Name) (es : List Expr) (c j m z : ℕ) : Type 0 where
+    pub coded : codeOf (tablesText t) m ≡ c
+    pub begun : linkOf (tablesText t) m ≡ unitAt t a w
+    pub passed : Passed (tablesText t) (declAt t a j) es (m + 1) z
+
+  pub running : (w : Name) (es : List Expr) (j : ℕ) → Here t a (code-tree (run w es)) j → (markOf (tablesText t) j ≡ j + 1) × Running w es 202 j (j + 1) (j + tree.sizeIn (run w es) - 1)
+  running w es j p =
+      let E = each code-argument es in
+      let n : length (E ++ i-end ∷ []) ≡ length E + 1 = length-append E (i-end ∷ []) in
+      let q = lying-back xs (i-name w ∷ []) (i-run ∷ (E ++ i-end ∷ [])) 0 j (j + 1) refl p in
+      let r = lying-back xs (i-run ∷ []) (E ++ i-end ∷ []) 0 (j + 1) (j + 1 + 1) refl q in
+      let k =
+      arguments-there t a es j (j + 1 + 1) (j + tree.sizeIn (run w es) - 1) (omega arith)
+      (quiet-join t a j (j + 1) (j + 1 + 1) (quiet-mark t a (i-name w) (i-run ∷ (E ++ i-end ∷ [])) j p (omega arith)) (quiet-mark t a i-run (E ++ i-end ∷ []) (j + 1) q (omega arith))) r
+      (omega arith) in (
+        name-mark t a w i-run (E ++ i-end ∷ []) j p run-mark,
+        record {
+          coded = first-code t a i-run (E ++ i-end ∷ []) (j + 1) q;
+          begun = run-unit t a w i-run (E ++ i-end ∷ []) j p (inl refl);
+          passed = k;
+        },
+      )
+
+  pub set-running : (r : Ref) (w : Name) (es : List Expr) (j : ℕ) → Here t a (code-tree (set-run r w es)) j
+      → Reference r i-target j (j + sizeIn r) × (linkOf (tablesText t) (j + sizeIn r) ≡ j + sizeIn r + 2) × Running w es 203 j (j + sizeIn r + 2) (j + tree.sizeIn (set-run r w es) - 1)
+  set-running r w es j p =
+      let R = code-exp r in
+      let E = each code-argument es in
+      let m = j + sizeIn r in
+      let z = j + tree.sizeIn (set-run r w es) - 1 in
+      let Y = E ++ i-end ∷ [] in
+      let h = subst (λ l. Here t a l j) (append-assoc R (i-target ∷ i-name w ∷ i-set-run ∷ E) (i-end ∷ [])) p in
+      let n : length ((R ++ i-target ∷ i-name w ∷ i-set-run ∷ E) ++ i-end ∷ []) ≡ sizeIn r + 3 + length E + 1 =
+      omega (arith, length-append (R ++ i-target ∷ i-name w ∷ i-set-run ∷ E) (i-end ∷ []), length-append R (i-target ∷ i-name w ∷ i-set-run ∷ E)) in
+      let g = lying-back xs R (i-target ∷ i-name w ∷ i-set-run ∷ Y) 0 j m refl h in
+      let q = lying-back xs (i-target ∷ []) (i-name w ∷ i-set-run ∷ Y) 0 m (m + 1) refl g in
+      let o = lying-back xs (i-name w ∷ []) (i-set-run ∷ Y) 0 (m + 1) (m + 2) (omega arith) q in
+      let v = lying-back xs (i-set-run ∷ []) Y 0 (m + 2) (m + 2 + 1) refl o in
+      let d : m + 1 + 1 ≡ m + 2 = omega arith in
+      let u =
+      quiet-join t a j (m + 1) (m + 2) (quiet-phrase t a j j (none-yet j) r i-target (i-name w ∷ i-set-run ∷ Y) h (omega arith))
+      (subst (Quiet t a (m + 1)) d (quiet-mark t a (i-name w) (i-set-run ∷ Y) (m + 1) q (omega arith))) in
+      let k = arguments-there t a es j (m + 2 + 1) z (omega arith) (quiet-join t a j (m + 2) (m + 2 + 1) u (quiet-mark t a i-set-run Y (m + 2) o (omega arith))) v (omega arith) in (
+        reference-there r i-target (i-name w ∷ i-set-run ∷ Y) j refers-target h,
+        target-run t a w Y m g,
+        record {
+          coded = first-code t a i-set-run Y (m + 2) o;
+          begun = ap (linkOf T) (sym d) ∙ run-unit t a w i-set-run Y (m + 1) q (inr refl);
+          passed = k;
+        },
+      )

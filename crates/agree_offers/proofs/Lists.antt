@@ -1,0 +1,31 @@
+-- The list of the steps at a place, one turn of it: no selection, a selection, the end of a body.
+use Prim.Native.Nat.{ℕ, zero, suc, _+_, min}
+use mathlib.Core.Path.{_≡_, refl}
+use mathlib.Core.Bool.{Bool, true, false}
+use mathlib.Core.List.{List, [], _∷_}
+use lib.IntN.{ℤ}
+use Rattle.base_bytes.specs.Choice.{pick}
+use Rattle.base_bytes.specs.Lists.{orElse}
+use Rattle.table_layout.specs.Access.{codeOf, linkOf}
+use Rattle.step_ready.specs.Executing.{isAlone, isAlways, markOf, readyBy, readyOf}
+use Rattle.step_offers.specs.Offers.{isSelection, eachOption, elseAt, offersFrom}
+
+module _ (t : List ℕ) (s : List ℤ) (p : ℕ) (late : Bool) where
+  module _ (d q stop : ℕ) where
+    pub list-plain : isSelection t q ≡ false → offersFrom t s p late (suc d) q stop ≡ pick (readyOf t s p late q) (q ∷ []) []
+    unfolding offersFrom
+    list-plain e = rw e
+
+    pub list-selection : isSelection t q ≡ true → offersFrom t s p late (suc d) q stop
+        ≡ orElse (eachOption t (λ f e. offersFrom t s p late d f e) 512 (q + 1) (min (linkOf t q) stop)) (eachOption t (elseAt t) 512 (q + 1) (min (linkOf t q) stop))
+    unfolding offersFrom
+    list-selection e = rw e
+
+  end-unready : (q : ℕ) → codeOf t q ≡ 228 → readyOf t s p late q ≡ false
+  unfolding readyBy isAlways markOf isAlone
+  end-unready q e = rw (e, e)
+
+  pub end-offers : (d q stop : ℕ) → codeOf t q ≡ 228 → offersFrom t s p late d q stop ≡ []
+  unfolding offersFrom
+  end-offers zero q stop e = refl
+  end-offers (suc d) q stop e = rw (e, end-unready q e)

@@ -1,0 +1,129 @@
+-- THE TABLES OF AN ACCEPTED TEXT TELL ITS STATEMENTS (specs/Told.antt): where they stand, selections and options end where the tree's do, and an option's first statement is found.
+use Prim.Native.Nat.{ℕ, suc, _+_}
+use native.Mathlib.Omega.{arith}
+use mathlib.Core.Path.{_≡_, refl, ap, subst, _∙_}
+use mathlib.Core.Bool.{true}
+use mathlib.Core.List.{List, [], _∷_, _++_, append-assoc}
+use lib.ListN.{length}
+use borrow.Author.Tests.{eq-eqb, ne-eqb}
+use Rattle.spec_grammar.specs.Tree.{Sort, sequence, options, Exp, Shape, Tree, express, assign, increment, decrement, send, receive, assert, print, skip, goto, break, timeout, else, run, set-run, select, loop, bare, labelled, end, then, over, option}
+use Rattle.spec_grammar.specs.Code.{Item, i-name, i-label, i-express, i-target, i-assign, i-increment, i-decrement, i-send, i-receive, i-assert, i-end, i-set-run, i-if, i-fi, i-do, i-od, i-option, i-end-option, each, code-exp, code-argument, code-received, code-tree}
+use Rattle.link_places.specs.Places.{isClosing}
+use Rattle.table_layout.specs.Access.{codeOf}
+use Rattle.step_offers.specs.Offers.{firstOf}
+use Rattle.read_accepts_proof.specs.Meaning.{Accepts}
+use Rattle.agree_eval.proofs.Items.{T}
+use Rattle.spec_machine.specs.Program.{sizeIn, enter}
+use Rattle.agree_stage.proofs.Stands.{Lying, lying-front, lying-back, lying-between}
+use Rattle.agree_nesting.specs.Full.{Starts, Full}
+use Rattle.agree_nesting.proofs.Begun.{sequence-begun}
+use Rattle.agree_nesting.proofs.Matches.{is-if, is-do, is-option}
+use Rattle.agree_nesting.proofs.Trees.{tree-balanced}
+use Rattle.agree_offers.specs.Told.{Plain, Told}
+use Rattle.agree_offers.proofs.Counted.{few-options}
+use Rattle.agree_offers.proofs.Places.{xs, held-there, known-there, linked-there}
+use Rattle.agree_offers.proofs.Firsts.{exp-plain, code-plain, rest-first, action-second}
+
+closes-if : isClosing 0 205 ≡ true
+unfolding isClosing
+closes-if = refl
+
+closes-do : isClosing 0 207 ≡ true
+unfolding isClosing
+closes-do = refl
+
+closes-option : isClosing 2 209 ≡ true
+unfolding isClosing
+closes-option = refl
+
+module _ (t : List ℕ) (a : Accepts t) where
+  abbrev U : List ℕ
+  U = T t a
+
+  abbrev L : List Item → ℕ → Type 0
+  L x i = Lying (xs t a) 0 x i
+
+  front : (x y : List Item) (i : ℕ) → L (x ++ y) i → L x i
+  front x y i p = lying-front (xs t a) x y 0 i p
+
+  back : (x y : List Item) (i k : ℕ) → k ≡ i + length x → L (x ++ y) i → L y k
+  back x y i k e p = lying-back (xs t a) x y 0 i k e p
+
+  front-plain : {s : Shape} (e : Exp s) (l : List Item) (i : ℕ) → L (code-exp e ++ l) i → Plain U i
+  front-plain e l i p = exp-plain U e l i (held-there t a (code-exp e ++ l) i p)
+
+  -- ---- the first statement of an option
+  first-labelled : (i : ℕ) → codeOf U (suc (suc i)) ≡ 188 → firstOf U i ≡ i + 1 + 2
+  unfolding firstOf
+  first-labelled i e =
+      let z : i + 2 ≡ suc (suc i) = omega arith in
+      rw (eq-eqb (codeOf U (i + 2)) 188 (ap (codeOf U) z ∙ e)) (omega arith)
+
+  first-bare : (i : ℕ) → (codeOf U (suc (i + 1)) ≡ 188 → ⊥) → firstOf U i ≡ i + 1
+  unfolding firstOf
+  first-bare i n =
+      let z : suc (i + 1) ≡ i + 2 = omega arith in
+      rw (ne-eqb (codeOf U (i + 2)) 188 (λ e. n (ap (codeOf U) z ∙ e)))
+
+  option-first : (q : Tree sequence) (os : Tree options) (i : ℕ) → Starts q → L (code-tree (option q os)) i → firstOf U i ≡ enter q (i + 1) 0
+  option-first end os i h p = absurd h
+  option-first (then (bare x) q) os i h p =
+      let R = i-end-option ∷ code-tree os in
+      let B = back (i-option ∷ []) ((code-tree x ++ code-tree q) ++ R) i (i + 1) refl p in
+      first-bare i
+      (action-second t a x (i + 1) (front (code-tree x) (code-tree q) (i + 1) (front (code-tree x ++ code-tree q) R (i + 1) B))
+      (rest-first U q (code-tree os) (i + 1 + sizeIn x)
+      (held-there t a (code-tree q ++ R) (i + 1 + sizeIn x)
+      (back (code-tree x) (code-tree q ++ R) (i + 1) (i + 1 + sizeIn x) refl (subst (λ (l : List Item). L l (i + 1)) (append-assoc (code-tree x) (code-tree q) R) B)))))
+  option-first (then (labelled w x) q) os i h p = first-labelled i (held-there t a (code-tree (option (then (labelled w x) q) os)) i p .2 .2 .0)
+
+  -- ---- trees
+  pub told : {k : Sort} (x : Tree k) (i : ℕ) → Full x → L (code-tree x) i → Told U x i
+  told (express e) i f p = front-plain e (i-express ∷ []) i p
+  told (assign r e) i f p = front-plain r (i-target ∷ code-exp e) i (front (code-exp r ++ i-target ∷ code-exp e) (i-assign ∷ []) i p)
+  told (increment r) i f p = front-plain r (i-increment ∷ []) i p
+  told (decrement r) i f p = front-plain r (i-decrement ∷ []) i p
+  told (send r es) i f p = front-plain r (i-send ∷ each code-argument es) i (front (code-exp r ++ i-send ∷ each code-argument es) (i-end ∷ []) i p)
+  told (receive r es) i f p = front-plain r (i-receive ∷ each code-received es) i (front (code-exp r ++ i-receive ∷ each code-received es) (i-end ∷ []) i p)
+  told (assert e) i f p = front-plain e (i-assert ∷ []) i p
+  told (print w es) i f p = code-plain U i 72 (held-there t a (code-tree (print w es)) i p .0) (omega arith)
+  told skip i f p = code-plain U i 197 (held-there t a (code-tree skip) i p .0) (omega arith)
+  told (goto w) i f p = code-plain U i 70 (held-there t a (code-tree (goto w)) i p .0) (omega arith)
+  told break i f p = code-plain U i 199 (held-there t a (code-tree break) i p .0) (omega arith)
+  told timeout i f p = code-plain U i 200 (held-there t a (code-tree timeout) i p .0) (omega arith)
+  told else i f p = held-there t a (code-tree else) i p .0
+  told (run w es) i f p = code-plain U i 70 (held-there t a (code-tree (run w es)) i p .0) (omega arith)
+  told (set-run r w es) i f p =
+      front-plain r (i-target ∷ i-name w ∷ i-set-run ∷ each code-argument es) i (front (code-exp r ++ i-target ∷ i-name w ∷ i-set-run ∷ each code-argument es) (i-end ∷ []) i p)
+  told (select os) i f p =
+      let o = lying-between (xs t a) i-if (code-tree os) i-fi 0 i p in (
+        held-there t a (code-tree (select os)) i p .0,
+        linked-there t a 0 i-if i-fi (code-tree os) [] i (is-if refl) closes-if (λ e. absurd (omega arith)) (tree-balanced os f (known-there t a (code-tree os) (i + 1) o)) p,
+        few-options t a os (i + 1) f o,
+        told os (i + 1) f o,
+      )
+  told (loop os) i f p =
+      let o = lying-between (xs t a) i-do (code-tree os) i-od 0 i p in (
+        held-there t a (code-tree (loop os)) i p .0,
+        linked-there t a 0 i-do i-od (code-tree os) [] i (is-do refl) closes-do (λ e. absurd (omega arith)) (tree-balanced os f (known-there t a (code-tree os) (i + 1) o)) p,
+        few-options t a os (i + 1) f o,
+        told os (i + 1) f o,
+      )
+  told (bare x) i f p = told x i f p
+  told (labelled w x) i f p = told x (i + 2) f (back (i-name w ∷ i-label ∷ []) (code-tree x) i (i + 2) refl p)
+  told end i f p = tt
+  told (then s q) i f p = (told s i (f .0) (front (code-tree s) (code-tree q) i p), told q (i + sizeIn s) (f .1) (back (code-tree s) (code-tree q) i (i + sizeIn s) refl p))
+  told over i f p = tt
+  told (option q os) i f p =
+      let B = back (i-option ∷ []) (code-tree q ++ (i-end-option ∷ code-tree os)) i (i + 1) refl p in
+      let Q = front (code-tree q) (i-end-option ∷ code-tree os) (i + 1) B in
+      let E = back (code-tree q) (i-end-option ∷ code-tree os) (i + 1) (i + 1 + sizeIn q) refl B in
+      let R = back (i-end-option ∷ []) (code-tree os) (i + 1 + sizeIn q) (i + 2 + sizeIn q) (omega arith) E in
+      let G = tree-balanced q (f .1) (known-there t a (code-tree q) (i + 1) Q) in (
+        held-there t a (code-tree (option q os)) i p .0,
+        linked-there t a 2 i-option i-end-option (code-tree q) (code-tree os) i (is-option refl) closes-option (λ e. sequence-begun q (f .0)) G p,
+        f .0,
+        option-first q os i (f .0) p,
+        told q (i + 1) (f .1) Q,
+        told os (i + 2 + sizeIn q) (f .2) R,
+      )

@@ -1,0 +1,165 @@
+-- Variables as declarations have them: a walk over the items of declarations makes their variables in text order, each with the value that stands behind it. `t` are tables, f what is
+-- done at an item, p the number of a process.
+use Prim.Native.Nat.{ℕ, suc, _+_, _≤_, _<_}
+use native.Mathlib.Omega.{arith}
+use mathlib.Core.Path.{_≡_, refl, sym, ap, _∙_, subst}
+use mathlib.Core.Option.{Option, none, some}
+use mathlib.Core.List.{List, [], _∷_, _++_}
+use lib.ListN.{length, length-append}
+use lib.IntN.{ℤ}
+use borrow.Author.Tests.{ne-eqb}
+use Rattle.spec_grammar.specs.Tree.{Value, unset, set-number, set-minus, set-true, set-false, set-name, set-channel, Variable, variable, Declaration, declare}
+use Rattle.spec_grammar.specs.Code.{Item, i-type, i-local, each, code-field, code-size, code-value, code-variable, code-declaration}
+use Rattle.table_entries.specs.Items as items
+use Rattle.table_entries.specs.Items.{AllKnown}
+use Rattle.table_layout.specs.Access.{codeOf, linkOf}
+use Rattle.state_start.specs.Values.{valueAt, literalOf, valueOf}
+use Rattle.state_start.specs.Starting.{variableMade, declared}
+use Rattle.state_layout.specs.Walks.{walk}
+use Rattle.agree_eval.specs.Held.{Held}
+use Rattle.agree_eval.proofs.Items.{held-front, held-back}
+use Rattle.agree_eval.proofs.Operators.{known-front, known-back}
+use Rattle.agree_start.specs.Beginnings.{valuedIn, variableIn, variablesIn, declarationIn, localsIn}
+use Rattle.agree_start.proofs.Walks.{walk-one, over, over-both, Mute, Muted, over-muted, muted-both, muted-each}
+use Rattle.agree_start.proofs.Items.{type-below}
+
+module _ (t : List ℕ) where
+  -- behind item e no size and no value ends: its second item is no mark of one
+  abbrev pub Clear : ℕ → Type 0
+  Clear e = 213 ≤ codeOf t (e + 1) → codeOf t (e + 1) ≤ 217 → ⊥
+
+  second : (k c : ℕ) → codeOf t (suc k) ≡ c → codeOf t (k + 1) ≡ c
+  second k c e = ap (codeOf t) (let z : k + 1 ≡ suc k = omega arith in z) ∙ e
+
+  pub clear-code : (k c : ℕ) → codeOf t (suc k) ≡ c → (213 ≤ c → c ≤ 217 → ⊥) → Clear k
+  clear-code k c e h a b = let z = second k c e in h (omega arith) (omega arith)
+
+  pub clear-here : (k n : ℕ) → n ≡ 0 → Clear (k + n) → Clear k
+  clear-here k n e c = subst Clear (let z : k + n ≡ k = omega arith in z) c
+
+  -- ---- one value
+  made : (l p : ℕ) (v : Value) (k : ℕ) (s : List ℤ) → Held t k (code-value v) → Clear (k + length (code-value v)) → variableMade t l p k s ≡ valuedIn t l p v k s
+  unfolding variableMade valueOf literalOf
+  made l p unset k s h c =
+      let d = clear-here k 0 refl c in
+      let m : (n : ℕ) → 213 ≤ n → n ≤ 217 → codeOf t (k + 1) ≡ n → ⊥ = λ n x y e. d (omega arith) (omega arith) in
+      rw (
+        ne-eqb (codeOf t (k + 1)) 217 (m 217 (omega arith) (omega arith)),
+        ne-eqb (codeOf t (k + 1)) 214 (m 214 (omega arith) (omega arith)),
+        ne-eqb (codeOf t (k + 1)) 215 (m 215 (omega arith) (omega arith)),
+        ne-eqb (codeOf t (k + 1)) 216 (m 216 (omega arith) (omega arith)),
+      )
+  made l p (set-number n) k s h c = rw (second k 214 (h .2 .0), h .0, h .1 refl .0)
+  made l p (set-minus n) k s h c = rw (second k 215 (h .2 .0), h .0, h .1 refl .0)
+  made l p set-true k s h c = rw (second k 214 (h .2 .0), h .0)
+  made l p set-false k s h c = rw (second k 214 (h .2 .0), h .0)
+  made l p (set-name w) k s h c = rw (second k 216 (h .2 .0))
+  made l p (set-channel n ks) k s h c = rw (second k 217 (h .2 .0))
+
+  no-size : (v : Value) (k : ℕ) → Held t k (code-value v) → Clear (k + length (code-value v)) → codeOf t (k + 1) ≡ 213 → ⊥
+  no-size unset k h c e = clear-here k 0 refl c (omega arith) (omega arith)
+  no-size (set-number n) k h c e = let z = second k 214 (h .2 .0) in omega arith
+  no-size (set-minus n) k h c e = let z = second k 215 (h .2 .0) in omega arith
+  no-size set-true k h c e = let z = second k 214 (h .2 .0) in omega arith
+  no-size set-false k h c e = let z = second k 214 (h .2 .0) in omega arith
+  no-size (set-name w) k h c e = let z = second k 216 (h .2 .0) in omega arith
+  no-size (set-channel n ks) k h c e = let z = second k 217 (h .2 .0) in omega arith
+
+  -- where it stands
+  value-at : (z : Option ℕ) (v : Value) (d : ℕ) → Held t (suc d) (code-size z ++ code-value v) → Clear (suc d + length (code-size z) + length (code-value v))
+      → valueAt t d ≡ suc d + length (code-size z)
+  unfolding valueAt
+  value-at none v d h c =
+      let x : d + 2 ≡ suc d + 1 = omega arith in
+      let y : suc d + 0 ≡ suc d = omega arith in
+      rw (ne-eqb (codeOf t (d + 2)) 213 (λ e. no-size v (suc d) h (subst (λ n. Clear (n + length (code-value v))) y c) (ap (codeOf t) (sym x) ∙ e))) (omega arith)
+  value-at (some n) v d h c = let x : d + 2 ≡ suc (suc d) = omega arith in rw (ap (codeOf t) x ∙ h .2 .0) (omega arith)
+
+-- ---- what is done at each item of declarations: at `declared` (212), from item lo to before item hi, its variable is made; at a name, a type and the other marks nothing is
+pub record Makes (t : List ℕ) (f : ℕ → List ℤ → List ℤ) (p lo hi : ℕ) : Type 0 where
+  pub low : (c : ℕ) → c < 210 → Mute f t c
+  pub marks : (c : ℕ) → 210 ≤ c → c ≤ 218 → (c ≡ 212 → ⊥) → Mute f t c
+  pub makes : (j : ℕ) (s : List ℤ) → lo ≤ j → j < hi → codeOf t j ≡ 212 → f j s ≡ declared t p j s
+
+module _ (t : List ℕ) (f : ℕ → List ℤ → List ℤ) (p lo hi : ℕ) (M : Makes t f p lo hi) where
+  muted-mark : (c : ℕ) → 213 ≤ c → c ≤ 218 → Mute f t c
+  muted-mark c a b = M .marks c (omega arith) b (λ e. omega arith)
+
+  muted-size : (z : Option ℕ) → Muted f t (code-size z)
+  muted-size none = tt
+  muted-size (some n) = (λ k. M .low 71 (omega arith), (λ k. muted-mark 213 (omega arith) (omega arith), tt))
+
+  muted-field : (k : ℕ) → Muted f t (code-field k)
+  muted-field k = (λ e. M .low (items.codeOf (i-type k)) (type-below k e), (λ e. muted-mark 218 (omega arith) (omega arith), tt))
+
+  muted-value : (v : Value) → Muted f t (code-value v)
+  muted-value unset = tt
+  muted-value (set-number n) = (λ k. M .low 71 (omega arith), (λ k. muted-mark 214 (omega arith) (omega arith), tt))
+  muted-value (set-minus n) = (λ k. M .low 71 (omega arith), (λ k. muted-mark 215 (omega arith) (omega arith), tt))
+  muted-value set-true = (λ k. M .low 178 (omega arith), (λ k. muted-mark 214 (omega arith) (omega arith), tt))
+  muted-value set-false = (λ k. M .low 179 (omega arith), (λ k. muted-mark 214 (omega arith) (omega arith), tt))
+  muted-value (set-name w) = (λ k. M .low 70 (omega arith), (λ k. muted-mark 216 (omega arith) (omega arith), tt))
+  muted-value (set-channel n ks) = (λ k. M .low 71 (omega arith), (λ k. muted-mark 217 (omega arith) (omega arith), muted-each f t code-field muted-field ks))
+
+  -- one variable
+  variable-over : (x : Variable) (i : ℕ) (s : List ℤ) → lo ≤ i → i + length (code-variable x) ≤ hi → AllKnown (code-variable x) → Held t i (code-variable x) → Clear t (i + length (code-variable x))
+      → over f (code-variable x) i s ≡ variableIn t p x i s
+  variable-over (variable w z v) i s a b k h c =
+      let R = code-size z ++ code-value v in
+      let n = length-append (code-size z) (code-value v) in
+      let u : suc i ≡ i + 1 = omega arith in
+      let at : suc (suc i) + length (code-size z) ≡ i + 2 + length (code-size z) = omega arith in
+      let C = subst (Clear t) (let y : i + length (code-variable (variable w z v)) ≡ suc (suc i) + length (code-size z) + length (code-value v) = omega arith in y) c in
+      walk-one f i (suc (length R)) s ∙ ap (walk f (suc i) (suc (length R))) (M .low 70 (omega arith) i s (h .0)) ∙ walk-one f (suc i) (length R) s
+      ∙ over-muted f t R (suc (suc i)) (f (suc i) s) (muted-both f t (code-size z) (code-value v) (muted-size z) (muted-value v)) (k .1 .1) (h .2 .2)
+      ∙ M .makes (suc i) s (omega arith) (omega arith) (h .2 .0) ∙ ap (λ y. variableMade t (linkOf t (suc i)) p y s) (value-at t z v (suc i) (h .2 .2) C)
+      ∙ made t (linkOf t (suc i)) p v (suc (suc i) + length (code-size z)) s (held-back t (code-size z) (code-value v) (suc (suc i)) (suc (suc i) + length (code-size z)) refl (h .2 .2)) C
+      ∙ ap (λ y. valuedIn t (linkOf t (suc i)) p v y s) at ∙ ap (λ y. valuedIn t (linkOf t y) p v (i + 2 + length (code-size z)) s) u
+
+  clear-variables : (xs : List Variable) (e : ℕ) → Held t e (each code-variable xs) → Clear t (e + length (each code-variable xs)) → Clear t e
+  clear-variables [] e h c = clear-here t e 0 refl c
+  clear-variables (variable w z v ∷ xs) e h c = clear-code t e 212 (h .2 .0) (λ a b. omega arith)
+
+  variables-over : (xs : List Variable) (i : ℕ) (s : List ℤ) → lo ≤ i → i + length (each code-variable xs) ≤ hi → AllKnown (each code-variable xs) → Held t i (each code-variable xs)
+      → Clear t (i + length (each code-variable xs)) → over f (each code-variable xs) i s ≡ variablesIn t p xs i s
+  variables-over [] i s a b k h c = over-muted f t [] i s tt k h
+  variables-over (x ∷ xs) i s a b k h c =
+      let X = code-variable x in
+      let L = each code-variable xs in
+      let n = length-append X L in
+      let m = i + length X in
+      let g = held-back t X L i m refl h in
+      let d = subst (Clear t) (let y : i + length (X ++ L) ≡ m + length L = omega arith in y) c in
+      over-both f X L i s
+      ∙ ap (over f L m) (variable-over x i s a (omega arith) (known-front X L k) (held-front t i X L h) (clear-variables xs m g d))
+      ∙ variables-over xs m (variableIn t p x i s) (omega arith) (omega arith) (known-back X L k) g d
+
+  -- one declaration, with its mark `local` (210) or `global` (211)
+  pub declaration-over : (y : Item) → 210 ≤ items.codeOf y → items.codeOf y ≤ 211 → (d : Declaration) (i : ℕ) (s : List ℤ) → lo ≤ i → i + length (code-declaration y d) ≤ hi → AllKnown (code-declaration y d)
+      → Held t i (code-declaration y d) → Clear t (i + length (code-declaration y d)) → over f (code-declaration y d) i s ≡ declarationIn t p d i s
+  declaration-over y e g (declare k xs) i s a b n h c =
+      let L = each code-variable xs in
+      let z : suc (suc i) ≡ i + 2 = omega arith in
+      let x : i + suc (suc (length L)) ≡ suc (suc i) + length L = omega arith in
+      walk-one f i (suc (length L)) s ∙ ap (walk f (suc i) (suc (length L))) (M .low (items.codeOf (i-type k)) (type-below k (n .0)) i s (h .0)) ∙ walk-one f (suc i) (length L) s
+      ∙ ap (walk f (suc (suc i)) (length L)) (M .marks (items.codeOf y) e (omega arith) (λ q. omega arith) (suc i) s (h .2 .0))
+      ∙ variables-over xs (suc (suc i)) s (omega arith) (omega arith) (n .1 .1) (h .2 .2) (subst (Clear t) x c) ∙ ap (λ j. variablesIn t p xs j s) z
+
+  clear-locals : (ds : List Declaration) (e : ℕ) → Held t e (each (code-declaration i-local) ds) → Clear t (e + length (each (code-declaration i-local) ds)) → Clear t e
+  clear-locals [] e h c = clear-here t e 0 refl c
+  clear-locals (declare k xs ∷ ds) e h c = clear-code t e 210 (h .2 .0) (λ a b. omega arith)
+
+  -- those of a body
+  pub locals-over : (ds : List Declaration) (i : ℕ) (s : List ℤ) → lo ≤ i → i + length (each (code-declaration i-local) ds) ≤ hi → AllKnown (each (code-declaration i-local) ds)
+      → Held t i (each (code-declaration i-local) ds) → Clear t (i + length (each (code-declaration i-local) ds)) → over f (each (code-declaration i-local) ds) i s ≡ localsIn t p ds i s
+  locals-over [] i s a b k h c = over-muted f t [] i s tt k h
+  locals-over (x ∷ xs) i s a b k h c =
+      let X = code-declaration i-local x in
+      let L = each (code-declaration i-local) xs in
+      let n = length-append X L in
+      let m = i + length X in
+      let g = held-back t X L i m refl h in
+      let d = subst (Clear t) (let y : i + length (X ++ L) ≡ m + length L = omega arith in y) c in
+      over-both f X L i s
+      ∙ ap (over f L m) (declaration-over i-local (omega arith) (omega arith) x i s a (omega arith) (known-front X L k) (held-front t i X L h) (clear-locals xs m g d))
+      ∙ locals-over xs m (declarationIn t p x i s) (omega arith) (omega arith) (known-back X L k) g d

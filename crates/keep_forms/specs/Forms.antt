@@ -1,0 +1,116 @@
+-- How the items of a model follow one another, over their codes alone: a scan from the first to the last that knows, before each item, in which part of a unit it stands, how
+-- many selections and loops are open, and what the items just before it were. Document 01, "Grammar"; the items and their order are those of specs/Code.antt of `spec_grammar`.
+use Prim.Native.Nat.{ℕ, zero, suc, _+_, _-_, _<_}
+use mathlib.Core.Path.{_≡_}
+use mathlib.Core.Bool.{Bool, true, false, not}
+use mathlib.Core.List.{List}
+use lib.ListN.{length, getD}
+use lib.Dec.{eqb, ltb}
+use Rattle.base_bytes.specs.Choice.{pick, both, either}
+use Rattle.rule_search.specs.Sets.{within}
+
+pub record Form : Type 0 where
+  -- 0 in no unit with a body, 1 behind the item that begins one, 2 in its body
+  pub zone : ℕ
+  pub depth : ℕ
+  pub loops : ℕ
+  -- the item before is part of an expression; it ends a reference
+  pub part : Bool
+  pub ref : Bool
+  -- the last mark was a target; arguments go on
+  pub aim : Bool
+  pub args : Bool
+  -- 1 behind an option, 2 behind a label, 3 behind the name that an option begins with, 4 behind more of a statement's first phrase
+  pub stage : ℕ
+  -- 1 behind a declared name, 2 behind the number that follows it, 3 behind any other number, 4 behind a name that follows a number
+  pub near : ℕ
+
+abbrev pub form : ℕ → ℕ → ℕ → Bool → Bool → Bool → Bool → ℕ → ℕ → Form
+form z o l p r m a g n = record { zone = z; depth = o; loops = l; part = p; ref = r; aim = m; args = a; stage = g; near = n }
+
+-- ## sets of codes
+abbrev pub begins : ℕ → Bool
+begins c = within 223 226 c
+
+-- name, number, true, false: what a phrase begins with
+abbrev pub leaf : ℕ → Bool
+leaf c = either (within 70 71 c) (within 178 179 c)
+
+-- the other parts of expressions stand behind a part
+abbrev pub joins : ℕ → Bool
+joins c = either (within 147 167 c) (either (within 176 177 c) (within 180 182 c))
+
+abbrev pub isPart : ℕ → Bool
+isPart c = either (within 70 71 c) (either (within 147 167 c) (within 176 182 c))
+
+-- what stands behind a reference: len, into, target, increment, decrement, send, receive
+abbrev pub refers : ℕ → Bool
+refers c = either (either (eqb c 180) (eqb c 184)) (either (eqb c 190) (within 192 195 c))
+
+-- a statement that begins with its own mark; the mark of one that begins with a phrase
+abbrev pub alone : ℕ → Bool
+alone c = either (either (eqb c 72) (eqb c 197)) (either (within 199 201 c) (either (eqb c 204) (eqb c 206)))
+
+abbrev pub lead : ℕ → Bool
+lead c = either (within 189 190 c) (either (within 192 196 c) (either (eqb c 198) (eqb c 202)))
+
+-- what begins arguments
+abbrev pub opens : ℕ → Bool
+opens c = either (eqb c 72) (either (within 194 195 c) (within 202 203 c))
+
+-- what stands in bodies alone, but for names, numbers, true and false
+abbrev pub inner : ℕ → Bool
+inner c = either (eqb c 72) (either (within 147 167 c) (either (within 176 177 c) (within 180 209 c)))
+
+-- ## one item more
+unfoldable pub step : Form → ℕ → Form
+step s c =
+    form (pick (begins c) 1 (pick (eqb c 227) 2 (pick (eqb c 228) 0 (s .zone))))
+    (pick (either (eqb c 204) (eqb c 206)) (s .depth + 1) (pick (either (eqb c 205) (eqb c 207)) (s .depth - 1) (s .depth)))
+    (pick (eqb c 206) (s .loops + 1) (pick (eqb c 207) (s .loops - 1) (s .loops)))
+    (isPart c) (within 176 177 c)
+    (pick (isPart c) (s .aim) (eqb c 190))
+    (pick (opens c) true (pick (eqb c 187) false (s .args)))
+    (pick (eqb c 208) 1 (pick (eqb c 188) 2 (pick (isPart c) (pick (eqb (s .stage) 1) (pick (eqb c 70) 3 4) (pick (eqb (s .stage) 0) 0 4)) 0)))
+    (pick (eqb c 212) 1 (pick (eqb c 71) (pick (eqb (s .near) 1) 2 3) (pick (both (eqb c 70) (within 2 3 (s .near))) 4 0)))
+
+-- may it stand there?
+unfoldable pub fits : Form → ℕ → Bool
+fits s c =
+    -- units, bodies and their ends; an end with nothing open; statements in bodies; parameters before them
+    both (pick (begins c) (eqb (s .zone) 0) true)
+    (both (pick (eqb c 227) (eqb (s .zone) 1) true)
+    (both (pick (eqb c 228) (both (eqb (s .zone) 2) (both (eqb (s .depth) 0) (eqb (s .loops) 0))) true)
+    (both (pick (inner c) (eqb (s .zone) 2) true)
+    (both (pick (eqb c 222) (eqb (s .zone) 1) true)
+    -- phrases, and labels behind their names
+    (both (pick (either (joins c) (eqb c 188)) (s .part) true)
+    (both (pick (refers c) (s .ref) true)
+    -- behind a target an assignment or `v = run`
+    (both (pick (isPart c) true (pick (s .aim) (either (eqb c 191) (eqb c 203)) true))
+    -- fi, od and the end of an option in a selection, od in a loop
+    (both (pick (either (eqb c 205) (either (eqb c 207) (eqb c 209))) (ltb 0 (s .depth)) true)
+    (both (pick (eqb c 207) (ltb 0 (s .loops)) true)
+    -- a channel's number stands behind the declared name
+    (both (pick (eqb c 217) (eqb (s .near) 2) true)
+    -- active-many behind its number and its name
+    (both (pick (eqb c 225) (eqb (s .near) 4) true)
+    -- an option begins with a statement, which may have one label
+    (both (pick (either (alone c) (either (leaf c) (s .part))) true (not (within 1 2 (s .stage))))
+    (both (pick (either (either (isPart c) (lead c)) (either (not (s .part)) (either (s .args) (s .aim)))) true (pick (ltb 2 (s .stage)) (both (eqb c 188) (eqb (s .stage) 3)) true))
+    -- arguments, each a phrase and its mark, and then their end
+    (pick (isPart c) true (pick (s .args) (pick (eqb c 187) (not (s .part)) (both (within 183 186 c) (s .part))) true)))))))))))))))
+
+-- before the first item
+abbrev pub fresh : Form
+fresh = form 0 0 0 false false false false 0 0
+
+-- before item j
+unfoldable pub formAt : List ℕ → ℕ → Form
+formAt cs zero = fresh
+formAt cs (suc j) = step (formAt cs j) (getD cs j 0)
+
+-- each of these items fits where it stands, and no unit is left open
+pub record Formed (cs : List ℕ) : Type 0 where
+  pub each : (j : ℕ) → j < length cs → fits (formAt cs j) (getD cs j 0) ≡ true
+  pub shut : formAt cs (length cs) .zone ≡ 0

@@ -1,0 +1,348 @@
+-- What items of a model stand where, and what their classes say of their codes: items of statements, of declarations, of values.
+use Prim.Native.Nat.{ℕ, zero, suc, _+_, _-_, _≤_}
+use native.Mathlib.Omega.{arith}
+use mathlib.Core.Path.{_≡_, refl, sym, ap, _∙_}
+use mathlib.Core.Bool.{Bool, true}
+use mathlib.Core.Option.{Option, none, some}
+use mathlib.Core.Logic.{_⊎_, inl, inr}
+use mathlib.Core.List.{List, [], _∷_, _++_}
+use lib.Dec.{eqb, ltb, leb}
+use borrow.Author.Tests.{ltb-true, leb-true}
+use Rattle.base_bytes.specs.Choice.{pick, both, either}
+use Rattle.base_bytes.proofs.Tests.{both-true, either-true}
+use Rattle.spec_grammar.specs.Tree.{Name, Shape, Exp, plain, indexed, num, tru, fls, get, len, unary, binary, choice, Expr, Received, into, equal, exactly, exactly-true, exactly-false, Sort, Tree, express, assign, increment, decrement, send, receive, assert, print, skip, goto, break, timeout, else, run, set-run, select, loop, bare, labelled, end, then, over, option, Value, unset, set-number, set-minus, set-true, set-false, set-name, set-channel, Variable, variable, Declaration, declare, Group, group}
+use Rattle.spec_grammar.specs.Code.{Item, i-name, i-number, i-text, i-binary, i-unary, i-type, i-plain, i-index, i-true, i-false, i-len, i-otherwise, i-choice, i-argument, i-into, i-equal, i-constant, i-end, i-label, i-express, i-target, i-assign, i-increment, i-decrement, i-send, i-receive, i-assert, i-skip, i-goto, i-break, i-timeout, i-else, i-run, i-set-run, i-if, i-fi, i-do, i-od, i-option, i-end-option, i-local, i-global, i-declared, i-size, i-value, i-minus, i-named, i-channel, i-field, i-mtypes, i-message, i-group, i-parameter, i-proctype, i-active, i-active-many, i-init, i-body, i-end-body, each, code-exp, code-argument, code-received, code-tree, code-field, code-size, code-value, code-variable, code-declaration, code-parameter, code-group}
+use Rattle.parse_tables.specs.Numbering.{nth, items}
+use Rattle.rule_search.specs.Sets.{within}
+use Rattle.table_entries.specs.Items.{codeOf, Known, is-name, is-text, is-number, is-mark}
+
+-- ---- classes: 0 what stands in values of declarations, and 5 types there; 1 in statements alone; 2 in both; 3 other marks of declarations, and 6 of parameters; 4 the others
+unfoldable pub class : Item → ℕ
+class (i-name w) = 2
+class (i-number n) = 2
+class (i-text w) = 1
+class (i-binary o) = 1
+class (i-unary o) = 1
+class (i-type k) = 5
+class i-plain = 1
+class i-index = 1
+class i-true = 2
+class i-false = 2
+class i-len = 1
+class i-otherwise = 1
+class i-choice = 1
+class i-argument = 1
+class i-into = 1
+class i-equal = 1
+class i-constant = 1
+class i-end = 1
+class i-label = 1
+class i-express = 1
+class i-target = 1
+class i-assign = 1
+class i-increment = 1
+class i-decrement = 1
+class i-send = 1
+class i-receive = 1
+class i-assert = 1
+class i-skip = 1
+class i-goto = 1
+class i-break = 1
+class i-timeout = 1
+class i-else = 1
+class i-run = 1
+class i-set-run = 1
+class i-if = 1
+class i-fi = 1
+class i-do = 1
+class i-od = 1
+class i-option = 1
+class i-end-option = 1
+class i-local = 3
+class i-global = 3
+class i-declared = 3
+class i-size = 0
+class i-value = 0
+class i-minus = 0
+class i-named = 0
+class i-channel = 0
+class i-field = 0
+class i-mtypes = 4
+class i-message = 4
+class i-group = 6
+class i-parameter = 6
+class i-proctype = 4
+class i-active = 4
+class i-active-many = 4
+class i-init = 4
+class i-body = 4
+class i-end-body = 4
+
+unfoldable pub spoken : Item → Bool
+spoken x = within 1 2 (class x)
+
+unfoldable pub valued : Item → Bool
+valued x = either (eqb (class x) 0) (either (eqb (class x) 2) (eqb (class x) 5))
+
+unfoldable pub settled : Item → Bool
+settled x = either (valued x) (eqb (class x) 3)
+
+unfoldable pub declaring : Item → Bool
+declaring x = either (settled x) (eqb (class x) 6)
+
+-- ---- what a class says of a code
+abbrev low : ℕ → Bool
+low c = either (ltb c 72) (either (within 168 175 c) (either (within 178 179 c) (within 213 218 c)))
+
+abbrev calm : ℕ → Bool
+calm c = either (ltb c 72) (either (within 168 175 c) (either (within 178 179 c) (either (within 210 218 c) (within 221 222 c))))
+
+unfoldable fair : Item → Bool
+fair x =
+    both (pick (spoken x) (leb (codeOf x) 209) true)
+    (both (pick (valued x) (low (codeOf x)) true) (both (pick (declaring x) (calm (codeOf x)) true) (both (pick (eqb (class x) 5) (within 168 175 (codeOf x)) true)
+    (pick (settled x) (leb (codeOf x) 218) true))))
+
+unfoldable fairs : List Item → Bool
+fairs [] = true
+fairs (x ∷ l) = both (fair x) (fairs l)
+
+fair-nth : (l : List Item) (n : ℕ) (d : Item) → fairs l ≡ true → fair d ≡ true → fair (nth l n d) ≡ true
+unfolding fairs
+fair-nth [] n d e h = h
+fair-nth (x ∷ l) zero d e h = both-true (fair x) (fairs l) e .0
+fair-nth (x ∷ l) (suc n) d e h = fair-nth l n d (both-true (fair x) (fairs l) e .1) h
+
+table-fair : fairs items ≡ true
+unfolding fairs fair spoken valued settled declaring class
+table-fair = refl
+
+known-fair : {x : Item} → Known x → fair x ≡ true
+unfolding fair spoken valued settled declaring class
+known-fair (is-name a b) = refl
+known-fair (is-text a b) = refl
+known-fair is-number = refl
+known-fair (is-mark x a b) = fair-nth items (x - 147) i-plain table-fair refl
+
+pub spoken-code : (x : Item) → Known x → spoken x ≡ true → codeOf x ≤ 209
+unfolding fair
+spoken-code x k e = leb-true (codeOf x) 209 (sym (ap (λ b. pick b (leb (codeOf x) 209) true) e) ∙ both-true (pick (spoken x) (leb (codeOf x) 209) true) _ (known-fair k) .0)
+
+pub type-code : (k : ℕ) → Known (i-type k) → (168 ≤ codeOf (i-type k)) × (codeOf (i-type k) ≤ 175)
+unfolding fair class spoken valued settled declaring
+type-code k kn =
+    let a = both-true (low (130 + k)) _ (known-fair kn) .1 in
+    let b = both-true (calm (130 + k)) _ a .1 in
+    let c = both-true (leb 168 (130 + k)) (leb (130 + k) 175) (both-true (within 168 175 (130 + k)) _ b .0) in
+    (leb-true 168 (130 + k) (c .0), leb-true (130 + k) 175 (c .1))
+
+within-true : (a b c : ℕ) → within a b c ≡ true → (a ≤ c) × (c ≤ b)
+within-true a b c e = let h = both-true (leb a c) (leb c b) e in (leb-true a c (h .0), leb-true c b (h .1))
+
+-- codes of values, and of what stands in declarations and parameters
+pub record Low (c : ℕ) : Type 0 where
+  pub most : c ≤ 218
+  pub string : c ≡ 72 → ⊥
+  pub high : 180 ≤ c → 213 ≤ c
+
+pub record Calm (c : ℕ) : Type 0 where
+  pub most : c ≤ 222
+  pub string : c ≡ 72 → ⊥
+  pub high : 180 ≤ c → 210 ≤ c
+  pub mtypes : c ≡ 219 → ⊥
+
+low-is : (c : ℕ) → low c ≡ true → Low c
+low-is c e = first (either-true (ltb c 72) _ e)
+  where
+    fourth : ((178 ≤ c) × (c ≤ 179)) ⊎ ((213 ≤ c) × (c ≤ 218)) → Low c
+    fourth (inl h) = let a = h .0 in let b = h .1 in record { most = omega arith; string = λ z. omega arith; high = λ z. omega arith }
+    fourth (inr h) = let a = h .0 in let b = h .1 in record { most = omega arith; string = λ z. omega arith; high = λ z. omega arith }
+
+    third : (within 178 179 c ≡ true) ⊎ (within 213 218 c ≡ true) → Low c
+    third (inl h) = fourth (inl (within-true 178 179 c h))
+    third (inr h) = fourth (inr (within-true 213 218 c h))
+
+    second : (within 168 175 c ≡ true) ⊎ (either (within 178 179 c) (within 213 218 c) ≡ true) → Low c
+    second (inl h) = let a = within-true 168 175 c h .0 in let b = within-true 168 175 c h .1 in record { most = omega arith; string = λ z. omega arith; high = λ z. omega arith }
+    second (inr h) = third (either-true (within 178 179 c) (within 213 218 c) h)
+
+    first : (ltb c 72 ≡ true) ⊎ (either (within 168 175 c) (either (within 178 179 c) (within 213 218 c)) ≡ true) → Low c
+    first (inl h) = let a = ltb-true c 72 h in record { most = omega arith; string = λ z. omega arith; high = λ z. omega arith }
+    first (inr h) = second (either-true (within 168 175 c) _ h)
+
+calm-is : (c : ℕ) → calm c ≡ true → Calm c
+calm-is c e = first (either-true (ltb c 72) _ e)
+  where
+    by : (a b : ℕ) → a ≤ c → c ≤ b → b ≤ 222 → 73 ≤ a → (180 ≤ b → 210 ≤ a) → (b ≤ 218) ⊎ (220 ≤ a) → Calm c
+    by a b h g u v w (inl z) = record { most = omega arith; string = λ y. omega arith; high = λ y. (let t = w (omega arith) in omega arith); mtypes = λ y. omega arith }
+    by a b h g u v w (inr z) = record { most = omega arith; string = λ y. omega arith; high = λ y. (let t = w (omega arith) in omega arith); mtypes = λ y. omega arith }
+
+    fourth : (within 210 218 c ≡ true) ⊎ (within 221 222 c ≡ true) → Calm c
+    fourth (inl h) = let z = within-true 210 218 c h in by 210 218 (z .0) (z .1) (omega arith) (omega arith) (λ y. omega arith) (inl (omega arith))
+    fourth (inr h) = let z = within-true 221 222 c h in by 221 222 (z .0) (z .1) (omega arith) (omega arith) (λ y. omega arith) (inr (omega arith))
+
+    third : (within 178 179 c ≡ true) ⊎ (either (within 210 218 c) (within 221 222 c) ≡ true) → Calm c
+    third (inl h) = let z = within-true 178 179 c h in by 178 179 (z .0) (z .1) (omega arith) (omega arith) (λ y. omega arith) (inl (omega arith))
+    third (inr h) = fourth (either-true (within 210 218 c) (within 221 222 c) h)
+
+    second : (within 168 175 c ≡ true) ⊎ (either (within 178 179 c) (either (within 210 218 c) (within 221 222 c)) ≡ true) → Calm c
+    second (inl h) = let z = within-true 168 175 c h in by 168 175 (z .0) (z .1) (omega arith) (omega arith) (λ y. omega arith) (inl (omega arith))
+    second (inr h) = third (either-true (within 178 179 c) _ h)
+
+    first : (ltb c 72 ≡ true) ⊎ (either (within 168 175 c) (either (within 178 179 c) (either (within 210 218 c) (within 221 222 c))) ≡ true) → Calm c
+    first (inl h) = let a = ltb-true c 72 h in record { most = omega arith; string = λ z. omega arith; high = λ z. omega arith; mtypes = λ z. omega arith }
+    first (inr h) = second (either-true (within 168 175 c) _ h)
+
+pub valued-code : (x : Item) → Known x → valued x ≡ true → Low (codeOf x)
+unfolding fair
+valued-code x k e =
+    let a = both-true (pick (spoken x) (leb (codeOf x) 209) true) _ (known-fair k) .1 in
+    low-is (codeOf x) (sym (ap (λ b. pick b (low (codeOf x)) true) e) ∙ both-true (pick (valued x) (low (codeOf x)) true) _ a .0)
+
+pub declaring-code : (x : Item) → Known x → declaring x ≡ true → Calm (codeOf x)
+unfolding fair
+declaring-code x k e =
+    let a = both-true (pick (spoken x) (leb (codeOf x) 209) true) _ (known-fair k) .1 in
+    let b = both-true (pick (valued x) (low (codeOf x)) true) _ a .1 in
+    calm-is (codeOf x) (sym (ap (λ b. pick b (calm (codeOf x)) true) e) ∙ both-true (pick (declaring x) (calm (codeOf x)) true) _ b .0)
+
+pub settled-code : (x : Item) → Known x → settled x ≡ true → codeOf x ≤ 218
+unfolding fair
+settled-code x k e =
+    let a = both-true (pick (spoken x) (leb (codeOf x) 209) true) _ (known-fair k) .1 in
+    let b = both-true (pick (valued x) (low (codeOf x)) true) _ a .1 in
+    let c = both-true (pick (declaring x) (calm (codeOf x)) true) _ b .1 in
+    leb-true (codeOf x) 218 (sym (ap (λ b. pick b (leb (codeOf x) 218) true) e) ∙ both-true (pick (eqb (class x) 5) (within 168 175 (codeOf x)) true) _ c .1)
+
+-- ---- all items of a list
+abbrev pub All : (Item → Bool) → List Item → Type 0
+All p [] = Unit {0}
+All p (x ∷ l) = (p x ≡ true) × All p l
+
+pub all-append : (p : Item → Bool) (x y : List Item) → All p x → All p y → All p (x ++ y)
+all-append p [] y a b = b
+all-append p (c ∷ x) y a b = (a .0, all-append p x y (a .1) b)
+
+pub all-each : {A : Type 0} (p : Item → Bool) (f : A → List Item) → ((a : A) → All p (f a)) → (l : List A) → All p (each f l)
+all-each p f h [] = tt
+all-each p f h (a ∷ l) = all-append p (f a) (each f l) (h a) (all-each p f h l)
+
+-- ---- statements
+all-exp : {s : Shape} (e : Exp s) → All spoken (code-exp e)
+unfolding spoken class
+all-exp (plain w) = (refl, (refl, tt))
+all-exp (indexed w e) = (refl, all-append spoken (code-exp e) (i-index ∷ []) (all-exp e) (refl, tt))
+all-exp (num n) = (refl, tt)
+all-exp tru = (refl, tt)
+all-exp fls = (refl, tt)
+all-exp (get r) = all-exp r
+all-exp (len r) = all-append spoken (code-exp r) (i-len ∷ []) (all-exp r) (refl, tt)
+all-exp (unary o e) = all-append spoken (code-exp e) (i-unary o ∷ []) (all-exp e) (refl, tt)
+all-exp (binary o a b) = all-append spoken (code-exp a ++ code-exp b) (i-binary o ∷ []) (all-append spoken (code-exp a) (code-exp b) (all-exp a) (all-exp b)) (refl, tt)
+all-exp (choice a b c) =
+    all-append spoken (code-exp a ++ code-exp b ++ i-otherwise ∷ code-exp c) (i-choice ∷ [])
+    (all-append spoken (code-exp a ++ code-exp b) (i-otherwise ∷ code-exp c) (all-append spoken (code-exp a) (code-exp b) (all-exp a) (all-exp b)) (refl, all-exp c)) (refl, tt)
+
+all-argument : (e : Expr) → All spoken (code-argument e)
+unfolding spoken class
+all-argument e = all-append spoken (code-exp e) (i-argument ∷ []) (all-exp e) (refl, tt)
+
+all-received : (r : Received) → All spoken (code-received r)
+unfolding spoken class
+all-received (into r) = all-append spoken (code-exp r) (i-into ∷ []) (all-exp r) (refl, tt)
+all-received (equal e) = all-append spoken (code-exp e) (i-equal ∷ []) (all-exp e) (refl, tt)
+all-received (exactly n) = (refl, (refl, tt))
+all-received exactly-true = (refl, (refl, tt))
+all-received exactly-false = (refl, (refl, tt))
+
+pub all-tree : {k : Sort} (x : Tree k) → All spoken (code-tree x)
+unfolding spoken class
+all-tree (express e) = all-append spoken (code-exp e) (i-express ∷ []) (all-exp e) (refl, tt)
+all-tree (assign r e) = all-append spoken (code-exp r ++ i-target ∷ code-exp e) (i-assign ∷ []) (all-append spoken (code-exp r) (i-target ∷ code-exp e) (all-exp r)
+    (refl, all-exp e)) (refl, tt)
+all-tree (increment r) = all-append spoken (code-exp r) (i-increment ∷ []) (all-exp r) (refl, tt)
+all-tree (decrement r) = all-append spoken (code-exp r) (i-decrement ∷ []) (all-exp r) (refl, tt)
+all-tree (send r es) =
+    all-append spoken (code-exp r ++ i-send ∷ each code-argument es) (i-end ∷ [])
+    (all-append spoken (code-exp r) (i-send ∷ each code-argument es) (all-exp r) (refl, all-each spoken code-argument all-argument es)) (refl, tt)
+all-tree (receive r xs) =
+    all-append spoken (code-exp r ++ i-receive ∷ each code-received xs) (i-end ∷ [])
+    (all-append spoken (code-exp r) (i-receive ∷ each code-received xs) (all-exp r) (refl, all-each spoken code-received all-received xs)) (refl, tt)
+all-tree (assert e) = all-append spoken (code-exp e) (i-assert ∷ []) (all-exp e) (refl, tt)
+all-tree (print w es) = (refl, all-append spoken (each code-argument es) (i-end ∷ []) (all-each spoken code-argument all-argument es) (refl, tt))
+all-tree skip = (refl, tt)
+all-tree (goto w) = (refl, (refl, tt))
+all-tree break = (refl, tt)
+all-tree timeout = (refl, tt)
+all-tree else = (refl, tt)
+all-tree (run w es) = (refl, (refl, all-append spoken (each code-argument es) (i-end ∷ []) (all-each spoken code-argument all-argument es) (refl, tt)))
+all-tree (set-run r w es) =
+    all-append spoken (code-exp r ++ i-target ∷ i-name w ∷ i-set-run ∷ each code-argument es) (i-end ∷ [])
+    (all-append spoken (code-exp r) (i-target ∷ i-name w ∷ i-set-run ∷ each code-argument es) (all-exp r) (refl, (refl, (refl, all-each spoken code-argument all-argument es)))) (refl, tt)
+all-tree (select os) = (refl, all-append spoken (code-tree os) (i-fi ∷ []) (all-tree os) (refl, tt))
+all-tree (loop os) = (refl, all-append spoken (code-tree os) (i-od ∷ []) (all-tree os) (refl, tt))
+all-tree (bare a) = all-tree a
+all-tree (labelled w a) = (refl, (refl, all-tree a))
+all-tree end = tt
+all-tree (then s q) = all-append spoken (code-tree s) (code-tree q) (all-tree s) (all-tree q)
+all-tree over = tt
+all-tree (option q os) = (refl, all-append spoken (code-tree q) (i-end-option ∷ code-tree os) (all-tree q) (refl, all-tree os))
+
+-- ---- declarations and parameters
+all-field : (k : ℕ) → All valued (code-field k)
+unfolding valued class
+all-field k = (refl, (refl, tt))
+
+pub all-size : (s : Option ℕ) → All valued (code-size s)
+unfolding valued class
+all-size none = tt
+all-size (some n) = (refl, (refl, tt))
+
+pub all-value : (v : Value) → All valued (code-value v)
+unfolding valued class
+all-value unset = tt
+all-value (set-number n) = (refl, (refl, tt))
+all-value (set-minus n) = (refl, (refl, tt))
+all-value set-true = (refl, (refl, tt))
+all-value set-false = (refl, (refl, tt))
+all-value (set-name w) = (refl, (refl, tt))
+all-value (set-channel n ks) = (refl, (refl, all-each valued code-field all-field ks))
+
+valued-settled : (l : List Item) → All valued l → All settled l
+unfolding settled
+valued-settled [] a = tt
+valued-settled (x ∷ l) a = (rw (a .0), valued-settled l (a .1))
+
+pub settled-declaring : (x : Item) → settled x ≡ true → declaring x ≡ true
+unfolding declaring
+settled-declaring x e = rw e
+
+all-variable : (v : Variable) → All settled (code-variable v)
+unfolding settled valued class
+all-variable (variable w s v) = (refl, (refl, valued-settled (code-size s ++ code-value v) (all-append valued (code-size s) (code-value v) (all-size s) (all-value v))))
+
+pub all-declaration : (i : Item) → settled i ≡ true → (d : Declaration) → All settled (code-declaration i d)
+unfolding settled valued class
+all-declaration i e (declare k vs) = (refl, (e, all-each settled code-variable all-variable vs))
+
+pub local-settled : settled i-local ≡ true
+unfolding settled valued class
+local-settled = refl
+
+pub global-settled : settled i-global ≡ true
+unfolding settled valued class
+global-settled = refl
+
+pub all-declarations : (ds : List Declaration) → All settled (each (code-declaration i-local) ds)
+all-declarations ds = all-each settled (code-declaration i-local) (all-declaration i-local local-settled) ds
+
+all-parameter : (w : Name) → All declaring (code-parameter w)
+unfolding declaring settled valued class
+all-parameter w = (refl, (refl, tt))
+
+all-group : (g : Group) → All declaring (code-group g)
+unfolding declaring settled valued class
+all-group (group k ws) = (refl, (refl, all-each declaring code-parameter all-parameter ws))
+
+pub all-groups : (gs : List Group) → All declaring (each code-group gs)
+all-groups gs = all-each declaring code-group all-group gs

@@ -1,0 +1,82 @@
+-- Items that stand at places of a model's code, and their codes.
+use Prim.Native.Nat.{ℕ, zero, suc, _+_, _≤_, _<_}
+use native.Mathlib.Omega.{arith}
+use native.Mathlib.Decide.{ℕ-discrete}
+use mathlib.Core.Path.{_≡_, refl, sym, ap, _∙_, subst}
+use mathlib.Core.Bool.{Bool, true}
+use mathlib.Core.List.{List, [], _∷_, _++_, map, append-assoc}
+use lib.ListN.{length, getD, length-append, length-map}
+use lib.Seq.{getD-append-add}
+use Rattle.spec_grammar.specs.Tree.{Model}
+use Rattle.spec_grammar.specs.Code.{Item, i-plain, code}
+use Rattle.table_entries.specs.Items.{codeOf, Known, AllKnown}
+use Rattle.legal_terms.specs.Says.{itemAt, Says}
+use Rattle.legal_declarations.proofs.Items.{spoken, valued, settled, declaring, Low, Calm, spoken-code, valued-code, settled-code, declaring-code, settled-declaring, All}
+
+-- the items l stand in the items xs from item k on
+abbrev pub Lies : List Item → ℕ → List Item → Type 0
+Lies xs k [] = Unit {0}
+Lies xs k (x ∷ l) = (k < length xs) × (itemAt xs k ≡ x) × Lies xs (suc k) l
+
+module _ (xs : List Item) where
+  pub lies-front : (k : ℕ) (x y : List Item) → Lies xs k (x ++ y) → Lies xs k x
+  lies-front k [] y h = tt
+  lies-front k (a ∷ x) y h = (h .0, h .1, lies-front (suc k) x y (h .2))
+
+  pub lies-back : (x y : List Item) (k j : ℕ) → j ≡ k + length x → Lies xs k (x ++ y) → Lies xs j y
+  lies-back [] y k j e h = let q : k ≡ j = omega arith in subst (λ n. Lies xs n y) q h
+  lies-back (a ∷ x) y k j e h = lies-back x y (suc k) j (omega arith) (h .2)
+
+  -- what all of them are
+  pub lies-all : (p : Item → Bool) (l : List Item) (k : ℕ) → Lies xs k l → All p l → (j : ℕ) → k ≤ j → j < k + length l → p (itemAt xs j) ≡ true
+  lies-all p [] k h a j b c = absurd (omega arith)
+  lies-all p (x ∷ l) k h a j b c = go (ℕ-discrete j k) (lies-all p l (suc k) (h .2) (a .1) j)
+    where
+      go : Dec (j ≡ k) → (suc k ≤ j → j < suc k + length l → p (itemAt xs j) ≡ true) → p (itemAt xs j) ≡ true
+      go (yes z) r = ap (λ n. p (itemAt xs n)) z ∙ ap p (h .1) ∙ a .0
+      go (no z) r = r (omega arith) (omega arith)
+
+pub lies-whole : (f l : List Item) → Lies (f ++ l) (length f) l
+lies-whole f [] = tt
+lies-whole f (x ∷ l) = (
+  let a = length-append f (x ∷ l) in omega arith,
+  ap (λ n. itemAt (f ++ x ∷ l) n) (let z : length f ≡ length f + 0 = omega arith in z) ∙ getD-append-add f (x ∷ l) 0 i-plain,
+  subst (λ n. Lies (f ++ x ∷ l) n l) (let a = length-append f (x ∷ []) in let z : length (f ++ x ∷ []) ≡ suc (length f) = omega arith in z)
+      (subst (λ (y : List Item). Lies y (length (f ++ x ∷ [])) l) (append-assoc f (x ∷ []) l) (lies-whole (f ++ x ∷ []) l)),
+)
+
+all-known : (l : List Item) → AllKnown l → (j : ℕ) → j < length l → Known (itemAt l j)
+all-known [] a j h = absurd (omega arith)
+all-known (x ∷ l) a zero h = a .0
+all-known (x ∷ l) a (suc j) h = all-known l (a .1) j (omega arith)
+
+map-at : (l : List Item) (j : ℕ) → j < length l → getD (map codeOf l) j 0 ≡ codeOf (itemAt l j)
+map-at [] j h = absurd (omega arith)
+map-at (x ∷ l) zero h = refl
+map-at (x ∷ l) (suc j) h = map-at l j (omega arith)
+
+module _ (m : Model) (cs vs : List ℕ) (S : Says m cs vs) where
+  pub long : length cs ≡ length (code m)
+  long = ap length (S .codes) ∙ length-map (code m) codeOf
+
+  pub known-at : (j : ℕ) → j < length (code m) → Known (itemAt (code m) j)
+  known-at j h = all-known (code m) (S .known) j h
+
+  pub code-at : (j : ℕ) → j < length (code m) → getD cs j 0 ≡ codeOf (itemAt (code m) j)
+  code-at j h = ap (λ l. getD l j 0) (S .codes) ∙ map-at (code m) j h
+
+  pub code-is : (j : ℕ) (x : Item) → j < length (code m) → itemAt (code m) j ≡ x → getD cs j 0 ≡ codeOf x
+  code-is j x h e = code-at j h ∙ ap codeOf e
+
+  pub spoken-at : (j : ℕ) → j < length (code m) → spoken (itemAt (code m) j) ≡ true → getD cs j 0 ≤ 209
+  spoken-at j h e = let a = spoken-code (itemAt (code m) j) (known-at j h) e in let b = code-at j h in omega arith
+
+  pub valued-at : (j : ℕ) → j < length (code m) → valued (itemAt (code m) j) ≡ true → Low (getD cs j 0)
+  valued-at j h e = subst Low (sym (code-at j h)) (valued-code (itemAt (code m) j) (known-at j h) e)
+
+  pub declaring-at : (j : ℕ) → j < length (code m) → declaring (itemAt (code m) j) ≡ true → Calm (getD cs j 0)
+  declaring-at j h e = subst Calm (sym (code-at j h)) (declaring-code (itemAt (code m) j) (known-at j h) e)
+
+  pub settled-at : (j : ℕ) → j < length (code m) → settled (itemAt (code m) j) ≡ true → (getD cs j 0 ≤ 218) × Calm (getD cs j 0)
+  settled-at j h e =
+      (let a = settled-code (itemAt (code m) j) (known-at j h) e in let b = code-at j h in omega arith, declaring-at j h (settled-declaring (itemAt (code m) j) e))

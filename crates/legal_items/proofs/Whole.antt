@@ -1,0 +1,106 @@
+-- A TEXT IS ACCEPTED EXACTLY WHEN ITS TREE IS LAWFUL AND MODEST, from what the rules say of every tree: both directions.
+use Prim.Native.Nat.{ℕ, _≤_}
+use native.Mathlib.Omega.{arith}
+use mathlib.Core.Path.{_≡_, refl, sym as inv, ap, _∙_}
+use mathlib.Core.Bool.{Bool, true, false, not}
+use mathlib.Core.List.{List, map}
+use lib.ListN.{length}
+use lib.Dec.{ltb}
+use borrow.Author.Tests.{le-ltb}
+use Rattle.base_bytes.specs.Choice.{pick}
+use Rattle.base_bytes.proofs.Tests.{true-false}
+use Rattle.base_kinds.specs.Kinds.{Token}
+use Rattle.spec_grammar.specs.Tree.{Model}
+use Rattle.spec_grammar.specs.Grammar.{Gram}
+use Rattle.text_spacing_proof.specs.Writing.{tokensIn}
+use Rattle.parse_machine_proof.specs.Machine.{place-of}
+use Rattle.parse_machine_proof.specs.Answer.{parsed}
+use Rattle.parse_machine_proof.proofs.Main.{accepts}
+use Rattle.rule_least.specs.Faults.{checked}
+use Rattle.rule_least.specs.declared.Fault.the-variants.{None}
+use Rattle.read_passes.specs.declared.Judged.the-variants.{Accepted, Refused}
+use Rattle.read_passes.specs.Judging.{judgeOf}
+use Rattle.read_accepts_proof.specs.Meaning.{Accepts}
+use Rattle.read_accepts_proof.proofs.Main.{kinds-are, all-proper, short, accepted-means, means-accepted}
+use Rattle.read_entry.specs.Entries.{room, readOf}
+use Rattle.spec_rules.specs.Units.{modelLawful}
+use Rattle.spec_rules.specs.Ceilings as ceilings
+use Rattle.legal_terms.specs.Says.{Says}
+use Rattle.legal_items.specs.Parses.{Parses, codesOf, saidOf}
+use Rattle.legal_items.specs.Legal.{Legal}
+use Rattle.legal_items.proofs.Says.{text-says}
+use Rattle.legal_items.proofs.Modest.{passed-modest}
+
+denied : (b : Bool) → not b ≡ false → b ≡ true
+denied true e = refl
+denied false e = absurd (true-false e)
+
+-- the first half of what acceptance means
+pub accepted-parses : (t : List ℕ) → Accepts t → Parses t
+accepted-parses t a = record { parts = a .parts; reads = a .reads; tree = a .tree; gram = a .gram; numbers = a .numbers; written = a .written; coded = a .coded }
+
+-- a text with a tree that is not too deep has its items
+pub legal-parses : (t : List ℕ) → Legal t → Parses t
+legal-parses t l =
+    let ts = tokensIn t (l .parts) in
+    let (o, h, c) = accepts ts (all-proper t (l .parts)) (short t (l .parts) (l .reads)) 8192 (omega arith) (l .tree) (l .gram) (l .shallow) in
+    record {
+      parts = l .parts;
+      reads = l .reads;
+      tree = l .tree;
+      gram = l .gram;
+      numbers = o;
+      written = ap (λ (ks : List ℕ). parsed ks 8192) (inv (kinds-are t (l .parts))) ∙ h;
+      coded = c;
+    }
+
+-- what the rules say of every tree
+module _ (rules : (m : Model) (ts : List Token) → Gram ts m → (cs vs toks : List ℕ) → Says m cs vs
+    → (checked cs vs toks ≡ None → modelLawful m ≡ true) × (modelLawful m ≡ true → checked cs vs toks ≡ None)) where
+  pub accepted-lawful : (t : List ℕ) → judgeOf t ≡ Accepted → Legal t
+  unfolding accepted-parses
+  accepted-lawful t q =
+      let a = accepted-means t q in
+      let p = accepted-parses t a in
+      let s = text-says t p in
+      record {
+        parts = a .parts;
+        reads = a .reads;
+        tree = a .tree;
+        gram = a .gram;
+        shallow = a .shallow;
+        lawful = rules (a .tree) (tokensIn t (a .parts)) (a .gram) (codesOf t p) (saidOf t p) (map place-of (a .numbers)) s .0 (a .faultless);
+        modest = denied (ceilings.modest (a .tree)) (inv (passed-modest (a .tree) (codesOf t p) (saidOf t p) s) ∙ a .within);
+      }
+
+  pub lawful-accepted : (t : List ℕ) → Legal t → judgeOf t ≡ Accepted
+  unfolding legal-parses
+  lawful-accepted t l =
+      let p = legal-parses t l in
+      let s = text-says t p in
+      means-accepted t
+      record {
+        parts = p .parts;
+        reads = p .reads;
+        tree = p .tree;
+        gram = p .gram;
+        shallow = l .shallow;
+        numbers = p .numbers;
+        written = p .written;
+        coded = p .coded;
+        faultless = rules (p .tree) (tokensIn t (p .parts)) (p .gram) (codesOf t p) (saidOf t p) (map place-of (p .numbers)) s .1 (l .lawful);
+        within = passed-modest (p .tree) (codesOf t p) (saidOf t p) s ∙ ap not (l .modest);
+      }
+
+  -- the same of the reader's entry, whose tables are lent with room or refused
+  pub read-lawful : (t old : List ℕ) → readOf t old ≡ Accepted → Legal t
+  unfolding readOf
+  read-lawful t old q = go (ltb (length old) room) q
+    where
+      go : (b : Bool) → pick b (Refused 7 0 0) (judgeOf t) ≡ Accepted → Legal t
+      go true e = absurd (let z : _≡_ {A = ℕ} 0 1 = cc in omega arith)
+      go false e = accepted-lawful t e
+
+  pub lawful-read : (t old : List ℕ) → room ≤ length old → Legal t → readOf t old ≡ Accepted
+  unfolding readOf
+  lawful-read t old h l = rw (le-ltb (length old) room h) (lawful-accepted t l)

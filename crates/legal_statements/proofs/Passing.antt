@@ -1,0 +1,312 @@
+-- WHAT A TREE CHANGES for what stands behind it: its labels are there; it closes each loop that it opens, and each selection.
+use Prim.Native.Nat.{ℕ, suc, _+_, _-_, _≤_, _<_}
+use native.Mathlib.Omega.{arith}
+use mathlib.Core.Path.{_≡_, refl, sym, ap, ap₂, subst, _∙_}
+use mathlib.Core.Bool.{Bool, true, false}
+use mathlib.Core.List.{List, [], _∷_, _++_}
+use lib.ListN.{length, getD, length-append}
+use lib.Dec.{eqb, ltb}
+use borrow.Author.Tests.{ne-eqb, eq-eqb, lt-ltb}
+use Rattle.base_bytes.specs.Choice.{pick, both, either}
+use Rattle.base_bytes.specs.Lists.{same}
+use Rattle.base_bytes.proofs.Tests.{true-false}
+use Rattle.rule_search.specs.Sets.{among}
+use Rattle.rule_search.specs.Search.{declares, one, count}
+use Rattle.rule_item.specs.Rules.{twin}
+use Rattle.link_phrases_proof.proofs.Inside.{all-inside, phrase-inside}
+use Rattle.spec_grammar.specs.Tree.{Name, Shape, Exp, Expr, Received, into, equal, exactly, exactly-true, exactly-false, Sort, action, statement, sequence, options, Tree, express, assign, increment, decrement, send, receive, assert, print, skip, goto, break, timeout, else, run, set-run, select, loop, bare, labelled, end, then, over, option}
+use Rattle.spec_grammar.specs.Code.{Item, i-name, i-text, i-argument, i-into, i-equal, i-end, i-label, i-express, i-target, i-assign, i-increment, i-decrement, i-send, i-receive, i-assert, i-skip, i-goto, i-break, i-timeout, i-else, i-run, i-set-run, i-if, i-fi, i-do, i-od, i-option, i-end-option, each, code-exp, code-argument, code-received, code-tree}
+use Rattle.table_entries.specs.Items.{codeOf}
+use Rattle.spec_rules.specs.Statements.{has, labelsOf}
+use Rattle.legal_terms.specs.Says.{itemAt}
+use Rattle.legal_statements.specs.Scene.{Scene, xs, homes, Stands}
+use Rattle.legal_statements.proofs.Stands.{front, back, next, code-at, proper, home}
+use Rattle.legal_statements.proofs.Arguments.{inner-code}
+use Rattle.legal_statements.proofs.Walks.{any, any-next, count-next, twin-over, twin-in, twin-out, twin-deep}
+
+-- ---- an item that is no label and opens or closes no selection, and opens no option
+abbrev pub dull : ℕ → Bool
+dull c = pick (eqb c 188) false (either (ltb c 204) (eqb c 209))
+
+off : (c k : ℕ) → dull k ≡ false → dull c ≡ true → eqb c k ≡ false
+off c k f d = ne-eqb c k (λ e. true-false (sym d ∙ ap (λ n. dull n) e ∙ f))
+
+abbrev pub Dull : List Item → Type 0
+Dull [] = Unit {0}
+Dull (x ∷ l) = (dull (codeOf x) ≡ true) × Dull l
+
+dull-append : (x y : List Item) → Dull x → Dull y → Dull (x ++ y)
+dull-append [] y a b = b
+dull-append (c ∷ x) y a b = (a .0, dull-append x y (a .1) b)
+
+dull-inside : (l : List Item) → all-inside l → Dull l
+dull-inside [] p = tt
+dull-inside (x ∷ l) p =
+    let c = codeOf x in
+    let z = inner-code c (p .0) in
+    ((rw (ne-eqb c 188 (λ e. omega (arith, z .0)), lt-ltb c 204 (omega (arith, z .0))) refl), dull-inside l (p .1))
+
+-- what stands in a set of one code
+pub codes-sets : (c : ℕ) → (among 2 c ≡ eqb c 188) × (among 7 c ≡ eqb c 206) × (among 8 c ≡ eqb c 207)
+unfolding among
+codes-sets c = (refl, refl, refl)
+
+-- how deep, at least, where a walk back may pass over: options are passed over from inside of another selection
+abbrev pub least : Sort → ℕ
+least action = 1
+least statement = 1
+least sequence = 1
+least options = 2
+
+either-group : (a b c : Bool) → either (either a b) c ≡ either a (either b c)
+either-group true b c = refl
+either-group false b c = refl
+
+pub has-append : (l k : List Name) (w : Name) → has (l ++ k) w ≡ either (has l w) (has k w)
+has-append [] k w = refl
+has-append (v ∷ l) k w = ap (either (same v w)) (has-append l k w) ∙ sym (either-group (same v w) (has l w) (has k w))
+
+either-none : (a : Bool) → either a false ≡ a
+either-none true = refl
+either-none false = refl
+
+module _ (S : Scene) where
+  -- how many `do`s (set 7) or `od`s (set 8) of the body stand before item j
+  abbrev pub before : ℕ → ℕ → ℕ
+  before set j = count (S .cs) (homes S) set (S .h) 0 j
+
+  -- a label of the body before item j has the name of item x
+  abbrev pub label : ℕ → ℕ → Bool
+  label x j = any (declares (S .cs) (S .vs) (homes S) 2 (getD (S .vs) x 0) (S .h)) j
+
+  -- from item i to item j, with these labels
+  pub record Passing (i j : ℕ) (ls : List Name) (n : ℕ) : Type 0 where
+    pub walk : (d : ℕ) → n ≤ d → twin (S .cs) j d ≡ twin (S .cs) i d
+    pub even : before 7 j + before 8 i ≡ before 8 j + before 7 i
+    pub labels : (x : ℕ) (w : Name) → x < length (S .cs) → itemAt (xs S) x ≡ i-name w → label x j ≡ either (label x i) (has ls w)
+
+  pub pass-both : (i k j : ℕ) (ls ms : List Name) (n : ℕ) → Passing i k ls n → Passing k j ms n → Passing i j (ls ++ ms) n
+  pass-both i k j ls ms n p q =
+      record {
+        walk = λ d h. q .walk d h ∙ p .walk d h;
+        even = let a = p .even in let b = q .even in omega arith;
+        labels = λ x w h e.
+            q .labels x w h e ∙ ap (λ (b : Bool). either b (has ms w)) (p .labels x w h e) ∙ either-group (label x i) (has ls w) (has ms w) ∙ ap (either (label x i)) (sym (has-append ls ms w));
+      }
+
+  pub pass-deeper : (i j : ℕ) (ls : List Name) → Passing i j ls 1 → Passing i j ls 2
+  pass-deeper i j ls p = record { walk = λ d h. p .walk d (omega arith); even = p .even; labels = p .labels }
+
+  pub pass-to : (i j k : ℕ) (ls : List Name) (n : ℕ) → j ≡ k → Passing i j ls n → Passing i k ls n
+  pass-to i j k ls n e p = subst (λ m. Passing i m ls n) e p
+
+  pass-none : (i : ℕ) (n : ℕ) → Passing i i [] n
+  pass-none i n = record { walk = λ d h. refl; even = omega arith; labels = λ x w h e. sym (either-none (label x i)) }
+
+  -- one item
+  none-there : (set i : ℕ) → among set (getD (S .cs) i 0) ≡ false → one (S .cs) (homes S) set (S .h) i ≡ 0
+  unfolding one
+  none-there set i e = rw e refl
+
+  one-there : (set i : ℕ) → among set (getD (S .cs) i 0) ≡ true → getD (homes S) i 0 ≡ S .h → one (S .cs) (homes S) set (S .h) i ≡ 1
+  unfolding one
+  one-there set i e g = rw (e, eq-eqb (getD (homes S) i 0) (S .h) g) refl
+
+  no-label : (x i : ℕ) → among 2 (getD (S .cs) i 0) ≡ false → declares (S .cs) (S .vs) (homes S) 2 (getD (S .vs) x 0) (S .h) i ≡ false
+  unfolding declares
+  no-label x i e = rw e refl
+
+  pub one-no : (set i : ℕ) → among set (getD (S .cs) i 0) ≡ false → before set (suc i) ≡ before set i
+  one-no set i e = let a = count-next (S .cs) (homes S) set (S .h) i in let b = none-there set i e in omega arith
+
+  pub one-yes : (set i : ℕ) → among set (getD (S .cs) i 0) ≡ true → getD (homes S) i 0 ≡ S .h → before set (suc i) ≡ before set i + 1
+  one-yes set i e g = let a = count-next (S .cs) (homes S) set (S .h) i in let b = one-there set i e g in omega arith
+
+  pub label-no : (x i : ℕ) → among 2 (getD (S .cs) i 0) ≡ false → label x (suc i) ≡ label x i
+  label-no x i e = any-next (declares (S .cs) (S .vs) (homes S) 2 (getD (S .vs) x 0) (S .h)) i ∙ ap (either (label x i)) (no-label x i e) ∙ either-none (label x i)
+
+  pub pass-dull : (x : Item) (l : List Item) (i : ℕ) → Stands S i (x ∷ l) → dull (codeOf x) ≡ true → Passing i (suc i) [] 1
+  pass-dull x l i s d =
+      let c = codeOf x in
+      let it = code-at S x l i s in
+      let z = codes-sets c in
+      record {
+        walk = λ n h. twin-over (S .cs) i n c it h (ap₂ either (off c 205 refl d) (off c 207 refl d)) (ap₂ either (off c 204 refl d) (off c 206 refl d)) (off c 208 refl d);
+        even = let a = one-no 7 i (ap (among 7) it ∙ z .1 ∙ off c 206 refl d) in let b = one-no 8 i (ap (among 8) it ∙ z .2 ∙ off c 207 refl d) in omega arith;
+        labels = λ y w h e. label-no y i (ap (among 2) it ∙ z .0 ∙ off c 188 refl d) ∙ sym (either-none (label y i));
+      }
+
+  pub pass-dulls : (l : List Item) (i j : ℕ) → j ≡ i + length l → Stands S i l → Dull l → Passing i j [] 1
+  pass-dulls [] i j e s d = pass-to i i j [] 1 (let z : i ≡ j = omega arith in z) (pass-none i 1)
+  pass-dulls (x ∷ l) i j e s d = pass-both i (suc i) j [] [] 1 (pass-dull x l i s (d .0)) (pass-dulls l (suc i) j (omega arith) (next S x l i s) (d .1))
+
+  -- ---- statements of dull items
+  dull-exp : {s : Shape} (e : Exp s) (i : ℕ) → Stands S i (code-exp e) → Dull (code-exp e)
+  dull-exp e i s = dull-inside (code-exp e) (phrase-inside e (proper S e i s))
+
+  dull-marked : {s : Shape} (e : Exp s) (x : Item) (i : ℕ) → Stands S i (code-exp e ++ x ∷ []) → dull (codeOf x) ≡ true → Dull (code-exp e ++ x ∷ [])
+  dull-marked e x i s d = dull-append (code-exp e) (x ∷ []) (dull-exp e i (front S (code-exp e) (x ∷ []) i s)) (d, tt)
+
+  dull-received : (x : Received) (i : ℕ) → Stands S i (code-received x) → Dull (code-received x)
+  dull-received (into r) i s = dull-marked r i-into i s refl
+  dull-received (equal e) i s = dull-marked e i-equal i s refl
+  dull-received (exactly n) i s = (refl, (refl, tt))
+  dull-received exactly-true i s = (refl, (refl, tt))
+  dull-received exactly-false i s = (refl, (refl, tt))
+
+  dull-each : {A : Type 0} (f : A → List Item) → ((a : A) (i : ℕ) → Stands S i (f a) → Dull (f a)) → (l : List A) (i : ℕ) → Stands S i (each f l) → Dull (each f l)
+  dull-each f h [] i s = tt
+  dull-each f h (a ∷ l) i s =
+      dull-append (f a) (each f l) (h a i (front S (f a) (each f l) i s)) (dull-each f h l (i + length (f a)) (back S (f a) (each f l) i (i + length (f a)) refl s))
+
+  dull-arguments : (l : List Expr) (i : ℕ) → Stands S i (each code-argument l) → Dull (each code-argument l)
+  dull-arguments l i s = dull-each code-argument (λ e j z. dull-marked e i-argument j z refl) l i s
+
+  -- an expression, a mark, more, and a last mark
+  dull-two : {s : Shape} (e : Exp s) (x y : Item) (l : List Item) (i : ℕ) → Stands S i ((code-exp e ++ x ∷ l) ++ y ∷ []) → dull (codeOf x) ≡ true → dull (codeOf y) ≡ true
+      → (Stands S (i + length (code-exp e) + 1) l → Dull l) → Dull ((code-exp e ++ x ∷ l) ++ y ∷ [])
+  dull-two e x y l i s a b f =
+      let E = code-exp e in
+      let z = front S (E ++ x ∷ l) (y ∷ []) i s in
+      dull-append (E ++ x ∷ l) (y ∷ [])
+      (dull-append E (x ∷ l) (dull-exp e i (front S E (x ∷ l) i z))
+      (a, f (subst (λ n. Stands S n l) (let q : suc (i + length E) ≡ i + length E + 1 = omega arith in q) (next S x l (i + length E) (back S E (x ∷ l) i (i + length E) refl z))))) (b, tt)
+
+  dull-end : (l : List Expr) (i : ℕ) → Stands S i (each code-argument l ++ i-end ∷ []) → Dull (each code-argument l ++ i-end ∷ [])
+  dull-end l i s = dull-append (each code-argument l) (i-end ∷ []) (dull-arguments l i (front S (each code-argument l) (i-end ∷ []) i s)) (refl, tt)
+
+  -- ---- what opens and closes a selection
+  pass-select : (x y : Item) (o : List Item) (ls : List Name) (i j : ℕ) → j ≡ suc i + length o → Stands S i (x ∷ (o ++ y ∷ []))
+      → either (eqb (codeOf x) 204) (eqb (codeOf x) 206) ≡ true → either (eqb (codeOf x) 205) (eqb (codeOf x) 207) ≡ false → either (eqb (codeOf y) 205) (eqb (codeOf y) 207) ≡ true
+      → (eqb (codeOf x) 208 ≡ false) × (eqb (codeOf y) 208 ≡ false) × (eqb (codeOf x) 188 ≡ false) × (eqb (codeOf y) 188 ≡ false)
+      → (eqb (codeOf x) 207 ≡ false) × (eqb (codeOf y) 206 ≡ false) × (eqb (codeOf x) 206 ≡ eqb (codeOf y) 207) → Passing (suc i) j ls 2 → Passing i (suc j) ls 1
+  pass-select x y o ls i j q s a b c f g p =
+      let it = code-at S x (o ++ y ∷ []) i s in
+      let ty = back S (x ∷ o) (y ∷ []) i j (omega arith) s in
+      let is = code-at S y [] j ty in
+      let cx = codeOf x in
+      let cy = codeOf y in
+      record {
+        walk = λ d h.
+            twin-in (S .cs) j d cy is h c (f .1) ∙ p .walk (d + 1) (omega arith) ∙ twin-out (S .cs) i (d + 1) cx it (omega arith) b a (f .0)
+            ∙ ap (twin (S .cs) i) (let z : d + 1 - 1 ≡ d = omega arith in z);
+        even = both-even it is (home S x (o ++ y ∷ []) i s) (home S y [] j ty) (eqb cy 207) refl;
+        labels = λ z w h e.
+            label-no z j (ap (among 2) is ∙ codes-sets cy .0 ∙ f .3) ∙ p .labels z w h e ∙ ap (λ (t : Bool). either t (has ls w)) (label-no z i (ap (among 2) it ∙ codes-sets cx .0 ∙ f .2));
+      }
+    where
+      both-even : getD (S .cs) i 0 ≡ codeOf x → getD (S .cs) j 0 ≡ codeOf y → getD (homes S) i 0 ≡ S .h → getD (homes S) j 0 ≡ S .h → (t : Bool) → eqb (codeOf y) 207 ≡ t
+          → before 7 (suc j) + before 8 i ≡ before 8 (suc j) + before 7 i
+      both-even it is hi hj true e =
+          let m = p .even in
+          let a1 = one-yes 7 i (ap (among 7) it ∙ codes-sets (codeOf x) .1 ∙ g .2 ∙ e) hi in
+          let a2 = one-no 8 i (ap (among 8) it ∙ codes-sets (codeOf x) .2 ∙ g .0) in
+          let a3 = one-no 7 j (ap (among 7) is ∙ codes-sets (codeOf y) .1 ∙ g .1) in
+          let a4 = one-yes 8 j (ap (among 8) is ∙ codes-sets (codeOf y) .2 ∙ e) hj in
+          omega arith
+      both-even it is hi hj false e =
+          let m = p .even in
+          let a1 = one-no 7 i (ap (among 7) it ∙ codes-sets (codeOf x) .1 ∙ g .2 ∙ e) in
+          let a2 = one-no 8 i (ap (among 8) it ∙ codes-sets (codeOf x) .2 ∙ g .0) in
+          let a3 = one-no 7 j (ap (among 7) is ∙ codes-sets (codeOf y) .1 ∙ g .1) in
+          let a4 = one-no 8 j (ap (among 8) is ∙ codes-sets (codeOf y) .2 ∙ e) in
+          omega arith
+
+  -- a label, behind its name
+  pub pass-label : (w : Name) (l : List Item) (i : ℕ) → Stands S i (i-name w ∷ i-label ∷ l) → Passing i (suc (suc i)) (w ∷ []) 1
+  unfolding declares
+  pass-label w l i s =
+      let n = next S (i-name w) (i-label ∷ l) i s in
+      let it = code-at S i-label l (suc i) n in
+      pass-both i (suc i) (suc (suc i)) [] (w ∷ []) 1 (pass-dull (i-name w) (i-label ∷ l) i s refl)
+      record {
+        walk = λ d h. twin-over (S .cs) (suc i) d 188 it h refl refl refl;
+        even = let a = one-no 7 (suc i) (ap (among 7) it ∙ codes-sets 188 .1) in let b = one-no 8 (suc i) (ap (among 8) it ∙ codes-sets 188 .2) in omega arith;
+        labels = λ x v h e.
+            any-next (declares (S .cs) (S .vs) (homes S) 2 (getD (S .vs) x 0) (S .h)) (suc i)
+            ∙ ap (either (label x (suc i)))
+            (declared x v it (home S i-label l (suc i) n) (S .says .names i x w v (let a = s .high in let b = S .within in omega arith) h (s .items .0) e) ∙ sym (either-none (same w v)));
+      }
+    where
+      declared : (x : ℕ) (v : Name) → getD (S .cs) (suc i) 0 ≡ 188 → getD (homes S) (suc i) 0 ≡ S .h → eqb (getD (S .vs) i 0) (getD (S .vs) x 0) ≡ same w v
+          → pick (among 2 (getD (S .cs) (suc i) 0)) (both (eqb (getD (S .vs) (suc i - 1) 0) (getD (S .vs) x 0)) (eqb (getD (homes S) (suc i) 0) (S .h))) false ≡ same w v
+      declared x v it g e =
+          let z : suc i - 1 ≡ i = omega arith in
+          rw (it, codes-sets 188 .0, z, eq-eqb (getD (homes S) (suc i) 0) (S .h) g, e) (last (same w v))
+        where
+          last : (b : Bool) → both b true ≡ b
+          last true = refl
+          last false = refl
+
+  -- an option between its items, seen from inside of another selection
+  pass-option : (l : List Item) (i : ℕ) → Stands S i (i-option ∷ l) → Passing i (suc i) [] 2
+  pass-option l i s =
+      let it = code-at S i-option l i s in
+      record {
+        walk = λ d h. twin-deep (S .cs) i d it h;
+        even = let a = one-no 7 i (ap (among 7) it ∙ codes-sets 208 .1) in let b = one-no 8 i (ap (among 8) it ∙ codes-sets 208 .2) in omega arith;
+        labels = λ y w h e. label-no y i (ap (among 2) it ∙ codes-sets 208 .0) ∙ sym (either-none (label y i));
+      }
+
+  pub passing : {k : Sort} (t : Tree k) (i j : ℕ) → j ≡ i + length (code-tree t) → Stands S i (code-tree t) → Passing i j (labelsOf t) (least k)
+  passing (express e) i j q s = pass-dulls (code-exp e ++ i-express ∷ []) i j q s (dull-marked e i-express i s refl)
+  passing (assign r e) i j q s =
+      pass-dulls ((code-exp r ++ i-target ∷ code-exp e) ++ i-assign ∷ []) i j q s (dull-two r i-target i-assign (code-exp e) i s refl refl (dull-exp e (i + length (code-exp r) + 1)))
+  passing (increment r) i j q s = pass-dulls (code-exp r ++ i-increment ∷ []) i j q s (dull-marked r i-increment i s refl)
+  passing (decrement r) i j q s = pass-dulls (code-exp r ++ i-decrement ∷ []) i j q s (dull-marked r i-decrement i s refl)
+  passing (send r es) i j q s =
+      pass-dulls ((code-exp r ++ i-send ∷ each code-argument es) ++ i-end ∷ []) i j q s
+      (dull-two r i-send i-end (each code-argument es) i s refl refl (dull-arguments es (i + length (code-exp r) + 1)))
+  passing (receive r es) i j q s =
+      pass-dulls ((code-exp r ++ i-receive ∷ each code-received es) ++ i-end ∷ []) i j q s
+      (dull-two r i-receive i-end (each code-received es) i s refl refl (dull-each code-received dull-received es (i + length (code-exp r) + 1)))
+  passing (assert e) i j q s = pass-dulls (code-exp e ++ i-assert ∷ []) i j q s (dull-marked e i-assert i s refl)
+  passing (print w es) i j q s =
+      pass-dulls (i-text w ∷ (each code-argument es ++ i-end ∷ [])) i j q s (refl, dull-end es (suc i) (next S (i-text w) (each code-argument es ++ i-end ∷ []) i s))
+  passing skip i j q s = pass-dulls (i-skip ∷ []) i j q s (refl, tt)
+  passing (goto w) i j q s = pass-dulls (i-name w ∷ i-goto ∷ []) i j q s (refl, (refl, tt))
+  passing break i j q s = pass-dulls (i-break ∷ []) i j q s (refl, tt)
+  passing timeout i j q s = pass-dulls (i-timeout ∷ []) i j q s (refl, tt)
+  passing else i j q s = pass-dulls (i-else ∷ []) i j q s (refl, tt)
+  passing (run w es) i j q s =
+      let L = each code-argument es ++ i-end ∷ [] in
+      pass-dulls (i-name w ∷ i-run ∷ L) i j q s (refl, (refl, dull-end es (suc (suc i)) (next S i-run L (suc i) (next S (i-name w) (i-run ∷ L) i s))))
+  passing (set-run r w es) i j q s =
+      let L = each code-argument es in
+      let k = i + length (code-exp r) + 1 in
+      pass-dulls ((code-exp r ++ i-target ∷ i-name w ∷ i-set-run ∷ L) ++ i-end ∷ []) i j q s
+      (dull-two r i-target i-end (i-name w ∷ i-set-run ∷ L) i s refl refl
+      (λ z. (refl, (refl, dull-arguments es (suc (suc k)) (next S i-set-run L (suc k) (next S (i-name w) (i-set-run ∷ L) k z))))))
+  passing (select os) i j q s =
+      let O = code-tree os in
+      let k = suc i + length O in
+      pass-to i (suc k) j (labelsOf os) 1 (let n = length-append O (i-fi ∷ []) in let z : suc k ≡ j = omega arith in z)
+      (pass-select i-if i-fi O (labelsOf os) i k refl s refl refl refl (refl, refl, refl, refl) (refl, refl, refl)
+      (passing os (suc i) k refl (front S O (i-fi ∷ []) (suc i) (next S i-if (O ++ i-fi ∷ []) i s))))
+  passing (loop os) i j q s =
+      let O = code-tree os in
+      let k = suc i + length O in
+      pass-to i (suc k) j (labelsOf os) 1 (let n = length-append O (i-od ∷ []) in let z : suc k ≡ j = omega arith in z)
+      (pass-select i-do i-od O (labelsOf os) i k refl s refl refl refl (refl, refl, refl, refl) (refl, refl, refl)
+      (passing os (suc i) k refl (front S O (i-od ∷ []) (suc i) (next S i-do (O ++ i-od ∷ []) i s))))
+  passing (bare a) i j q s = passing a i j q s
+  passing (labelled w a) i j q s =
+      pass-both i (suc (suc i)) j (w ∷ []) (labelsOf a) 1 (pass-label w (code-tree a) i s)
+      (passing a (suc (suc i)) j (omega arith) (next S i-label (code-tree a) (suc i) (next S (i-name w) (i-label ∷ code-tree a) i s)))
+  passing end i j q s = pass-dulls [] i j q s tt
+  passing (then a b) i j q s =
+      let A = code-tree a in
+      let B = code-tree b in
+      let k = i + length A in
+      pass-both i k j (labelsOf a) (labelsOf b) 1 (passing a i k refl (front S A B i s)) (passing b k j (let n = length-append A B in omega arith) (back S A B i k refl s))
+  passing over i j q s = pass-deeper i j [] (pass-dulls [] i j q s tt)
+  passing (option a b) i j q s =
+      let A = code-tree a in
+      let B = code-tree b in
+      let k = suc i + length A in
+      let n = next S i-option (A ++ i-end-option ∷ B) i s in
+      let sb = back S A (i-end-option ∷ B) (suc i) k refl n in
+      pass-both i (suc i) j [] (labelsOf a ++ labelsOf b) 2 (pass-option (A ++ i-end-option ∷ B) i s)
+      (pass-both (suc i) k j (labelsOf a) (labelsOf b) 2 (pass-deeper (suc i) k (labelsOf a) (passing a (suc i) k refl (front S A (i-end-option ∷ B) (suc i) n)))
+      (pass-both k (suc k) j [] (labelsOf b) 2 (pass-deeper k (suc k) [] (pass-dull i-end-option B k sb refl))
+      (passing b (suc k) j (let m = length-append A (i-end-option ∷ B) in omega arith) (next S i-end-option B k sb))))

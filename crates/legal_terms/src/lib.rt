@@ -1,0 +1,1 @@
+// What the items of a model say, in terms of its tree, is definitions alone (specs/).

@@ -1,9 +1,0 @@
-use borrow.Author.Needs.{needs}
-use Rattle.lexemes.proofs.closes.Statement.{statement}
-use Rattle.lexemes.proofs.closes.Tie as tie
-
-returns : tie.Need-returns
-returns c = rw (c .if1 .taken)
-
-pub closes-spec : {M : Type 1} → statement M
-closes-spec = tie.close (tie.spec returns (λ c. search needs))

@@ -1,0 +1,16 @@
+use borrow.Author.Needs.{needs}
+use Rattle.link_items.proofs.label_of.Statement.{statement}
+use Rattle.link_items.proofs.label_of.Tie as tie
+
+returns : tie.Need-returns
+returns c = rw (← c .before .before .before .minus .ensures, ← c .before .before .word-at .ensures .0, ← c .before .word-at2 .ensures .0) (c .find .ensures)
+
+pub label-of-spec : {M : Type 1} → statement M
+label-of-spec =
+    tie.close
+    (tie.spec
+    (λ c κs. search needs)
+    (λ c κs. search needs)
+    (λ c κs. search needs)
+    (λ c κs. search needs)
+    returns)

@@ -1,0 +1,19 @@
+use Rattle.link_places.specs.Places.{isPart}
+use borrow.Author.Needs.{needs}
+use Rattle.link_places.proofs.is_part.Statement.{statement}
+use Rattle.link_places.proofs.is_part.Tie as tie
+
+returns : tie.Need-returns
+unfolding isPart
+returns c = rw (c .either2 .ensures, c .before .either .ensures, c .before .before .within3 .ensures, c .before .before .before .within2 .ensures, c .before .before .before .before .within .ensures)
+
+pub is-part-spec : {M : Type 1} → statement M
+is-part-spec =
+    tie.close
+    (tie.spec
+    (λ c κs. search needs)
+    (λ c κs. search needs)
+    (λ c κs. search needs)
+    (λ c κs. search needs)
+    (λ c κs. search needs)
+    returns)

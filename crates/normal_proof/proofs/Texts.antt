@@ -1,0 +1,50 @@
+-- DEMAND 3 FOR TEXTS: the normal text of an accepted text is the normal text of its tree; never longer than the text, nor than any text of that tree; accepted; it reads back to the
+-- same tables; it is its own normal text; and two accepted texts have equal normal texts exactly when their trees are equal. Assumes nothing.
+use Prim.Native.Nat.{ℕ, _≤_}
+use native.Mathlib.Omega.{arith}
+use mathlib.Core.Path.{_≡_, sym, _∙_, ap}
+use mathlib.Core.List.{List}
+use lib.ListN.{length}
+use Rattle.text_spacing_proof.proofs.Exact.{reading-exact}
+use Rattle.read_passes.specs.declared.Judged.the-variants.{Accepted}
+use Rattle.read_passes.specs.Judging.{judgeOf, tablesText}
+use Rattle.read_accepts_proof.specs.Meaning.{Accepts, linksAt}
+use Rattle.read_accepts_proof.proofs.Main.{accepted-means}
+use Rattle.read_accepts_proof.proofs.Tables.{text-tables, tree-tables}
+use Rattle.normal_writer.specs.Normal.{normalOf}
+use Rattle.normal_shortest_proof.specs.Normal.{normal}
+use Rattle.normal_shortest_proof.proofs.Main.{never-longer, normal-accepted, normal-tree, tables-normal, equal-normals}
+
+-- what the writer makes of a text's tables
+abbrev pub normalText : List ℕ → List ℕ
+normalText t = normalOf (tablesText t)
+
+module _ (t : List ℕ) (a : Accepts t) where
+  pub text-normal : normalText t ≡ normal (a .tree)
+  text-normal = ap normalOf (text-tables t a) ∙ tables-normal t a (linksAt t a)
+
+  pub text-never-longer : length (normalText t) ≤ length t
+  text-never-longer = omega (arith, ap length text-normal, never-longer t a)
+
+  pub text-short : length (normalText t) ≤ 8192
+  text-short = omega (arith, text-never-longer, reading-exact t (a .parts) .0 (a .reads) .1)
+
+  pub text-accepted : judgeOf (normalText t) ≡ Accepted
+  text-accepted = ap judgeOf text-normal ∙ normal-accepted t a
+
+  again : Accepts (normal (a .tree))
+  again = accepted-means (normal (a .tree)) (normal-accepted t a)
+
+  -- "reads back to the same tables": so every entry that takes tables answers alike for a text and its normal text
+  pub normal-tables : tablesText (normalText t) ≡ tablesText t
+  normal-tables = ap tablesText text-normal ∙ tree-tables (normal (a .tree)) t again a (normal-tree t a again)
+
+  pub own-normal : normalText (normalText t) ≡ normalText t
+  own-normal = ap normalOf normal-tables
+
+module _ (t u : List ℕ) (a : Accepts t) (b : Accepts u) where
+  pub equal-texts : normalText t ≡ normalText u → a .tree ≡ b .tree
+  equal-texts e = equal-normals t u a b (sym (text-normal t a) ∙ e ∙ text-normal u b)
+
+  pub same-texts : a .tree ≡ b .tree → normalText t ≡ normalText u
+  same-texts e = text-normal t a ∙ ap normal e ∙ sym (text-normal u b)

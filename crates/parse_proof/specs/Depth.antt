@@ -1,0 +1,70 @@
+-- How deep brackets and selections may nest, and the answer of the grammar's whole pass. Document 01, "Ceilings": "open brackets 32; open if/do 8"; refusals 2 and 3 are
+-- judged in one pass: "Within a pass the smallest place wins, then the smallest number." One count runs over `(`, `[` and `{`, another over `if` and `do`.
+use mathlib.Core.Bool.{Bool, true, false, cond}
+use mathlib.Core.Option.{Option, none, some}
+use mathlib.Core.List.{List, [], _∷_}
+use Prim.Native.Nat.{ℕ, suc, _+_, _-_}
+use lib.Dec.{eqb, leb}
+use Rattle.base_kinds.specs.Kinds.{Token, kindOf}
+use Rattle.spec_grammar.specs.Marks.{'lpar, 'rpar, '[, '], 'lbrace, 'rbrace, 'do, 'if, 'fi, 'od}
+use Rattle.spec_grammar.specs.Code.{Item}
+use Rattle.parse_proof.specs.Engine.{Answer, ok, bad, either, both}
+use Rattle.parse_proof.specs.Guide.{parse-model}
+
+abbrev pub most-brackets : ℕ
+most-brackets = 32
+
+abbrev pub most-selections : ℕ
+most-selections = 8
+
+abbrev is : Token → Token → Bool
+is c t = eqb (kindOf t) (kindOf c)
+
+-- what a token opens and closes
+abbrev pub opens-bracket : Token → Bool
+opens-bracket t = either (is 'lpar t) (either (is '[ t) (is 'lbrace t))
+
+abbrev pub closes-bracket : Token → Bool
+closes-bracket t = either (is 'rpar t) (either (is '] t) (is 'rbrace t))
+
+abbrev pub opens-selection : Token → Bool
+opens-selection t = either (is 'if t) (is 'do t)
+
+abbrev pub closes-selection : Token → Bool
+closes-selection t = either (is 'fi t) (is 'od t)
+
+abbrev pub count-after : Bool → Bool → ℕ → ℕ
+count-after opens closes n = cond opens (n + 1) (cond closes (n - 1) n)
+
+-- the token passes a ceiling where b brackets and s selections are open
+abbrev pub passes : ℕ → ℕ → Token → Bool
+passes b s t = either (both (opens-bracket t) (leb most-brackets b)) (both (opens-selection t) (leb most-selections s))
+
+abbrev pub one-later : Option ℕ → Option ℕ
+one-later none = none
+one-later (some i) = some (suc i)
+
+-- the place of the first token that passes a ceiling
+abbrev pub deep-from : ℕ → ℕ → List Token → Option ℕ
+deep-from b s [] = none
+deep-from b s (t ∷ ts) =
+    cond (passes b s t) (some 0)
+    (one-later (deep-from (count-after (opens-bracket t) (closes-bracket t) b) (count-after (opens-selection t) (closes-selection t) s) ts))
+
+abbrev pub too-deep : List Token → Option ℕ
+too-deep ts = deep-from 0 0 ts
+
+-- THE ANSWER OF THE PASS: the code of the tree; refusal 2 at a place; refusal 3 at a place
+pub data Judged : Type 0 where
+  accepted : List Item → Judged
+  refused-2 : ℕ → Judged
+  refused-3 : ℕ → Judged
+
+abbrev pub judged : Answer Item → Option ℕ → Judged
+judged (ok o) none = accepted o
+judged (ok o) (some i) = refused-2 i
+judged (bad j) none = refused-3 j
+judged (bad j) (some i) = cond (leb i j) (refused-2 i) (refused-3 j)
+
+abbrev pub judge : List Token → Judged
+judge ts = judged (parse-model ts) (too-deep ts)

@@ -1,0 +1,39 @@
+-- What it means that a text is accepted: document 01, "What is answered", all rows that refuse a text turned round.
+use mathlib.Core.Path.{_≡_}
+use mathlib.Core.Option.{none}
+use mathlib.Core.Bool.{false}
+use mathlib.Core.List.{List, map}
+use Prim.Native.Nat.{ℕ}
+use lib.ListN.{replicate}
+use Rattle.spec_grammar.specs.Tree.{Model}
+use Rattle.spec_grammar.specs.Grammar.{Gram}
+use Rattle.spec_grammar.specs.Code.{code}
+use Rattle.text_tokens.specs.Reading.{Placed, tokens, reading}
+use Rattle.text_spacing_proof.specs.Writing.{tokensIn}
+use Rattle.parse_proof.specs.Depth.{too-deep}
+use Rattle.parse_machine_proof.specs.Machine.{symbol-of, place-of}
+use Rattle.parse_machine_proof.specs.Answer.{items, parsed}
+use Rattle.parse_machine_proof.specs.Items.{read}
+use Rattle.rule_least.specs.Faults.{checked}
+use Rattle.rule_least.specs.declared.Fault.the-variants.{None}
+use Rattle.rule_ceilings.specs.Ceilings.{passed}
+use Rattle.link_items.specs.Links.{linksOf}
+use Rattle.read_passes.specs.Judging.{payload}
+
+-- the text has tokens, they have a tree and are not too deep, and the items of that tree, in the tree's order, have no fault and pass no ceiling
+pub record Accepts (t : List ℕ) : Type 0 where
+  pub parts : List Placed
+  pub reads : reading t ≡ tokens parts
+  pub tree : Model
+  pub gram : Gram (tokensIn t parts) tree
+  pub shallow : too-deep (tokensIn t parts) ≡ none
+  pub numbers : List ℕ
+  pub written : parsed (map Placed.kind parts) 8192 ≡ items numbers
+  pub coded : map (read (tokensIn t parts)) numbers ≡ code tree
+  pub faultless : checked (map symbol-of numbers) (payload t (map Placed.start parts) (map Placed.end parts) (map symbol-of numbers) (map place-of numbers)) (map place-of numbers) ≡ None
+  pub within : passed (map symbol-of numbers) (payload t (map Placed.start parts) (map Placed.end parts) (map symbol-of numbers) (map place-of numbers)) ≡ false
+
+-- the links of an accepted text: of its items and what they say, so of its tree
+abbrev pub linksAt : (t : List ℕ) → Accepts t → List ℕ
+linksAt t a =
+    linksOf (map symbol-of (a .numbers)) (payload t (map Placed.start (a .parts)) (map Placed.end (a .parts)) (map symbol-of (a .numbers)) (map place-of (a .numbers))) (replicate 8192 0)

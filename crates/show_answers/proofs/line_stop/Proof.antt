@@ -1,0 +1,26 @@
+use lib.ListN.{length}
+use Prim.Native.Nat.{_-_, _≤_}
+use borrow.Author.Needs.{needs}
+use Rattle.show_answers.proofs.line_stop.Statement.{statement}
+use Rattle.show_answers.proofs.line_stop.Tie as tie
+
+abbrev Inv-loop : tie.InvT-loop
+Inv-loop text place k₀ k = k ≤ length text
+
+abbrev μ-loop : tie.MeasureT-loop
+μ-loop text place k₀ k = length text - k
+
+pub line-stop-spec : {M : Type 1} → statement M
+line-stop-spec =
+    tie.close
+    (tie.spec
+    Inv-loop
+    μ-loop
+    (λ c κs. search needs)
+    (λ c. search needs)
+    (λ c. search needs)
+    (λ c. search needs)
+    (λ c. search needs)
+    (λ c. search needs)
+    (λ c. search needs)
+    (λ c. search needs))

@@ -1,0 +1,69 @@
+-- The status that a command returns is that of its answer: what its callees promise, put together; and every status is 0, 1 or 2.
+use Prim.Native.Nat.{ℕ, _≤_}
+use native.Mathlib.Omega.{arith}
+use mathlib.Core.Path.{_≡_, ap, ap₂, _∙_}
+use mathlib.Core.List.{List}
+use lib.IntN.{ℤ}
+use Rattle.table_genuine.specs.Genuine.{written}
+use Rattle.state_start.specs.Starting.{initialOf}
+use Rattle.step_all.specs.Moving.{verdictOf}
+use Rattle.step_all.specs.declared.Verdict.{Verdict}
+use Rattle.step_all.specs.declared.Verdict.the-variants as verdict
+use Rattle.run_entry.specs.Runs.{shown, runFrom}
+use Rattle.run_entry.specs.declared.Ending.{Ending}
+use Rattle.run_entry.specs.declared.Ending.the-variants as ending
+use Rattle.run_entry.specs.declared.Ran.{Ran}
+use Rattle.run_entry.specs.declared.Ran.the-variants as ran
+use Rattle.trail_replay.specs.Entries.{replayedOf}
+use Rattle.trail_replay.specs.declared.Replayed.{Replayed}
+use Rattle.trail_replay.specs.declared.Replayed.the-variants as replayed
+use Rattle.show_commands.specs.Statuses.{verdictStatus, endingStatus, ranStatus, replayedStatus, cleared, startStatus, runStatus, replayStatus}
+
+pub replay-status : (ts trail : List ℕ) (s left : List ℤ) (r : Replayed) (x : ℕ) → s ≡ cleared → (r, left) ≡ replayedOf ts trail s → x ≡ replayedStatus r → x ≡ replayStatus ts trail
+unfolding replayStatus
+replay-status ts trail s left r x c e f = f ∙ ap replayedStatus (ap (λ p. p .0) e ∙ ap (λ z. replayedOf ts trail z .0) c)
+
+module _ (ts t : List ℕ) (s z : List ℤ) (own : t ≡ written ts) (c : s ≡ cleared) (begins : z ≡ initialOf t s) where
+  begun : z ≡ initialOf (written ts) cleared
+  begun = begins ∙ ap₂ initialOf own c
+
+  pub start-status : (v : Verdict) (x : ℕ) → v ≡ verdictOf t z → x ≡ verdictStatus v → x ≡ startStatus ts
+  unfolding startStatus
+  start-status v x e f = f ∙ ap verdictStatus (e ∙ ap₂ verdictOf own begun)
+
+  pub run-status : (limit : ℕ) (left : List ℤ) (r : Ran) (x : ℕ) → (r, left) ≡ shown (runFrom t limit z) → x ≡ ranStatus r → x ≡ runStatus ts limit
+  unfolding runStatus
+  run-status limit left r x e f = f ∙ ap ranStatus (ap (λ p. p .0) e ∙ ap₂ (λ w y. shown (runFrom w limit y) .0) own begun)
+
+-- ---- 0, 1 or 2
+verdict-small : (v : Verdict) → verdictStatus v ≤ 2
+verdict-small verdict.Finished = omega arith
+verdict-small verdict.Blocked = omega arith
+verdict-small verdict.Open = omega arith
+
+ending-small : (e : Ending) → endingStatus e ≤ 2
+ending-small ending.Finished = omega arith
+ending-small ending.Blocked = omega arith
+ending-small ending.Open = omega arith
+ending-small ending.Assert = omega arith
+ending-small (ending.Fault f) = omega arith
+
+ran-small : (r : Ran) → ranStatus r ≤ 2
+ran-small (ran.Ended e n) = ending-small e
+ran-small (ran.Refused x) = omega arith
+
+replayed-small : (r : Replayed) → replayedStatus r ≤ 2
+replayed-small (replayed.Accepted v) = omega arith
+replayed-small (replayed.Refused x l) = omega arith
+
+pub start-small : (ts : List ℕ) → startStatus ts ≤ 2
+unfolding startStatus
+start-small ts = verdict-small (verdictOf (written ts) (initialOf (written ts) cleared))
+
+pub run-small : (ts : List ℕ) (limit : ℕ) → runStatus ts limit ≤ 2
+unfolding runStatus
+run-small ts limit = ran-small (shown (runFrom (written ts) limit (initialOf (written ts) cleared)) .0)
+
+pub replay-small : (ts trail : List ℕ) → replayStatus ts trail ≤ 2
+unfolding replayStatus
+replay-small ts trail = replayed-small (replayedOf ts trail cleared .0)

@@ -1,0 +1,210 @@
+-- The fixed tokens by name: a quote, then the spelling, or a word where a name may not hold that spelling.
+-- The numbers are those of specs/Kinds.antt of `base_kinds`; document 01, "Marks" and "Keywords". The last marks and keywords of each kind have no use yet.
+use Rattle.base_kinds.specs.Kinds.{Token, sym}
+
+abbrev pub '|| : Token
+'|| = sym 1
+
+abbrev pub '&& : Token
+'&& = sym 2
+
+abbrev pub '| : Token
+'| = sym 3
+
+abbrev pub '^ : Token
+'^ = sym 4
+
+abbrev pub '& : Token
+'& = sym 5
+
+abbrev pub '== : Token
+'== = sym 6
+
+abbrev pub '!= : Token
+'!= = sym 7
+
+abbrev pub '< : Token
+'< = sym 8
+
+abbrev pub '<= : Token
+'<= = sym 9
+
+abbrev pub '> : Token
+'> = sym 10
+
+abbrev pub '>= : Token
+'>= = sym 11
+
+abbrev pub '<< : Token
+'<< = sym 12
+
+abbrev pub '>> : Token
+'>> = sym 13
+
+abbrev pub '+ : Token
+'+ = sym 14
+
+abbrev pub '- : Token
+'- = sym 15
+
+abbrev pub '* : Token
+'* = sym 16
+
+abbrev pub '/ : Token
+'/ = sym 17
+
+abbrev pub '% : Token
+'% = sym 18
+
+abbrev pub '! : Token
+'! = sym 19
+
+abbrev pub '~ : Token
+'~ = sym 20
+
+abbrev pub 'lpar : Token
+'lpar = sym 21
+
+abbrev pub 'rpar : Token
+'rpar = sym 22
+
+abbrev pub '[ : Token
+'[ = sym 23
+
+abbrev pub '] : Token
+'] = sym 24
+
+abbrev pub 'lbrace : Token
+'lbrace = sym 25
+
+abbrev pub 'rbrace : Token
+'rbrace = sym 26
+
+abbrev pub 'comma : Token
+'comma = sym 27
+
+abbrev pub 'semi : Token
+'semi = sym 28
+
+abbrev pub ': : Token
+': = sym 29
+
+abbrev pub ':: : Token
+':: = sym 30
+
+abbrev pub '-> : Token
+'-> = sym 31
+
+abbrev pub '= : Token
+'= = sym 32
+
+abbrev pub '++ : Token
+'++ = sym 33
+
+abbrev pub '-- : Token
+'-- = sym 34
+
+abbrev pub '? : Token
+'? = sym 35
+
+abbrev pub '!! : Token
+'!! = sym 36
+
+abbrev pub '?? : Token
+'?? = sym 37
+
+abbrev pub 'bit : Token
+'bit = sym 38
+
+abbrev pub 'bool : Token
+'bool = sym 39
+
+abbrev pub 'byte : Token
+'byte = sym 40
+
+abbrev pub 'mtype : Token
+'mtype = sym 41
+
+abbrev pub 'pid : Token
+'pid = sym 42
+
+abbrev pub 'chan : Token
+'chan = sym 43
+
+abbrev pub 'short : Token
+'short = sym 44
+
+abbrev pub 'int : Token
+'int = sym 45
+
+abbrev pub 'active : Token
+'active = sym 46
+
+abbrev pub 'assert : Token
+'assert = sym 47
+
+abbrev pub 'break : Token
+'break = sym 48
+
+abbrev pub 'do : Token
+'do = sym 49
+
+abbrev pub 'else : Token
+'else = sym 50
+
+abbrev pub 'eval : Token
+'eval = sym 51
+
+abbrev pub 'false : Token
+'false = sym 52
+
+abbrev pub 'fi : Token
+'fi = sym 53
+
+abbrev pub 'goto : Token
+'goto = sym 54
+
+abbrev pub 'if : Token
+'if = sym 55
+
+abbrev pub 'init : Token
+'init = sym 56
+
+abbrev pub 'len : Token
+'len = sym 57
+
+abbrev pub 'od : Token
+'od = sym 58
+
+abbrev pub 'of : Token
+'of = sym 59
+
+abbrev pub 'printf : Token
+'printf = sym 60
+
+abbrev pub 'proctype : Token
+'proctype = sym 61
+
+abbrev pub 'run : Token
+'run = sym 62
+
+abbrev pub 'skip : Token
+'skip = sym 63
+
+abbrev pub 'timeout : Token
+'timeout = sym 64
+
+abbrev pub 'true : Token
+'true = sym 65
+
+abbrev pub 'atomic : Token
+'atomic = sym 66
+
+abbrev pub 'd_step : Token
+'d_step = sym 67
+
+abbrev pub 'typedef : Token
+'typedef = sym 68
+
+abbrev pub 'unless : Token
+'unless = sym 69

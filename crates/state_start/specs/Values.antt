@@ -1,0 +1,27 @@
+-- What a declaration says its variable starts with: document 01, "How it moves", "Variables start at 0 or their value".
+-- Behind the `declared` item d stand, where there are any, a number and `size` (213), then the value's item and its mark: `value` (214), `minus` (215), `named` (216) or
+-- `channel` (217).
+use Prim.Native.Nat.{ℕ, _+_}
+use mathlib.Core.List.{List}
+use lib.IntN.{ℤ, pos}
+use lib.Dec.{eqb}
+use Rattle.base_bytes.specs.Choice.{pick}
+use Rattle.table_layout.specs.Access.{codeOf, linkOf, numberOf}
+use Rattle.state_layout.specs.Layout.{kept}
+use Rattle.base_values.specs.Operators.{unaryOf}
+
+module _ (t : List ℕ) where
+  -- where the value's item stands, if there is a value
+  unfoldable pub valueAt : ℕ → ℕ
+  valueAt d = pick (eqb (codeOf t (d + 2)) 213) (d + 3) (d + 1)
+
+  -- a number, `true` (178) or `false`
+  unfoldable pub literalOf : ℕ → ℤ
+  literalOf k = pick (eqb (codeOf t k) 71) (kept (numberOf t k)) (pick (eqb (codeOf t k) 178) (pos 1) (pos 0))
+
+  -- the value whose item is k; of a name, the number of the mtype name; 0 where there is none
+  unfoldable pub valueOf : ℕ → ℤ
+  valueOf k =
+      pick (eqb (codeOf t (k + 1)) 214) (literalOf k)
+      (pick (eqb (codeOf t (k + 1)) 215) (unaryOf 15 (literalOf k))
+      (pick (eqb (codeOf t (k + 1)) 216) (kept (linkOf t (linkOf t (k + 1)))) (pos 0)))

@@ -1,0 +1,15 @@
+use Rattle.step_all.specs.Moving.{lateOf}
+use borrow.Author.Needs.{needs}
+use Rattle.step_all.proofs.is_late.Statement.{statement}
+use Rattle.step_all.proofs.is_late.Tie as tie
+
+returns : tie.Need-returns
+unfolding lateOf
+returns c = rw (← c .before .is-any .ensures, c .if1 .taken)
+
+returns-2 : tie.Need-returns-2
+unfolding lateOf
+returns-2 c = rw (← c .before .is-any .ensures, c .if1 .left)
+
+pub is-late-spec : {M : Type 1} → statement M
+is-late-spec = tie.close (tie.spec (λ c κs. search needs) returns returns-2)

@@ -1,0 +1,111 @@
+// The steps that are offered in a state, over all its processes, and its verdict.
+ghost use mathlib.Core.Path.{_≡_};
+ghost use Prim.Native.Nat.{_≤_};
+ghost use Rattle.step_all.specs.Moving as moving;
+use step_offers::Walk;
+
+pub enum Verdict {
+    Finished,
+    Blocked,
+    Open,
+}
+
+// An offered step: its process, its number k among the steps of that process, from 1, and its place; or how many steps are left to pass.
+pub enum Offer {
+    Step(u8, u32, u32),
+    Beyond(u32),
+}
+
+// How many processes there are.
+fn processes(s: &[i32]) -> u32
+    ensures { λ r. ⌜ r ≡ moving.processes (now (s .entry)) ⌝ }
+    ensures { λ r. ⌜ r ≤ 16 ⌝ }
+{
+    base_bytes::least(16, state_layout::processes(s) as usize) as u32
+}
+
+// Is any process offered a step?
+fn is_any(t: &[u32], s: &[i32], late: bool) -> bool
+    ensures { λ r. ⌜ r ≡ moving.anyFrom (now (t .entry)) (now (s .entry)) late 0 (moving.processes (now (s .entry))) ⌝ }
+{
+    let n = processes(s);
+    let mut p: u32 = 0;
+    while p < n {
+        if step_offers::is_offered(t, s, p as u8, late) {
+            return true;
+        }
+        p += 1;
+    }
+    false
+}
+
+// Is `timeout` executable?
+fn is_late(t: &[u32], s: &[i32]) -> bool
+    ensures { λ r. ⌜ r ≡ moving.lateOf (now (t .entry)) (now (s .entry)) ⌝ }
+{
+    if is_any(t, s, false) { false } else { true }
+}
+
+// The place of the k-th step, from 1, that a process is offered.
+pub fn step_at(t: &[u32], s: &[i32], process: u32, k: u32) -> Walk
+    ensures { λ r. ⌜ r ≡ moving.stepAt (now (t .entry)) (now (s .entry)) process k ⌝ }
+{
+    if processes(s) <= process {
+        return Walk::Left(0);
+    }
+    if k == 0 {
+        return Walk::Left(0);
+    }
+    step_offers::offered(t, s, process as u8, is_late(t, s), k - 1)
+}
+
+// The n-th step, from 0, of all that are offered, by process number, then text order.
+pub fn nth(t: &[u32], s: &[i32], n: u16) -> Offer
+    ensures { λ r. ⌜ r ≡ moving.nthOf (now (t .entry)) (now (s .entry)) n ⌝ }
+{
+    let late = is_late(t, s);
+    let count = processes(s);
+    let mut left = n as u32;
+    let mut p: u32 = 0;
+    while p < count {
+        let w = step_offers::offered(t, s, p as u8, late, left);
+        match w {
+            Walk::Found(q) => {
+                return Offer::Step(p as u8, left + 1, q);
+            }
+            Walk::Left(m) => {
+                left = m;
+            }
+        }
+        p += 1;
+    }
+    Offer::Beyond(left)
+}
+
+// Has every process ended?
+fn is_ended(t: &[u32], s: &[i32]) -> bool
+    ensures { λ r. ⌜ r ≡ moving.endedFrom (now (t .entry)) (now (s .entry)) 0 (moving.processes (now (s .entry))) ⌝ }
+{
+    let n = processes(s);
+    let mut p: u32 = 0;
+    while p < n {
+        if table_layout::code(t, state_layout::place_of(s, p as u8) as usize) != 228 {
+            return false;
+        }
+        p += 1;
+    }
+    true
+}
+
+pub fn verdict_of(t: &[u32], s: &[i32]) -> Verdict
+    ensures { λ r. ⌜ r ≡ moving.verdictOf (now (t .entry)) (now (s .entry)) ⌝ }
+{
+    if is_ended(t, s) {
+        return Verdict::Finished;
+    }
+    if is_any(t, s, is_late(t, s)) {
+        Verdict::Open
+    } else {
+        Verdict::Blocked
+    }
+}

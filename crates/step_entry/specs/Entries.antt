@@ -1,0 +1,106 @@
+-- The entries of the stepper, each with one answer and one content of lent memory: document 01, "What is answered": "Stepping: 7, 8, 9, 11"; "A refusal changes no lent number or byte".
+-- `ts` are the lent tables, `s` the lent state, `out` the bytes that are lent for printed text.
+use Prim.Native.Nat.{ℕ, _-_}
+use mathlib.Core.List.{List}
+use lib.ListN.{length}
+use lib.IntN.{ℤ}
+use lib.Dec.{eqb, ltb}
+use Rattle.base_bytes.specs.Choice.{pick}
+use Rattle.step_prints.specs.Printing.{pen, puts}
+use Rattle.read_entry.specs.Entries.{room}
+use Rattle.table_genuine.specs.Genuine.{written, genuine}
+use Rattle.state_layout.specs.Layout.{stateSize}
+use Rattle.state_start.specs.Starting.{initialOf}
+use Rattle.state_check.specs.Standing.{isStateOf}
+use Rattle.step_offers.specs.declared.Walk.{Walk}
+use Rattle.step_offers.specs.declared.Walk.the-variants.{Found, Left}
+use Rattle.step_all.specs.Moving.{stepAt, nthOf, verdictOf}
+use Rattle.step_all.specs.declared.Offer.{Offer}
+use Rattle.step_all.specs.declared.Offer.the-variants as offer
+use Rattle.step_all.specs.declared.Verdict.{Verdict}
+use Rattle.step_all.specs.declared.Verdict.the-variants as verdict
+use Rattle.base_outcome.specs.declared.Taken.{Taken}
+use Rattle.base_outcome.specs.declared.Taken.the-variants as taken
+use Rattle.step_take.specs.Effects.{takenOf}
+use Rattle.step_prints.specs.Printing.{printedAt}
+use Rattle.step_entry.specs.declared.Listed.{Listed}
+use Rattle.step_entry.specs.declared.Listed.the-variants.{Step, Only}
+use Rattle.step_entry.specs.declared.Listed.the-variants as listed
+use Rattle.step_entry.specs.declared.Stepped.{Stepped}
+use Rattle.step_entry.specs.declared.Stepped.the-variants.{Took, Assert, Fault}
+use Rattle.step_entry.specs.declared.Stepped.the-variants as stepped
+use Rattle.step_entry.specs.declared.Standing.{Standing}
+use Rattle.step_entry.specs.declared.Standing.the-variants.{Finished, Blocked, Open}
+use Rattle.step_entry.specs.declared.Standing.the-variants as standing
+
+-- ## refusals by number, 0 for none
+-- 7 for the rooms of tables and state, then 8
+unfoldable pub foreignOf : List ℕ → List ℤ → ℕ
+foreignOf ts s = pick (ltb (length ts) room) 7 (pick (ltb (length s) stateSize) 7 (pick (genuine ts) 0 8))
+
+-- then 9
+unfoldable pub refusalOf : List ℕ → List ℤ → ℕ
+refusalOf ts s = pick (eqb (foreignOf ts s) 0) (pick (isStateOf (written ts) s) 0 9) (foreignOf ts s)
+
+-- ## the initial state: the refusal's number, and what is left
+unfoldable pub startLeft : List ℕ → List ℤ → List ℤ
+startLeft ts s = pick (eqb (foreignOf ts s) 0) (initialOf (written ts) s) s
+
+-- ## the verdict of a state
+abbrev pub standingOf : Verdict → Standing
+standingOf verdict.Finished = Finished
+standingOf verdict.Blocked = Blocked
+standingOf verdict.Open = Open
+
+unfoldable pub verdictFor : List ℕ → List ℤ → Standing
+verdictFor ts s = pick (eqb (refusalOf ts s) 0) (standingOf (verdictOf (written ts) s)) (standing.Refused (refusalOf ts s))
+
+-- ## the n-th step of all that are offered
+-- where n is past the last, the rest of n is known, and so how many there are
+abbrev pub offerBy : Offer → ℕ → Listed
+offerBy (offer.Step p k q) n = Step p k q
+offerBy (offer.Beyond left) n = Only (n - left)
+
+unfoldable pub offeredOf : List ℕ → List ℤ → ℕ → Listed
+offeredOf ts s n = pick (eqb (refusalOf ts s) 0) (offerBy (nthOf (written ts) s n) n) (listed.Refused (refusalOf ts s))
+
+-- ## taking the k-th offered step of process p
+-- what a step that was taken answers: how many bytes it printed, or that it failed; one that does nothing was none
+abbrev pub tookBy : Taken → ℕ → Stepped
+tookBy taken.Done n = Took n
+tookBy taken.Refuted n = Assert
+tookBy (taken.Faulted f) n = Fault f
+tookBy taken.Idle n = stepped.Refused 11
+
+-- the answer, and what is left in the lent state and the lent bytes
+pub record Outcome : Type 0 where
+  pub answer : Stepped
+  pub state : List ℤ
+  pub printed : List ℕ
+
+abbrev pub refusedBy : ℕ → List ℤ → List ℕ → Outcome
+refusedBy x s out = record { answer = stepped.Refused x; state = s; printed = out }
+
+-- the step at place q: its text is worked out in the state before it
+abbrev pub tookAt : List ℕ → List ℤ → ℕ → ℕ → List ℕ → Outcome
+tookAt w s p q out =
+    record {
+      answer = tookBy (takenOf w p q s .0) (puts (printedAt w s p q) (pen out 0) .at);
+      state = takenOf w p q s .1;
+      printed = puts (printedAt w s p q) (pen out 0) .bytes;
+    }
+
+abbrev pub outcomeBy : Walk → List ℕ → List ℤ → ℕ → List ℕ → Outcome
+outcomeBy (Left n) w s p out = refusedBy 11 s out
+outcomeBy (Found q) w s p out = tookAt w s p q out
+
+-- "printed text of one step as 128 bytes"
+abbrev pub printRoom : ℕ
+printRoom = 128
+
+-- 7 for any of the three rooms, then 8, 9 and 11
+unfoldable pub stepRefusal : List ℕ → List ℤ → List ℕ → ℕ
+stepRefusal ts s out = pick (ltb (length out) printRoom) 7 (refusalOf ts s)
+
+unfoldable pub outcomeOf : List ℕ → List ℤ → ℕ → ℕ → List ℕ → Outcome
+outcomeOf ts s p k out = pick (eqb (stepRefusal ts s out) 0) (outcomeBy (stepAt (written ts) s p k) (written ts) s p out) (refusedBy (stepRefusal ts s out) s out)

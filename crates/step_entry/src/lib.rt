@@ -1,0 +1,155 @@
+// The entries of the stepper.
+ghost use mathlib.Core.Path.{_≡_};
+ghost use Rattle.step_entry.specs.Entries as entries;
+use base_outcome::Taken;
+use base_values::Fault;
+use step_all::Offer;
+use step_all::Verdict;
+use step_offers::Walk;
+
+// The numbers that are lent for tables.
+const TABLES_ROOM: usize = 16384;
+
+// The bytes that are lent for the printed text of one step.
+const PRINT_ROOM: usize = 128;
+
+// How a state stands, or the number of the refusal.
+pub enum Standing {
+    Finished,
+    Blocked,
+    Open,
+    Refused(u8),
+}
+
+// A step that is offered: its process, its number k among the steps of that process, from 1, and its statement's place; or how many there are in all; or the number of the refusal.
+pub enum Listed {
+    Step(u8, u32, u32),
+    Only(u32),
+    Refused(u8),
+}
+
+// A step that was taken, with the number of bytes that it printed; one that failed; or the number of the refusal.
+pub enum Stepped {
+    Took(usize),
+    Assert,
+    Fault(Fault),
+    Refused(u8),
+}
+
+// Refusals 7 and 8, or 0.
+pub fn foreign(tables: &[u32], state: &[i32]) -> u8
+    ensures { λ r. ⌜ r ≡ entries.foreignOf (now (tables .entry)) (now (state .entry)) ⌝ }
+{
+    if tables.len() < TABLES_ROOM {
+        return 7;
+    }
+    if state.len() < state_layout::STATE_SIZE {
+        return 7;
+    }
+    if table_genuine::is_genuine(tables) {
+        0
+    } else {
+        8
+    }
+}
+
+// Refusals 7, 8 and 9, or 0.
+pub fn refusal(tables: &[u32], state: &[i32]) -> u8
+    ensures { λ r. ⌜ r ≡ entries.refusalOf (now (tables .entry)) (now (state .entry)) ⌝ }
+{
+    let x = foreign(tables, state);
+    if x != 0 {
+        return x;
+    }
+    if state_check::is_state(table_genuine::written(tables), state) {
+        0
+    } else {
+        9
+    }
+}
+
+// The initial state of a model, written whole; the answer is 0, or the number of the refusal.
+pub fn start(tables: &[u32], state: &mut [i32]) -> u8
+    ensures { λ r. ⌜ r ≡ entries.foreignOf (now (tables .entry)) (now (state .entry)) ⌝ }
+    ensures { λ _. ⌜ now (state .exit) ≡ entries.startLeft (now (tables .entry)) (now (state .entry)) ⌝ }
+{
+    let x = foreign(tables, state);
+    if x != 0 {
+        return x;
+    }
+    state_start::start(table_genuine::written(tables), state);
+    0
+}
+
+fn standing_of(v: Verdict) -> Standing
+    ensures { λ r. ⌜ r ≡ entries.standingOf v ⌝ }
+{
+    match v {
+        Verdict::Finished => Standing::Finished,
+        Verdict::Blocked => Standing::Blocked,
+        Verdict::Open => Standing::Open,
+    }
+}
+
+// How a state stands.
+pub fn verdict(tables: &[u32], state: &[i32]) -> Standing
+    ensures { λ r. ⌜ r ≡ entries.verdictFor (now (tables .entry)) (now (state .entry)) ⌝ }
+{
+    let x = refusal(tables, state);
+    if x != 0 {
+        return Standing::Refused(x);
+    }
+    standing_of(step_all::verdict_of(table_genuine::written(tables), state))
+}
+
+// The n-th step, from 0, of all that are offered, by process number, then text order; where there are no more than n, how many there are.
+pub fn offered(tables: &[u32], state: &[i32], n: u16) -> Listed
+    ensures { λ r. ⌜ r ≡ entries.offeredOf (now (tables .entry)) (now (state .entry)) n ⌝ }
+{
+    let x = refusal(tables, state);
+    if x != 0 {
+        return Listed::Refused(x);
+    }
+    let o = step_all::nth(table_genuine::written(tables), state, n);
+    match o {
+        Offer::Step(p, k, q) => Listed::Step(p, k, q),
+        Offer::Beyond(left) => Listed::Only(n as u32 - left),
+    }
+}
+
+// The step at place q of process p.
+fn move_on(w: &[u32], state: &mut [i32], p: u8, q: u32, printed: &mut [u8]) -> Stepped
+    ensures { λ r. ⌜ r ≡ (entries.tookAt (now (w .entry)) (now (state .entry)) p q (now (printed .entry))) .answer ⌝ }
+    ensures { λ _. ⌜ now (state .exit) ≡ (entries.tookAt (now (w .entry)) (now (state .entry)) p q (now (printed .entry))) .state ⌝ }
+    ensures { λ _. ⌜ now (printed .exit) ≡ (entries.tookAt (now (w .entry)) (now (state .entry)) p q (now (printed .entry))) .printed ⌝ }
+{
+    let n = step_prints::print_at(w, state, p, q, printed);
+    let r = step_take::take(w, state, p, q);
+    match r {
+        Taken::Done => Stepped::Took(n),
+        Taken::Refuted => Stepped::Assert,
+        Taken::Faulted(f) => Stepped::Fault(f),
+        Taken::Idle => Stepped::Refused(11),
+    }
+}
+
+// Takes the k-th step, from 1, that a process is offered.
+pub fn step(tables: &[u32], state: &mut [i32], process: u32, k: u32, printed: &mut [u8]) -> Stepped
+    ensures { λ r. ⌜ r ≡ (entries.outcomeOf (now (tables .entry)) (now (state .entry)) process k (now (printed .entry))) .answer ⌝ }
+    ensures { λ _. ⌜ now (state .exit) ≡ (entries.outcomeOf (now (tables .entry)) (now (state .entry)) process k (now (printed .entry))) .state ⌝ }
+    ensures { λ _. ⌜ now (printed .exit) ≡ (entries.outcomeOf (now (tables .entry)) (now (state .entry)) process k (now (printed .entry))) .printed ⌝ }
+{
+    if printed.len() < PRINT_ROOM {
+        return Stepped::Refused(7);
+    }
+    let x = refusal(tables, state);
+    if x != 0 {
+        return Stepped::Refused(x);
+    }
+    let w = table_genuine::written(tables);
+    let found = step_all::step_at(w, state, process, k);
+    match found {
+        Walk::Found(q) => move_on(w, state, process as u8, q, printed),
+        Walk::Left(_) => Stepped::Refused(11),
+    }
+}

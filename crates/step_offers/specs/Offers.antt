@@ -1,0 +1,67 @@
+-- Which steps a place offers, each by its own place, in text order: document 01, "How it moves", "`else` when no other option of its selection is; `if` and `do`, themselves
+-- no steps, when an option's first statement is". A selection that is an option's first statement gives its steps as the option's.
+-- `t` are tables, `s` a state, p the number of the process; `late` says whether `timeout` is executable.
+use Prim.Native.Nat.{ℕ, zero, suc, _+_, _-_, min, max}
+use mathlib.Core.Bool.{Bool, true, false}
+use mathlib.Core.List.{List, [], _∷_, _++_}
+use lib.ListN.{length}
+use lib.IntN.{ℤ}
+use lib.Dec.{eqb, ltb}
+use Rattle.base_bytes.specs.Choice.{pick, both, either}
+use Rattle.base_bytes.specs.Lists.{orElse}
+use Rattle.table_layout.specs.Access.{codeOf, linkOf}
+use Rattle.step_ready.specs.Executing.{readyOf}
+use Rattle.step_offers.specs.declared.Walk.{Walk}
+use Rattle.step_offers.specs.declared.Walk.the-variants.{Found, Left}
+
+module _ (t : List ℕ) where
+  -- if (204) or do (206)
+  abbrev pub isSelection : ℕ → Bool
+  isSelection q = either (eqb (codeOf t q) 204) (eqb (codeOf t q) 206)
+
+  -- ## options: each begins with `option` (208), which links to its end; the next stands behind that. Items from `stop` on are not looked at
+  abbrev pub isOption : ℕ → ℕ → Bool
+  isOption m stop = both (ltb m stop) (eqb (codeOf t m) 208)
+
+  abbrev pub endOf : ℕ → ℕ → ℕ
+  endOf m stop = max (m + 1) (min (linkOf t m) stop)
+
+  -- the place of an option's first statement, behind a label (188)
+  unfoldable pub firstOf : ℕ → ℕ
+  firstOf m = pick (eqb (codeOf t (m + 2)) 188) (m + 3) (m + 1)
+
+  -- what g gives for the first statement of each option, and where that option ends, at most n options
+  unfoldable pub eachOption : (ℕ → ℕ → List ℕ) → ℕ → ℕ → ℕ → List ℕ
+  eachOption g zero m stop = []
+  eachOption g (suc n) m stop = pick (isOption m stop) (g (firstOf m) (endOf m stop) ++ eachOption g n (endOf m stop + 1) stop) []
+
+  -- the statement, if it is `else` (201)
+  abbrev pub elseAt : ℕ → ℕ → List ℕ
+  elseAt q stop = pick (eqb (codeOf t q) 201) (q ∷ []) []
+
+  module _ (s : List ℤ) (p : ℕ) (late : Bool) where
+    -- at place q, where a selection ends before `stop`; selections nest d - 1 deep at the most
+    unfoldable pub offersFrom : ℕ → ℕ → ℕ → List ℕ
+    offersFrom zero q stop = []
+    offersFrom (suc d) q stop =
+        pick (isSelection q)
+        (orElse (eachOption (λ f e. offersFrom d f e) 512 (q + 1) (min (linkOf t q) stop)) (eachOption elseAt 512 (q + 1) (min (linkOf t q) stop)))
+        (pick (readyOf t s p late q) (q ∷ []) [])
+
+    -- at place q: "open if/do 8", and a model has at most 8,192 items
+    abbrev pub offersOf : ℕ → List ℕ
+    offersOf q = offersFrom 9 q 8192
+
+-- the k-th of a list, from 0, or how many are left to pass
+unfoldable pub pickAt : ℕ → List ℕ → Walk
+pickAt k [] = Left k
+pickAt zero (x ∷ xs) = Found x
+pickAt (suc k) (x ∷ xs) = pickAt k xs
+
+-- how many there are, as far as 4,096
+abbrev pub countOf : List ℕ → ℕ
+countOf xs = min 4096 (length xs)
+
+abbrev pub isSome : List ℕ → Bool
+isSome [] = false
+isSome (x ∷ xs) = true

@@ -1,0 +1,14 @@
+-- The tables of a tree, with links beside it.
+use Prim.Native.Nat.{ℕ}
+use mathlib.Core.List.{List, map}
+use Rattle.spec_grammar.specs.Tree.{Model}
+use Rattle.spec_grammar.specs.Code.{code}
+use Rattle.table_entries.specs.Entry.{Entry}
+use Rattle.table_entries.specs.Items.{entryOf}
+use Rattle.table_layout.specs.Tables.{tablesOf}
+
+abbrev pub entriesIn : Model → List Entry
+entriesIn m = map entryOf (code m)
+
+abbrev pub tablesIn : Model → List ℕ → List ℕ
+tablesIn m ls = tablesOf (entriesIn m) ls

@@ -1,0 +1,30 @@
+-- The items that a parser's numbers say of a list of tokens, and when the numbers are right for it: a name, number or string stands at a token of its kind.
+use Prim.Native.Nat.{ℕ, _≤_, _<_}
+use mathlib.Core.Path.{_≡_}
+use mathlib.Core.Bool.{cond}
+use mathlib.Core.Logic.{_⊎_}
+use mathlib.Core.List.{List}
+use lib.ListN.{length, getD}
+use lib.Dec.{ltb}
+use Rattle.base_kinds.specs.Kinds.{Token, sym, name, number, text}
+use Rattle.spec_grammar.specs.Code.{Item, i-name, i-number, i-text, i-plain}
+use Rattle.parse_tables.specs.Numbering.{item}
+use Rattle.text_tokens.specs.Reading.{Placed, placed}
+
+-- what a token holds
+abbrev pub held : Token → Item
+held (sym k) = i-plain
+held (name w) = i-name w
+held (number n) = i-number n
+held (text w) = i-text w
+
+-- the item of code c at token k
+abbrev pub read : List Token → ℕ → ℕ → Item
+read ts c k = cond (ltb c 147) (held (getD ts k (sym 0))) (item c)
+
+abbrev pub nowhere : Placed
+nowhere = placed 0 0 0
+
+-- code c at token k of these
+abbrev pub Right : List Placed → ℕ → ℕ → Type 0
+Right ps c k = ((70 ≤ c) × (c ≤ 72) × (k < length ps) × (getD ps k nowhere .kind ≡ c)) ⊎ ((147 ≤ c) × (c ≤ 228))

@@ -1,0 +1,107 @@
+-- THE ENTRIES ON AN ACCEPTED TEXT: what `read` and `start` leave is let through, so that `step` and `verdict` answer what is worked out from the text's own tables and initial state.
+use Prim.Native.Nat.{ℕ, _+_, _-_, _≤_}
+use native.Mathlib.Omega.{arith}
+use mathlib.Core.Path.{_≡_, refl, sym, ap, ap₂, _∙_}
+use mathlib.Core.List.{List, _++_}
+use lib.ListN.{length, drop, length-append, length-drop, length-replicate}
+use lib.IntN.{ℤ, pos}
+use lib.Dec.{eqb}
+use Rattle.base_bytes.specs.Choice.{pick}
+use Rattle.read_passes.specs.declared.Judged.{Judged}
+use Rattle.read_passes.specs.declared.Judged.the-variants.{Accepted}
+use Rattle.read_passes.specs.Judging.{judgeOf, tablesText}
+use Rattle.read_entry.specs.Entries.{room, readOf, stays, leftOf}
+use Rattle.read_accepts_proof.specs.Meaning.{Accepts}
+use Rattle.read_accepts_proof.proofs.Main.{accepted-means}
+use Rattle.read_accepts_proof.proofs.Tables.{text-fits}
+use Rattle.table_genuine.specs.Genuine.{written}
+use Rattle.normal_entry.proofs.Laws.{judged-is, written-is}
+use Rattle.state_start.specs.Starting.{initialOf}
+use Rattle.state_check.specs.Standing.{isStateOf}
+use Rattle.step_all.specs.Moving.{stepAt, verdictOf}
+use Rattle.step_entry.specs.Entries.{foreignOf, refusalOf, startLeft, standingOf, verdictFor, Outcome, refusedBy, outcomeBy, stepRefusal, outcomeOf, printRoom}
+use Rattle.step_entry.specs.declared.Standing.the-variants as standing
+use Rattle.state_layout.specs.Layout.{stateSize}
+use Rattle.spec_machine.specs.Begins as plain
+use Rattle.state_encode.specs.Encode.{encode}
+use Rattle.agree_states.proofs.Cells.{encode-long}
+use Rattle.demands.specs.Lent.{Rooms, Tables, of-text}
+use Rattle.agree_machine.proofs.Entries as entries
+use Rattle.demands.proofs.Lent.{tables-genuine, foreign-none}
+use Rattle.demands.proofs.Leaves.{states-left}
+use Rattle.test_samples.specs.Samples.{lent, tables, cleared, started, paper, firstStep}
+
+module _ (t : List ℕ) (acc : readOf t lent ≡ Accepted) where
+  long : length lent ≡ 16384
+  long = length-replicate {A = ℕ} 16384 0
+
+  judged : judgeOf t ≡ Accepted
+  judged = sym (judged-is t lent (tables t) (readOf t lent) long refl refl) ∙ acc
+
+  accepts : Accepts t
+  accepts = accepted-means t judged
+
+  own : written (tables t) ≡ tablesText t
+  own = written-is t lent (tables t) (readOf t lent) long refl refl acc
+
+  as-left : tables t ≡ tablesText t ++ drop (length (tablesText t)) lent
+  unfolding leftOf
+  as-left = ap (λ (j : Judged). stays j (tablesText t) lent) acc
+
+  tables-long : room ≤ length (tables t)
+  tables-long =
+      let e = ap length as-left in
+      let f = length-append (tablesText t) (drop (length (tablesText t)) lent) in
+      let g = length-drop (length (tablesText t)) lent in
+      let h = text-fits t accepts in
+      omega (arith, e, f, g, h, long)
+
+  of-model : Tables (tables t) (accepts .tree)
+  of-model = of-text t accepts own
+
+  rooms : Rooms (tables t) cleared
+  rooms = record { tables = tables-long; state = let e = length-replicate {A = ℤ} 2048 (pos 0) in omega (arith, e) }
+
+  let-through : foreignOf (tables t) cleared ≡ 0
+  let-through = foreign-none (tables t) cleared (accepts .tree) rooms of-model
+
+  -- what `start` leaves
+  starts : started t ≡ initialOf (tablesText t) cleared
+  unfolding startLeft
+  starts = ap (λ (n : ℕ). pick (eqb n 0) (initialOf (written (tables t)) cleared) cleared) let-through ∙ ap (λ (w : List ℕ). initialOf w cleared) own
+
+  as-numbers : started t ≡ encode (accepts .tree) (plain.initial (accepts .tree)) ++ drop stateSize cleared
+  as-numbers = entries.starts (tables t) tables-long (tables-genuine (tables t) (accepts .tree) of-model) t accepts own cleared (rooms .state)
+
+  rooms-then : Rooms (tables t) (started t)
+  rooms-then =
+      record {
+        tables = tables-long;
+        state =
+            let e = ap length as-numbers in
+            let f = length-append (encode (accepts .tree) (plain.initial (accepts .tree))) (drop stateSize cleared) in
+            let g = encode-long (accepts .tree) (plain.initial (accepts .tree)) in
+            omega (arith, e, f, g);
+      }
+
+  none-refused : refusalOf (tables t) (started t) ≡ 0
+  unfolding refusalOf
+  none-refused = rw (foreign-none (tables t) (started t) (accepts .tree) rooms-then of-model, states-left (tables t) cleared .start let-through)
+
+  -- `verdict`
+  pub verdict-asked : verdictFor (tables t) (started t) ≡ standingOf (verdictOf (tablesText t) (initialOf (tablesText t) cleared))
+  unfolding verdictFor
+  verdict-asked =
+      ap (λ (n : ℕ). pick (eqb n 0) (standingOf (verdictOf (written (tables t)) (started t))) (standing.Refused n)) none-refused
+      ∙ ap₂ (λ (w : List ℕ) (s : List ℤ). standingOf (verdictOf w s)) own starts
+
+  -- `step`
+  none-refuses : stepRefusal (tables t) (started t) paper ≡ 0
+  unfolding stepRefusal
+  none-refuses = none-refused
+
+  pub step-asked : firstStep t ≡ outcomeBy (stepAt (tablesText t) (initialOf (tablesText t) cleared) 0 1) (tablesText t) (initialOf (tablesText t) cleared) 0 paper
+  unfolding outcomeOf
+  step-asked =
+      ap (λ (n : ℕ). pick (eqb n 0) (outcomeBy (stepAt (written (tables t)) (started t) 0 1) (written (tables t)) (started t) 0 paper) (refusedBy n (started t) paper)) none-refuses
+      ∙ ap₂ (λ (w : List ℕ) (s : List ℤ). outcomeBy (stepAt w s 0 1) w s 0 paper) own starts
