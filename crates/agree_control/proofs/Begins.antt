@@ -8,6 +8,7 @@ use mathlib.Core.List.{List, [], _∷_, _++_}
 use lib.ListN.{length, getD, length-append}
 use lib.Dec.{eqb}
 use borrow.Author.Tests.{eq-eqb}
+use Rattle.base_codes.specs.Codes.{c-break, c-do, c-else, c-end-body, c-end-option, c-if, c-label, c-skip, c-timeout}
 use Rattle.base_bytes.specs.Choice.{pick, both, either}
 use Rattle.base_bytes.proofs.Tests.{true-false, both-no}
 use Rattle.rule_sheets.proofs.Walks.{first-stop, first-more}
@@ -22,9 +23,9 @@ use Rattle.spec_machine.specs.Program.{sizeIn, placeIn}
 use Rattle.agree_control.proofs.Insides.{quiet, kind, part-known, type-known, Parts, parts-exp}
 
 -- ---- what is no stop, and what is one
-quiet-says : (c : ℕ) → quiet c ≡ true → (isPart c ≡ false) × (isAlone c ≡ false) × (eqb c 228 ≡ false)
+quiet-says : (c : ℕ) → quiet c ≡ true → (isPart c ≡ false) × (isAlone c ≡ false) × (eqb c c-end-body ≡ false)
 unfolding quiet
-quiet-says c = go (isPart c) (isAlone c) (eqb c 228)
+quiet-says c = go (isPart c) (isAlone c) (eqb c c-end-body)
   where
     go : (x y z : Bool) → pick x false (pick y false (pick z false true)) ≡ true → (x ≡ false) × (y ≡ false) × (z ≡ false)
     go true y z e = absurd (true-false (sym e))
@@ -41,13 +42,13 @@ module _ (cs : List ℕ) where
   unfolding placeFrom
   place-on k h e = sym (first-more (isStop cs) k (length cs) h refl e)
 
-  pub end-here : (k : ℕ) → k < length cs → getD cs k 0 ≡ 228 → placeFrom cs k ≡ k
+  pub end-here : (k : ℕ) → k < length cs → getD cs k 0 ≡ c-end-body → placeFrom cs k ≡ k
   unfolding isStop
-  end-here k h e = place-here k h (rw (eq-eqb (getD cs k 0) 228 e))
+  end-here k h e = place-here k h (rw (eq-eqb (getD cs k 0) c-end-body e))
 
   stop-if : (p : ℕ) → isPlace cs p ≡ true → isStop cs p ≡ true
   unfolding isStop
-  stop-if p e = go (eqb (getD cs p 0) 228)
+  stop-if p e = go (eqb (getD cs p 0) c-end-body)
     where
       go : (b : Bool) → either b (isPlace cs p) ≡ true
       go true = refl
@@ -66,7 +67,7 @@ module _ (cs : List ℕ) where
   mark-on k h e = sym (first-more (λ i. isMark (getD cs i 0)) k (length cs) h refl e)
 
   -- a name or a number whose mark is not that of a statement
-  said-not : (k c d : ℕ) → getD cs k 0 ≡ c → isAlone c ≡ false → eqb c 228 ≡ false → suc k < length cs → getD cs (suc k) 0 ≡ d → isMark d ≡ true → isLead d ≡ false → isStop cs k ≡ false
+  said-not : (k c d : ℕ) → getD cs k 0 ≡ c → isAlone c ≡ false → eqb c c-end-body ≡ false → suc k < length cs → getD cs (suc k) 0 ≡ d → isMark d ≡ true → isLead d ≡ false → isStop cs k ≡ false
   unfolding isStop isPlace
   said-not k c d e a n h f m l =
       let s : k + 1 ≡ suc k = omega arith in
@@ -83,7 +84,7 @@ module _ (cs : List ℕ) where
 pub data Dull : List Item → Type 0 where
   none : Dull []
   mark : {x : Item} {l : List Item} → quiet (codeOf x) ≡ true → Dull l → Dull (x ∷ l)
-  said : {x y : Item} {l : List Item} → isAlone (codeOf x) ≡ false → eqb (codeOf x) 228 ≡ false → quiet (codeOf y) ≡ true → isLead (codeOf y) ≡ false → Dull l → Dull (x ∷ y ∷ l)
+  said : {x y : Item} {l : List Item} → isAlone (codeOf x) ≡ false → eqb (codeOf x) c-end-body ≡ false → quiet (codeOf y) ≡ true → isLead (codeOf y) ≡ false → Dull l → Dull (x ∷ y ∷ l)
 
 quiet-mark : (c : ℕ) → quiet c ≡ true → isMark c ≡ true
 quiet-mark c q = ap (λ b. pick b false true) (quiet-says c q .0)
@@ -210,31 +211,31 @@ module _ (cs : List ℕ) where
   action-place (receive r xs) k p h g b = led-more r i-receive (each code-received xs) (i-end ∷ []) refl refl k p h g b
   action-place (assert e) k p h g b = led-by e i-assert [] refl refl k p h g b
   action-place (print w es) k p h g b = alone p 72 (h .0) refl
-  action-place skip k p h g b = alone p 197 (h .0) refl
+  action-place skip k p h g b = alone p c-skip (h .0) refl
   action-place (goto w) k p h g b = led (i-name w ∷ []) (omega arith) (refl, tt) (k .0, tt) i-goto [] refl refl p h g b
-  action-place break k p h g b = alone p 199 (h .0) refl
-  action-place timeout k p h g b = alone p 200 (h .0) refl
-  action-place else k p h g b = alone p 201 (h .0) refl
+  action-place break k p h g b = alone p c-break (h .0) refl
+  action-place timeout k p h g b = alone p c-timeout (h .0) refl
+  action-place else k p h g b = alone p c-else (h .0) refl
   action-place (run w es) k p h g b = led (i-name w ∷ []) (omega arith) (refl, tt) (k .0, tt) i-run (each code-argument es ++ i-end ∷ []) refl refl p h g b
   action-place (set-run r w es) k p h g b = led-more r i-target (i-name w ∷ i-set-run ∷ each code-argument es) (i-end ∷ []) refl refl k p h g b
-  action-place (select os) k p h g b = alone p 204 (h .0) refl
-  action-place (loop os) k p h g b = alone p 206 (h .0) refl
+  action-place (select os) k p h g b = alone p c-if (h .0) refl
+  action-place (loop os) k p h g b = alone p c-do (h .0) refl
 
   -- an end of an option is no place
-  place-not-end : (p : ℕ) → isPlace cs p ≡ true → getD cs p 0 ≡ 209 → ⊥
+  place-not-end : (p : ℕ) → isPlace cs p ≡ true → getD cs p 0 ≡ c-end-option → ⊥
   unfolding isPlace isAlone isPart
   place-not-end p e z = true-false (sym e ∙ rw z)
 
   action-from : (a : Tree action) → AllKnown (code-tree a) → (p : ℕ) → At cs p (code-tree a) → p + sizeIn a < length cs → isMark (getD cs (p - 1) 0) ≡ true → placeFrom cs p ≡ p
   action-from a k p h g b = place-here cs p (omega arith) (stop-if cs p (action-place a k p h (omega arith) b))
 
-  label-mark : (p : ℕ) → getD cs (suc p) 0 ≡ 188 → isMark (getD cs (p + 2 - 1) 0) ≡ true
+  label-mark : (p : ℕ) → getD cs (suc p) 0 ≡ c-label → isMark (getD cs (p + 2 - 1) 0) ≡ true
   unfolding isPart
   label-mark p e = ap (λ i. isMark (getD cs i 0)) (let z : p + 2 - 1 ≡ suc p = omega arith in z) ∙ rw e
 
   -- behind the first item of a statement, or its label
   pub statement-from : (s : Tree statement) → AllKnown (code-tree s) → (p : ℕ) → At cs p (code-tree s) → p + sizeIn s < length cs → isMark (getD cs (p - 1) 0) ≡ true
-      → (placeFrom cs p ≡ placeIn s p) × (getD cs p 0 ≡ 209 → ⊥)
+      → (placeFrom cs p ≡ placeIn s p) × (getD cs p 0 ≡ c-end-option → ⊥)
   statement-from (bare a) k p h g b = (action-from a k p h g b, place-not-end p (action-place a k p h (omega arith) b))
   statement-from (labelled w a) k p h g b =
       let z : suc (suc p) ≡ p + 2 = omega arith in (

@@ -4,6 +4,7 @@ use native.Mathlib.Omega.{arith}
 use mathlib.Core.Path.{_≡_, refl, ap, _∙_, subst}
 use mathlib.Core.List.{List, [], _++_}
 use lib.ListN.{length, getD, length-append}
+use Rattle.base_codes.specs.Codes.{c-active, c-active-many, c-init, c-proctype}
 use Rattle.spec_grammar.specs.Tree.{Name, Body, Activity, idle, once, times, Model}
 use Rattle.spec_grammar.specs.Code.{Item, each, code-group, code-body, code-activity, code-part, code}
 use Rattle.table_entries.specs.Items.{AllKnown}
@@ -19,7 +20,7 @@ use Rattle.agree_control.proofs.Insides.{Inner, inner-groups}
 
 -- item u begins the unit, and its body b begins at item k
 pub record Whole (cs : List ℕ) (u : ℕ) (b : Body) (k : ℕ) : Type 0 where
-  pub head : (223 ≤ getD cs u 0) × (getD cs u 0 ≤ 226) × (classOf (getD cs u 0) ≡ 12)
+  pub head : (c-proctype ≤ getD cs u 0) × (getD cs u 0 ≤ c-init) × (classOf (getD cs u 0) ≡ 12)
   pub between : List Item
   pub inner : Inner between
   pub all-known : AllKnown between
@@ -34,18 +35,18 @@ pub record Whole (cs : List ℕ) (u : ℕ) (b : Body) (k : ℕ) : Type 0 where
   pub all : k + length (code-body b) + length rest ≡ length cs
 
 module _ (cs : List ℕ) where
-  head-by : (c u j : ℕ) → u ≡ j → getD cs j 0 ≡ c → 223 ≤ c → c ≤ 226 → classOf c ≡ 12 → (223 ≤ getD cs u 0) × (getD cs u 0 ≤ 226) × (classOf (getD cs u 0) ≡ 12)
+  head-by : (c u j : ℕ) → u ≡ j → getD cs j 0 ≡ c → c-proctype ≤ c → c ≤ c-init → classOf c ≡ 12 → (c-proctype ≤ getD cs u 0) × (getD cs u 0 ≤ c-init) × (classOf (getD cs u 0) ≡ 12)
   head-by c u j e h a b d = let z : getD cs u 0 ≡ c = ap (λ i. getD cs i 0) e ∙ h in (omega arith, omega arith, ap classOf z ∙ d)
 
-  heads : (classOf 223 ≡ 12) × (classOf 224 ≡ 12) × (classOf 225 ≡ 12) × (classOf 226 ≡ 12)
+  heads : (classOf c-proctype ≡ 12) × (classOf c-active ≡ 12) × (classOf c-active-many ≡ 12) × (classOf c-init ≡ 12)
   unfolding classOf
   heads = (refl, refl, refl, refl)
 
   activity-head : (x : Activity) (w : Name) (i u : ℕ) → suc u ≡ i + length (code-activity x w) → At cs i (code-activity x w)
-      → (223 ≤ getD cs u 0) × (getD cs u 0 ≤ 226) × (classOf (getD cs u 0) ≡ 12)
-  activity-head idle w i u e h = head-by 223 u (suc i) (omega arith) (h .1 .0) (omega arith) (omega arith) (heads .0)
-  activity-head once w i u e h = head-by 224 u (suc i) (omega arith) (h .1 .0) (omega arith) (omega arith) (heads .1)
-  activity-head (times n) w i u e h = head-by 225 u (suc (suc i)) (omega arith) (h .1 .1 .0) (omega arith) (omega arith) (heads .2)
+      → (c-proctype ≤ getD cs u 0) × (getD cs u 0 ≤ c-init) × (classOf (getD cs u 0) ≡ 12)
+  activity-head idle w i u e h = head-by c-proctype u (suc i) (omega arith) (h .1 .0) (omega arith) (omega arith) (heads .0)
+  activity-head once w i u e h = head-by c-active u (suc i) (omega arith) (h .1 .0) (omega arith) (omega arith) (heads .1)
+  activity-head (times n) w i u e h = head-by c-active-many u (suc (suc i)) (omega arith) (h .1 .1 .0) (omega arith) (omega arith) (heads .2)
 
   pub unit-whole : {m : Model} {i u k : ℕ} {b : Body} → Holds m i u b k → FullModel m → AllKnown (code m) → At cs i (code m) → i + length (code m) ≡ length cs → Whole cs u b k
   unit-whole {i = i} {u = u} {k = k} (in-process {x = x} {w = w} {gs = gs} {b = b} {m = m} e f) fm ka h g =
@@ -78,7 +79,7 @@ module _ (cs : List ℕ) where
       let B = code-body b in
       let n = length-append B (code m) in
       record {
-        head = head-by 226 i i refl (h .0) (omega arith) (omega arith) (heads .3);
+        head = head-by c-init i i refl (h .0) (omega arith) (omega arith) (heads .3);
         between = [];
         inner = tt;
         all-known = tt;

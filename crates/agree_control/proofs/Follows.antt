@@ -7,6 +7,7 @@ use mathlib.Core.List.{List, [], _∷_, _++_}
 use lib.ListN.{length, getD, length-append}
 use lib.Dec.{eqb}
 use borrow.Author.Tests.{eq-eqb, ne-eqb}
+use Rattle.base_codes.specs.Codes.{c-do, c-end-option, c-fi, c-if, c-od, c-option}
 use Rattle.base_bytes.specs.Choice.{pick, both}
 use Rattle.spec_grammar.specs.Tree.{Sort, action, statement, sequence, options, Tree, express, assign, increment, decrement, send, receive, assert, print, skip, goto, break, timeout, else, run, set-run, select, loop, bare, labelled, end, then, option, Name}
 use Rattle.spec_grammar.specs.Code.{Item, i-name, i-text, i-end, i-express, i-target, i-assign, i-increment, i-decrement, i-send, i-receive, i-assert, i-skip, i-goto, i-break, i-timeout, i-else, i-run, i-set-run, i-if, i-fi, i-do, i-od, i-end-option, each, code-exp, code-argument, code-received, code-tree}
@@ -144,19 +145,19 @@ module _ (cs : List ℕ) {i : ℕ} where
       }
 
 -- ---- codes of selections and options
-option-codes : (isClosing 0 205 ≡ true) × (isClosing 0 207 ≡ true) × (isClosing 0 209 ≡ false) × (isOpening 0 209 ≡ false) × (isOpening 0 204 ≡ true) × (isOpening 0 206 ≡ true)
+option-codes : (isClosing 0 c-fi ≡ true) × (isClosing 0 c-od ≡ true) × (isClosing 0 c-end-option ≡ false) × (isOpening 0 c-end-option ≡ false) × (isOpening 0 c-if ≡ true) × (isOpening 0 c-do ≡ true)
 unfolding isClosing isOpening
 option-codes = (refl, refl, refl, refl, refl, refl)
 
-loop-codes : (isClosing 1 205 ≡ false) × (isOpening 1 205 ≡ false) × (isClosing 1 207 ≡ true) × (isClosing 1 209 ≡ false) × (isOpening 1 209 ≡ false)
+loop-codes : (isClosing 1 c-fi ≡ false) × (isOpening 1 c-fi ≡ false) × (isClosing 1 c-od ≡ true) × (isClosing 1 c-end-option ≡ false) × (isOpening 1 c-end-option ≡ false)
 unfolding isClosing isOpening
 loop-codes = (refl, refl, refl, refl, refl)
 
-back-codes : (both (isOpening 0 208) true ≡ false) × (shallower 208 1 ≡ 1) × (both (isOpening 0 209) true ≡ false) × (shallower 209 1 ≡ 1)
+back-codes : (both (isOpening 0 c-option) true ≡ false) × (shallower c-option 1 ≡ 1) × (both (isOpening 0 c-end-option) true ≡ false) × (shallower c-end-option 1 ≡ 1)
 unfolding isClosing isOpening shallower
 back-codes = (refl, refl, refl, refl)
 
-closing-class : (classOf 205 ≡ 7) × (classOf 207 ≡ 7)
+closing-class : (classOf c-fi ≡ 7) × (classOf c-od ≡ 7)
 unfolding classOf
 closing-class = (refl, refl)
 
@@ -175,7 +176,7 @@ module _ (cs vs : List ℕ) (few : length cs ≤ 8192) where
     pub start : ℕ
     pub opened : openOf cs i 1 ≡ start
     pub closed : isClosing 0 (getD cs e 0) ≡ true
-    pub leads : pick (eqb (getD cs start 0) 206) start (getD L e 0) ≡ n
+    pub leads : pick (eqb (getD cs start 0) c-do) start (getD L e 0) ≡ n
     pub small : n ≤ 8192
     pub out : getD L (closeOf cs 1 e) 0 ≡ o
 
@@ -193,13 +194,13 @@ module _ (cs vs : List ℕ) (few : length cs ≤ 8192) where
   move : (d e n o : ℕ) → d ≡ e → Behind d n o → Behind e n o
   move d e n o z b = subst (λ i. Behind i n o) z b
 
-  pub next-plain : (m : List ℕ) (k : ℕ) → (getD cs k 0 ≡ 209 → ⊥) → nextFrom cs m k ≡ placeFrom cs k
+  pub next-plain : (m : List ℕ) (k : ℕ) → (getD cs k 0 ≡ c-end-option → ⊥) → nextFrom cs m k ≡ placeFrom cs k
   unfolding nextFrom
-  next-plain m k z = rw (ne-eqb (getD cs k 0) 209 z)
+  next-plain m k z = rw (ne-eqb (getD cs k 0) c-end-option z)
 
-  next-option : (m : List ℕ) (k : ℕ) → getD cs k 0 ≡ 209 → nextFrom cs m k ≡ pick (eqb (getD cs (openOf cs k 1) 0) 206) (openOf cs k 1) (getD m (closeOf cs 0 k) 0)
+  next-option : (m : List ℕ) (k : ℕ) → getD cs k 0 ≡ c-end-option → nextFrom cs m k ≡ pick (eqb (getD cs (openOf cs k 1) 0) c-do) (openOf cs k 1) (getD m (closeOf cs 0 k) 0)
   unfolding nextFrom pastOption
-  next-option m k z = rw (eq-eqb (getD cs k 0) 209 z)
+  next-option m k z = rw (eq-eqb (getD cs k 0) c-end-option z)
 
   -- ---- selections
   in-selection : {os : Tree options} {i n o : ℕ} → Here cs action (select os) i → Behind (i + sizeIn (select os)) n o → Choices (i + 1) (i + 1 + sizeIn os) n o
@@ -211,11 +212,11 @@ module _ (cs vs : List ℕ) (few : length cs ≤ 8192) where
       let v = move (i + sizeIn (select os)) (e + 1) n o (omega arith) b in
       record {
         start = i;
-        opened = ap (λ j. openOf cs j 1) (let z : i + 1 ≡ suc i = omega arith in z) ∙ back-stop cs i 204 (h .stands .0) (option-codes .4);
+        opened = ap (λ j. openOf cs j 1) (let z : i + 1 ≡ suc i = omega arith in z) ∙ back-stop cs i c-if (h .stands .0) (option-codes .4);
         closed = ap (isClosing 0) c ∙ option-codes .0;
-        leads = ap (λ d. pick (eqb d 206) i (getD L e 0)) (h .stands .0) ∙ link-next e n o (omega arith) (ap classOf c ∙ closing-class .0) v;
+        leads = ap (λ d. pick (eqb d c-do) i (getD L e 0)) (h .stands .0) ∙ link-next e n o (omega arith) (ap classOf c ∙ closing-class .0) v;
         small = b .small;
-        out = ap (λ j. getD L j 0) (close-pass cs 1 e 205 (omega arith) c (loop-codes .0) (loop-codes .1)) ∙ v .out;
+        out = ap (λ j. getD L j 0) (close-pass cs 1 e c-fi (omega arith) c (loop-codes .0) (loop-codes .1)) ∙ v .out;
       }
 
   in-loop : {os : Tree options} {i n o : ℕ} → Here cs action (loop os) i → Behind (i + sizeIn (loop os)) n o → Choices (i + 1) (i + 1 + sizeIn os) i n
@@ -227,11 +228,11 @@ module _ (cs vs : List ℕ) (few : length cs ≤ 8192) where
       let v = move (i + sizeIn (loop os)) (e + 1) n o (omega arith) b in
       record {
         start = i;
-        opened = ap (λ j. openOf cs j 1) (let z : i + 1 ≡ suc i = omega arith in z) ∙ back-stop cs i 206 (h .stands .0) (option-codes .5);
+        opened = ap (λ j. openOf cs j 1) (let z : i + 1 ≡ suc i = omega arith in z) ∙ back-stop cs i c-do (h .stands .0) (option-codes .5);
         closed = ap (isClosing 0) c ∙ option-codes .1;
-        leads = ap (λ d. pick (eqb d 206) i (getD L e 0)) (h .stands .0);
+        leads = ap (λ d. pick (eqb d c-do) i (getD L e 0)) (h .stands .0);
         small = omega arith;
-        out = ap (λ j. getD L j 0) (close-stop cs 1 e 207 (omega arith) c (loop-codes .2)) ∙ link-next e n o (omega arith) (ap classOf c ∙ closing-class .1) v;
+        out = ap (λ j. getD L j 0) (close-stop cs 1 e c-od (omega arith) c (loop-codes .2)) ∙ link-next e n o (omega arith) (ap classOf c ∙ closing-class .1) v;
       }
 
   -- ---- options
@@ -245,7 +246,7 @@ module _ (cs vs : List ℕ) (few : length cs ≤ 8192) where
     size : e ≡ k + 1 + sizeIn os
     size = let l = length-append (code-tree q) (i-end-option ∷ code-tree os) in omega arith
 
-    ending : getD cs k 0 ≡ 209
+    ending : getD cs k 0 ≡ c-end-option
     ending = option-behind cs h .0
 
     others : Here cs options os (i + 2 + sizeIn q)
@@ -256,7 +257,7 @@ module _ (cs vs : List ℕ) (few : length cs ≤ 8192) where
     back-to =
         let g = here-option cs h in
         back cs (tree-balanced q (g .full) (g .known)) (i + 1) 1 (g .stands) (omega arith) ∙ ap (λ j. openOf cs j 1) (let z : i + 1 ≡ suc i = omega arith in z)
-        ∙ back-pass cs i 1 1 208 (h .stands .0) (back-codes .0) (back-codes .1) ∙ c .opened
+        ∙ back-pass cs i 1 1 c-option (h .stands .0) (back-codes .0) (back-codes .1) ∙ c .opened
 
     -- on to the end of the selection
     on-to : (p : ℕ) → closeOf cs p k ≡ closeOf cs p (k + 1) → closeOf cs p (i + 2 + sizeIn q) ≡ closeOf cs p (i + 2 + sizeIn q + sizeIn os) → closeOf cs p k ≡ closeOf cs p e
@@ -269,7 +270,7 @@ module _ (cs vs : List ℕ) (few : length cs ≤ 8192) where
         let s = size in
         let f = h .ends in
         let g = others in
-        on-to 0 (close-pass cs 0 k 209 (omega arith) ending (option-codes .2) (option-codes .3))
+        on-to 0 (close-pass cs 0 k c-end-option (omega arith) ending (option-codes .2) (option-codes .3))
         (close-skip cs selections (tree-balanced os (g .full) (g .known)) (i + 2 + sizeIn q) (g .stands) (omega arith))
         ∙ close-stop cs 0 e (getD cs e 0) f refl (c .closed)
 
@@ -278,7 +279,7 @@ module _ (cs vs : List ℕ) (few : length cs ≤ 8192) where
         let s = size in
         let f = h .ends in
         let g = others in
-        on-to 1 (close-pass cs 1 k 209 (omega arith) ending (loop-codes .3) (loop-codes .4))
+        on-to 1 (close-pass cs 1 k c-end-option (omega arith) ending (loop-codes .3) (loop-codes .4))
         (close-skip cs loops (tree-balanced os (g .full) (g .known)) (i + 2 + sizeIn q) (g .stands) (omega arith))
 
     in-this : Behind k n o
@@ -286,8 +287,8 @@ module _ (cs vs : List ℕ) (few : length cs ≤ 8192) where
         let s = size in
         record {
           goes = λ m a. (
-              next-option m k ending ∙ ap (λ j. pick (eqb (getD cs j 0) 206) j (getD m (closeOf cs 0 k) 0)) back-to
-              ∙ ap (pick (eqb (getD cs (c .start) 0) 206) (c .start)) (ap (λ j. getD m j 0) close-selection ∙ a e (omega arith)) ∙ c .leads);
+              next-option m k ending ∙ ap (λ j. pick (eqb (getD cs j 0) c-do) j (getD m (closeOf cs 0 k) 0)) back-to
+              ∙ ap (pick (eqb (getD cs (c .start) 0) c-do) (c .start)) (ap (λ j. getD m j 0) close-selection ∙ a e (omega arith)) ∙ c .leads);
           small = c .small;
           out = ap (λ j. getD L j 0) close-loop ∙ c .out;
         }
@@ -298,7 +299,7 @@ module _ (cs vs : List ℕ) (few : length cs ≤ 8192) where
         subst (λ j. Choices (i + 2 + sizeIn q) j n o) (let z : e ≡ i + 2 + sizeIn q + sizeIn os = omega arith in z)
         record {
           start = c .start;
-          opened = ap (λ j. openOf cs j 1) (let z : i + 2 + sizeIn q ≡ suc k = omega arith in z) ∙ back-pass cs k 1 1 209 ending (back-codes .2) (back-codes .3) ∙ back-to;
+          opened = ap (λ j. openOf cs j 1) (let z : i + 2 + sizeIn q ≡ suc k = omega arith in z) ∙ back-pass cs k 1 1 c-end-option ending (back-codes .2) (back-codes .3) ∙ back-to;
           closed = c .closed;
           leads = c .leads;
           small = c .small;

@@ -7,6 +7,7 @@ use mathlib.Core.Logic.{_⊎_, inl, inr}
 use mathlib.Core.List.{List, [], _∷_, _++_}
 use lib.Dec.{eqb, ltb}
 use borrow.Author.Tests.{ltb-true}
+use Rattle.base_codes.specs.Codes.{c-end-body, c-or-else, c-proctype}
 use Rattle.base_bytes.specs.Choice.{pick, both, either}
 use Rattle.base_bytes.proofs.Tests.{true-false, both-true, either-true}
 use Rattle.spec_grammar.specs.Tree.{Name, Shape, Exp, plain, indexed, num, tru, fls, get, len, unary, binary, choice, Expr, Received, into, equal, exactly, exactly-true, exactly-false, Sort, Tree, express, assign, increment, decrement, send, receive, assert, print, skip, goto, break, timeout, else, run, set-run, select, loop, bare, labelled, end, then, over, option, Value, unset, set-number, set-minus, set-true, set-false, set-name, set-channel, Variable, variable, Declaration, declare, Group, group}
@@ -17,7 +18,7 @@ use Rattle.link_places.specs.Places.{isPart, isAlone}
 
 -- no part of an expression, no statement that begins with its own mark, and no end of a body
 unfoldable pub quiet : ℕ → Bool
-quiet c = pick (isPart c) false (pick (isAlone c) false (pick (eqb c 228) false true))
+quiet c = pick (isPart c) false (pick (isAlone c) false (pick (eqb c c-end-body) false true))
 
 -- 0 part of an expression, 1 type, 2 another item, 3 what begins a unit, or bounds a body
 unfoldable pub kind : Item → ℕ
@@ -83,7 +84,7 @@ kind i-end-body = 3
 
 -- ---- what the kind of an item of the grammar's table says of its code
 unfoldable fair : Item → Bool
-fair x = both (either (eqb (kind x) 3) (ltb (codeOf x) 223)) (pick (eqb (kind x) 0) (isPart (codeOf x)) (pick (eqb (kind x) 1) (quiet (codeOf x)) true))
+fair x = both (either (eqb (kind x) 3) (ltb (codeOf x) c-proctype)) (pick (eqb (kind x) 0) (isPart (codeOf x)) (pick (eqb (kind x) 1) (quiet (codeOf x)) true))
 
 unfoldable fairs : List Item → Bool
 fairs [] = true
@@ -104,23 +105,23 @@ unfolding fair kind isPart
 known-fair (is-name a b) = refl
 known-fair (is-text a b) = refl
 known-fair is-number = refl
-known-fair (is-mark x a b) = fair-nth items (x - 147) i-plain table-fair refl
+known-fair (is-mark x a b) = fair-nth items (x - c-or-else) i-plain table-fair refl
 
 pub part-known : (x : Item) → Known x → kind x ≡ 0 → isPart (codeOf x) ≡ true
 unfolding fair
-part-known x k e = sym (ap (λ n. pick (eqb n 0) (isPart (codeOf x)) (pick (eqb n 1) (quiet (codeOf x)) true)) e) ∙ both-true (either (eqb (kind x) 3) (ltb (codeOf x) 223)) _ (known-fair k) .1
+part-known x k e = sym (ap (λ n. pick (eqb n 0) (isPart (codeOf x)) (pick (eqb n 1) (quiet (codeOf x)) true)) e) ∙ both-true (either (eqb (kind x) 3) (ltb (codeOf x) c-proctype)) _ (known-fair k) .1
 
 pub type-known : (x : Item) → Known x → kind x ≡ 1 → quiet (codeOf x) ≡ true
 unfolding fair
-type-known x k e = sym (ap (λ n. pick (eqb n 0) (isPart (codeOf x)) (pick (eqb n 1) (quiet (codeOf x)) true)) e) ∙ both-true (either (eqb (kind x) 3) (ltb (codeOf x) 223)) _ (known-fair k) .1
+type-known x k e = sym (ap (λ n. pick (eqb n 0) (isPart (codeOf x)) (pick (eqb n 1) (quiet (codeOf x)) true)) e) ∙ both-true (either (eqb (kind x) 3) (ltb (codeOf x) c-proctype)) _ (known-fair k) .1
 
-pub inner-known : (x : Item) → Known x → eqb (kind x) 3 ≡ false → codeOf x < 223
+pub inner-known : (x : Item) → Known x → eqb (kind x) 3 ≡ false → codeOf x < c-proctype
 unfolding fair
-inner-known x k e = go (either-true (eqb (kind x) 3) (ltb (codeOf x) 223) (both-true (either (eqb (kind x) 3) (ltb (codeOf x) 223)) _ (known-fair k) .0))
+inner-known x k e = go (either-true (eqb (kind x) 3) (ltb (codeOf x) c-proctype) (both-true (either (eqb (kind x) 3) (ltb (codeOf x) c-proctype)) _ (known-fair k) .0))
   where
-    go : (eqb (kind x) 3 ≡ true) ⊎ (ltb (codeOf x) 223 ≡ true) → codeOf x < 223
+    go : (eqb (kind x) 3 ≡ true) ⊎ (ltb (codeOf x) c-proctype ≡ true) → codeOf x < c-proctype
     go (inl h) = absurd (true-false (sym h ∙ e))
-    go (inr h) = ltb-true (codeOf x) 223 h
+    go (inr h) = ltb-true (codeOf x) c-proctype h
 
 -- ---- the items of an expression are parts of one
 abbrev pub Parts : List Item → Type 0

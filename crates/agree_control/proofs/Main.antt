@@ -9,6 +9,7 @@ use mathlib.Core.List.{List, [], _∷_, _++_, map, append-nil}
 use lib.ListN.{length, getD, replicate, length-append, length-map}
 use lib.Dec.{eqb}
 use borrow.Author.Tests.{le-ltb}
+use Rattle.base_codes.specs.Codes.{c-body, c-break, c-end-body, c-init, c-proctype}
 use Rattle.base_bytes.specs.Choice.{pick, both}
 use Rattle.rule_sheets.proofs.Walks.{first-most}
 use Rattle.spec_grammar.specs.Tree.{Name, action, sequence, Tree, express, assign, increment, decrement, send, receive, assert, print, skip, goto, break, timeout, else, run, set-run, select, loop, end, then, Declaration, Body, body}
@@ -84,16 +85,16 @@ unfolding placeFrom
 place-most cs k h = let m = first-most (isStop cs) k (length cs - k) in omega arith
 
 -- ---- codes
-body-codes : (isMark 227 ≡ true) × (isClosing 3 227 ≡ false) × (isOpening 3 227 ≡ false) × (isClosing 3 228 ≡ true)
+body-codes : (isMark c-body ≡ true) × (isClosing 3 c-body ≡ false) × (isOpening 3 c-body ≡ false) × (isClosing 3 c-end-body ≡ true)
 unfolding isPart isClosing isOpening
 body-codes = (refl, refl, refl, refl)
 
-loop-codes : (isClosing 1 228 ≡ false) × (isOpening 1 228 ≡ false) × (isClosing 1 199 ≡ false) × (isOpening 1 199 ≡ false)
+loop-codes : (isClosing 1 c-end-body ≡ false) × (isOpening 1 c-end-body ≡ false) × (isClosing 1 c-break ≡ false) × (isOpening 1 c-break ≡ false)
 unfolding isClosing isOpening
 loop-codes = (refl, refl, refl, refl)
 
 -- where a sequence leads that begins at item s and ends before item e, the end of a body
-enter-from : (cs : List ℕ) (q : Tree sequence) (s e : ℕ) → Here cs sequence q s → e ≡ s + sizeIn q → getD cs e 0 ≡ 228 → isMark (getD cs (s - 1) 0) ≡ true → placeFrom cs s ≡ enter q s e
+enter-from : (cs : List ℕ) (q : Tree sequence) (s e : ℕ) → Here cs sequence q s → e ≡ s + sizeIn q → getD cs e 0 ≡ c-end-body → isMark (getD cs (s - 1) 0) ≡ true → placeFrom cs s ≡ enter q s e
 enter-from cs end s e h z c m = let g = h .ends in let w : s ≡ e = omega arith in ap (placeFrom cs) w ∙ end-here cs e (omega arith) c
 enter-from cs (then r q) s e h z c m = let f = here-first cs h in statement-from cs r (f .known) s (f .stands) (f .ends) m .0
 
@@ -120,7 +121,7 @@ module _ (cs vs : List ℕ) (few : length cs ≤ 8192) {u k : ℕ} (ds : List De
   known : AllKnown (D ++ code-tree q)
   known = known-front (D ++ code-tree q) (i-end-body ∷ []) (w .known .1)
 
-  at-end : getD cs e 0 ≡ 228
+  at-end : getD cs e 0 ≡ c-end-body
   at-end = let b = length-append D (code-tree q) in at-back cs (D ++ code-tree q) (i-end-body ∷ []) (suc k) e (omega arith) (w .stands .1) .0
 
   here : Here cs sequence q s
@@ -133,9 +134,9 @@ module _ (cs vs : List ℕ) (few : length cs ≤ 8192) {u k : ℕ} (ds : List De
       let f = fits in
       let b = length-append D (code-tree q) in
       ap (closeOf cs 3) (let z : u + 1 ≡ suc u = omega arith in z) ∙ close-inner cs (w .between) (w .inner) (w .all-known) (suc u) (w .behind-head) (omega arith) ∙ ap (closeOf cs 3) (sym p)
-      ∙ close-pass cs 3 k 227 (omega arith) (w .stands .0) (body-codes .1) (body-codes .2) ∙ ap (closeOf cs 3) (let z : k + 1 ≡ suc k = omega arith in z)
+      ∙ close-pass cs 3 k c-body (omega arith) (w .stands .0) (body-codes .1) (body-codes .2) ∙ ap (closeOf cs 3) (let z : k + 1 ≡ suc k = omega arith in z)
       ∙ close-inner cs (D ++ code-tree q) (inner-append D (code-tree q) (inner-declarations ds) (inner-tree q)) known (suc k) front (omega arith)
-      ∙ ap (closeOf cs 3) (let z : suc k + length (D ++ code-tree q) ≡ e = omega arith in z) ∙ close-stop cs 3 e 228 f at-end (body-codes .3)
+      ∙ ap (closeOf cs 3) (let z : suc k + length (D ++ code-tree q) ≡ e = omega arith in z) ∙ close-stop cs 3 e c-end-body f at-end (body-codes .3)
 
   unit-link : (m : List ℕ) (c : ℕ) → c ≡ 12 → linkBy cs vs (homes cs) (starts cs) c m u ≡ closeOf cs 3 (u + 1)
   unfolding linkBy
@@ -158,7 +159,7 @@ module _ (cs vs : List ℕ) (few : length cs ≤ 8192) {u k : ℕ} (ds : List De
       ∙ enter-from cs q s e here refl at-end
       (ap (λ i. isMark (getD cs i 0)) (let z : s - 1 ≡ k + length D = omega arith in z) ∙ dull-last cs d k (ap isMark (w .stands .0) ∙ body-codes .0) h)
 
-  body-link : (m : List ℕ) → linkBy cs vs (homes cs) (starts cs) (classOf 227) m k ≡ placeFrom cs (k + 1)
+  body-link : (m : List ℕ) → linkBy cs vs (homes cs) (starts cs) (classOf c-body) m k ≡ placeFrom cs (k + 1)
   unfolding linkBy classOf
   body-link m = refl
 
@@ -182,7 +183,7 @@ module _ (cs vs : List ℕ) (few : length cs ≤ 8192) {u k : ℕ} (ds : List De
         small = omega arith;
         out =
             ap (λ i. getD (linksIn cs vs) i 0)
-            (close-pass cs 1 e 228 f at-end (loop-codes .0) (loop-codes .1) ∙ ap (closeOf cs 1) n
+            (close-pass cs 1 e c-end-body f at-end (loop-codes .0) (loop-codes .1) ∙ ap (closeOf cs 1) n
             ∙ close-skip cs loops (w .balanced) (k + length (code-body (body ds q))) (w .behind) (omega arith) ∙ ap (closeOf cs 1) b ∙ close-last cs 1)
             ∙ links-past cs vs few (length cs) (omega arith);
       }
@@ -201,7 +202,7 @@ module _ (cs vs : List ℕ) (few : length cs ≤ 8192) where
       link-next cs vs few (j + sizeIn x - 1) n o (omega arith) (ap classOf (r .1) ∙ ended x .onward w)
       (subst (λ i. Behind cs vs few i n o) (let z : j + sizeIn x ≡ j + sizeIn x - 1 + 1 = omega arith in z) b)
 
-  break-link : (m : List ℕ) (j : ℕ) → linkBy cs vs (homes cs) (starts cs) (classOf 199) m j ≡ getD m (closeOf cs 1 j) 0
+  break-link : (m : List ℕ) (j : ℕ) → linkBy cs vs (homes cs) (starts cs) (classOf c-break) m j ≡ getD m (closeOf cs 1 j) 0
   unfolding linkBy classOf pastLoop
   break-link m j = refl
 
@@ -209,7 +210,7 @@ module _ (cs vs : List ℕ) (few : length cs ≤ 8192) where
   break-at j n o b h =
       let e = h .ends in
       let l = link-is cs vs j few (omega arith) in
-      let c = close-pass cs 1 j 199 (omega arith) (h .stands .0) (loop-codes .2) (loop-codes .3) in
+      let c = close-pass cs 1 j c-break (omega arith) (h .stands .0) (loop-codes .2) (loop-codes .3) in
       let g = close-behind cs 1 (j + 1) in
       let y = links-small cs vs few (closeOf cs 1 (j + 1)) in
       let v : getD (linksIn cs vs) (closeOf cs 1 (j + 1)) 0 ≡ o = b .out in
@@ -240,7 +241,7 @@ module _ (t : List ℕ) (a : Accepts t) where
   whole : {u k : ℕ} {b : Body} → Holds (a .tree) 0 u b k → Whole C u b k
   whole p = unit-whole C p (full-model (a .gram)) (accepted-known t (a .parts) (a .tree) (a .reads) (a .gram)) all-at long
 
-  unit-by : (b : Body) {u k : ℕ} → Whole C u b k → (linkOf T u ≡ endIn b k) × (codeOf T (endIn b k) ≡ 228) × (223 ≤ codeOf T u) × (codeOf T u ≤ 226)
+  unit-by : (b : Body) {u k : ℕ} → Whole C u b k → (linkOf T u ≡ endIn b k) × (codeOf T (endIn b k) ≡ c-end-body) × (c-proctype ≤ codeOf T u) × (codeOf T u ≤ c-init)
   unit-by (body ds q) {u} {k} w =
       let f = fits C S (H .few) ds q w in
       let p = w .place in
@@ -256,7 +257,7 @@ module _ (t : List ℕ) (a : Accepts t) where
 
   -- the item that begins a unit links to the end of its body
   pub text-unit : {u k : ℕ} {b : Body} → Holds (a .tree) 0 u b k
-      → (linkOf (tablesText t) u ≡ endIn b k) × (codeOf (tablesText t) (endIn b k) ≡ 228) × (223 ≤ codeOf (tablesText t) u) × (codeOf (tablesText t) u ≤ 226)
+      → (linkOf (tablesText t) u ≡ endIn b k) × (codeOf (tablesText t) (endIn b k) ≡ c-end-body) × (c-proctype ≤ codeOf (tablesText t) u) × (codeOf (tablesText t) u ≤ c-init)
   text-unit {b = b} p = unit-by b (whole p)
 
   -- a body links to its first statement

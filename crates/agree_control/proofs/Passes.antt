@@ -8,6 +8,7 @@ use mathlib.Core.List.{List, [], _∷_, _++_}
 use lib.ListN.{length, getD, length-append}
 use lib.Dec.{eqb}
 use borrow.Author.Tests.{ne-eqb}
+use Rattle.base_codes.specs.Codes.{c-do, c-end-body, c-end-option, c-fi, c-if, c-od, c-proctype}
 use Rattle.base_bytes.specs.Choice.{both}
 use Rattle.spec_grammar.specs.Code.{Item}
 use Rattle.table_entries.specs.Items.{codeOf, AllKnown}
@@ -28,16 +29,16 @@ module _ (cs : List ℕ) where
   unfolding openOf
   back-stop k c e h = rw (e, h)
 
-neither-is : (c a : ℕ) → 204 ≤ a → a ≤ 209 → (c < 204) ⊎ (209 < c) → eqb c a ≡ false
+neither-is : (c a : ℕ) → c-if ≤ a → a ≤ c-end-option → (c < c-if) ⊎ (c-end-option < c) → eqb c a ≡ false
 neither-is c a g k (inl h) = ne-eqb c a (λ e. omega arith)
 neither-is c a g k (inr h) = ne-eqb c a (λ e. omega arith)
 
-neither-back : (c d : ℕ) → (c < 204) ⊎ (209 < c) → (both (isOpening 0 c) (eqb d 1) ≡ false) × (shallower c d ≡ d)
+neither-back : (c d : ℕ) → (c < c-if) ⊎ (c-end-option < c) → (both (isOpening 0 c) (eqb d 1) ≡ false) × (shallower c d ≡ d)
 unfolding isOpening isClosing shallower
 neither-back c d t =
-    let i = neither-is c 204 (omega arith) (omega arith) t in
-    let j = neither-is c 206 (omega arith) (omega arith) t in
-    (rw (i, j), rw (i, neither-is c 205 (omega arith) (omega arith) t, j, neither-is c 207 (omega arith) (omega arith) t))
+    let i = neither-is c c-if (omega arith) (omega arith) t in
+    let j = neither-is c c-do (omega arith) (omega arith) t in
+    (rw (i, j), rw (i, neither-is c c-fi (omega arith) (omega arith) t, j, neither-is c c-od (omega arith) (omega arith) t))
 
 -- what closes, and what opens, where d are open: how many are open between them
 record Around (d : ℕ) (x y : Item) : Type 0 where
@@ -93,9 +94,9 @@ module _ (cs : List ℕ) where
   close-stop p k c h e f = let z : length cs - k ≡ suc (length cs - (k + 1)) = omega arith in ap (closeFrom cs p k 1) z ∙ stop cs p k (length cs - (k + 1)) c e f
 
   -- ---- the end of a body
-  inner-closes-not : (c : ℕ) → c < 223 → (isClosing 3 c ≡ false) × (isOpening 3 c ≡ false)
+  inner-closes-not : (c : ℕ) → c < c-proctype → (isClosing 3 c ≡ false) × (isOpening 3 c ≡ false)
   unfolding isClosing isOpening
-  inner-closes-not c h = (ne-eqb c 228 (λ e. omega arith), refl)
+  inner-closes-not c h = (ne-eqb c c-end-body (λ e. omega arith), refl)
 
   pub close-inner : (l : List Item) → Inner l → AllKnown l → (k : ℕ) → At cs k l → k + length l ≤ length cs → closeOf cs 3 k ≡ closeOf cs 3 (k + length l)
   close-inner [] n a k h g = ap (closeOf cs 3) (let z : k ≡ k + 0 = omega arith in z)

@@ -7,6 +7,7 @@ use mathlib.Core.Logic.{_⊎_, inl, inr}
 use mathlib.Core.List.{List, [], _∷_, _++_}
 use lib.ListN.{length, getD, length-append}
 use lib.Dec.{eqb}
+use Rattle.base_codes.specs.Codes.{c-assert, c-assign, c-break, c-do, c-else, c-express, c-goto, c-if, c-run, c-set-run, c-skip, c-target, c-timeout}
 use Rattle.base_bytes.specs.Choice.{pick}
 use Rattle.spec_grammar.specs.Tree.{Name, Shape, Exp, Expr}
 use Rattle.spec_grammar.specs.Code.{Item, i-name, i-plain, i-target, i-assign, i-set-run, code-exp, code}
@@ -43,7 +44,7 @@ name-class : classOf 70 ≡ 5
 unfolding classOf
 name-class = refl
 
-target-class : classOf 190 ≡ 5
+target-class : classOf c-target ≡ 5
 unfolding classOf
 target-class = refl
 
@@ -55,21 +56,21 @@ name-part : isMark 70 ≡ false
 unfolding isPart
 name-part = refl
 
-assign-mark : isMark 191 ≡ true
+assign-mark : isMark c-assign ≡ true
 unfolding isPart
 assign-mark = refl
 
-set-run-mark : isMark 203 ≡ true
+set-run-mark : isMark c-set-run ≡ true
 unfolding isPart
 set-run-mark = refl
 
 -- express, assert, goto
-pub marks : (isMark 189 ≡ true) × (isMark 196 ≡ true) × (isMark 198 ≡ true)
+pub marks : (isMark c-express ≡ true) × (isMark c-assert ≡ true) × (isMark c-goto ≡ true)
 unfolding isPart
 marks = (refl, refl, refl)
 
 -- skip, break, timeout, else, if, do
-pub alones : (isAlone 197 ≡ true) × (isAlone 199 ≡ true) × (isAlone 200 ≡ true) × (isAlone 201 ≡ true) × (isAlone 204 ≡ true) × (isAlone 206 ≡ true)
+pub alones : (isAlone c-skip ≡ true) × (isAlone c-break ≡ true) × (isAlone c-timeout ≡ true) × (isAlone c-else ≡ true) × (isAlone c-if ≡ true) × (isAlone c-do ≡ true)
 unfolding isAlone
 alones = (refl, refl, refl, refl, refl, refl)
 
@@ -119,7 +120,7 @@ module _ (t : List ℕ) (a : Accepts t) where
       (λ y u v. let z : y ≡ suc m = omega arith in ap (λ n. isMark (getD C n 0)) z ∙ ap isMark (c .1 .0) ∙ name-part) (ap (λ n. isMark (getD C n 0)) e ∙ ap isMark (c .1 .1 .0) ∙ set-run-mark)
 
   -- ---- a run links to its proctype
-  run-link : (m : List ℕ) (j : ℕ) → (getD C j 0 ≡ 202) ⊎ (getD C j 0 ≡ 203) → linkBy C (saidAt t a) (homes C) (starts C) (classOf (getD C j 0)) m j ≡ globalOf C (saidAt t a) (homes C) (j - 1)
+  run-link : (m : List ℕ) (j : ℕ) → (getD C j 0 ≡ c-run) ⊎ (getD C j 0 ≡ c-set-run) → linkBy C (saidAt t a) (homes C) (starts C) (classOf (getD C j 0)) m j ≡ globalOf C (saidAt t a) (homes C) (j - 1)
   unfolding linkBy classOf
   run-link m j (inl e) = rw e
   run-link m j (inr e) = rw e
@@ -139,7 +140,7 @@ module _ (t : List ℕ) (a : Accepts t) where
   unfolding globalOf unitAt
   global-unit w i h e = ap (λ n. find C (saidAt t a) (homesAt t a) 1 n 0 (length C)) (sym (first-said t a w i h e))
 
-  pub run-unit : (w : Name) (x : Item) (l : List Item) (i : ℕ) → Here t a (i-name w ∷ x ∷ l) i → (items.codeOf x ≡ 202) ⊎ (items.codeOf x ≡ 203) → linkOf (tablesText t) (i + 1) ≡ unitAt t a w
+  pub run-unit : (w : Name) (x : Item) (l : List Item) (i : ℕ) → Here t a (i-name w ∷ x ∷ l) i → (items.codeOf x ≡ c-run) ⊎ (items.codeOf x ≡ c-set-run) → linkOf (tablesText t) (i + 1) ≡ unitAt t a w
   run-unit w x l i p v =
       let K = text-facts t a in
       let n = ends-there t a (i-name w ∷ x ∷ l) i p in
@@ -155,6 +156,6 @@ module _ (t : List ℕ) (a : Accepts t) where
       c : getD C (i + 1) 0 ≡ items.codeOf x
       c = let y : i + 1 ≡ suc i = omega arith in ap (λ n. getD C n 0) y ∙ at-there t a (i-name w ∷ x ∷ l) i p .1 .0
 
-      coded : (items.codeOf x ≡ 202) ⊎ (items.codeOf x ≡ 203) → (getD C (i + 1) 0 ≡ 202) ⊎ (getD C (i + 1) 0 ≡ 203)
+      coded : (items.codeOf x ≡ c-run) ⊎ (items.codeOf x ≡ c-set-run) → (getD C (i + 1) 0 ≡ c-run) ⊎ (getD C (i + 1) 0 ≡ c-set-run)
       coded (inl e) = inl (c ∙ e)
       coded (inr e) = inr (c ∙ e)

@@ -5,6 +5,7 @@ use mathlib.Core.Path.{_≡_, refl, ap, subst}
 use mathlib.Core.List.{List, [], _∷_, _++_}
 use lib.ListN.{length, length-append}
 use lib.IntN.{ℤ}
+use Rattle.base_codes.specs.Codes.{c-declared}
 use Rattle.spec_grammar.specs.Tree.{Name, Shape, Exp, Expr, Received, into, equal, exactly, exactly-true, exactly-false, Sort, action, sequence, Tree, express, assign, increment, decrement, send, receive, assert, print, skip, goto, break, timeout, else, run, set-run, select, loop, bare, labelled, end, then, over, option, Body}
 use Rattle.spec_grammar.specs.Code.{Item, i-name, i-number, i-text, i-true, i-false, i-argument, i-into, i-equal, i-constant, i-end, i-label, i-express, i-target, i-assign, i-increment, i-decrement, i-send, i-receive, i-assert, i-skip, i-goto, i-break, i-timeout, i-else, i-run, i-set-run, i-if, i-fi, i-do, i-od, i-option, i-end-option, each, code-exp, code-argument, code-received, code-tree, code-body, code}
 use Rattle.table_entries.specs.Items as items
@@ -35,7 +36,7 @@ module _ (t : List ℕ) (a : Accepts t) where
   calm-none : Calm []
   calm-none i p y u v = absurd (omega arith)
 
-  calm-item : (x : Item) → items.codeOf x < 212 → Calm (x ∷ [])
+  calm-item : (x : Item) → items.codeOf x < c-declared → Calm (x ∷ [])
   calm-item x h i p = quiet-mark t a x [] i p h
 
   calm-join : (x y : List Item) → Calm x → Calm y → Calm (x ++ y)
@@ -50,10 +51,10 @@ module _ (t : List ℕ) (a : Accepts t) where
       let l = low-at (codesAt t a) (code-exp e) i y (phrase-inside e (text-proper t a e (p .front) (p .rest) (p .split))) (at-there t a (code-exp e) i p) u v in omega arith
 
   -- an expression and its mark
-  calm-phrase : {k : Shape} (e : Exp k) (x : Item) → items.codeOf x < 212 → Calm (code-exp e ++ x ∷ [])
+  calm-phrase : {k : Shape} (e : Exp k) (x : Item) → items.codeOf x < c-declared → Calm (code-exp e ++ x ∷ [])
   calm-phrase e x h = calm-join (code-exp e) (x ∷ []) (calm-exp e) (calm-item x h)
 
-  calm-two : (x y : Item) → items.codeOf x < 212 → items.codeOf y < 212 → Calm (x ∷ y ∷ [])
+  calm-two : (x y : Item) → items.codeOf x < c-declared → items.codeOf y < c-declared → Calm (x ∷ y ∷ [])
   calm-two x y h g = calm-join (x ∷ []) (y ∷ []) (calm-item x h) (calm-item y g)
 
   calm-each : {A : Type 0} (f : A → List Item) → ((x : A) → Calm (f x)) → (l : List A) → Calm (each f l)
@@ -68,10 +69,10 @@ module _ (t : List ℕ) (a : Accepts t) where
   calm-received exactly-false = calm-two i-false i-constant (omega arith) (omega arith)
 
   -- what begins a list of items
-  calm-first : (x : Item) (l : List Item) → items.codeOf x < 212 → Calm l → Calm (x ∷ l)
+  calm-first : (x : Item) (l : List Item) → items.codeOf x < c-declared → Calm l → Calm (x ∷ l)
   calm-first x l h f = calm-join (x ∷ []) l (calm-item x h) f
 
-  calm-last : (l : List Item) (x : Item) → items.codeOf x < 212 → Calm l → Calm (l ++ x ∷ [])
+  calm-last : (l : List Item) (x : Item) → items.codeOf x < c-declared → Calm l → Calm (l ++ x ∷ [])
   calm-last l x h f = calm-join l (x ∷ []) f (calm-item x h)
 
   calm-arguments : (es : List Expr) → Calm (each code-argument es)

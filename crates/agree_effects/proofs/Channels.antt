@@ -8,6 +8,7 @@ use mathlib.Core.List.{List}
 use lib.IntN.{ℤ}
 use lib.Dec.{eqb}
 use borrow.Author.Tests.{eq-eqb, ne-eqb, eqb-true}
+use Rattle.base_codes.specs.Codes.{c-field}
 use Rattle.base_bytes.specs.Choice.{pick}
 use Rattle.table_layout.specs.Access.{codeOf, linkOf}
 use Rattle.base_values.specs.declared.Fault.the-variants.{Channel, Fields}
@@ -37,7 +38,7 @@ Arrived (astray f) = ⊥
 -- "message fields 1 to 4"
 fields-most : (t : List ℕ) (d : ℕ) → fieldsOf t d ≤ 4
 unfolding fieldsOf
-fields-most t d = go (eqb (codeOf t (d + 2)) 218) (eqb (codeOf t (d + 4)) 218) (eqb (codeOf t (d + 6)) 218) (eqb (codeOf t (d + 8)) 218)
+fields-most t d = go (eqb (codeOf t (d + 2)) c-field) (eqb (codeOf t (d + 4)) c-field) (eqb (codeOf t (d + 6)) c-field) (eqb (codeOf t (d + 8)) c-field)
   where
     go : (x y z w : Bool) → pick {A = ℕ} x (pick y (pick z (pick w 4 3) 2) 1) 0 ≤ 4
     go false y z w = omega arith

@@ -9,6 +9,7 @@ use lib.ListN.{length, getD, set, replicate, length-set, length-replicate}
 use lib.Seq.{getD-set-same, getD-set-other}
 use lib.IntN.{ℤ}
 use borrow.Author.Tests.{eq-eqb, ne-eqb}
+use Rattle.base_codes.specs.Codes.{c-end}
 use Rattle.table_layout.specs.Access.{codeOf}
 use Rattle.base_values.specs.declared.Answer.{Answer}
 use Rattle.base_values.specs.declared.Answer.the-variants.{Value, Fails}
@@ -104,18 +105,18 @@ module _ (t : List ℕ) (decl : Name → ℕ) where
   pub count-is : {es : List Expr} {a z : ℕ} → Passed t decl es a z → (n : ℕ) → argumentsFrom t n a ≡ min n (length es)
   unfolding argumentsFrom
   count-is (no-more e) zero = refl
-  count-is (no-more {a = a} e) (suc n) = rw (eq-eqb (codeOf t a) 187 e) (let z : 0 ≡ min (suc n) 0 = omega arith in z)
+  count-is (no-more {a = a} e) (suc n) = rw (eq-eqb (codeOf t a) c-end e) (let z : 0 ≡ min (suc n) 0 = omega arith in z)
   count-is (one-more {es = es} m c l v r) zero = let z : 0 ≡ min 0 (suc (length es)) = omega arith in z
   count-is (one-more {es = es} {a = a} m c l v r) (suc n) =
-      rw (ne-eqb (codeOf t a) 187 c) (ap (λ k. 1 + argumentsFrom t n (k + 1)) l ∙ ap (1 +_) (count-is r n) ∙ (let z : 1 + min n (length es) ≡ min (suc n) (suc (length es)) = omega arith in z))
+      rw (ne-eqb (codeOf t a) c-end c) (ap (λ k. 1 + argumentsFrom t n (k + 1)) l ∙ ap (1 +_) (count-is r n) ∙ (let z : 1 + min n (length es) ≡ min (suc n) (suc (length es)) = omega arith in z))
 
   -- where they end
   pub end-is : {es : List Expr} {a z : ℕ} → Passed t decl es a z → (n : ℕ) → length es ≤ n → endFrom t n a ≡ z
   unfolding endFrom
   end-is (no-more e) zero h = refl
-  end-is (no-more {a = a} e) (suc n) h = rw (eq-eqb (codeOf t a) 187 e)
+  end-is (no-more {a = a} e) (suc n) h = rw (eq-eqb (codeOf t a) c-end e)
   end-is (one-more m c l v r) zero h = absurd (omega arith)
-  end-is (one-more {a = a} m c l v r) (suc n) h = rw (ne-eqb (codeOf t a) 187 c) (ap (λ k. endFrom t n (k + 1)) l ∙ end-is r n (omega arith))
+  end-is (one-more {a = a} m c l v r) (suc n) h = rw (ne-eqb (codeOf t a) c-end c) (ap (λ k. endFrom t n (k + 1)) l ∙ end-is r n (omega arith))
 
   module _ (s : List ℤ) (p : ℕ) where
     abbrev scene : Scene
@@ -124,10 +125,10 @@ module _ (t : List ℕ) (decl : Name → ℕ) where
     pub gather-ends : {es : List Expr} {a z : ℕ} → Passed t decl es a z → (n : ℕ) → length es ≤ n → gatherEnd t s p n a ≡ endBy z (values (sceneOf t s p decl) es)
     unfolding gatherEnd values
     gather-ends (no-more e) zero h = refl
-    gather-ends (no-more {a = a} e) (suc n) h = rw (eq-eqb (codeOf t a) 187 e)
+    gather-ends (no-more {a = a} e) (suc n) h = rw (eq-eqb (codeOf t a) c-end e)
     gather-ends (one-more m c l v r) zero h = absurd (omega arith)
     gather-ends (one-more {e = e} {es = es} {a = a} {z = z} m c l v r) (suc n) h =
-        rw (ne-eqb (codeOf t a) 187 c) (ap (λ k. onValue (evalOf t s p a k) (λ w. gatherEnd t s p n (k + 1)) (λ f. Failed f)) l
+        rw (ne-eqb (codeOf t a) c-end c) (ap (λ k. onValue (evalOf t s p a k) (λ w. gatherEnd t s p n (k + 1)) (λ f. Failed f)) l
         ∙ ap (λ y. onValue y (λ w. gatherEnd t s p n (m + 1)) (λ f. Failed f)) (v s p) ∙ go (eval scene e) (values scene es) (gather-ends r n (omega arith)))
       where
         go : (y : Answer) (q : Values) → gatherEnd t s p n (m + 1) ≡ endBy z q → onValue y (λ w. gatherEnd t s p n (m + 1)) (λ f. Failed f) ≡ endBy z (valuesBy y q)
@@ -138,10 +139,10 @@ module _ (t : List ℕ) (decl : Name → ℕ) where
         → gatherList t s p n a k x ≡ fill x k (listed (values (sceneOf t s p decl) es))
     unfolding gatherList values
     gather-fills (no-more e) zero h k x w = refl
-    gather-fills (no-more {a = a} e) (suc n) h k x w = rw (eq-eqb (codeOf t a) 187 e)
+    gather-fills (no-more {a = a} e) (suc n) h k x w = rw (eq-eqb (codeOf t a) c-end e)
     gather-fills (one-more m c l v r) zero h k x w = absurd (omega arith)
     gather-fills (one-more {e = e} {es = es} {a = a} {z = z} m c l v r) (suc n) h k x w =
-        rw (ne-eqb (codeOf t a) 187 c) (ap (λ j. onValue (evalOf t s p a j) (λ u. gatherList t s p n (j + 1) (k + 1) (set x k u)) (λ f. x)) l
+        rw (ne-eqb (codeOf t a) c-end c) (ap (λ j. onValue (evalOf t s p a j) (λ u. gatherList t s p n (j + 1) (k + 1) (set x k u)) (λ f. x)) l
         ∙ ap (λ y. onValue y (λ u. gatherList t s p n (m + 1) (k + 1) (set x k u)) (λ f. x)) (v s p)
         ∙ go (eval scene e) (values scene es) w (λ u. gather-fills r n (omega arith) (k + 1) (set x k u)))
       where

@@ -6,6 +6,7 @@ use mathlib.Core.Bool.{true}
 use mathlib.Core.List.{List, [], _∷_, _++_, append-assoc}
 use lib.ListN.{length, getD, length-append}
 use lib.IntN.{ℤ}
+use Rattle.base_codes.specs.Codes.{c-declared, c-into}
 use Rattle.spec_grammar.specs.Tree.{Shape, Exp, Expr, Received, into, equal, exactly, exactly-true, exactly-false, num, tru, fls, get}
 use Rattle.spec_grammar.specs.Code.{Item, i-argument, i-into, i-equal, i-constant, i-end, each, code-exp, code-argument, code-received, code}
 use Rattle.table_entries.specs.Items as items
@@ -38,12 +39,12 @@ module _ (t : List ℕ) (a : Accepts t) where
   abbrev T : List ℕ
   T = tablesText t
 
-  pub quiet-mark : (x : Item) (l : List Item) (m : ℕ) → Here t a (x ∷ l) m → items.codeOf x < 212 → Quiet t a m (m + 1)
+  pub quiet-mark : (x : Item) (l : List Item) (m : ℕ) → Here t a (x ∷ l) m → items.codeOf x < c-declared → Quiet t a m (m + 1)
   quiet-mark x l m p h y u v =
       let z : y ≡ m = omega arith in let e : getD (codesAt t a) y 0 ≡ items.codeOf x = ap (λ n. getD (codesAt t a) n 0) z ∙ at-there t a (x ∷ l) m p .0 in omega arith
 
   -- a phrase and its mark declare nothing
-  pub quiet-phrase : (j i : ℕ) → Quiet t a j i → {k : Shape} (e : Exp k) (x : Item) (z : List Item) → Here t a (code-exp e ++ x ∷ z) i → items.codeOf x < 212 → Quiet t a j (i + sizeIn e + 1)
+  pub quiet-phrase : (j i : ℕ) → Quiet t a j i → {k : Shape} (e : Exp k) (x : Item) (z : List Item) → Here t a (code-exp e ++ x ∷ z) i → items.codeOf x < c-declared → Quiet t a j (i + sizeIn e + 1)
   quiet-phrase j i q e x z p h =
       quiet-join t a j i (i + sizeIn e + 1) q
       (quiet-join t a i (i + sizeIn e) (i + sizeIn e + 1) (quiet-there t a e x z i p) (quiet-mark x z (i + sizeIn e) (lying-back xs (code-exp e) (x ∷ z) 0 i (i + sizeIn e) refl p) h))
@@ -77,7 +78,7 @@ module _ (t : List ℕ) (a : Accepts t) where
       (omega arith))
 
   -- ---- received arguments
-  compared : (j b : ℕ) (y : List Item) (e : Expr) (x : Item) → (items.codeOf x ≡ 184 → ⊥) → Here t a (code-exp e ++ x ∷ y) b
+  compared : (j b : ℕ) (y : List Item) (e : Expr) (x : Item) → (items.codeOf x ≡ c-into → ⊥) → Here t a (code-exp e ++ x ∷ y) b
       → ((s : List ℤ) (p : ℕ) → evalOf T s p b (b + sizeIn e) ≡ eval (sceneOf T s p (declAt t a j)) e) → Compared T (declAt t a j) e b (b + sizeIn e)
   compared j b y e x n p w = record { mark = λ c. n (sym (mark-code e x y b p) ∙ c); worked = w }
 
@@ -103,7 +104,7 @@ module _ (t : List ℕ) (a : Accepts t) where
   received-code exactly-true = refl
   received-code exactly-false = refl
 
-  marked-mark : (x : Received) → (isMark (items.codeOf (marked x)) ≡ true) × (items.codeOf (marked x) < 212)
+  marked-mark : (x : Received) → (isMark (items.codeOf (marked x)) ≡ true) × (items.codeOf (marked x) < c-declared)
   unfolding isPart
   marked-mark (into r) = (refl, omega arith)
   marked-mark (equal e) = (refl, omega arith)

@@ -9,6 +9,7 @@ use mathlib.Core.List.{List, [], _∷_, _++_}
 use lib.ListN.{length, getD}
 use lib.Dec.{eqb, ltb}
 use borrow.Author.Tests.{ltb-true, ltb-false, le-leb, eqb-true}
+use Rattle.base_codes.specs.Codes.{c-argument, c-bit, c-choice, c-complement, c-end, c-false, c-int, c-or-else, c-plain, c-true}
 use Rattle.base_bytes.specs.Choice.{pick, both, either}
 use Rattle.base_bytes.proofs.Tests.{both-true, either-true, true-false}
 use Rattle.spec_grammar.specs.Tree.{Shape, Exp, plain, indexed, num, tru, fls, get, len, unary, binary, choice}
@@ -36,8 +37,8 @@ use Rattle.keep_tables.proofs.Firsts.{First, first-is, first-most}
 pub data Leaf : ℕ → Type 0 where
   a-name : Leaf 70
   a-number : Leaf 71
-  a-true : Leaf 178
-  a-false : Leaf 179
+  a-true : Leaf c-true
+  a-false : Leaf c-false
 
 pub leaf-class : {c : ℕ} → Leaf c → classOf c ≡ 5
 unfolding classOf
@@ -53,7 +54,7 @@ leaf-alone a-number = refl
 leaf-alone a-true = refl
 leaf-alone a-false = refl
 
-pub leaf-no-end : {c : ℕ} → Leaf c → c ≡ 187 → ⊥
+pub leaf-no-end : {c : ℕ} → Leaf c → c ≡ c-end → ⊥
 leaf-no-end a-name e = omega arith
 leaf-no-end a-number e = omega arith
 leaf-no-end a-true e = omega arith
@@ -100,20 +101,20 @@ inside-part c e = go (either-true (eqb c 70) _ e)
         let y = ltb-true c (suc b) (r .1) in
         rw (le-leb (suc a) c (omega arith), le-leb c b (omega arith))
 
-    go : (eqb c 70 ≡ true) ⊎ (either (eqb c 71) (either (both (ltb 146 c) (ltb c 168)) (both (ltb 175 c) (ltb c 183))) ≡ true)
-        → pick (either (within 70 71 c) (either (within 147 167 c) (within 176 182 c))) false true ≡ false
+    go : (eqb c 70 ≡ true) ⊎ (either (eqb c 71) (either (both (ltb 146 c) (ltb c c-bit)) (both (ltb c-int c) (ltb c c-argument))) ≡ true)
+        → pick (either (within 70 71 c) (either (within c-or-else c-complement c) (within c-plain c-choice c))) false true ≡ false
     go (inl x) = rw (eqb-true c 70 x)
     go (inr x) = on (either-true (eqb c 71) _ x)
       where
-        on : (eqb c 71 ≡ true) ⊎ (either (both (ltb 146 c) (ltb c 168)) (both (ltb 175 c) (ltb c 183)) ≡ true)
-            → pick (either (within 70 71 c) (either (within 147 167 c) (within 176 182 c))) false true ≡ false
+        on : (eqb c 71 ≡ true) ⊎ (either (both (ltb 146 c) (ltb c c-bit)) (both (ltb c-int c) (ltb c c-argument)) ≡ true)
+            → pick (either (within 70 71 c) (either (within c-or-else c-complement c) (within c-plain c-choice c))) false true ≡ false
         on (inl y) = rw (eqb-true c 71 y)
-        on (inr y) = last (either-true (both (ltb 146 c) (ltb c 168)) _ y)
+        on (inr y) = last (either-true (both (ltb 146 c) (ltb c c-bit)) _ y)
           where
-            last : (both (ltb 146 c) (ltb c 168) ≡ true) ⊎ (both (ltb 175 c) (ltb c 183) ≡ true)
-                → pick (either (within 70 71 c) (either (within 147 167 c) (within 176 182 c))) false true ≡ false
-            last (inl z) = parted (within 70 71 c) (within 147 167 c) (within 176 182 c) (inr (inl (between 146 167 z)))
-            last (inr z) = parted (within 70 71 c) (within 147 167 c) (within 176 182 c) (inr (inr (between 175 182 z)))
+            last : (both (ltb 146 c) (ltb c c-bit) ≡ true) ⊎ (both (ltb c-int c) (ltb c c-argument) ≡ true)
+                → pick (either (within 70 71 c) (either (within c-or-else c-complement c) (within c-plain c-choice c))) false true ≡ false
+            last (inl z) = parted (within 70 71 c) (within c-or-else c-complement c) (within c-plain c-choice c) (inr (inl (between 146 c-complement z)))
+            last (inr z) = parted (within 70 71 c) (within c-or-else c-complement c) (within c-plain c-choice c) (inr (inr (between c-int c-choice z)))
 
 pub all-parts : (cs : List ℕ) (l : List Item) (i j : ℕ) → all-inside l → At cs i l → i ≤ j → j < i + length l → isMark (getD cs j 0) ≡ false
 all-parts cs [] i j a h b d = absurd (omega arith)

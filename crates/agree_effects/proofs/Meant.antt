@@ -7,6 +7,7 @@ use mathlib.Core.List.{List}
 use lib.ListN.{getD}
 use lib.Dec.{eqb, ltb}
 use borrow.Author.Tests.{ltb-true, ltb-false, lt-ltb, le-ltb, ne-eqb, lt-leb}
+use Rattle.base_codes.specs.Codes.{c-declared, c-end-body, c-message, c-parameter}
 use Rattle.base_bytes.specs.Choice.{pick}
 use Rattle.spec_grammar.specs.Tree.{Name}
 use Rattle.spec_grammar.specs.Code.{code}
@@ -33,11 +34,11 @@ abbrev later : ℕ → ℕ → ℕ
 later n x = pick (ltb x n) x (suc n)
 
 -- codes of statements declare nothing
-none-declared : (c : ℕ) → c < 212 → among 1 c ≡ false
+none-declared : (c : ℕ) → c < c-declared → among 1 c ≡ false
 unfolding among
-none-declared c h = rw (ne-eqb c 212 (λ e. omega arith), ne-eqb c 220 (λ e. omega arith), lt-leb 222 c (omega arith))
+none-declared c h = rw (ne-eqb c c-declared (λ e. omega arith), ne-eqb c c-message (λ e. omega arith), lt-leb c-parameter c (omega arith))
 
-module _ (cs vs hs : List ℕ) (n : ℕ) (low : getD cs n 0 < 212) where
+module _ (cs vs hs : List ℕ) (n : ℕ) (low : getD cs n 0 < c-declared) where
   no-declaration : (w h : ℕ) → declares cs vs hs 1 w h n ≡ false
   unfolding declares
   no-declaration w h = rw (none-declared (getD cs n 0) low)
@@ -70,11 +71,11 @@ module _ (t : List ℕ) (a : Accepts t) where
   abbrev C : List ℕ
   C = codesAt t a
 
-  inside-next : (n : ℕ) → getD C n 0 < 212 → insideOf C (suc n) ≡ insideOf C n
+  inside-next : (n : ℕ) → getD C n 0 < c-declared → insideOf C (suc n) ≡ insideOf C n
   unfolding insideOf
-  inside-next n h = rw (le-ltb 222 (getD C n 0) (omega arith), ne-eqb (getD C n 0) 228 (λ e. omega arith))
+  inside-next n h = rw (le-ltb c-parameter (getD C n 0) (omega arith), ne-eqb (getD C n 0) c-end-body (λ e. omega arith))
 
-  decl-next : (w : Name) (n : ℕ) → getD C n 0 < 212 → declAt t a (suc n) w ≡ declAt t a n w
+  decl-next : (w : Name) (n : ℕ) → getD C n 0 < c-declared → declAt t a (suc n) w ≡ declAt t a n w
   unfolding declAt meantAt
   decl-next w n h =
       ap (λ k. pick (ltb (lookup C v o g k (suc n)) (suc n)) (lookup C v o g k (suc n)) f) (inside-next n h)
@@ -101,7 +102,7 @@ module _ (t : List ℕ) (a : Accepts t) where
 
   -- no item from j to before i declares, begins or ends anything
   abbrev pub Quiet : ℕ → ℕ → Type 0
-  Quiet j i = (x : ℕ) → j ≤ x → x < i → getD (codesAt t a) x 0 < 212
+  Quiet j i = (x : ℕ) → j ≤ x → x < i → getD (codesAt t a) x 0 < c-declared
 
   decl-on : (w : Name) (j d : ℕ) → Quiet j (j + d) → declAt t a (j + d) w ≡ declAt t a j w
   decl-on w j zero q = let z : j + 0 ≡ j = omega arith in ap (λ i. declAt t a i w) z
@@ -118,6 +119,6 @@ module _ (t : List ℕ) (a : Accepts t) where
   pub quiet-join : (j i k : ℕ) → Quiet j i → Quiet i k → Quiet j k
   quiet-join j i k f g x u b = go (ltb x i) refl
     where
-      go : (c : Bool) → ltb x i ≡ c → getD (codesAt t a) x 0 < 212
+      go : (c : Bool) → ltb x i ≡ c → getD (codesAt t a) x 0 < c-declared
       go true e = f x u (ltb-true x i e)
       go false e = g x (ltb-false x i e) b

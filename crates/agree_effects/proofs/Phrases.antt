@@ -9,6 +9,7 @@ use lib.ListN.{length, getD, length-append, length-replicate}
 use lib.IntN.{ℤ}
 use lib.Dec.{eqb, ltb}
 use borrow.Author.Tests.{ltb-true, ltb-false, ne-eqb}
+use Rattle.base_codes.specs.Codes.{c-argument, c-message, c-plain}
 use Rattle.base_bytes.specs.Choice.{pick, either}
 use Rattle.spec_grammar.specs.Tree.{Name, Shape, Exp, Expr, Ref, plain, indexed, num, tru, fls}
 use Rattle.spec_grammar.specs.Code.{Item, i-name, i-plain, i-index, i-argument, i-into, i-equal, i-express, i-target, i-assign, i-increment, i-decrement, i-send, i-receive, i-assert, code-exp, code}
@@ -104,7 +105,7 @@ unfolding ruleOf isPart roleOf
 refers-receive = record { behind = record { closes = plainly refl; mark = refl }; role = λ e. omega arith }
 
 -- ---- the rule of a plain name that is no operand: it is declared
-plain-rule : (cs vs hs ss ts : List ℕ) (j : ℕ) → getD cs j 0 ≡ 176 → bad cs vs hs ss ts j ≡ badUse cs vs hs (getD ss j 0) (getD hs j 0) (roleOf (getD cs (j + 1) 0)) false
+plain-rule : (cs vs hs ss ts : List ℕ) (j : ℕ) → getD cs j 0 ≡ c-plain → bad cs vs hs ss ts j ≡ badUse cs vs hs (getD ss j 0) (getD hs j 0) (roleOf (getD cs (j + 1) 0)) false
 unfolding ruleOf badBy badRef
 plain-rule cs vs hs ss ts j e = rw e
 
@@ -113,7 +114,7 @@ unfolding badUse among
 role-declared cs vs hs m h role n e c =
     go (eqb (getD vs m 0) 0)
     (sym (ap (λ y. pick (eqb (getD vs m 0) 0) (badPlain (eqb role 0) false)
-    (pick (eqb y 220) (badPlain (either (eqb role 0) (eqb role 3)) false) (pick (among 14 y) (badVariable cs d role false) 4))) c) ∙ e)
+    (pick (eqb y c-message) (badPlain (either (eqb role 0) (eqb role 3)) false) (pick (among 14 y) (badVariable cs d role false) 4))) c) ∙ e)
   where
     d : ℕ
     d = lookup cs vs hs (getD vs m 0) h m
@@ -136,7 +137,7 @@ module _ (t : List ℕ) (a : Accepts t) where
   T = tablesText t
 
   module _ (w : Name) (x : Item) (z : List Item) (i : ℕ) (p : Here t a (code-exp (plain w) ++ x ∷ z) i) where
-    low : (y : ℕ) → i ≤ y → y < i + 2 → getD C y 0 < 183
+    low : (y : ℕ) → i ≤ y → y < i + 2 → getD C y 0 < c-argument
     low y u v = low-at C (code-exp (plain w)) i y (phrase-inside (plain w) tt) (at-front C i (code-exp (plain w)) (x ∷ z) (at-there t a (code-exp (plain w) ++ x ∷ z) i p)) u v
 
     stood : At C i (code-exp (plain w))
@@ -148,7 +149,7 @@ module _ (t : List ℕ) (a : Accepts t) where
     name-is : getD xs i i-plain ≡ i-name w
     name-is = here-lies t a (code-exp (plain w) ++ x ∷ z) i p .0
 
-    plain-code : getD C (i + 1) 0 ≡ 176
+    plain-code : getD C (i + 1) 0 ≡ c-plain
     plain-code = let y : i + 1 ≡ suc i = omega arith in ap (λ n. getD C n 0) y ∙ stood .1 .0
 
     abbrev S : List ℕ
@@ -182,7 +183,7 @@ module _ (t : List ℕ) (a : Accepts t) where
     plain-linked : (roleOf (items.codeOf x) ≡ 0 → ⊥) → linkOf T (i + 1) ≡ declAt t a i w
     plain-linked n =
         ap (λ (l : List ℕ). linkOf l (i + 1)) (text-tables t a)
-        ∙ link-means t a i 2 (omega (arith, long)) low w (plain w) i (i + 1) 176 tt stood (omega arith) (omega arith) (omega arith) name-is plain-code (reference-class .0)
+        ∙ link-means t a i 2 (omega (arith, long)) low w (plain w) i (i + 1) c-plain tt stood (omega arith) (omega arith) (omega arith) name-is plain-code (reference-class .0)
         ∙ means-found t a i 2 (omega (arith, long)) low w i (omega arith) (omega arith) (plain-declared n)
 
   -- ---- where it begins

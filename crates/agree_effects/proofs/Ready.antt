@@ -7,6 +7,7 @@ use mathlib.Core.List.{List, [], _∷_, _++_, append-assoc}
 use lib.ListN.{length}
 use lib.IntN.{ℤ}
 use lib.Dec.{eqb}
+use Rattle.base_codes.specs.Codes.{c-assert, c-break, c-decrement, c-do, c-else, c-express, c-goto, c-if, c-increment, c-receive, c-run, c-send, c-skip, c-target, c-timeout}
 use Rattle.base_bytes.specs.Choice.{pick}
 use Rattle.table_layout.specs.Access.{codeOf, linkOf}
 use Rattle.base_values.specs.declared.Answer.{Answer}
@@ -41,23 +42,23 @@ use Rattle.agree_effects.proofs.Shapes.{reference-there, sending, recei
 
 -- ---- by the code of the mark
 module _ (t : List ℕ) (s : List ℤ) (p : ℕ) (late : Bool) (q m : ℕ) where
-  by-express : codeOf t m ≡ 189 → readyBy t s p late q m ≡ tables.passes (evalOf t s p q m)
+  by-express : codeOf t m ≡ c-express → readyBy t s p late q m ≡ tables.passes (evalOf t s p q m)
   unfolding readyBy
   by-express e = rw e
 
-  by-send : codeOf t m ≡ 194 → readyBy t s p late q m ≡ tables.sendable t s (messageOf t s p q m)
+  by-send : codeOf t m ≡ c-send → readyBy t s p late q m ≡ tables.sendable t s (messageOf t s p q m)
   unfolding readyBy
   by-send e = rw e
 
-  by-receive : codeOf t m ≡ 195 → readyBy t s p late q m ≡ tables.receivable t s p (m + 1) (messageOf t s p q m)
+  by-receive : codeOf t m ≡ c-receive → readyBy t s p late q m ≡ tables.receivable t s p (m + 1) (messageOf t s p q m)
   unfolding readyBy
   by-receive e = rw e
 
-  by-timeout : codeOf t m ≡ 200 → readyBy t s p late q m ≡ late
+  by-timeout : codeOf t m ≡ c-timeout → readyBy t s p late q m ≡ late
   unfolding readyBy
   by-timeout e = rw e
 
-  by-run : codeOf t m ≡ 202 → readyBy t s p late q m ≡ fitsOf t s (linkOf t m)
+  by-run : codeOf t m ≡ c-run → readyBy t s p late q m ≡ fitsOf t s (linkOf t m)
   unfolding readyBy
   by-run e = rw e
 
@@ -65,43 +66,43 @@ module _ (t : List ℕ) (s : List ℤ) (p : ℕ) (late : Bool) (q m : ℕ) where
   unfolding readyBy isAlways
   by-text e = rw e
 
-  by-target : codeOf t m ≡ 190 → readyBy t s p late q m ≡ true
+  by-target : codeOf t m ≡ c-target → readyBy t s p late q m ≡ true
   unfolding readyBy isAlways
   by-target e = rw e
 
-  by-increment : codeOf t m ≡ 192 → readyBy t s p late q m ≡ true
+  by-increment : codeOf t m ≡ c-increment → readyBy t s p late q m ≡ true
   unfolding readyBy isAlways
   by-increment e = rw e
 
-  by-decrement : codeOf t m ≡ 193 → readyBy t s p late q m ≡ true
+  by-decrement : codeOf t m ≡ c-decrement → readyBy t s p late q m ≡ true
   unfolding readyBy isAlways
   by-decrement e = rw e
 
-  by-assert : codeOf t m ≡ 196 → readyBy t s p late q m ≡ true
+  by-assert : codeOf t m ≡ c-assert → readyBy t s p late q m ≡ true
   unfolding readyBy isAlways
   by-assert e = rw e
 
-  by-skip : codeOf t m ≡ 197 → readyBy t s p late q m ≡ true
+  by-skip : codeOf t m ≡ c-skip → readyBy t s p late q m ≡ true
   unfolding readyBy isAlways
   by-skip e = rw e
 
-  by-goto : codeOf t m ≡ 198 → readyBy t s p late q m ≡ true
+  by-goto : codeOf t m ≡ c-goto → readyBy t s p late q m ≡ true
   unfolding readyBy isAlways
   by-goto e = rw e
 
-  by-break : codeOf t m ≡ 199 → readyBy t s p late q m ≡ true
+  by-break : codeOf t m ≡ c-break → readyBy t s p late q m ≡ true
   unfolding readyBy isAlways
   by-break e = rw e
 
-  by-else : codeOf t m ≡ 201 → readyBy t s p late q m ≡ false
+  by-else : codeOf t m ≡ c-else → readyBy t s p late q m ≡ false
   unfolding readyBy isAlways
   by-else e = rw e
 
-  by-if : codeOf t m ≡ 204 → readyBy t s p late q m ≡ false
+  by-if : codeOf t m ≡ c-if → readyBy t s p late q m ≡ false
   unfolding readyBy isAlways
   by-if e = rw e
 
-  by-do : codeOf t m ≡ 206 → readyBy t s p late q m ≡ false
+  by-do : codeOf t m ≡ c-do → readyBy t s p late q m ≡ false
   unfolding readyBy isAlways
   by-do e = rw e
 

@@ -8,6 +8,7 @@ use lib.ListN.{length, getD, set}
 use lib.IntN.{ℤ, pos, negsuc}
 use lib.Dec.{eqb, ltb}
 use borrow.Author.Tests.{eq-eqb, ne-eqb}
+use Rattle.base_codes.specs.Codes.{c-end, c-into, c-message}
 use Rattle.base_bytes.specs.Choice.{pick}
 use Rattle.table_layout.specs.Access.{codeOf, linkOf}
 use Rattle.base_values.specs.Types.{castOf}
@@ -69,23 +70,23 @@ module _ (t : List ℕ) (decl : Name → ℕ) where
   pub got-count : {xs : List Received} {a z : ℕ} → Got t decl xs a z → (n : ℕ) → argumentsFrom t n a ≡ min n (length xs)
   unfolding argumentsFrom
   got-count (no-more e) zero = refl
-  got-count (no-more {a = a} e) (suc n) = rw (eq-eqb (codeOf t a) 187 e) (let z : 0 ≡ min (suc n) 0 = omega arith in z)
+  got-count (no-more {a = a} e) (suc n) = rw (eq-eqb (codeOf t a) c-end e) (let z : 0 ≡ min (suc n) 0 = omega arith in z)
   got-count (one-more {xs = xs} m c l v r) zero = let z : 0 ≡ min 0 (suc (length xs)) = omega arith in z
   got-count (one-more {xs = xs} {a = a} m c l v r) (suc n) =
-      rw (ne-eqb (codeOf t a) 187 c) (ap (λ k. 1 + argumentsFrom t n (k + 1)) l ∙ ap (1 +_) (got-count r n)
+      rw (ne-eqb (codeOf t a) c-end c) (ap (λ k. 1 + argumentsFrom t n (k + 1)) l ∙ ap (1 +_) (got-count r n)
       ∙ (let z : 1 + min n (length xs) ≡ min (suc n) (suc (length xs)) = omega arith in z))
 
   -- an mtype name is compared, a variable is stored to
   abbrev constant : Name → Bool
-  constant w = eqb (codeOf t (decl w)) 220
+  constant w = eqb (codeOf t (decl w)) c-message
 
-  stored-compared : (r : Ref) (a m : ℕ) → Stored t decl r a m → comparedAt t m ≡ eqb (codeOf t (decl (nameOf r))) 220
+  stored-compared : (r : Ref) (a m : ℕ) → Stored t decl r a m → comparedAt t m ≡ eqb (codeOf t (decl (nameOf r))) c-message
   unfolding comparedAt
-  stored-compared r a m g = rw (eq-eqb (codeOf t m) 184 (g .mark)) (ap (λ d. eqb (codeOf t d) 220) (g .declared))
+  stored-compared r a m g = rw (eq-eqb (codeOf t m) c-into (g .mark)) (ap (λ d. eqb (codeOf t d) c-message) (g .declared))
 
-  other-compared : (m : ℕ) → (codeOf t m ≡ 184 → ⊥) → comparedAt t m ≡ true
+  other-compared : (m : ℕ) → (codeOf t m ≡ c-into → ⊥) → comparedAt t m ≡ true
   unfolding comparedAt
-  other-compared m h = rw (ne-eqb (codeOf t m) 184 h)
+  other-compared m h = rw (ne-eqb (codeOf t m) c-into h)
 
   -- ---- where a reference stands
   abbrev pub placed : ℕ → Name → Aim → Located
@@ -124,7 +125,7 @@ module _ (t : List ℕ) (decl : Name → ℕ) where
     c = stageOf t s p decl unit
 
     -- ---- agreement with the oldest message
-    agreed-other : (v : ℤ) (f a m : ℕ) (y : Answer) → (codeOf t m ≡ 184 → ⊥) → evalOf t s p a m ≡ y → agreesOf t s p (nat v - 1) a m f ≡ equalBy y (fieldOf s (nat v - 1) 0 f)
+    agreed-other : (v : ℤ) (f a m : ℕ) (y : Answer) → (codeOf t m ≡ c-into → ⊥) → evalOf t s p a m ≡ y → agreesOf t s p (nat v - 1) a m f ≡ equalBy y (fieldOf s (nat v - 1) 0 f)
     unfolding agreesOf
     agreed-other v f a m y n e = rw (other-compared m n, e) (equal-is y (fieldOf s (nat v - 1) 0 f))
 
@@ -142,10 +143,10 @@ module _ (t : List ℕ) (decl : Name → ℕ) where
         → matchesFrom t s p n (nat v - 1) a f ≡ agrees (stageOf t s p decl unit) v f xs
     unfolding matchesFrom agrees
     matches-is (no-more e) zero h v f = refl
-    matches-is (no-more {a = a} e) (suc n) h v f = rw (eq-eqb (codeOf t a) 187 e)
+    matches-is (no-more {a = a} e) (suc n) h v f = rw (eq-eqb (codeOf t a) c-end e)
     matches-is (one-more m k l g r) zero h v f = absurd (omega arith)
     matches-is (one-more {x = x} {xs = xs} {a = a} m k l g r) (suc n) h v f =
-        rw (ne-eqb (codeOf t a) 187 k) (ap (λ i. pick (holds (agreesOf t s p (nat v - 1) a i f)) (matchesFrom t s p n (nat v - 1) (i + 1) (f + 1)) (agreesOf t s p (nat v - 1) a i f)) l
+        rw (ne-eqb (codeOf t a) c-end k) (ap (λ i. pick (holds (agreesOf t s p (nat v - 1) a i f)) (matchesFrom t s p n (nat v - 1) (i + 1) (f + 1)) (agreesOf t s p (nat v - 1) a i f)) l
         ∙ ap (λ y. pick (holds y) (matchesFrom t s p n (nat v - 1) (m + 1) (f + 1)) y) (agree-is x a m g v f)
         ∙ ap (λ y. pick (holds (agree c v f x)) y (agree c v f x)) (matches-is r n (omega arith) v (f + 1)) ∙ go (agree c v f x) (agrees c v (f + 1) xs))
       where
@@ -158,7 +159,7 @@ module _ (t : List ℕ) (decl : Name → ℕ) where
     spotBy x (hit k) = At (spot p x k)
     spotBy x (miss f) = Astray f
 
-    aim-other : (a m : ℕ) → (codeOf t m ≡ 184 → ⊥) → aimOf t s p a m ≡ At 0
+    aim-other : (a m : ℕ) → (codeOf t m ≡ c-into → ⊥) → aimOf t s p a m ≡ At 0
     aim-other a m n = rw (other-compared m n)
 
     aim-is : (x : Received) (a m : ℕ) → Agreed t decl x a m → aimOf t s p a m ≡ spotBy x (target (stageOf t s p decl unit) x)
@@ -177,10 +178,10 @@ module _ (t : List ℕ) (decl : Name → ℕ) where
     pub aim-ends : {xs : List Received} {a z : ℕ} → Got t decl xs a z → (n : ℕ) → length xs ≤ n → aimEnd t s p n a ≡ endAims z (targets (stageOf t s p decl unit) xs)
     unfolding aimEnd targets
     aim-ends (no-more e) zero h = refl
-    aim-ends (no-more {a = a} e) (suc n) h = rw (eq-eqb (codeOf t a) 187 e)
+    aim-ends (no-more {a = a} e) (suc n) h = rw (eq-eqb (codeOf t a) c-end e)
     aim-ends (one-more m k l g r) zero h = absurd (omega arith)
     aim-ends (one-more {x = x} {xs = xs} {a = a} {z = z} m k l g r) (suc n) h =
-        rw (ne-eqb (codeOf t a) 187 k) (ap (λ i. onPlace (aimOf t s p a i) (λ u. aimEnd t s p n (i + 1)) (λ f. Failed f)) l
+        rw (ne-eqb (codeOf t a) c-end k) (ap (λ i. onPlace (aimOf t s p a i) (λ u. aimEnd t s p n (i + 1)) (λ f. Failed f)) l
         ∙ ap (λ y. onPlace y (λ u. aimEnd t s p n (m + 1)) (λ f. Failed f)) (aim-is x a m g) ∙ go (target c x) (targets c xs) (aim-ends r n (omega arith)))
       where
         go : (y : Aim) (q : Aims) → aimEnd t s p n (m + 1) ≡ endAims z q → onPlace (spotBy x y) (λ u. aimEnd t s p n (m + 1)) (λ f. Failed f) ≡ endAims z (aimsBy y q)
@@ -191,10 +192,10 @@ module _ (t : List ℕ) (decl : Name → ℕ) where
         → aimList t s p n a k l ≡ fill l k (spots p xs (aimed (targets (stageOf t s p decl unit) xs)))
     unfolding aimList targets
     aim-fills (no-more e) zero h k l w = refl
-    aim-fills (no-more {a = a} e) (suc n) h k l w = rw (eq-eqb (codeOf t a) 187 e)
+    aim-fills (no-more {a = a} e) (suc n) h k l w = rw (eq-eqb (codeOf t a) c-end e)
     aim-fills (one-more m d e g r) zero h k l w = absurd (omega arith)
     aim-fills (one-more {x = x} {xs = xs} {a = a} m d e g r) (suc n) h k l w =
-        rw (ne-eqb (codeOf t a) 187 d) (ap (λ i. onPlace (aimOf t s p a i) (λ u. aimList t s p n (i + 1) (k + 1) (set l k u)) (λ f. l)) e
+        rw (ne-eqb (codeOf t a) c-end d) (ap (λ i. onPlace (aimOf t s p a i) (λ u. aimList t s p n (i + 1) (k + 1) (set l k u)) (λ f. l)) e
         ∙ ap (λ y. onPlace y (λ u. aimList t s p n (m + 1) (k + 1) (set l k u)) (λ f. l)) (aim-is x a m g)
         ∙ go (target c x) (targets c xs) w (λ u. aim-fills r n (omega arith) (k + 1) (set l k u)))
       where
@@ -214,12 +215,12 @@ module _ (t : List ℕ) (decl : Name → ℕ) where
         w : Name
         w = nameOf r
 
-        go : (b : Bool) → eqb (codeOf t (decl (nameOf r))) 220 ≡ b → pick b x (set x (getD ps f 0) (castOf (typeOf (linkOf t (decl (nameOf r)))) (fieldOf s (nat v - 1) 0 f)))
+        go : (b : Bool) → eqb (codeOf t (decl (nameOf r))) c-message ≡ b → pick b x (set x (getD ps f 0) (castOf (typeOf (linkOf t (decl (nameOf r)))) (fieldOf s (nat v - 1) 0 f)))
             ≡ pick b x (set x (slotOf (linkOf t (decl (nameOf r))) p k) (castOf (typeOf (linkOf t (decl (nameOf r)))) (fieldOf s (nat v - 1) 0 f)))
         go true q = refl
         go false q = ap (λ i. set x i (castOf (typeOf (linkOf t (decl (nameOf r)))) (fieldOf s (nat v - 1) 0 f))) (e ∙ rw q)
 
-    other-there : (m f : ℕ) (ps : List ℕ) (l x : List ℤ) → (codeOf t m ≡ 184 → ⊥) → deliveredOne t m f ps l x ≡ x
+    other-there : (m f : ℕ) (ps : List ℕ) (l x : List ℤ) → (codeOf t m ≡ c-into → ⊥) → deliveredOne t m f ps l x ≡ x
     other-there m f ps l x n = rw (other-compared m n)
 
     one-delivered : (y : Received) (a m : ℕ) → Agreed t decl y a m → (v : ℤ) (f k : ℕ) (ps : List ℕ) (l : List ℤ) → getD ps f 0 ≡ spot p y k → getD l f (pos 0) ≡ fieldOf s (nat v - 1) 0 f
@@ -235,12 +236,12 @@ module _ (t : List ℕ) (decl : Name → ℕ) where
         → (x : List ℤ) → delivered t n a f ps l x ≡ deliveries (stageOf t s p decl unit) v f xs ks x
     unfolding delivered deliveries
     delivered-is (no-more e) zero h v f ps l ks q gp gl x = refl
-    delivered-is (no-more {a = a} e) (suc n) h v f ps l ks q gp gl x = rw (eq-eqb (codeOf t a) 187 e)
+    delivered-is (no-more {a = a} e) (suc n) h v f ps l ks q gp gl x = rw (eq-eqb (codeOf t a) c-end e)
     delivered-is (one-more m d e g r) zero h v f ps l ks q gp gl x = absurd (omega arith)
     delivered-is (one-more m d e g r) (suc n) h v f ps l [] q gp gl x = absurd (omega arith)
     delivered-is (one-more {x = y} {xs = xs} {a = a} m d e g r) (suc n) h v f ps l (k ∷ ks) q gp gl x =
         let z : f ≡ f + 0 = omega arith in
-        rw (ne-eqb (codeOf t a) 187 d) (ap (λ i. delivered t n (i + 1) (f + 1) ps l (deliveredOne t i f ps l x)) e
+        rw (ne-eqb (codeOf t a) c-end d) (ap (λ i. delivered t n (i + 1) (f + 1) ps l (deliveredOne t i f ps l x)) e
         ∙ ap (delivered t n (m + 1) (f + 1) ps l) (one-delivered y a m g v f k ps l (ap (λ i. getD ps i 0) z ∙ gp 0 (omega arith))
         (ap (λ i. getD l i (pos 0)) z ∙ gl 0 (omega arith) ∙ ap (λ i. fieldOf s (nat v - 1) 0 i) (sym z)) x)
         ∙ delivered-is r n (omega arith) v (f + 1) ps l ks (omega arith) (λ i u. let w : f + 1 + i ≡ f + suc i = omega arith in ap (λ j. getD ps j 0) w ∙ gp (suc i) (omega arith))

@@ -7,6 +7,7 @@ use mathlib.Core.Logic.{inl, inr}
 use mathlib.Core.List.{List, [], _∷_, _++_, append-assoc}
 use lib.ListN.{length, length-append}
 use lib.IntN.{ℤ}
+use Rattle.base_codes.specs.Codes.{c-run, c-set-run}
 use Rattle.table_layout.specs.Access.{codeOf, linkOf}
 use Rattle.spec_grammar.specs.Tree.{Name, Ref, Expr, Received, send, receive, print, run, set-run}
 use Rattle.spec_grammar.specs.Code.{Item, i-name, i-text, i-target, i-send, i-receive, i-run, i-set-run, i-end, each, code-exp, code-argument, code-received, code-tree, code}
@@ -29,7 +30,7 @@ use Rattle.agree_effects.proofs.Phrases.{Refers, refers-target, refers-
 use Rattle.agree_effects.proofs.Lists.{quiet-mark, quiet-phrase, mark-code, behind-there, arguments-there, received-there}
 use Rattle.agree_effects.proofs.Begins.{alone-mark, phrase-mark, name-mark, target-run, run-unit}
 
-run-mark : isMark 202 ≡ true
+run-mark : isMark c-run ≡ true
 unfolding isPart
 run-mark = refl
 
@@ -112,7 +113,7 @@ module _ (t : List ℕ) (a : Accepts t) where
     pub begun : linkOf (tablesText t) m ≡ unitAt t a w
     pub passed : Passed (tablesText t) (declAt t a j) es (m + 1) z
 
-  pub running : (w : Name) (es : List Expr) (j : ℕ) → Here t a (code-tree (run w es)) j → (markOf (tablesText t) j ≡ j + 1) × Running w es 202 j (j + 1) (j + tree.sizeIn (run w es) - 1)
+  pub running : (w : Name) (es : List Expr) (j : ℕ) → Here t a (code-tree (run w es)) j → (markOf (tablesText t) j ≡ j + 1) × Running w es c-run j (j + 1) (j + tree.sizeIn (run w es) - 1)
   running w es j p =
       let E = each code-argument es in
       let n : length (E ++ i-end ∷ []) ≡ length E + 1 = length-append E (i-end ∷ []) in
@@ -131,7 +132,7 @@ module _ (t : List ℕ) (a : Accepts t) where
       )
 
   pub set-running : (r : Ref) (w : Name) (es : List Expr) (j : ℕ) → Here t a (code-tree (set-run r w es)) j
-      → Reference r i-target j (j + sizeIn r) × (linkOf (tablesText t) (j + sizeIn r) ≡ j + sizeIn r + 2) × Running w es 203 j (j + sizeIn r + 2) (j + tree.sizeIn (set-run r w es) - 1)
+      → Reference r i-target j (j + sizeIn r) × (linkOf (tablesText t) (j + sizeIn r) ≡ j + sizeIn r + 2) × Running w es c-set-run j (j + sizeIn r + 2) (j + tree.sizeIn (set-run r w es) - 1)
   set-running r w es j p =
       let R = code-exp r in
       let E = each code-argument es in

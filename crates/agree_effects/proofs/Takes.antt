@@ -7,6 +7,7 @@ use mathlib.Core.Bool.{true}
 use mathlib.Core.List.{List, [], _∷_, _++_, append-assoc}
 use lib.ListN.{length, length-append}
 use lib.IntN.{ℤ, pos, negsuc}
+use Rattle.base_codes.specs.Codes.{c-assert, c-assign, c-break, c-decrement, c-do, c-else, c-express, c-goto, c-if, c-increment, c-receive, c-run, c-send, c-set-run, c-skip, c-target, c-timeout}
 use Rattle.table_layout.specs.Access.{codeOf, linkOf}
 use Rattle.spec_grammar.specs.Tree.{action, Tree, express, assign, increment, decrement, send, receive, assert, print, skip, goto, break, timeout, else, run, set-run, select, loop}
 use Rattle.spec_grammar.specs.Code.{Item, i-name, i-express, i-target, i-assign, i-increment, i-decrement, i-assert, i-skip, i-goto, i-break, i-timeout, i-else, i-if, i-fi, i-do, i-od, code-exp, code-tree, code}
@@ -40,67 +41,67 @@ module _ (t : List ℕ) (p q m : ℕ) (s : List ℤ) where
   unfolding takenAs
   by-text e = rw e
 
-  by-express : codeOf t m ≡ 189 → takenBy t p q m s ≡ expressed t p q m s
+  by-express : codeOf t m ≡ c-express → takenBy t p q m s ≡ expressed t p q m s
   unfolding takenAs
   by-express e = rw e
 
-  by-assign : (z : ℕ) → codeOf t m ≡ 190 → linkOf t m ≡ z → codeOf t z ≡ 191 → takenBy t p q m s ≡ assigned t p q m z s
+  by-assign : (z : ℕ) → codeOf t m ≡ c-target → linkOf t m ≡ z → codeOf t z ≡ c-assign → takenBy t p q m s ≡ assigned t p q m z s
   unfolding takenAs targeted
   by-assign z e l c = rw (e, l, c)
 
-  by-set-run : (z : ℕ) → codeOf t m ≡ 190 → linkOf t m ≡ z → codeOf t z ≡ 203 → takenBy t p q m s ≡ setRan t p q m z s
+  by-set-run : (z : ℕ) → codeOf t m ≡ c-target → linkOf t m ≡ z → codeOf t z ≡ c-set-run → takenBy t p q m s ≡ setRan t p q m z s
   unfolding takenAs targeted
   by-set-run z e l c = rw (e, l, c)
 
-  by-increment : codeOf t m ≡ 192 → takenBy t p q m s ≡ stepped t p (pos 1) q m s
+  by-increment : codeOf t m ≡ c-increment → takenBy t p q m s ≡ stepped t p (pos 1) q m s
   unfolding takenAs
   by-increment e = rw e
 
-  by-decrement : codeOf t m ≡ 193 → takenBy t p q m s ≡ stepped t p (negsuc 0) q m s
+  by-decrement : codeOf t m ≡ c-decrement → takenBy t p q m s ≡ stepped t p (negsuc 0) q m s
   unfolding takenAs
   by-decrement e = rw e
 
-  by-send : codeOf t m ≡ 194 → takenBy t p q m s ≡ sent t p q m s
+  by-send : codeOf t m ≡ c-send → takenBy t p q m s ≡ sent t p q m s
   unfolding takenAs
   by-send e = rw e
 
-  by-receive : codeOf t m ≡ 195 → takenBy t p q m s ≡ received t p q m s
+  by-receive : codeOf t m ≡ c-receive → takenBy t p q m s ≡ received t p q m s
   unfolding takenAs
   by-receive e = rw e
 
-  by-assert : codeOf t m ≡ 196 → takenBy t p q m s ≡ asserted t p q m s
+  by-assert : codeOf t m ≡ c-assert → takenBy t p q m s ≡ asserted t p q m s
   unfolding takenAs
   by-assert e = rw e
 
-  by-skip : codeOf t m ≡ 197 → takenBy t p q m s ≡ passed t p m s
+  by-skip : codeOf t m ≡ c-skip → takenBy t p q m s ≡ passed t p m s
   unfolding takenAs
   by-skip e = rw e
 
-  by-goto : codeOf t m ≡ 198 → takenBy t p q m s ≡ passed t p m s
+  by-goto : codeOf t m ≡ c-goto → takenBy t p q m s ≡ passed t p m s
   unfolding takenAs
   by-goto e = rw e
 
-  by-break : codeOf t m ≡ 199 → takenBy t p q m s ≡ passed t p m s
+  by-break : codeOf t m ≡ c-break → takenBy t p q m s ≡ passed t p m s
   unfolding takenAs
   by-break e = rw e
 
-  by-timeout : codeOf t m ≡ 200 → takenBy t p q m s ≡ passed t p m s
+  by-timeout : codeOf t m ≡ c-timeout → takenBy t p q m s ≡ passed t p m s
   unfolding takenAs
   by-timeout e = rw e
 
-  by-else : codeOf t m ≡ 201 → takenBy t p q m s ≡ passed t p m s
+  by-else : codeOf t m ≡ c-else → takenBy t p q m s ≡ passed t p m s
   unfolding takenAs
   by-else e = rw e
 
-  by-run : codeOf t m ≡ 202 → takenBy t p q m s ≡ ran t p m s
+  by-run : codeOf t m ≡ c-run → takenBy t p q m s ≡ ran t p m s
   unfolding takenAs
   by-run e = rw e
 
-  by-if : codeOf t m ≡ 204 → takenBy t p q m s ≡ (Idle, s)
+  by-if : codeOf t m ≡ c-if → takenBy t p q m s ≡ (Idle, s)
   unfolding takenAs
   by-if e = rw e
 
-  by-do : codeOf t m ≡ 206 → takenBy t p q m s ≡ (Idle, s)
+  by-do : codeOf t m ≡ c-do → takenBy t p q m s ≡ (Idle, s)
   unfolding takenAs
   by-do e = rw e
 

@@ -5,6 +5,7 @@ use mathlib.Core.List.{List, [], _∷_, _++_}
 use lib.ListN.{length, getD, set, replicate}
 use lib.IntN.{ℤ, pos}
 use lib.Dec.{eqb}
+use Rattle.base_codes.specs.Codes.{c-parameter}
 use Rattle.base_bytes.specs.Choice.{pick}
 use Rattle.table_layout.specs.Access.{codeOf, linkOf, nameByte}
 use Rattle.base_values.specs.Types.{castOf}
@@ -37,7 +38,7 @@ appended-alike t c l m s e =
 pub called-alike : (t : List ℕ) (u : ℕ) (l m s : List ℤ) → Alike l m → called t u l s ≡ called t u m s
 unfolding called parameterSet
 called-alike t u l m s e =
-    λ k. walk (λ i x. pick (eqb (codeOf t (u + i)) 222) (set x (slotOf (linkOf t (u + i)) (processesOf s) 0) (castOf (typeOf (linkOf t (u + i))) (e (linkOf t (u + i) / 1024) k))) x) 0
+    λ k. walk (λ i x. pick (eqb (codeOf t (u + i)) c-parameter) (set x (slotOf (linkOf t (u + i)) (processesOf s) 0) (castOf (typeOf (linkOf t (u + i))) (e (linkOf t (u + i) / 1024) k))) x) 0
     (unitLength t u) (processMade t u s)
 
 written-alike : (l m : List ℤ) → Alike l m → (was b k : ℕ) → written l was b k ≡ written m was b k

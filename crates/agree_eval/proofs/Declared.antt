@@ -7,6 +7,7 @@ use mathlib.Core.List.{List, [], _∷_, _++_, map}
 use lib.ListN.{length, getD, length-append, length-replicate}
 use lib.Dec.{eqb, ltb}
 use borrow.Author.Tests.{ltb-true, ltb-false, eqb-true}
+use Rattle.base_codes.specs.Codes.{c-argument, c-index, c-message}
 use Rattle.base_bytes.specs.Choice.{pick, either}
 use Rattle.base_bytes.proofs.Tests.{true-false}
 use Rattle.spec_grammar.specs.Tree.{Name, Shape, Exp, plain, indexed, num, tru, fls, get, len, unary, binary, choice}
@@ -51,7 +52,7 @@ never-zero false e = omega arith
 module _ (cs vs hs : List ℕ) where
   use-variable : (m h role : ℕ) → badUse cs vs hs m h role true ≡ 0 → among 14 (getD cs (lookup cs vs hs (getD vs m 0) h m) 0) ≡ true
   unfolding badUse
-  use-variable m h role e = go (eqb (getD vs m 0) 0) (eqb (getD cs d 0) 220) (among 14 (getD cs d 0)) refl e
+  use-variable m h role e = go (eqb (getD vs m 0) 0) (eqb (getD cs d 0) c-message) (among 14 (getD cs d 0)) refl e
     where
       d : ℕ
       d = lookup cs vs hs (getD vs m 0) h m
@@ -65,7 +66,7 @@ module _ (cs vs hs : List ℕ) where
       go false false true q e = q
       go false false false q e = absurd (omega arith)
 
-  index-rule : (ss ts : List ℕ) (j : ℕ) → getD cs j 0 ≡ 177 → bad cs vs hs ss ts j ≡ badUse cs vs hs (getD ss j 0) (getD hs j 0) (roleOf (getD cs (j + 1) 0)) true
+  index-rule : (ss ts : List ℕ) (j : ℕ) → getD cs j 0 ≡ c-index → bad cs vs hs ss ts j ≡ badUse cs vs hs (getD ss j 0) (getD hs j 0) (roleOf (getD cs (j + 1) 0)) true
   unfolding ruleOf badBy badRef
   index-rule ss ts j e = rw e
 
@@ -87,10 +88,10 @@ module _ (t : List ℕ) (a : Accepts t) where
   unfolding checked leastOf
   no-fault j h = none-bad C (saidAt t a) (homesAt t a) S (heightsOf C S blank) (map place-of (a .numbers)) 0 (length C) j (a .faultless) (omega arith) (omega arith)
 
-  module _ (i n : ℕ) (end : i + n ≤ length C) (low : (x : ℕ) → i ≤ x → x < i + n → getD C x 0 < 183) where
+  module _ (i n : ℕ) (end : i + n ≤ length C) (low : (x : ℕ) → i ≤ x → x < i + n → getD C x 0 < c-argument) where
     -- an indexed name, whose items are k to j
     index-means : (w : Name) (e : Exp _) (k j : ℕ) → Proper (indexed w e) → Stood C k (code-exp (indexed w e)) → i ≤ k → j + 1 ≡ k + length (code-exp (indexed w e)) → j < i + n → getD xs k i-plain ≡ i-name w
-        → getD C j 0 ≡ 177 → among 14 (getD C (meaning t a i n end low w k) 0) ≡ true
+        → getD C j 0 ≡ c-index → among 14 (getD C (meaning t a i n end low w k) 0) ≡ true
     index-means w e k j p h b q g l c =
         let s = some-items (indexed w e) in
         let v = saidAt t a in

@@ -7,6 +7,7 @@ use mathlib.Core.List.{List, [], _∷_, _++_, map}
 use lib.ListN.{length, getD, length-map, length-append, List·getD-append}
 use lib.Seq.{getD-append-add}
 use borrow.Author.Tests.{lt-ltb, le-ltb}
+use Rattle.base_codes.specs.Codes.{c-or-else}
 use Rattle.base_kinds.specs.Kinds.{Token, sym, name, number, text}
 use Rattle.text_tokens.specs.Reading.{Placed}
 use Rattle.text_spacing_proof.specs.Writing.{tokenIn, tokensIn, Sound, AllSound}
@@ -64,12 +65,12 @@ module _ (t : List ℕ) (a : Accepts t) where
 
   read-most : (v : ℕ) → Right (a .parts) (symbol-of v) (place-of v) → items.entryOf (read ts v) .code ≡ 71 → items.entryOf (read ts v) .value ≤ 2147483647
   read-most v (inl r) e =
-      let q : read ts v ≡ held (getD ts (place-of v) (sym 0)) = rw (lt-ltb (symbol-of v) 147 (omega (arith, r .1))) in
+      let q : read ts v ≡ held (getD ts (place-of v) (sym 0)) = rw (lt-ltb (symbol-of v) c-or-else (omega (arith, r .1))) in
       subst (λ i. items.entryOf i .value ≤ 2147483647) (inv q)
       (token-most (getD ts (place-of v) (sym 0)) (sound-at ts (tokens-sound t (a .parts) (a .reads)) (place-of v) (omega (arith, r .2, length-map (a .parts) (tokenIn t))))
       (inv (ap (λ i. items.entryOf i .code) q) ∙ e))
   read-most v (inr r) e =
-      let q : read ts v ≡ item (symbol-of v) = rw (le-ltb (symbol-of v) 147 (r .0)) in
+      let q : read ts v ≡ item (symbol-of v) = rw (le-ltb (symbol-of v) c-or-else (r .0)) in
       let z : items.entryOf (read ts v) .value ≡ 0 = ap (λ i. items.entryOf i .value) q ∙ ap Entry.value (mark-entry (symbol-of v) (r .0) (r .1)) in
       omega arith
 

@@ -8,6 +8,7 @@ use mathlib.Core.List.{List}
 use lib.ListN.{getD}
 use lib.Dec.{eqb, ltb}
 use borrow.Author.Tests.{ltb-true, ltb-false, lt-ltb, le-ltb, ne-eqb, lt-leb}
+use Rattle.base_codes.specs.Codes.{c-argument, c-declared, c-message, c-parameter}
 use Rattle.base_bytes.specs.Choice.{pick}
 use Rattle.rule_sheets.specs.Walks.{first}
 use Rattle.rule_sheets.proofs.Walks.{first-most}
@@ -51,11 +52,11 @@ module _ (p : ℕ → Bool) where
       ap (first p a) z ∙ ap (λ y. pick (p a) a y) (first-reached (a + 1) k d (ap p w ∙ e))
 
 -- ---- declarations
-low-declares : (c : ℕ) → c < 183 → among 1 c ≡ false
+low-declares : (c : ℕ) → c < c-argument → among 1 c ≡ false
 unfolding among
-low-declares c h = rw (ne-eqb c 212 (λ e. omega arith), ne-eqb c 220 (λ e. omega arith), lt-leb 222 c (omega arith))
+low-declares c h = rw (ne-eqb c c-declared (λ e. omega arith), ne-eqb c c-message (λ e. omega arith), lt-leb c-parameter c (omega arith))
 
-module _ (cs vs hs : List ℕ) (i m : ℕ) (from : i ≤ m) (low : (x : ℕ) → i ≤ x → x < m → getD cs x 0 < 183) where
+module _ (cs vs hs : List ℕ) (i m : ℕ) (from : i ≤ m) (low : (x : ℕ) → i ≤ x → x < m → getD cs x 0 < c-argument) where
   none-declares : (w h x : ℕ) → i ≤ x → x < m → declares cs vs hs 1 w h x ≡ false
   unfolding declares
   none-declares w h x a b = rw (low-declares (getD cs x 0) (low x a b))

@@ -6,6 +6,7 @@ use mathlib.Core.Path.{_≡_, refl, sym as inv, ap, _∙_, subst}
 use mathlib.Core.List.{List, [], _∷_, _++_, map, map-append}
 use lib.ListN.{length, getD, replicate, length-map, length-append, length-replicate}
 use lib.IntN.{ℤ}
+use Rattle.base_codes.specs.Codes.{c-choice, c-otherwise}
 use Rattle.spec_grammar.specs.Tree.{Name, Shape, Exp, plain, indexed, num, tru, fls, get, len, unary, binary, choice}
 use Rattle.spec_grammar.specs.Code.{Item, i-index, i-len, i-unary, i-binary, i-otherwise, i-choice, code-exp, code}
 use Rattle.table_entries.specs.Items as items
@@ -107,10 +108,10 @@ module _ (t : List ℕ) (a : Accepts t) where
       let c = at-back C (X ++ Y ++ i-otherwise ∷ Z) (i-choice ∷ []) i (u + d) (omega arith) h .0 in (
         stands-in x i (p .0) (at-front C i X Y ab) (held-front U i X Y hb) (omega arith),
         stands-in y (i + m) (p .1) yy (held-back U X Y i (i + m) refl hb) (omega arith),
-        linked y (p .1) (i + m) (i + m + n) 181 yy refl (omega arith) (oc .0) otherwise-class,
+        linked y (p .1) (i + m) (i + m + n) c-otherwise yy refl (omega arith) (oc .0) otherwise-class,
         stands-in z u (p .2) zz (subst (λ j. Held U j Z) v (ho .2)) (omega arith),
         held-back U (X ++ Y ++ i-otherwise ∷ Z) (i-choice ∷ []) i (u + d) (omega arith) k .0,
-        linked z (p .2) u (u + d) 182 zz refl (omega arith) c choice-class,
+        linked z (p .2) u (u + d) c-choice zz refl (omega arith) c choice-class,
       )
 
   -- ---- an expression of the tree

@@ -11,6 +11,7 @@ use lib.Seq.{getD-append-add}
 use lib.IntN.{ℤ}
 use lib.Dec.{ltb}
 use borrow.Author.Tests.{ltb-true, ltb-false, lt-ltb, le-ltb}
+use Rattle.base_codes.specs.Codes.{c-argument, c-index, c-plain}
 use Rattle.base_bytes.specs.Choice.{pick}
 use Rattle.base_bytes.proofs.Tests.{true-false}
 use Rattle.spec_grammar.specs.Tree.{Name, Shape, reference, Exp, plain, indexed, num, tru, fls, get, len, unary, binary, choice}
@@ -60,18 +61,18 @@ lies-all xs (x ∷ l) k h =
     (ap (λ n. getD xs n i-plain) z ∙ h 0 (omega arith), lies-all xs l (suc k) (λ j g. let w : suc k + j ≡ k + suc j = omega arith in ap (λ n. getD xs n i-plain) w ∙ h (suc j) (omega arith)))
 
 -- an expression's items have low codes
-low-code : (c : ℕ) → inExpression c ≡ true → c < 183
-low-code c e = go (ltb c 183) refl
+low-code : (c : ℕ) → inExpression c ≡ true → c < c-argument
+low-code c e = go (ltb c c-argument) refl
   where
-    go : (b : Bool) → ltb c 183 ≡ b → c < 183
-    go true q = ltb-true c 183 q
-    go false q = absurd (true-false (inv e ∙ mark-outside c (ltb-false c 183 q)))
+    go : (b : Bool) → ltb c c-argument ≡ b → c < c-argument
+    go true q = ltb-true c c-argument q
+    go false q = absurd (true-false (inv e ∙ mark-outside c (ltb-false c c-argument q)))
 
-pub low-at : (cs : List ℕ) (l : List Item) (k j : ℕ) → all-inside l → At cs k l → k ≤ j → j < k + length l → getD cs j 0 < 183
+pub low-at : (cs : List ℕ) (l : List Item) (k j : ℕ) → all-inside l → At cs k l → k ≤ j → j < k + length l → getD cs j 0 < c-argument
 low-at cs [] k j a h b d = absurd (omega arith)
 low-at cs (x ∷ l) k j a h b d = go (ltb k j) refl (low-at cs l (suc k) j (a .1) (h .1))
   where
-    go : (c : Bool) → ltb k j ≡ c → (suc k ≤ j → j < suc k + length l → getD cs j 0 < 183) → getD cs j 0 < 183
+    go : (c : Bool) → ltb k j ≡ c → (suc k ≤ j → j < suc k + length l → getD cs j 0 < c-argument) → getD cs j 0 < c-argument
     go true q below = let z = ltb-true k j q in below (omega arith) (omega arith)
     go false q below =
         let z = ltb-false k j q in
@@ -88,7 +89,7 @@ module _ (t : List ℕ) (a : Accepts t) where
   C = codesAt t a
 
   -- an expression stands from item i to before item i + n
-  module _ (i n : ℕ) (end : i + n ≤ length C) (low : (x : ℕ) → i ≤ x → x < i + n → getD C x 0 < 183) where
+  module _ (i n : ℕ) (end : i + n ≤ length C) (low : (x : ℕ) → i ≤ x → x < i + n → getD C x 0 < c-argument) where
     abbrev pub meaning : Name → ℕ → ℕ
     meaning w k = lookup C (saidAt t a) (homesAt t a) (getD (saidAt t a) (firstName w xs) 0) (insideOf C i) k
 
@@ -151,8 +152,8 @@ module _ (t : List ℕ) (a : Accepts t) where
     unfolding Named
     named-in (plain w) k p l h b g r =
         let z : suc k ≡ k + 1 = omega arith in
-        let c : getD C (k + 1) 0 ≡ 176 = ap (λ y. getD C y 0) (inv z) ∙ h .1 .0 in (
-          plain-means w k (linkOf (U t a) (k + 1)) b (omega arith) (l .0) (link-means w (plain w) k (k + 1) 176 p h b (omega arith) (omega arith) (l .0) c (reference-class .0)),
+        let c : getD C (k + 1) 0 ≡ c-plain = ap (λ y. getD C y 0) (inv z) ∙ h .1 .0 in (
+          plain-means w k (linkOf (U t a) (k + 1)) b (omega arith) (l .0) (link-means w (plain w) k (k + 1) c-plain p h b (omega arith) (omega arith) (l .0) c (reference-class .0)),
           pid-declared w k b (omega arith) (l .0),
         )
     named-in (indexed w e) k p l h b g r =
@@ -163,7 +164,7 @@ module _ (t : List ℕ) (a : Accepts t) where
         let c = at-back C (code-exp e) (i-index ∷ []) (suc k) j (omega arith) (h .1) .0 in (
           named-in e (k + 1) p (subst (λ y. Lies xs y (code-exp e)) z (lies-front xs (suc k) (code-exp e) (i-index ∷ []) (l .1)))
               (subst (λ y. At C y (code-exp e)) z (at-front C (suc k) (code-exp e) (i-index ∷ []) (h .1))) (omega arith) (omega arith) (r .1),
-          link-means w (indexed w e) k j 177 p h b (omega arith) (omega arith) (l .0) c (reference-class .1) ∙ means-found w k b (omega arith) (r .0),
+          link-means w (indexed w e) k j c-index p h b (omega arith) (omega arith) (l .0) c (reference-class .1) ∙ means-found w k b (omega arith) (r .0),
         )
     named-in (num v) k p l h b g r = tt
     named-in tru k p l h b g r = tt

@@ -6,6 +6,7 @@ use mathlib.Core.Logic.{_⊎_, inl, inr}
 use mathlib.Core.List.{List, [], _∷_, _++_}
 use lib.Dec.{eqb, leb}
 use borrow.Author.Tests.{leb-true, eqb-true}
+use Rattle.base_codes.specs.Codes.{c-or-else}
 use Rattle.base_bytes.specs.Choice.{both, either}
 use Rattle.base_bytes.proofs.Tests.{both-true, either-true}
 use Rattle.spec_grammar.specs.Tree.{Shape, Exp, plain, indexed, num, tru, fls, get, len, unary, binary, choice}
@@ -98,7 +99,7 @@ unfolding operates
 known-operates (is-name a b) = refl
 known-operates (is-text a b) = refl
 known-operates is-number = refl
-known-operates (is-mark x a b) = operate-nth items (x - 147) i-plain table-operates refl
+known-operates (is-mark x a b) = operate-nth items (x - c-or-else) i-plain table-operates refl
 
 binary-is : (o : ℕ) → Known (i-binary o) → (1 ≤ o) × (o ≤ 18)
 unfolding operates

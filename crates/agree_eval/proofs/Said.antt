@@ -7,6 +7,7 @@ use mathlib.Core.List.{List, [], _∷_, map}
 use lib.ListN.{length, getD, replicate, length-map, length-replicate}
 use lib.Dec.{eqb}
 use borrow.Author.Tests.{le-ltb, eq-eqb, ne-eqb, eqb-true}
+use Rattle.base_codes.specs.Codes.{c-argument, c-end-body, c-parameter}
 use Rattle.base_bytes.specs.Choice.{pick}
 use Rattle.base_bytes.specs.Lists.{same}
 use Rattle.base_bytes.proofs.Lists.{same-refl, same-eq}
@@ -144,22 +145,22 @@ module _ (t : List ℕ) (a : Accepts t) where
   first-code w m h e = let r = first-is w xs m h e in let b = r .before in (omega arith, r .coded)
 
   -- ---- bodies
-  home-low : (j : ℕ) → getD C j 0 < 183 → homeOf C j ≡ insideOf C j
+  home-low : (j : ℕ) → getD C j 0 < c-argument → homeOf C j ≡ insideOf C j
   unfolding homeOf
-  home-low j h = rw (le-ltb 222 (getD C j 0) (omega arith))
+  home-low j h = rw (le-ltb c-parameter (getD C j 0) (omega arith))
 
-  inside-on : (j : ℕ) → getD C j 0 < 183 → insideOf C (suc j) ≡ insideOf C j
+  inside-on : (j : ℕ) → getD C j 0 < c-argument → insideOf C (suc j) ≡ insideOf C j
   unfolding insideOf
-  inside-on j h = rw (le-ltb 222 (getD C j 0) (omega arith), ne-eqb (getD C j 0) 228 (λ e. omega arith))
+  inside-on j h = rw (le-ltb c-parameter (getD C j 0) (omega arith), ne-eqb (getD C j 0) c-end-body (λ e. omega arith))
 
   module _ (i : ℕ) where
-    inside-same : (d : ℕ) → ((x : ℕ) → i ≤ x → x < i + d → getD C x 0 < 183) → insideOf C (i + d) ≡ insideOf C i
+    inside-same : (d : ℕ) → ((x : ℕ) → i ≤ x → x < i + d → getD C x 0 < c-argument) → insideOf C (i + d) ≡ insideOf C i
     inside-same zero low = let z : i + 0 ≡ i = omega arith in ap (insideOf C) z
     inside-same (suc d) low =
         let z : i + suc d ≡ suc (i + d) = omega arith in
         ap (insideOf C) z ∙ inside-on (i + d) (low (i + d) (omega arith) (omega arith)) ∙ inside-same d (λ x u v. low x u (omega arith))
 
-    pub home-same : (j : ℕ) → i ≤ j → j < length xs → ((x : ℕ) → i ≤ x → x ≤ j → getD C x 0 < 183) → getD (homesAt t a) j 0 ≡ insideOf C i
+    pub home-same : (j : ℕ) → i ≤ j → j < length xs → ((x : ℕ) → i ≤ x → x ≤ j → getD C x 0 < c-argument) → getD (homesAt t a) j 0 ≡ insideOf C i
     home-same j b h low =
         let z : i + (j - i) ≡ j = omega arith in
         home-at C (replicate 8192 0) j (omega (arith, long)) (codes-few t a) (omega (arith, codes-few t a, length-replicate 8192 zero)) ∙ home-low j (low j b (omega arith))

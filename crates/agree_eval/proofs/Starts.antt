@@ -7,6 +7,7 @@ use mathlib.Core.List.{List}
 use lib.ListN.{length, getD, set, replicate, length-set, length-replicate}
 use lib.Seq.{getD-set-same, getD-set-other}
 use borrow.Author.Tests.{le-leb, lt-leb, ne-eqb, le-ltb}
+use Rattle.base_codes.specs.Codes.{c-choice, c-index, c-named, c-or-else, c-otherwise, c-plain, c-remainder, c-run}
 use Rattle.rule_search.specs.Search.{lookup}
 use Rattle.rule_sheets.specs.Homes.{homesOf}
 use Rattle.rule_sheets.specs.Spans.{startsOf}
@@ -17,13 +18,13 @@ pub binary-class : (o : ℕ) → 1 ≤ o → o ≤ 18 → classOf (146 + o) ≡ 
 unfolding classOf
 binary-class o a b =
     let c = 146 + o in
-    rw (lt-leb 176 c (omega arith), ne-eqb c 216 (λ e. omega arith), lt-leb 202 c (omega arith), le-leb 147 c (omega arith), le-leb c 164 (omega arith))
+    rw (lt-leb c-plain c (omega arith), ne-eqb c c-named (λ e. omega arith), lt-leb c-run c (omega arith), le-leb c-or-else c (omega arith), le-leb c c-remainder (omega arith))
 
-pub otherwise-class : classOf 181 ≡ 4
+pub otherwise-class : classOf c-otherwise ≡ 4
 unfolding classOf
 otherwise-class = refl
 
-pub choice-class : classOf 182 ≡ 4
+pub choice-class : classOf c-choice ≡ 4
 unfolding classOf
 choice-class = refl
 
@@ -80,6 +81,6 @@ module _ (cs vs : List ℕ) where
       (back-at cs vs hs ss (length cs) j (min 4294967295 (lookup cs vs hs (getD vs (getD ss j 0) 0) (getD hs j 0) (getD ss j 0))) (replicate 8192 0) h (omega (arith, length-replicate 8192 zero)) (λ l. link-one l j e)
       ∙ ap (λ n. min 4294967295 (lookup cs vs hs (getD vs n 0) (getD hs j 0) n)) q)
 
-pub reference-class : (classOf 176 ≡ 1) × (classOf 177 ≡ 1)
+pub reference-class : (classOf c-plain ≡ 1) × (classOf c-index ≡ 1)
 unfolding classOf
 reference-class = (refl, refl)

@@ -5,6 +5,7 @@ use mathlib.Core.Bool.{Bool, true, false}
 use mathlib.Core.List.{List, [], _∷_, _++_}
 use lib.IntN.{ℤ}
 use lib.Dec.{eqb}
+use Rattle.base_codes.specs.Codes.{c-end-body}
 use Rattle.base_bytes.specs.Choice.{pick}
 use Rattle.table_layout.specs.Access.{codeOf}
 use Rattle.state_layout.specs.Layout.{placeOf}
@@ -99,7 +100,7 @@ module _ (w : List ℕ) where
     ended-same : (p n : ℕ) → moving.endedFrom w s p n ≡ endedFrom M s p n
     unfolding moving.endedFrom endedFrom
     ended-same p zero = refl
-    ended-same p (suc n) = ap (λ b. pick (eqb (codeOf w (placeOf s p)) 228) b false) (ended-same (p + 1) n)
+    ended-same p (suc n) = ap (λ b. pick (eqb (codeOf w (placeOf s p)) c-end-body) b false) (ended-same (p + 1) n)
 
     any-some : (l : Bool) (p n : ℕ) → anyFrom M s l p n ≡ someStep (listFrom M s l p n)
     unfolding anyFrom listFrom

@@ -6,6 +6,7 @@ use mathlib.Core.Bool.{true}
 use mathlib.Core.Logic.{inl}
 use mathlib.Core.List.{List, [], _∷_, _++_, map, append-nil}
 use lib.ListN.{length, getD, length-append, length-map}
+use Rattle.base_codes.specs.Codes.{c-body, c-label, c-option}
 use Rattle.spec_grammar.specs.Tree.{Sort, action, statement, sequence, options, Tree, bare, Body, body, Model}
 use Rattle.spec_grammar.specs.Code.{i-local, i-end-body, each, code-tree, code-declaration, code}
 use Rattle.table_entries.specs.Items as items
@@ -40,7 +41,7 @@ use Rattle.agree_transfer.proofs.Statements.{within-range}
 use Rattle.agree_states.specs.Charted.{Placed}
 use Rattle.agree_states.proofs.Held.{code-inside}
 
-codes : (isMark 227 ≡ true) × (isMark 188 ≡ true) × (isMark 208 ≡ true)
+codes : (isMark c-body ≡ true) × (isMark c-label ≡ true) × (isMark c-option ≡ true)
 unfolding isPart
 codes = (refl, refl, refl)
 

@@ -6,6 +6,7 @@ use mathlib.Core.Option.{Option, none, some}
 use mathlib.Core.List.{List, [], _∷_}
 use lib.IntN.{ℤ, pos, negsuc}
 use lib.Dec.{eqb}
+use Rattle.base_codes.specs.Codes.{c-assert, c-break, c-decrement, c-else, c-express, c-goto, c-increment, c-receive, c-run, c-send, c-set-run, c-skip, c-target, c-timeout}
 use Rattle.base_bytes.specs.Choice.{pick}
 use Rattle.base_values.specs.declared.Answer.{Answer}
 use Rattle.base_values.specs.declared.Answer.the-variants.{Value, Fails}
@@ -109,25 +110,25 @@ module _ (s : List ℤ) where
 
     ok-targeted : (q m : ℕ) → Ok s (targeted t p q m s)
     unfolding targeted
-    ok-targeted q m = on-pick (eqb (codeOf t (linkOf t m)) 203) _ _ (ok-set q m (linkOf t m)) (ok-assigned q m (linkOf t m))
+    ok-targeted q m = on-pick (eqb (codeOf t (linkOf t m)) c-set-run) _ _ (ok-set q m (linkOf t m)) (ok-assigned q m (linkOf t m))
 
     ok-as : (c q m : ℕ) → Ok s (takenAs t p c q m s)
     unfolding takenAs
     ok-as c q m =
         on-pick (eqb c 72) _ _ (ok-printed m)
-        (on-pick (eqb c 189) _ _ (ok-expressed q m)
-        (on-pick (eqb c 190) _ _ (ok-targeted q m)
-        (on-pick (eqb c 192) _ _ (ok-stepped (pos 1) q m)
-        (on-pick (eqb c 193) _ _ (ok-stepped (negsuc 0) q m)
-        (on-pick (eqb c 194) _ _ (ok-sent q m)
-        (on-pick (eqb c 195) _ _ (ok-received q m)
-        (on-pick (eqb c 196) _ _ (ok-asserted q m)
-        (on-pick (eqb c 197) _ _ tt
-        (on-pick (eqb c 198) _ _ tt
-        (on-pick (eqb c 199) _ _ tt
-        (on-pick (eqb c 200) _ _ tt
-        (on-pick (eqb c 201) _ _ tt
-        (on-pick (eqb c 202) _ _ (ok-ran m) refl)))))))))))))
+        (on-pick (eqb c c-express) _ _ (ok-expressed q m)
+        (on-pick (eqb c c-target) _ _ (ok-targeted q m)
+        (on-pick (eqb c c-increment) _ _ (ok-stepped (pos 1) q m)
+        (on-pick (eqb c c-decrement) _ _ (ok-stepped (negsuc 0) q m)
+        (on-pick (eqb c c-send) _ _ (ok-sent q m)
+        (on-pick (eqb c c-receive) _ _ (ok-received q m)
+        (on-pick (eqb c c-assert) _ _ (ok-asserted q m)
+        (on-pick (eqb c c-skip) _ _ tt
+        (on-pick (eqb c c-goto) _ _ tt
+        (on-pick (eqb c c-break) _ _ tt
+        (on-pick (eqb c c-timeout) _ _ tt
+        (on-pick (eqb c c-else) _ _ tt
+        (on-pick (eqb c c-run) _ _ (ok-ran m) refl)))))))))))))
 
     pub taken-still : (q : ℕ) → Still s (takenOf t p q s .0) (takenOf t p q s .1)
     taken-still q = ok-as (codeOf t (markOf t q)) q (markOf t q)

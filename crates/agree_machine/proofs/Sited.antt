@@ -7,6 +7,7 @@ use mathlib.Core.Bool.{true, false}
 use mathlib.Core.Logic.{_⊎_, inl, inr}
 use mathlib.Core.List.{List, [], _∷_, _++_, append-assoc}
 use lib.ListN.{length, getD, length-append}
+use Rattle.base_codes.specs.Codes.{c-body, c-declared, c-global, c-group, c-local, c-parameter}
 use Rattle.base_bytes.specs.Choice.{pick}
 use Rattle.rule_sheets.specs.Walks.{sum}
 use Rattle.rule_sheets.specs.Homes.{insideOf}
@@ -49,7 +50,7 @@ sizes-append : (l r : List Site) → sizesOf (l ++ r) ≡ sizesOf l + sizesOf r
 sizes-append [] r = omega arith
 sizes-append (s ∷ l) r = let q = sizes-append l r in omega arith
 
-marks : (among 1 227 ≡ false)
+marks : (among 1 c-body ≡ false)
 unfolding among
 marks = refl
 
@@ -117,7 +118,7 @@ module _ (m : Model) (cs vs : List ℕ) (S : Says m cs vs) where
       pub kind : last cs 3 (suc (suc k)) ≡ suc (suc p)
 
     named : (w : Name) (s : ℕ) (v : Value) (c : ℕ) (k o : ℕ) → lo ≤ k → suc k < hi → k < length xs → itemAt xs k ≡ i-name w → getD cs (suc k) 0 ≡ c
-        → (c ≡ 212) ⊎ (c ≡ 222) → among 3 c ≡ false → pick (isArray cs (suc k)) (getD vs (suc k + 1) 0) 1 ≡ s → last cs 3 k ≡ suc (suc p) → N h k ≡ o
+        → (c ≡ c-declared) ⊎ (c ≡ c-parameter) → among 3 c ≡ false → pick (isArray cs (suc k)) (getD vs (suc k + 1) 0) 1 ≡ s → last cs 3 k ≡ suc (suc p) → N h k ≡ o
         → Named (record { name = w; type = t; size = s; value = v }) k o
     named w s v c k o b d g q cx cc three size kind n =
         let x : Var = record { name = w; type = t; size = s; value = v } in
@@ -126,7 +127,7 @@ module _ (m : Model) (cs vs : List ℕ) (S : Says m cs vs) where
         let kind1 : last cs 3 (suc k) ≡ suc (suc p) = last-skip m cs vs S 3 k (ap (among 3) cn ∙ sets .1) ∙ kind in
         let D : Declares cs vs H h (suc k) x o =
         record {
-          coded = subst (λ i. (i ≡ 212) ⊎ (i ≡ 222)) (inv cx) cc;
+          coded = subst (λ i. (i ≡ c-declared) ⊎ (i ≡ c-parameter)) (inv cx) cc;
           home = home (suc k) (omega arith) d;
           type = ap (λ i. getD cs (i - 2) 0) kind1 ∙ ap (λ i. getD cs i 0) (let z : suc (suc p) - 2 ≡ p = omega arith in z) ∙ typed;
           least = least;
@@ -158,7 +159,7 @@ module _ (m : Model) (cs vs : List ℕ) (S : Says m cs vs) where
         let f = lies-front xs k X E y in
         let aft = after-variables us k2 r (subst (After m cs vs S) (let z : e ≡ k2 + length E = omega arith in z) a) in
         let ends : k2 ≡ suc (suc k) + length (code-size s ++ code-value v) = omega arith in
-        let one = named w (sizeOf s) v 212 k o b (omega arith) (f .0) (f .1) (code-is m cs vs S (suc k) i-declared (f .2 .0) (f .2 .1)) (inl refl) (sets .2)
+        let one = named w (sizeOf s) v c-declared k o b (omega arith) (f .0) (f .1) (code-is m cs vs S (suc k) i-declared (f .2 .0) (f .2 .1)) (inl refl) (sets .2)
         (size-is m cs vs S s v k (f .2 .2) (subst (After m cs vs S) ends aft)) c n in
         let lows : (j : ℕ) → suc (suc k) ≤ j → j < k2 → Low (getD cs j 0) =
         λ j g u. valued-at m cs vs S j (let l = long m cs vs S in omega arith)
@@ -194,7 +195,7 @@ module _ (m : Model) (cs vs : List ℕ) (S : Says m cs vs) where
     parameters-walk (w ∷ ws) k e o q b d y c a n =
         let k2 = suc (suc k) in
         let aft = after-parameters ws k2 (y .2 .2) (subst (After m cs vs S) (let z : e ≡ k2 + length (each code-parameter ws) = omega arith in z) a) in
-        let one = named w 1 unset 222 k o b (omega arith) (y .0) (y .1) (code-is m cs vs S (suc k) i-parameter (y .2 .0) (y .2 .1)) (inr refl) (sets .3) (one-number m cs vs S k (aft .1)) c n in
+        let one = named w 1 unset c-parameter k o b (omega arith) (y .0) (y .1) (code-is m cs vs S (suc k) i-parameter (y .2 .0) (y .2 .1)) (inr refl) (sets .3) (one-number m cs vs S k (aft .1)) c n in
         let W = parameters-walk ws k2 e (o + 1) (omega arith) (omega arith) d (y .2 .2) (one .kind) a (one .numbers) in
         let nn = W .numbers in
         let VV : Walked h lo hi (nameSites t ws (k + 2)) e (o + 1) = subst (λ i. Walked h lo hi (nameSites t ws i) e (o + 1)) (let z : suc (suc k) ≡ k + 2 = omega arith in z) W in
@@ -238,7 +239,7 @@ module _ (m : Model) (cs vs : List ℕ) (S : Says m cs vs) where
         let sizes : length (X ++ E) ≡ length X + length E = length-append X E in
         let k2 = k + length X in
         let back = lies-back xs X E k k2 refl y in
-        let W = declaration-walk i-local 210 t us k k2 o refl (sets .4) (sets .7) refl b (omega arith) (lies-front xs k X E y)
+        let W = declaration-walk i-local c-local t us k k2 o refl (sets .4) (sets .7) refl b (omega arith) (lies-front xs k X E y)
         (after-declarations m cs vs S ds k2 back (subst (After m cs vs S) (let z : e ≡ k2 + length E = omega arith in z) a)) n in
         walk-join h lo hi (sitesIn (declare t us) k) (localSites ds k2) e o (W .all) (declarations-walk ds k2 e (o + sizesOf (sitesIn (declare t us) k)) (omega arith) (omega arith) d back a (W .numbers))
 
@@ -257,7 +258,7 @@ module _ (m : Model) (cs vs : List ℕ) (S : Says m cs vs) where
         let cg = code-is m cs vs S (suc k) i-group (y .2 .0) (y .2 .1) in
         let W = parameters-walk t h lo hi k home top (T .0) (T .1) (T .2) ws (suc (suc k)) k3 o (omega arith) (omega arith) (omega arith) (front .2 .2) (last-here m cs vs S 3 (suc k) (ap (among 3) cg ∙ sets .9))
         (after-groups m cs vs S gs k3 back (subst (After m cs vs S) (let z : e ≡ k3 + length G = omega arith in z) a))
-        (typed-numbers k o t 221 i-group (y .0) (y .1) (y .2 .0) (y .2 .1) refl (sets .6) n) in
+        (typed-numbers k o t c-group i-group (y .0) (y .1) (y .2 .0) (y .2 .1) refl (sets .6) n) in
         let VV : Walked h lo hi (groupIn (group t ws) k) k3 o = subst (λ i. Walked h lo hi (nameSites t ws i) k3 o) (let z : suc (suc k) ≡ k + 2 = omega arith in z) W in
         walk-join h lo hi (groupIn (group t ws) k) (groupSites gs k3) e o (VV .all) (groups-walk gs k3 e (o + sizesOf (groupIn (group t ws) k)) (omega arith) (omega arith) d back a (VV .numbers))
 
@@ -284,7 +285,7 @@ module _ (m : Model) (cs vs : List ℕ) (S : Says m cs vs) where
         let top = F .top in
         let ab : After m cs vs S b = ((λ z. (let e = F .begin in omega arith)), after-declarations m cs vs S ds (suc b) yd (subst (After m cs vs S) ef af) .0) in
         let G = groups-walk (suc u) (suc u) (suc t) home (omega arith) gs (suc u) b 0 eb (omega arith) (omega arith) yg ab start in
-        let nb : N (suc u) (suc b) ≡ 0 + sizesOf (groupSites gs (suc u)) = numbers-one (suc u) b 227 (F .begin) marks ∙ G .numbers in
+        let nb : N (suc u) (suc b) ≡ 0 + sizesOf (groupSites gs (suc u)) = numbers-one (suc u) b c-body (F .begin) marks ∙ G .numbers in
         let D = declarations-walk (suc u) (suc b) f (λ j x y. home j (omega arith) (omega arith)) (omega arith) ds (suc b) f (0 + sizesOf (groupSites gs (suc u))) ef (omega arith) (omega arith) yd af nb in
         all-join (suc u) b f (groupSites gs (suc u)) (localSites ds (suc b)) 0 (bare gs (suc u) 0 (G .all)) (wider (suc u) (suc b) f b f (omega arith) (omega arith) (localSites ds (suc b)) (0 + sizesOf (groupSites gs (suc u))) (D .all))
       where
@@ -369,7 +370,7 @@ module _ (m : Model) (cs vs : List ℕ) (S : Says m cs vs) where
       let fl = flat m cs vs S j e ins (omega arith) top (λ i u v. (let w = settled-at m cs vs S i (omega arith) (lies-all xs settled (code-declaration i-global (declare t us)) j y
       (all-declaration i-global global-settled (declare t us)) i u (omega arith)) .0 in
       omega arith)) in
-      let W = declaration-walk 0 j e (fl .0) top i-global 211 t us j e o refl (sets .5) (sets .8) refl (omega arith) (omega arith) y after n in
+      let W = declaration-walk 0 j e (fl .0) top i-global c-global t us j e o refl (sets .5) (sets .8) refl (omega arith) (omega arith) y after n in
       (wider 0 j e 0 (length cs) (omega arith) top (sitesIn (declare t us) j) o (W .all), totals t us (j + 2))
     where
       totals : (t : ℕ) (us : List Variable) (i : ℕ) → sizesOf (sitesOf t us i) ≡ totalOf (globalIn (global (declare t us)))

@@ -8,6 +8,7 @@ use mathlib.Core.Logic.{_⊎_, inl, inr}
 use mathlib.Core.List.{List, [], _∷_}
 use lib.ListN.{length, getD}
 use lib.IntN.{ℤ, pos}
+use Rattle.base_codes.specs.Codes.{c-named}
 use Rattle.base_bytes.specs.Choice.{pick}
 use Rattle.base_bytes.specs.Lists.{same}
 use Rattle.base_bytes.proofs.Tests.{true-false}
@@ -153,7 +154,7 @@ module _ (t : List ℕ) (a : Accepts t) where
   -- ---- values
   -- a name and `named` behind it, at item j
   valued : (h lo hi : ℕ) (s : Site) (o : ℕ) (w : Name) → Sited m C W X h lo hi s o → s .var .value ≡ set-name w
-      → (suc (s .worth) < length C) × (itemAt (code m) (s .worth) ≡ i-name w) × (getD C (suc (s .worth)) 0 ≡ 216) × (lo ≤ s .worth) × (suc (s .worth) < hi) × (getD (homesAt t a) (suc (s .worth)) 0 ≡ h)
+      → (suc (s .worth) < length C) × (itemAt (code m) (s .worth) ≡ i-name w) × (getD C (suc (s .worth)) 0 ≡ c-named) × (lo ≤ s .worth) × (suc (s .worth) < hi) × (getD (homesAt t a) (suc (s .worth)) 0 ≡ h)
   valued h lo hi s o w x e =
       let y = subst (λ (v : Value). Lies (code m) (s .worth) (code-value v)) e (x .value) in
       let n : length (code-value (s .var .value)) ≡ 2 = ap (λ (v : Value). length (code-value v)) e in

@@ -7,6 +7,7 @@ use mathlib.Core.Option.{Option, none, some}
 use mathlib.Core.Logic.{_⊎_, inl, inr}
 use mathlib.Core.List.{List, [], _∷_, _++_, map, append-assoc, append-nil}
 use lib.ListN.{length, getD, length-append}
+use Rattle.base_codes.specs.Codes.{c-declared, c-global, c-group, c-local, c-parameter, c-size}
 use Rattle.base_bytes.specs.Choice.{pick}
 use Rattle.rule_search.specs.Sets.{among}
 use Rattle.rule_search.specs.Search.{last}
@@ -35,8 +36,8 @@ slots-append (x ∷ xs) ys o =
     ap (λ (l : List Entry). entry (x .name) (slot x o) ∷ l)
     (slots-append xs ys (o + x .size) ∙ ap (λ n. slots (o + x .size) xs ++ slots n ys) (let z : o + x .size + totalOf xs ≡ o + (x .size + totalOf xs) = omega arith in z))
 
-pub sets : (among 1 70 ≡ false) × (among 3 70 ≡ false) × (among 3 212 ≡ false) × (among 3 222 ≡ false) × (among 1 210 ≡ false) × (among 1 211 ≡ false)
-    × (among 1 221 ≡ false) × (among 3 210 ≡ true) × (among 3 211 ≡ true) × (among 3 221 ≡ true)
+pub sets : (among 1 70 ≡ false) × (among 3 70 ≡ false) × (among 3 c-declared ≡ false) × (among 3 c-parameter ≡ false) × (among 1 c-local ≡ false) × (among 1 c-global ≡ false)
+    × (among 1 c-group ≡ false) × (among 3 c-local ≡ true) × (among 3 c-global ≡ true) × (among 3 c-group ≡ true)
 unfolding among
 sets = (refl, refl, refl, refl, refl, refl, refl, refl, refl, refl)
 
@@ -63,11 +64,11 @@ module _ (m : Model) (cs vs : List ℕ) (S : Says m cs vs) where
       (z, omega arith, omega arith, low-one (getD cs k 0) (record { most = omega arith; string = λ u. omega arith; high = λ u. omega arith }))
 
   -- ---- how many numbers a variable has
-  array-some : (k n : ℕ) → getD cs (suc (suc k)) 0 ≡ 71 → getD cs (suc (suc (suc k))) 0 ≡ 213 → getD vs (suc (suc k)) 0 ≡ n → pick (isArray cs (suc k)) (getD vs (suc k + 1) 0) 1 ≡ n
+  array-some : (k n : ℕ) → getD cs (suc (suc k)) 0 ≡ 71 → getD cs (suc (suc (suc k))) 0 ≡ c-size → getD vs (suc (suc k)) 0 ≡ n → pick (isArray cs (suc k)) (getD vs (suc k + 1) 0) 1 ≡ n
   unfolding isArray
   array-some k n a b c = rw ((let z : suc k + 1 ≡ suc (suc k) = omega arith in z), (let z : suc k + 2 ≡ suc (suc (suc k)) = omega arith in z)) (rw (a, b) c)
 
-  pub one-number : (k : ℕ) → (getD cs (suc (suc (suc k))) 0 ≡ 213 → ⊥) → pick (isArray cs (suc k)) (getD vs (suc k + 1) 0) 1 ≡ 1
+  pub one-number : (k : ℕ) → (getD cs (suc (suc (suc k))) 0 ≡ c-size → ⊥) → pick (isArray cs (suc k)) (getD vs (suc k + 1) 0) 1 ≡ 1
   one-number k n = rw (array-none m cs vs S k n)
 
   pub size-is : (s : Option ℕ) (v : Value) (k : ℕ) → Lies xs (suc (suc k)) (code-size s ++ code-value v) → After m cs vs S (suc (suc k) + length (code-size s ++ code-value v))
@@ -75,7 +76,7 @@ module _ (m : Model) (cs vs : List ℕ) (S : Says m cs vs) where
   size-is (some n) v k l a =
       array-some k n (code-is m cs vs S (suc (suc k)) (i-number n) (l .0) (l .1)) (code-is m cs vs S (suc (suc (suc k))) i-size (l .2 .0) (l .2 .1))
       (S .numbers (suc (suc k)) n (below (suc (suc k)) (l .0)) (l .1))
-  size-is none unset k l a = one-number k (subst (λ x. getD cs (suc x) 0 ≡ 213 → ⊥) (let z : suc (suc k) + 0 ≡ suc (suc k) = omega arith in z) (a .1))
+  size-is none unset k l a = one-number k (subst (λ x. getD cs (suc x) 0 ≡ c-size → ⊥) (let z : suc (suc k) + 0 ≡ suc (suc k) = omega arith in z) (a .1))
   size-is none (set-number x) k l a = one-number k (λ z. (let c = code-is m cs vs S (suc (suc (suc k))) i-value (l .2 .0) (l .2 .1) in omega arith))
   size-is none (set-minus x) k l a = one-number k (λ z. (let c = code-is m cs vs S (suc (suc (suc k))) i-minus (l .2 .0) (l .2 .1) in omega arith))
   size-is none set-true k l a = one-number k (λ z. (let c = code-is m cs vs S (suc (suc (suc k))) i-value (l .2 .0) (l .2 .1) in omega arith))
@@ -92,7 +93,7 @@ module _ (m : Model) (cs vs : List ℕ) (S : Says m cs vs) where
 
     -- a name and its mark
     named : (w : Name) (s : ℕ) (v : Value) (c : ℕ) (l : List Entry) (k o n : ℕ) → lo ≤ k → suc k < hi → k < length xs → itemAt xs k ≡ i-name w → getD cs (suc k) 0 ≡ c
-        → (c ≡ 212) ⊎ (c ≡ 222) → among 3 c ≡ false → pick (isArray cs (suc k)) (getD vs (suc k + 1) 0) 1 ≡ s → last cs 3 k ≡ suc (suc p) → Sc l h k o n
+        → (c ≡ c-declared) ⊎ (c ≡ c-parameter) → among 3 c ≡ false → pick (isArray cs (suc k)) (getD vs (suc k + 1) 0) 1 ≡ s → last cs 3 k ≡ suc (suc p) → Sc l h k o n
         → Passed (l ++ entry w (slot (record { name = w; type = t; size = s; value = v }) o) ∷ []) (suc (suc k)) (o + s) n
     named w s v c l k o n b d g q cx cc three size kind sc =
         let x : Var = record { name = w; type = t; size = s; value = v } in
@@ -104,7 +105,7 @@ module _ (m : Model) (cs vs : List ℕ) (S : Says m cs vs) where
           scope = subst (Sc (l ++ entry w (slot x o) ∷ []) h (suc (suc k)) (o + s)) z
               (scoped-more m cs vs H S l h k o n w (slot x o) (omega arith) q
               record {
-                coded = subst (λ i. (i ≡ 212) ⊎ (i ≡ 222)) (inv cx) cc;
+                coded = subst (λ i. (i ≡ c-declared) ⊎ (i ≡ c-parameter)) (inv cx) cc;
                 home = home (suc k) (omega arith) d;
                 type = ap (λ i. getD cs (i - 2) 0) kind1 ∙ ap (λ i. getD cs i 0) (let z : suc (suc p) - 2 ≡ p = omega arith in z) ∙ typed;
                 least = least;
@@ -121,7 +122,7 @@ module _ (m : Model) (cs vs : List ℕ) (S : Says m cs vs) where
         → Passed (l ++ entry w (slot (ofVariable t (variable w s v)) o) ∷ []) e (o + sizeOf s) n
     one-variable w s v l k e o n q b d y c a sc =
         let ends : e ≡ suc (suc k) + length (code-size s ++ code-value v) = omega arith in
-        let one = named w (sizeOf s) v 212 l k o n b (omega arith) (y .0) (y .1) (code-is m cs vs S (suc k) i-declared (y .2 .0) (y .2 .1)) (inl refl) (sets .2)
+        let one = named w (sizeOf s) v c-declared l k o n b (omega arith) (y .0) (y .1) (code-is m cs vs S (suc k) i-declared (y .2 .0) (y .2 .1)) (inl refl) (sets .2)
         (size-is s v k (y .2 .2) (subst (After m cs vs S) ends a)) c sc in
         let lows : (j : ℕ) → suc (suc k) ≤ j → j < e → Low (getD cs j 0) =
         λ j g u. valued-at m cs vs S j (let r = long m cs vs S in omega arith)
@@ -176,7 +177,7 @@ module _ (m : Model) (cs vs : List ℕ) (S : Says m cs vs) where
         let k2 = suc (suc k) in
         let x = entry w (slot (ofParameter t w) o) in
         let aft = after-parameters ws k2 (y .2 .2) (subst (After m cs vs S) (let z : e ≡ k2 + length (each code-parameter ws) = omega arith in z) a) in
-        let one = named w 1 unset 222 l k o n b (omega arith) (y .0) (y .1) (code-is m cs vs S (suc k) i-parameter (y .2 .0) (y .2 .1)) (inr refl) (sets .3) (one-number k (aft .1)) c sc in
+        let one = named w 1 unset c-parameter l k o n b (omega arith) (y .0) (y .1) (code-is m cs vs S (suc k) i-parameter (y .2 .0) (y .2 .1)) (inr refl) (sets .3) (one-number k (aft .1)) c sc in
         more-passed l (slots (o + 1) (map (ofParameter t) ws)) x e o 1 (totalOf (map (ofParameter t) ws)) n
         (all-parameters ws (l ++ x ∷ []) k2 e (o + 1) n (omega arith) (omega arith) d (y .2 .2) (one .kind) a (one .scope))
       where
@@ -228,7 +229,7 @@ module _ (m : Model) (cs vs : List ℕ) (S : Says m cs vs) where
         let U = ofDeclaration (declare t us) in
         joined l U (ofDeclarations ds) e o n
         (all-declarations ds (l ++ slots o U) k2 e (o + totalOf U) n (omega arith) (omega arith) d back a
-        (one-declaration i-local 210 t us l k k2 o n refl (sets .4) (sets .7) refl b (omega arith) (lies-front xs k X E y)
+        (one-declaration i-local c-local t us l k k2 o n refl (sets .4) (sets .7) refl b (omega arith) (lies-front xs k X E y)
         (after-declarations m cs vs S ds k2 back (subst (After m cs vs S) (let z : e ≡ k2 + length E = omega arith in z) a)) sc))
 
     pub all-groups : (gs : List Group) (l : List Entry) (k e o n : ℕ) → e ≡ k + length (each code-group gs) → lo ≤ k → e ≤ hi
@@ -248,7 +249,7 @@ module _ (m : Model) (cs vs : List ℕ) (S : Says m cs vs) where
         (all-groups gs (l ++ slots o U) k3 e (o + totalOf U) n (omega arith) (omega arith) d back a
         (all-parameters t h lo hi k home top (T .0) (T .1) (T .2) ws l (suc (suc k)) k3 o n refl (omega arith) (omega arith) (front .2 .2) (last-here m cs vs S 3 (suc k) (ap (among 3) cg ∙ sets .9))
         (after-groups m cs vs S gs k3 back (subst (After m cs vs S) (let z : e ≡ k3 + length G = omega arith in z) a))
-        (typed-scope l k o n t 221 i-group (y .0) (y .1) (y .2 .0) (y .2 .1) refl (sets .6) sc) .scope))
+        (typed-scope l k o n t c-group i-group (y .0) (y .1) (y .2 .0) (y .2 .1) refl (sets .6) sc) .scope))
 
     -- ---- mtype names
     pub all-messages : (ws : List Name) (l : List Entry) (k e o n : ℕ) → e ≡ k + length (each code-message ws) → lo ≤ k → e ≤ hi → Lies xs k (each code-message ws)

@@ -8,6 +8,7 @@ use mathlib.Core.List.{List, [], _∷_}
 use lib.ListN.{length, getD}
 use lib.Dec.{eqb, ltb}
 use borrow.Author.Tests.{eq-eqb, ne-eqb, lt-ltb, le-ltb}
+use Rattle.base_codes.specs.Codes.{c-field}
 use Rattle.base_bytes.specs.Choice.{pick}
 use Rattle.spec_grammar.specs.Tree.{Model, set-channel}
 use Rattle.spec_grammar.specs.Code.{i-number, i-type, i-field, each, code-field, code-value, code}
@@ -46,7 +47,7 @@ module _ (t : List ℕ) (m : Model) (cs vs : List ℕ) (S : Says m cs vs) (H : H
       go (no h) = let e = H .items in rw (le-ltb j (itemsOf t) (omega arith)) (inv (past-none cs j (omega arith)))
 
   -- the types of fields, each before its mark
-  fields-lie : (ks : List ℕ) (k f : ℕ) → Lies (code m) k (each code-field ks) → f < length ks → (codeOf t (k + 2 * f) ≡ 130 + getD ks f 0) × (codeOf t (k + 2 * f + 1) ≡ 218)
+  fields-lie : (ks : List ℕ) (k f : ℕ) → Lies (code m) k (each code-field ks) → f < length ks → (codeOf t (k + 2 * f) ≡ 130 + getD ks f 0) × (codeOf t (k + 2 * f + 1) ≡ c-field)
   fields-lie [] k f y h = absurd (omega arith)
   fields-lie (x ∷ ks) k zero y h = (
     ap (codeOf t) (let z : k + 2 * 0 ≡ k = omega arith in z) ∙ code-any k ∙ code-is m cs vs S k (i-type x) (y .0) (y .1),
@@ -69,30 +70,30 @@ module _ (t : List ℕ) (m : Model) (cs vs : List ℕ) (S : Says m cs vs) (H : H
         ∙ S .numbers (M .from) n number-at (l .1)
 
     -- field f is there
-    field-there : (f : ℕ) → f ≤ length ks → eqb (codeOf t (d + 2 + 2 * f)) 218 ≡ ltb f (length ks)
+    field-there : (f : ℕ) → f ≤ length ks → eqb (codeOf t (d + 2 + 2 * f)) c-field ≡ ltb f (length ks)
     field-there f h = go (decLt f (length ks))
       where
-        go : Dec (f < length ks) → eqb (codeOf t (d + 2 + 2 * f)) 218 ≡ ltb f (length ks)
+        go : Dec (f < length ks) → eqb (codeOf t (d + 2 + 2 * f)) c-field ≡ ltb f (length ks)
         go (yes g) =
             let e = M .at in
             let r = fields-lie ks (suc (suc (M .from))) f (M .lies .2 .2) g .1 in
-            eq-eqb (codeOf t (d + 2 + 2 * f)) 218 (ap (codeOf t) (let z : d + 2 + 2 * f ≡ suc (suc (M .from)) + 2 * f + 1 = omega arith in z) ∙ r) ∙ inv (lt-ltb f (length ks) g)
+            eq-eqb (codeOf t (d + 2 + 2 * f)) c-field (ap (codeOf t) (let z : d + 2 + 2 * f ≡ suc (suc (M .from)) + 2 * f + 1 = omega arith in z) ∙ r) ∙ inv (lt-ltb f (length ks) g)
         go (no g) =
             let e = M .at in
             let l = fields-long ks in
             let x = M .free .1 in
             let j = suc (M .from + length (code-value (set-channel n ks))) in
             let z : codeOf t (d + 2 + 2 * f) ≡ getD cs j 0 = ap (codeOf t) (let y : d + 2 + 2 * f ≡ j = omega arith in y) ∙ code-any j in
-            ne-eqb (codeOf t (d + 2 + 2 * f)) 218 (λ w. x (omega arith, omega arith)) ∙ inv (le-ltb f (length ks) (omega arith))
+            ne-eqb (codeOf t (d + 2 + 2 * f)) c-field (λ w. x (omega arith, omega arith)) ∙ inv (le-ltb f (length ks) (omega arith))
 
     fields-are : fieldsOf t d ≡ length ks
     unfolding fieldsOf
     fields-are =
-        fields-count (length ks) (M .most .1) (eqb (codeOf t (d + 2)) 218) (eqb (codeOf t (d + 4)) 218) (eqb (codeOf t (d + 6)) 218) (eqb (codeOf t (d + 8)) 218)
-        (ap (λ i. eqb (codeOf t i) 218) (let z : d + 2 ≡ d + 2 + 2 * 0 = omega arith in z) ∙ field-there 0 (omega arith))
-        (λ h. ap (λ i. eqb (codeOf t i) 218) (let z : d + 4 ≡ d + 2 + 2 * 1 = omega arith in z) ∙ field-there 1 h)
-        (λ h. ap (λ i. eqb (codeOf t i) 218) (let z : d + 6 ≡ d + 2 + 2 * 2 = omega arith in z) ∙ field-there 2 h)
-        (λ h. ap (λ i. eqb (codeOf t i) 218) (let z : d + 8 ≡ d + 2 + 2 * 3 = omega arith in z) ∙ field-there 3 h)
+        fields-count (length ks) (M .most .1) (eqb (codeOf t (d + 2)) c-field) (eqb (codeOf t (d + 4)) c-field) (eqb (codeOf t (d + 6)) c-field) (eqb (codeOf t (d + 8)) c-field)
+        (ap (λ i. eqb (codeOf t i) c-field) (let z : d + 2 ≡ d + 2 + 2 * 0 = omega arith in z) ∙ field-there 0 (omega arith))
+        (λ h. ap (λ i. eqb (codeOf t i) c-field) (let z : d + 4 ≡ d + 2 + 2 * 1 = omega arith in z) ∙ field-there 1 h)
+        (λ h. ap (λ i. eqb (codeOf t i) c-field) (let z : d + 6 ≡ d + 2 + 2 * 2 = omega arith in z) ∙ field-there 2 h)
+        (λ h. ap (λ i. eqb (codeOf t i) c-field) (let z : d + 8 ≡ d + 2 + 2 * 3 = omega arith in z) ∙ field-there 3 h)
 
     pub channel-says : (d ≤ 8192) × (capacityOf t d ≡ n) × (fieldsOf t d ≡ length ks) × (n ≤ 8) × (length ks ≤ 4)
     channel-says =

@@ -8,6 +8,7 @@ use mathlib.Core.List.{List}
 use lib.ListN.{length, getD}
 use lib.Dec.{eqb}
 use borrow.Author.Tests.{ne-eqb}
+use Rattle.base_codes.specs.Codes.{c-declared, c-message, c-named, c-parameter}
 use Rattle.base_bytes.specs.Choice.{pick}
 use Rattle.rule_search.specs.Search.{lookup, last, count}
 use Rattle.rule_sheets.specs.Walks.{sum}
@@ -27,11 +28,11 @@ use Rattle.spec_machine.specs.Names.{Var}
 use Rattle.state_encode.specs.Tabled.{Linked}
 use Rattle.agree_names.proofs.Scopes.{Declares}
 
-classes : (classOf 212 ≡ 14) × (classOf 222 ≡ 14) × (classOf 220 ≡ 15) × (classOf 216 ≡ 2)
+classes : (classOf c-declared ≡ 14) × (classOf c-parameter ≡ 14) × (classOf c-message ≡ 15) × (classOf c-named ≡ 2)
 unfolding classOf
 classes = (refl, refl, refl, refl)
 
-variable-class : (c : ℕ) → (c ≡ 212) ⊎ (c ≡ 222) → classOf c ≡ 14
+variable-class : (c : ℕ) → (c ≡ c-declared) ⊎ (c ≡ c-parameter) → classOf c ≡ 14
 variable-class c (inl e) = ap classOf e ∙ classes .0
 variable-class c (inr e) = ap classOf e ∙ classes .1
 
@@ -75,7 +76,7 @@ module _ (t cs vs : List ℕ) (H : Held t cs vs (linksIn cs vs)) (K : Facts cs v
   unfolding linkBy
   message-link l d = refl
 
-  type-of : (d : ℕ) → d < length cs → (getD cs d 0 ≡ 212) ⊎ (getD cs d 0 ≡ 222) → linkOf t d % 8 ≡ typeAt cs d
+  type-of : (d : ℕ) → d < length cs → (getD cs d 0 ≡ c-declared) ⊎ (getD cs d 0 ≡ c-parameter) → linkOf t d % 8 ≡ typeAt cs d
   type-of d h v =
       let l = link-is cs vs d (K .few) h in
       ap (λ x. x % 8)
@@ -90,9 +91,9 @@ module _ (t cs vs : List ℕ) (H : Held t cs vs (linksIn cs vs)) (K : Facts cs v
   unfolding offsetAt
   offset-is h d o e q l = ap (λ i. min 65535 (sum (numbersAt cs vs hs i) 0 d)) e ∙ ap (min 65535) q ∙ (let z : min 65535 o ≡ o = omega arith in z)
 
-  there : (d : ℕ) → (getD cs d 0 ≡ 212) ⊎ (getD cs d 0 ≡ 222) → d < length cs
-  there d (inl e) = item-there cs d 212 (omega arith) e
-  there d (inr e) = item-there cs d 222 (omega arith) e
+  there : (d : ℕ) → (getD cs d 0 ≡ c-declared) ⊎ (getD cs d 0 ≡ c-parameter) → d < length cs
+  there d (inl e) = item-there cs d c-declared (omega arith) e
+  there d (inr e) = item-there cs d c-parameter (omega arith) e
 
   pub code-there : (d c : ℕ) → 0 < c → getD cs d 0 ≡ c → codeOf t d ≡ c
   code-there d c h e = H .codes d (item-there cs d c h e) ∙ e
@@ -102,12 +103,12 @@ module _ (t cs vs : List ℕ) (H : Held t cs vs (linksIn cs vs)) (K : Facts cs v
     bound : d < length cs
     bound = there d (D .coded)
 
-    pub variable-code : (eqb (codeOf t d) 220 ≡ false) × (eqb (codeOf t d) 70 ≡ false)
+    pub variable-code : (eqb (codeOf t d) c-message ≡ false) × (eqb (codeOf t d) 70 ≡ false)
     variable-code = go (D .coded)
       where
-        go : (getD cs d 0 ≡ 212) ⊎ (getD cs d 0 ≡ 222) → (eqb (codeOf t d) 220 ≡ false) × (eqb (codeOf t d) 70 ≡ false)
-        go (inl e) = let c = H .codes d bound in (ne-eqb (codeOf t d) 220 (λ z. omega arith), ne-eqb (codeOf t d) 70 (λ z. omega arith))
-        go (inr e) = let c = H .codes d bound in (ne-eqb (codeOf t d) 220 (λ z. omega arith), ne-eqb (codeOf t d) 70 (λ z. omega arith))
+        go : (getD cs d 0 ≡ c-declared) ⊎ (getD cs d 0 ≡ c-parameter) → (eqb (codeOf t d) c-message ≡ false) × (eqb (codeOf t d) 70 ≡ false)
+        go (inl e) = let c = H .codes d bound in (ne-eqb (codeOf t d) c-message (λ z. omega arith), ne-eqb (codeOf t d) 70 (λ z. omega arith))
+        go (inr e) = let c = H .codes d bound in (ne-eqb (codeOf t d) c-message (λ z. omega arith), ne-eqb (codeOf t d) 70 (λ z. omega arith))
 
     pub size-some : 1 ≤ x .size
     size-some = let a = size-is cs vs K d .0 in let b = size-is cs vs K d .1 in let c = D .size in omega arith
@@ -136,9 +137,9 @@ module _ (t cs vs : List ℕ) (H : Held t cs vs (linksIn cs vs)) (K : Facts cs v
     linked-local u e = linked localAt (λ p k. rw (flag-here false (ne-eqb h 0 (λ z. omega arith)), offset-here))
 
   -- ---- an mtype name
-  pub number-link : (d n : ℕ) → getD cs d 0 ≡ 220 → count cs hs 12 0 0 (suc d) ≡ n → n ≤ 64 → linkOf t d ≡ n
+  pub number-link : (d n : ℕ) → getD cs d 0 ≡ c-message → count cs hs 12 0 0 (suc d) ≡ n → n ≤ 64 → linkOf t d ≡ n
   number-link d n c e small =
-      let h = item-there cs d 220 (omega arith) c in
+      let h = item-there cs d c-message (omega arith) c in
       let l = link-is cs vs d (K .few) h in
       H .links d h ∙ l .1 ∙ ap (λ c. min 4294967295 (linkBy cs vs hs (starts cs) c (l .0) d)) (ap classOf c ∙ classes .2)
       ∙ ap (min 4294967295) (message-link (l .0) d ∙ ap (count cs hs 12 0 0) (let z : d + 1 ≡ suc d = omega arith in z) ∙ e) ∙ (let z : min 4294967295 n ≡ n = omega arith in z)
@@ -148,7 +149,7 @@ module _ (t cs vs : List ℕ) (H : Held t cs vs (linksIn cs vs)) (K : Facts cs v
   unfolding linkBy
   named-link l j = ap (λ i. lookup cs vs hs (getD vs i 0) (getD hs (suc j) 0) i) (let z : suc j - 1 ≡ j = omega arith in z)
 
-  pub value-link : (j h : ℕ) → suc j < length cs → getD cs (suc j) 0 ≡ 216 → getD hs (suc j) 0 ≡ h → linkOf t (suc j) ≡ lookup cs vs hs (getD vs j 0) h j
+  pub value-link : (j h : ℕ) → suc j < length cs → getD cs (suc j) 0 ≡ c-named → getD hs (suc j) 0 ≡ h → linkOf t (suc j) ≡ lookup cs vs hs (getD vs j 0) h j
   value-link j h b c e =
       let l = link-is cs vs (suc j) (K .few) b in
       let v = getD vs j 0 in

@@ -11,6 +11,7 @@ use lib.ListN.{length, getD}
 use lib.IntN.{ℤ}
 use lib.Dec.{eqb, leb}
 use borrow.Author.Tests.{leb-true, lt-ltb, le-ltb, eq-eqb, ne-eqb, eqb-true}
+use Rattle.base_codes.specs.Codes.{c-end-body, c-message}
 use Rattle.base_bytes.specs.Choice.{pick, both}
 use Rattle.base_bytes.specs.Lists.{same}
 use Rattle.base_bytes.proofs.Tests.{true-false, both-true}
@@ -128,10 +129,10 @@ sense-message constant = refl
 sense-message (procedure n) = refl
 sense-message unknown = refl
 
-item-constant : (T : List ℕ) (m : Model) (u d : ℕ) (y : Meaning) → tabled.Item T m u d y → eqb (codeOf T d) 220 ≡ isMessage m 0 y
+item-constant : (T : List ℕ) (m : Model) (u d : ℕ) (y : Meaning) → tabled.Item T m u d y → eqb (codeOf T d) c-message ≡ isMessage m 0 y
 item-constant T m u d (local i x) (of-local l g s c n k) = c
 item-constant T m u d (global i x) (of-global l g s c n k) = c
-item-constant T m u d (message n) (of-message c l s) = eq-eqb (codeOf T d) 220 c
+item-constant T m u d (message n) (of-message c l s) = eq-eqb (codeOf T d) c-message c
 
 -- a statement of a narrow tree is narrow
 within-narrow : {k : Sort} {t : Tree k} {i n o : ℕ} {a : Tree action} {j m u : ℕ} → Within k t i n o a j m u → narrow t ≡ true → narrow a ≡ true
@@ -216,7 +217,7 @@ module _ (t : List ℕ) (a : Accepts t) (legal : modelLawful (a .tree) ≡ true)
       where
         plain : Dec (f < e) → heads (getD C f 0) ≡ false
         plain (yes h) = let z = frame .said f (omega arith) h in no-head (getD C f 0) (omega arith)
-        plain (no h) = let i2 = frame .last in let z : getD C f 0 ≡ 228 = ap (λ i. getD C i 0) (let y : f ≡ e = omega arith in y) ∙ frame .ends in rw z refl
+        plain (no h) = let i2 = frame .last in let z : getD C f 0 ≡ c-end-body = ap (λ i. getD C i 0) (let y : f ≡ e = omega arith in y) ∙ frame .ends in rw z refl
 
     -- ---- what a name of an item means where the statements begin
     module _ (w : Name) (j : ℕ) (h : j < length C) (q : itemAt (code m) j ≡ i-name w) where
@@ -325,7 +326,7 @@ module _ (t : List ℕ) (a : Accepts t) (legal : modelLawful (a .tree) ≡ true)
             let top = few .messages in
             let small : i ≤ 64 = omega arith in
             resolved w d (means w) (message i) (c .1 .0) (r ∙ o .0 ∙ o .1)
-            (of-message (code-there T C W H K d 220 (omega arith) (c .1 .1 .0)) (number-link T C W H K d i (c .1 .1 .0) (c .1 .1 .2) small) small)
+            (of-message (code-there T C W H K d c-message (omega arith) (c .1 .1 .0)) (number-link T C W H K d i (c .1 .1 .0) (c .1 .1 .2) small) small)
         go none (some (proctype c)) p q r h = absurd (omega arith)
 
     -- ---- names that a lawful statement may use
@@ -365,12 +366,12 @@ module _ (t : List ℕ) (a : Accepts t) (legal : modelLawful (a .tree) ≡ true)
             (r .item, meaning-variable m (meant m (unitAt m k) w) (r .kind ∙ z))
 
     pub text-constants : (w : Name) (i : Bool) → usable (sense place) received i w ≡ true
-        → (isMessage m 0 (meant m (unitAt m k) w) ≡ isConstant (sense place w)) × (eqb (codeOf T (decl w)) 220 ≡ isConstant (sense place w))
+        → (isMessage m 0 (meant m (unitAt m k) w) ≡ isConstant (sense place w)) × (eqb (codeOf T (decl w)) c-message ≡ isConstant (sense place w))
     unfolding usable
     text-constants w i h = go (same w pid) refl h
       where
         go : (c : Bool) → same w pid ≡ c → pick c (both false (not i)) (suits received i (sense place w)) ≡ true
-            → (isMessage m 0 (meant m (unitAt m k) w) ≡ isConstant (sense place w)) × (eqb (codeOf T (decl w)) 220 ≡ isConstant (sense place w))
+            → (isMessage m 0 (meant m (unitAt m k) w) ≡ isConstant (sense place w)) × (eqb (codeOf T (decl w)) c-message ≡ isConstant (sense place w))
         go true n h = absurd (true-false (inv h))
         go false n h =
             let r = resolve w n (suits-kind received i (sense place w) h) in
@@ -393,14 +394,14 @@ module _ (t : List ℕ) (a : Accepts t) (legal : modelLawful (a .tree) ≡ true)
         end-is (body ds q) i = refl
 
     -- no statement begins with an `end-body`
-    pub text-begun : (x : Tree action) (j n o : ℕ) → At m k x j n o → eqb (codeOf T j) 228 ≡ false
+    pub text-begun : (x : Tree action) (j n o : ℕ) → At m k x j n o → eqb (codeOf T j) c-end-body ≡ false
     text-begun x j n o w =
         let r = statement-range x j n o w in
         let r1 = r .1 in
         let top = frame .top in
         let c = frame .said j (r .0) (r .1) in
         let d = H .codes j (omega arith) in
-        ne-eqb (codeOf T j) 228 (λ z. omega arith)
+        ne-eqb (codeOf T j) c-end-body (λ z. omega arith)
 
     belongs-small : (j : ℕ) → Belongs m k j → j ≤ 8192
     belongs-small j (ends c z) = let top = frame .top in let g = S .few in omega arith

@@ -9,6 +9,7 @@ use mathlib.Core.List.{List, [], _∷_, _++_}
 use lib.ListN.{length, getD, length-append}
 use lib.Dec.{eqb}
 use borrow.Author.Tests.{eq-eqb, ne-eqb}
+use Rattle.base_codes.specs.Codes.{c-body, c-channel, c-declared, c-false, c-field, c-group, c-local, c-minus, c-named, c-parameter, c-proctype, c-size, c-true, c-value}
 use Rattle.base_bytes.specs.Choice.{pick}
 use Rattle.base_bytes.proofs.Tests.{true-false}
 use Rattle.rule_sheets.specs.Homes.{heads}
@@ -33,15 +34,15 @@ use Rattle.state_encode.specs.Encode.{headIn}
 use Rattle.spec_machine.specs.Places.{Bodied}
 
 -- what begins a unit is no `channel`
-head-code : (c : ℕ) → heads c ≡ true → 223 ≤ c
-head-code c h = go (decLt 222 c)
+head-code : (c : ℕ) → heads c ≡ true → c-proctype ≤ c
+head-code c h = go (decLt c-parameter c)
   where
-    go : Dec (222 < c) → 223 ≤ c
+    go : Dec (c-parameter < c) → c-proctype ≤ c
     go (yes z) = omega arith
     go (no z) = absurd (true-false (inv h ∙ no-head c (omega arith)))
 
 module _ (t : List ℕ) where
-  from-one : (n j : ℕ) → channelsFrom t (suc n) j ≡ pick (eqb (codeOf t j) 217) 1 0 + channelsFrom t n (j + 1)
+  from-one : (n j : ℕ) → channelsFrom t (suc n) j ≡ pick (eqb (codeOf t j) c-channel) 1 0 + channelsFrom t n (j + 1)
   unfolding channelsFrom
   from-one n j = refl
 
@@ -66,10 +67,10 @@ module _ (t : List ℕ) where
       let v : channelsFrom t b (j + 1 + a) ≡ channelsFrom t b (j + suc a) = ap (channelsFrom t b) (let z : j + 1 + a ≡ j + suc a = omega arith in z) in
       omega arith
 
-  from-other : (n j : ℕ) → (codeOf t j ≡ 217 → ⊥) → channelsFrom t (suc n) j ≡ channelsFrom t n (suc j)
-  from-other n j h = from-one n j ∙ ap (λ b. pick b 1 0 + channelsFrom t n (j + 1)) (ne-eqb (codeOf t j) 217 h) ∙ (let z : 0 + channelsFrom t n (j + 1) ≡ channelsFrom t n (j + 1) = omega arith in z) ∙ from-next n j
+  from-other : (n j : ℕ) → (codeOf t j ≡ c-channel → ⊥) → channelsFrom t (suc n) j ≡ channelsFrom t n (suc j)
+  from-other n j h = from-one n j ∙ ap (λ b. pick b 1 0 + channelsFrom t n (j + 1)) (ne-eqb (codeOf t j) c-channel h) ∙ (let z : 0 + channelsFrom t n (j + 1) ≡ channelsFrom t n (j + 1) = omega arith in z) ∙ from-next n j
 
-  from-none : (n j : ℕ) → ((i : ℕ) → j ≤ i → i < j + n → codeOf t i ≡ 217 → ⊥) → channelsFrom t n j ≡ 0
+  from-none : (n j : ℕ) → ((i : ℕ) → j ≤ i → i < j + n → codeOf t i ≡ c-channel → ⊥) → channelsFrom t n j ≡ 0
   from-none zero j h = from-empty j
   from-none (suc n) j h = from-other n j (h j (omega arith) (omega arith)) ∙ from-none n (suc j) (λ i a b. h i (omega arith) (omega arith))
 
@@ -88,40 +89,40 @@ module _ (t : List ℕ) (m : Model) (cs vs : List ℕ) (S : Says m cs vs) (H : H
   table-code k c h e = H .codes k (let z = long m cs vs S in omega arith) ∙ e
 
   -- one item that is no `channel`
-  skip : (n k c : ℕ) (x : Item) → k < length xs → itemAt xs k ≡ x → items.codeOf x ≡ c → (c ≡ 217 → ⊥) → channelsFrom t (suc n) k ≡ channelsFrom t n (suc k)
+  skip : (n k c : ℕ) (x : Item) → k < length xs → itemAt xs k ≡ x → items.codeOf x ≡ c → (c ≡ c-channel → ⊥) → channelsFrom t (suc n) k ≡ channelsFrom t n (suc k)
   skip n k c x h q e o = from-other t n k (λ z. o (inv (table-code k c h (code-is m cs vs S k x h q ∙ e)) ∙ z))
 
   skip-type : (n k a : ℕ) → k < length xs → itemAt xs k ≡ i-type a → channelsFrom t (suc n) k ≡ channelsFrom t n (suc k)
   skip-type n k a h q = let b = type-code a (subst Known q (known-at m cs vs S k h)) .1 in skip n k (130 + a) (i-type a) h q refl (λ z. omega arith)
 
   -- two of them
-  pair : (k c d : ℕ) (x y : Item) (l : List Item) → Lies xs k (x ∷ y ∷ l) → items.codeOf x ≡ c → items.codeOf y ≡ d → (c ≡ 217 → ⊥) → (d ≡ 217 → ⊥) → over (x ∷ y ∷ l) k ≡ over l (suc (suc k))
+  pair : (k c d : ℕ) (x y : Item) (l : List Item) → Lies xs k (x ∷ y ∷ l) → items.codeOf x ≡ c → items.codeOf y ≡ d → (c ≡ c-channel → ⊥) → (d ≡ c-channel → ⊥) → over (x ∷ y ∷ l) k ≡ over l (suc (suc k))
   pair k c d x y l h e f a b = skip (suc (length l)) k c x (h .0) (h .1) e a ∙ skip (length l) (suc k) d y (h .2 .0) (h .2 .1) f b
 
-  typed : (k a d : ℕ) (y : Item) (l : List Item) → Lies xs k (i-type a ∷ y ∷ l) → items.codeOf y ≡ d → (d ≡ 217 → ⊥) → over (i-type a ∷ y ∷ l) k ≡ over l (suc (suc k))
+  typed : (k a d : ℕ) (y : Item) (l : List Item) → Lies xs k (i-type a ∷ y ∷ l) → items.codeOf y ≡ d → (d ≡ c-channel → ⊥) → over (i-type a ∷ y ∷ l) k ≡ over l (suc (suc k))
   typed k a d y l h f b = skip-type (suc (length l)) k a (h .0) (h .1) ∙ skip (length l) (suc k) d y (h .2 .0) (h .2 .1) f b
 
   fields-none : (ks : List ℕ) (k : ℕ) → Lies xs k (each code-field ks) → over (each code-field ks) k ≡ 0
   fields-none [] k y = from-empty t k
-  fields-none (a ∷ ks) k y = typed k a 218 i-field (each code-field ks) y refl (λ z. omega arith) ∙ fields-none ks (suc (suc k)) (y .2 .2)
+  fields-none (a ∷ ks) k y = typed k a c-field i-field (each code-field ks) y refl (λ z. omega arith) ∙ fields-none ks (suc (suc k)) (y .2 .2)
 
   size-none : (s : Option ℕ) (k : ℕ) → Lies xs k (code-size s) → over (code-size s) k ≡ 0
   size-none none k y = from-empty t k
-  size-none (some n) k y = pair k 71 213 (i-number n) i-size [] y refl refl (λ z. omega arith) (λ z. omega arith) ∙ from-empty t (suc (suc k))
+  size-none (some n) k y = pair k 71 c-size (i-number n) i-size [] y refl refl (λ z. omega arith) (λ z. omega arith) ∙ from-empty t (suc (suc k))
 
   value-made : (v : Value) (k : ℕ) → Lies xs k (code-value v) → over (code-value v) k ≡ madeBy v
   value-made unset k y = from-empty t k
-  value-made (set-number n) k y = pair k 71 214 (i-number n) i-value [] y refl refl (λ z. omega arith) (λ z. omega arith) ∙ from-empty t (suc (suc k))
-  value-made (set-minus n) k y = pair k 71 215 (i-number n) i-minus [] y refl refl (λ z. omega arith) (λ z. omega arith) ∙ from-empty t (suc (suc k))
-  value-made set-true k y = pair k 178 214 i-true i-value [] y refl refl (λ z. omega arith) (λ z. omega arith) ∙ from-empty t (suc (suc k))
-  value-made set-false k y = pair k 179 214 i-false i-value [] y refl refl (λ z. omega arith) (λ z. omega arith) ∙ from-empty t (suc (suc k))
-  value-made (set-name w) k y = pair k 70 216 (i-name w) i-named [] y refl refl (λ z. omega arith) (λ z. omega arith) ∙ from-empty t (suc (suc k))
+  value-made (set-number n) k y = pair k 71 c-value (i-number n) i-value [] y refl refl (λ z. omega arith) (λ z. omega arith) ∙ from-empty t (suc (suc k))
+  value-made (set-minus n) k y = pair k 71 c-minus (i-number n) i-minus [] y refl refl (λ z. omega arith) (λ z. omega arith) ∙ from-empty t (suc (suc k))
+  value-made set-true k y = pair k c-true c-value i-true i-value [] y refl refl (λ z. omega arith) (λ z. omega arith) ∙ from-empty t (suc (suc k))
+  value-made set-false k y = pair k c-false c-value i-false i-value [] y refl refl (λ z. omega arith) (λ z. omega arith) ∙ from-empty t (suc (suc k))
+  value-made (set-name w) k y = pair k 70 c-named (i-name w) i-named [] y refl refl (λ z. omega arith) (λ z. omega arith) ∙ from-empty t (suc (suc k))
   value-made (set-channel n ks) k y =
       let F = each code-field ks in
       let a = skip (suc (length F)) k 71 (i-number n) (y .0) (y .1) refl (λ z. omega arith) in
-      let c = table-code (suc k) 217 (y .2 .0) (code-is m cs vs S (suc k) i-channel (y .2 .0) (y .2 .1)) in
+      let c = table-code (suc k) c-channel (y .2 .0) (code-is m cs vs S (suc k) i-channel (y .2 .0) (y .2 .1)) in
       let b : channelsFrom t (suc (length F)) (suc k) ≡ 1 + channelsFrom t (length F) (suc k + 1) =
-      from-one t (length F) (suc k) ∙ ap (λ b. pick b 1 0 + channelsFrom t (length F) (suc k + 1)) (eq-eqb (codeOf t (suc k)) 217 c) in
+      from-one t (length F) (suc k) ∙ ap (λ b. pick b 1 0 + channelsFrom t (length F) (suc k + 1)) (eq-eqb (codeOf t (suc k)) c-channel c) in
       let d = from-next t (length F) (suc k) in
       let e = fields-none ks (suc (suc k)) (y .2 .2) in
       omega arith
@@ -134,7 +135,7 @@ module _ (t : List ℕ) (m : Model) (cs vs : List ℕ) (S : Says m cs vs) (H : H
       let R = code-size s ++ code-value v in
       let yx = lies-front xs k X E y in
       let a = over-both X E k in
-      let b = pair k 70 212 (i-name w) i-declared R yx refl refl (λ z. omega arith) (λ z. omega arith) in
+      let b = pair k 70 c-declared (i-name w) i-declared R yx refl refl (λ z. omega arith) (λ z. omega arith) in
       let c = over-both (code-size s) (code-value v) (suc (suc k)) in
       let d = size-none s (suc (suc k)) (lies-front xs (suc (suc k)) (code-size s) (code-value v) (yx .2 .2)) in
       let e = value-made v (suc (suc k) + length (code-size s)) (lies-back xs (code-size s) (code-value v) (suc (suc k)) (suc (suc k) + length (code-size s)) refl (yx .2 .2)) in
@@ -148,7 +149,7 @@ module _ (t : List ℕ) (m : Model) (cs vs : List ℕ) (S : Says m cs vs) (H : H
       let E = each (code-declaration i-local) ds in
       let yx = lies-front xs k X E y in
       let b = over-both X E k in
-      let c = typed k a 210 i-local (each code-variable us) yx refl (λ z. omega arith) in
+      let c = typed k a c-local i-local (each code-variable us) yx refl (λ z. omega arith) in
       let d = variables-made us (suc (suc k)) (yx .2 .2) in
       let f = declarations-made ds (k + length X) (lies-back xs X E k (k + length X) refl y) in
       omega arith
@@ -156,7 +157,7 @@ module _ (t : List ℕ) (m : Model) (cs vs : List ℕ) (S : Says m cs vs) (H : H
   parameters-none : (ws : List Name) (k : ℕ) → Lies xs k (each code-parameter ws) → over (each code-parameter ws) k ≡ 0
   parameters-none [] k y = from-empty t k
   parameters-none (w ∷ ws) k y =
-      pair k 70 222 (i-name w) i-parameter (each code-parameter ws) y refl refl (λ z. omega arith) (λ z. omega arith) ∙ parameters-none ws (suc (suc k)) (y .2 .2)
+      pair k 70 c-parameter (i-name w) i-parameter (each code-parameter ws) y refl refl (λ z. omega arith) (λ z. omega arith) ∙ parameters-none ws (suc (suc k)) (y .2 .2)
 
   groups-none : (gs : List Group) (k : ℕ) → Lies xs k (each code-group gs) → over (each code-group gs) k ≡ 0
   groups-none [] k y = from-empty t k
@@ -165,7 +166,7 @@ module _ (t : List ℕ) (m : Model) (cs vs : List ℕ) (S : Says m cs vs) (H : H
       let E = each code-group gs in
       let yx = lies-front xs k X E y in
       let b = over-both X E k in
-      let c = typed k a 221 i-group (each code-parameter ws) yx refl (λ z. omega arith) in
+      let c = typed k a c-group i-group (each code-parameter ws) yx refl (λ z. omega arith) in
       let d = parameters-none ws (suc (suc k)) (yx .2 .2) in
       let f = groups-none gs (k + length X) (lies-back xs X E k (k + length X) refl y) in
       omega arith
@@ -188,7 +189,7 @@ module _ (t : List ℕ) (m : Model) (cs vs : List ℕ) (S : Says m cs vs) (H : H
       let s2 = from-split t (length P) (suc (length D + length T)) (suc u) in
       let g = groups-none gs (suc u) yg in
       let s3 : channelsFrom t (suc (length D + length T)) (suc u + length P) ≡ channelsFrom t (suc (length D + length T)) b = ap (channelsFrom t (suc (length D + length T))) (inv eb) in
-      let s4 = skip (length D + length T) b 227 i-body (yb .0) (yb .1) refl (λ z. omega arith) in
+      let s4 = skip (length D + length T) b c-body i-body (yb .0) (yb .1) refl (λ z. omega arith) in
       let s5 = from-split t (length D) (length T) (suc b) in
       let d = declarations-made ds (suc b) (yd .2) in
       let s6 : channelsFrom t (length T) (suc b + length D) ≡ channelsFrom t (length T) f = ap (channelsFrom t (length T)) (inv ef) in

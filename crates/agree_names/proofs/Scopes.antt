@@ -11,6 +11,7 @@ use mathlib.Core.List.{List, [], _∷_, _++_}
 use lib.ListN.{length, getD}
 use lib.Dec.{eqb, ltb, leb}
 use borrow.Author.Tests.{lt-ltb, le-ltb, ne-eqb, eq-eqb, le-leb, leb-true}
+use Rattle.base_codes.specs.Codes.{c-active-many, c-declared, c-message, c-parameter, c-proctype}
 use Rattle.base_bytes.specs.Choice.{pick, both, either}
 use Rattle.base_bytes.specs.Lists.{same}
 use Rattle.base_bytes.proofs.Tests.{true-false, both-true}
@@ -50,13 +51,13 @@ what-more l w v y = what-append l (entry v y ∷ []) w
 -- what declares nothing declares no variable and no mtype name
 none-other : (c : ℕ) → among 1 c ≡ false → (among 14 c ≡ false) × (among 12 c ≡ false)
 unfolding among
-none-other c e = go (ℕ-discrete c 212) (ℕ-discrete c 220) (ℕ-discrete c 222)
+none-other c e = go (ℕ-discrete c c-declared) (ℕ-discrete c c-message) (ℕ-discrete c c-parameter)
   where
-    go : Dec (c ≡ 212) → Dec (c ≡ 220) → Dec (c ≡ 222) → (either (eqb c 212) (eqb c 222) ≡ false) × (eqb c 220 ≡ false)
+    go : Dec (c ≡ c-declared) → Dec (c ≡ c-message) → Dec (c ≡ c-parameter) → (either (eqb c c-declared) (eqb c c-parameter) ≡ false) × (eqb c c-message ≡ false)
     go (yes z) b d = absurd (true-false (inv (ap (among 1) z) ∙ e))
     go (no a) (yes z) d = absurd (true-false (inv (ap (among 1) z) ∙ e))
     go (no a) (no b) (yes z) = absurd (true-false (inv (ap (among 1) z) ∙ e))
-    go (no a) (no b) (no d) = (rw (ne-eqb c 212 a, ne-eqb c 222 d), ne-eqb c 220 b)
+    go (no a) (no b) (no d) = (rw (ne-eqb c c-declared a, ne-eqb c c-parameter d), ne-eqb c c-message b)
 
 module _ (cs vs hs : List ℕ) where
   -- what is found is found further on
@@ -114,7 +115,7 @@ module _ (cs vs hs : List ℕ) where
   -- ---- what is said of item d, which declares in body h
   -- the variable x, with o numbers of the body before its own
   pub record Declares (h d : ℕ) (x : Var) (o : ℕ) : Type 0 where
-    pub coded : (getD cs d 0 ≡ 212) ⊎ (getD cs d 0 ≡ 222)
+    pub coded : (getD cs d 0 ≡ c-declared) ⊎ (getD cs d 0 ≡ c-parameter)
     pub home : getD hs d 0 ≡ h
     pub type : getD cs (last cs 3 d - 2) 0 ≡ 130 + x .type
     pub least : 38 ≤ x .type
@@ -124,7 +125,7 @@ module _ (cs vs hs : List ℕ) where
 
   abbrev pub Good : ℕ → ℕ → What → Type 0
   Good h d (slot x o) = Declares h d x o
-  Good h d (number n) = (getD cs d 0 ≡ 220) × (getD hs d 0 ≡ h) × (count cs hs 12 h 0 (suc d) ≡ n)
+  Good h d (number n) = (getD cs d 0 ≡ c-message) × (getD hs d 0 ≡ h) × (count cs hs 12 h 0 (suc d) ≡ n)
   Good h d (proctype i) = (among 13 (getD cs d 0) ≡ true) × (getD hs d 0 ≡ h) × (d ≡ i)
 
   -- item d is what a search below item j gives
@@ -132,7 +133,7 @@ module _ (cs vs hs : List ℕ) where
   Found h d j none = d ≡ j
   Found h d j (some y) = (d < j) × Good h d y
 
-  variable-set : (c : ℕ) → (c ≡ 212) ⊎ (c ≡ 222) → (among 1 c ≡ true) × (among 14 c ≡ true) × (among 12 c ≡ false)
+  variable-set : (c : ℕ) → (c ≡ c-declared) ⊎ (c ≡ c-parameter) → (among 1 c ≡ true) × (among 14 c ≡ true) × (among 12 c ≡ false)
   unfolding among
   variable-set c (inl e) = (rw e, rw e, rw e)
   variable-set c (inr e) = (rw e, rw e, rw e)
@@ -140,14 +141,14 @@ module _ (cs vs hs : List ℕ) where
   procedure-set : (c : ℕ) → among 13 c ≡ true → (among 1 c ≡ true) × (among 14 c ≡ false) × (among 12 c ≡ false)
   unfolding among
   procedure-set c e =
-      let b = both-true (leb 223 c) (leb c 225) e in
-      let x = leb-true 223 c (b .0) in
-      let y = leb-true c 225 (b .1) in
-      let n212 = ne-eqb c 212 (λ z. omega arith) in
-      let n220 = ne-eqb c 220 (λ z. omega arith) in
-      (rw (n212, n220, le-leb 222 c (omega arith), b .1), rw (n212, ne-eqb c 222 (λ z. omega arith)), n220)
+      let b = both-true (leb c-proctype c) (leb c c-active-many) e in
+      let x = leb-true c-proctype c (b .0) in
+      let y = leb-true c c-active-many (b .1) in
+      let n212 = ne-eqb c c-declared (λ z. omega arith) in
+      let n220 = ne-eqb c c-message (λ z. omega arith) in
+      (rw (n212, n220, le-leb c-parameter c (omega arith), b .1), rw (n212, ne-eqb c c-parameter (λ z. omega arith)), n220)
 
-  message-set : (c : ℕ) → c ≡ 220 → (among 1 c ≡ true) × (among 14 c ≡ false) × (among 12 c ≡ true)
+  message-set : (c : ℕ) → c ≡ c-message → (among 1 c ≡ true) × (among 14 c ≡ false) × (among 12 c ≡ true)
   unfolding among
   message-set c e = (rw e, rw e, rw e)
 
@@ -161,7 +162,7 @@ module _ (cs vs hs : List ℕ) where
   good-adds h d (proctype i) g = let s = procedure-set (getD cs d 0) (g .0) in (s .0, g .1, rw (s .1), rw (s .2))
 
   -- an mtype name behind n others is the next one
-  pub message-good : (h d n : ℕ) → getD cs d 0 ≡ 220 → getD hs d 0 ≡ h → count cs hs 12 h 0 d ≡ n → Good h d (number (suc n))
+  pub message-good : (h d n : ℕ) → getD cs d 0 ≡ c-message → getD hs d 0 ≡ h → count cs hs 12 h 0 d ≡ n → Good h d (number (suc n))
   unfolding one
   message-good h d n c e q =
       let a = count-next h d in

@@ -9,6 +9,7 @@ use mathlib.Core.List.{List, [], _∷_, _++_, append-assoc, append-nil}
 use lib.ListN.{length, getD, length-append}
 use lib.Dec.{leb}
 use borrow.Author.Tests.{leb-true}
+use Rattle.base_codes.specs.Codes.{c-active, c-active-many, c-body, c-global, c-init, c-mtypes, c-parameter, c-proctype}
 use Rattle.rule_sheets.specs.Homes.{heads, insideOf}
 use Rattle.rule_search.specs.Sets.{among}
 use Rattle.spec_grammar.specs.Tree.{Name, Model, sequence, Tree, Declaration, declare, Group, body, Activity, idle, once, times, Part, mtypes, global, process, init}
@@ -33,21 +34,21 @@ use Rattle.agree_names.proofs.Scopes.{Scoped, scoped-start, scoped-over
 use Rattle.agree_names.proofs.Ends.{Free, free-after, free-units}
 use Rattle.agree_names.proofs.Declared.{sets, one-declaration, joined, all-declarations, all-groups, all-messages}
 
-marks : (among 1 219 ≡ false) × (among 1 226 ≡ false) × (among 1 227 ≡ false) × (among 1 71 ≡ false) × (among 13 223 ≡ true) × (among 13 224 ≡ true) × (among 13 225 ≡ true)
+marks : (among 1 c-mtypes ≡ false) × (among 1 c-init ≡ false) × (among 1 c-body ≡ false) × (among 1 71 ≡ false) × (among 13 c-proctype ≡ true) × (among 13 c-active ≡ true) × (among 13 c-active-many ≡ true)
 unfolding among
 marks = (refl, refl, refl, refl, refl, refl, refl)
 
 -- items of a list of mtype names begin and end nothing
 tame : Item → Bool
-tame x = leb (codeOf x) 222
+tame x = leb (codeOf x) c-parameter
 
 messages-tame : (ws : List Name) → All tame (each code-message ws)
 unfolding tame
 messages-tame ws = all-each tame code-message (λ w. (refl, (refl, tt))) ws
 
-tame-code : (x : Item) → tame x ≡ true → codeOf x ≤ 222
+tame-code : (x : Item) → tame x ≡ true → codeOf x ≤ c-parameter
 unfolding tame
-tame-code x e = leb-true (codeOf x) 222 e
+tame-code x e = leb-true (codeOf x) c-parameter e
 
 module _ (m : Model) (cs vs : List ℕ) (S : Says m cs vs) where
   abbrev xs : List Item
@@ -60,7 +61,7 @@ module _ (m : Model) (cs vs : List ℕ) (S : Says m cs vs) where
   Sc = Scoped m cs vs H S
 
   -- ---- items outside of bodies
-  pub flat : (j e : ℕ) → insideOf cs j ≡ 0 → j ≤ e → e ≤ length cs → ((i : ℕ) → j ≤ i → i < e → getD cs i 0 ≤ 222) → ((i : ℕ) → j ≤ i → i < e → getD H i 0 ≡ 0) × (insideOf cs e ≡ 0)
+  pub flat : (j e : ℕ) → insideOf cs j ≡ 0 → j ≤ e → e ≤ length cs → ((i : ℕ) → j ≤ i → i < e → getD cs i 0 ≤ c-parameter) → ((i : ℕ) → j ≤ i → i < e → getD H i 0 ≡ 0) × (insideOf cs e ≡ 0)
   flat j e q b t l =
       (λ i x y. home-inside cs (S .few) i (omega arith) (no-head (getD cs i 0) (l i x y)) ∙ far i x (omega arith), far e b (omega arith))
     where
@@ -93,7 +94,7 @@ module _ (m : Model) (cs vs : List ℕ) (S : Says m cs vs) where
         (scoped-start m cs vs H S (suc u)) in
         let ab : After m cs vs S b = ((λ z. (let e = F .begin in omega arith)), after-declarations m cs vs S ds (suc b) yd (subst (After m cs vs S) ef af) .0) in
         let ps = all-groups m cs vs S (suc u) (suc u) (suc t) home (omega arith) gs [] (suc u) b 0 0 eb (omega arith) (omega arith) yg ab start in
-        let pb = scoped-one m cs vs H S (slots 0 (ofGroups gs)) (suc u) b (0 + totalOf (ofGroups gs)) 0 227 (F .begin) (marks .2) ps in
+        let pb = scoped-one m cs vs H S (slots 0 (ofGroups gs)) (suc u) b (0 + totalOf (ofGroups gs)) 0 c-body (F .begin) (marks .2) ps in
         joined m cs vs S (suc u) (suc u) (suc t) home (omega arith) [] (ofGroups gs) (ofDeclarations ds) f 0 0
         (all-declarations m cs vs S (suc u) (suc u) (suc t) home (omega arith) ds (slots 0 (ofGroups gs)) (suc b) f (0 + totalOf (ofGroups gs)) 0 ef (omega arith) (omega arith) yd af pb)
 
@@ -168,11 +169,11 @@ module _ (m : Model) (cs vs : List ℕ) (S : Says m cs vs) where
     unit-in (mtypes ws) bo y after sc = absurd bo
     unit-in (global d) bo y after sc = absurd bo
     unit-in (process idle w gs (body ds q)) bo y after sc =
-        proctype-in idle w gs ds q j 223 (omega arith) refl (marks .4) (y .0) (y .1) (y .2 .0) (code-is m cs vs S (suc j) i-proctype (y .2 .0) (y .2 .1)) y after sc
+        proctype-in idle w gs ds q j c-proctype (omega arith) refl (marks .4) (y .0) (y .1) (y .2 .0) (code-is m cs vs S (suc j) i-proctype (y .2 .0) (y .2 .1)) y after sc
     unit-in (process once w gs (body ds q)) bo y after sc =
-        proctype-in once w gs ds q j 224 (omega arith) refl (marks .5) (y .0) (y .1) (y .2 .0) (code-is m cs vs S (suc j) i-active (y .2 .0) (y .2 .1)) y after sc
+        proctype-in once w gs ds q j c-active (omega arith) refl (marks .5) (y .0) (y .1) (y .2 .0) (code-is m cs vs S (suc j) i-active (y .2 .0) (y .2 .1)) y after sc
     unit-in (process (times r) w gs (body ds q)) bo y after sc =
-        proctype-in (times r) w gs ds q (suc j) 225 (omega arith) refl (marks .6) (y .2 .0) (y .2 .1) (y .2 .2 .0) (code-is m cs vs S (suc (suc j)) i-active-many (y .2 .2 .0) (y .2 .2 .1)) y after
+        proctype-in (times r) w gs ds q (suc j) c-active-many (omega arith) refl (marks .6) (y .2 .0) (y .2 .1) (y .2 .2 .0) (code-is m cs vs S (suc (suc j)) i-active-many (y .2 .2 .0) (y .2 .2 .1)) y after
         (scoped-one m cs vs H S E 0 j o n 71 (code-is m cs vs S j (i-number r) (y .0) (y .1)) (marks .3) sc)
     unit-in (init (body ds q)) bo y after sc =
         let D = each (code-declaration i-local) ds in
@@ -186,7 +187,7 @@ module _ (m : Model) (cs vs : List ℕ) (S : Says m cs vs) where
         let i1 = F .inner in
         let i2 = F .last in
         let aft = subst (After m cs vs S) (let z : j + suc (length (code-body (body ds q))) ≡ suc t = omega arith in z) after in
-        let s1 = scoped-one m cs vs H S E 0 j o n 226 ci (marks .1) sc in
+        let s1 = scoped-one m cs vs H S E 0 j o n c-init ci (marks .1) sc in
         record {
           frame = F;
           locals = own-entries j b f t F [] ds (omega arith) (omega arith) tt (inner-declarations ds q b yb) (frame-behind m cs vs S j b f t F (aft .0));
@@ -212,16 +213,16 @@ module _ (m : Model) (cs vs : List ℕ) (S : Says m cs vs) where
         let e = j + length (code-part (mtypes ws)) in
         let lg = long m cs vs S in
         let cm = code-is m cs vs S j i-mtypes (y .0) (y .1) in
-        let codes : (i : ℕ) → suc j ≤ i → i < e → getD cs i 0 ≤ 222 =
+        let codes : (i : ℕ) → suc j ≤ i → i < e → getD cs i 0 ≤ c-parameter =
         λ i u v. (let k = tame-code (itemAt xs i) (lies-all xs tame (each code-message ws) (suc j) (y .2) (messages-tame ws) i u (omega arith)) in
         let z = code-at m cs vs S i (omega arith) in
         omega arith) in
         let fl = flat j e ins (omega arith) top (λ i u v. upto i e u v cm codes (ℕ-discrete i j)) in
-        let r = all-messages m cs vs S 0 j e (fl .0) top ws E (suc j) e o n (omega arith) (omega arith) (omega arith) (y .2) (scoped-one m cs vs H S E 0 j o n 219 cm (marks .0) sc) in
+        let r = all-messages m cs vs S 0 j e (fl .0) top ws E (suc j) e o n (omega arith) (omega arith) (omega arith) (y .2) (scoped-one m cs vs H S E 0 j o n c-mtypes cm (marks .0) sc) in
         (subst (λ i. Sc (E ++ entriesIn j o n (mtypes ws)) 0 e i (n + length ws)) (let z : o ≡ o + 0 = omega arith in z) r, fl .1)
       where
-        upto : (i e : ℕ) → j ≤ i → i < e → getD cs j 0 ≡ 219 → ((i : ℕ) → suc j ≤ i → i < e → getD cs i 0 ≤ 222) → Dec (i ≡ j) → getD cs i 0 ≤ 222
-        upto i e u v cm codes (yes z) = let w : getD cs i 0 ≡ 219 = ap (λ n. getD cs n 0) z ∙ cm in omega arith
+        upto : (i e : ℕ) → j ≤ i → i < e → getD cs j 0 ≡ c-mtypes → ((i : ℕ) → suc j ≤ i → i < e → getD cs i 0 ≤ c-parameter) → Dec (i ≡ j) → getD cs i 0 ≤ c-parameter
+        upto i e u v cm codes (yes z) = let w : getD cs i 0 ≡ c-mtypes = ap (λ n. getD cs n 0) z ∙ cm in omega arith
         upto i e u v cm codes (no z) = codes i (omega arith) v
     unit-behind (global (declare t us)) y top after sc ins =
         let e = j + length (code-part (global (declare t us))) in
@@ -229,7 +230,7 @@ module _ (m : Model) (cs vs : List ℕ) (S : Says m cs vs) where
         let fl = flat j e ins (omega arith) top (λ i u v. (let w = settled-at m cs vs S i (omega arith) (lies-all xs settled (code-declaration i-global (declare t us)) j y
         (all-declaration i-global global-settled (declare t us)) i u (omega arith)) .0 in
         omega arith)) in
-        let r = one-declaration m cs vs S 0 j e (fl .0) top i-global 211 t us E j e o n refl (sets .5) (sets .8) refl (omega arith) (omega arith) y after sc in
+        let r = one-declaration m cs vs S 0 j e (fl .0) top i-global c-global t us E j e o n refl (sets .5) (sets .8) refl (omega arith) (omega arith) y after sc in
         (subst (λ i. Sc (E ++ entriesIn j o n (global (declare t us))) 0 e (o + totalOf (ofDeclaration (declare t us))) i) (let z : n ≡ n + 0 = omega arith in z) r, fl .1)
     unit-behind (process a w gs (body ds q)) y top after sc ins =
         let A = code-activity a w in

@@ -10,6 +10,7 @@ use mathlib.Core.List.{List, []}
 use lib.ListN.{length, getD}
 use lib.Dec.{ltb}
 use borrow.Author.Tests.{eqb-true}
+use Rattle.base_codes.specs.Codes.{c-declared, c-message, c-named, c-parameter}
 use Rattle.base_bytes.specs.Choice.{pick}
 use Rattle.base_bytes.specs.Lists.{same}
 use Rattle.base_bytes.proofs.Tests.{true-false}
@@ -41,7 +42,7 @@ use Rattle.agree_names.proofs.Meanings.{Variables, variables-mean, Glob
 use Rattle.agree_names.proofs.Links.{value-link, number-link}
 use Rattle.agree_names.proofs.Main.{S, H, K, few, parts, unit, frame}
 
-message-only : (c : ℕ) → c ≡ 220 → among 13 c ≡ false
+message-only : (c : ℕ) → c ≡ c-message → among 13 c ≡ false
 unfolding among
 message-only c e = rw e
 
@@ -65,7 +66,7 @@ module _ (t : List ℕ) (a : Accepts t) (legal : modelLawful (a .tree) ≡ true)
   says = S t a legal
 
   -- a name w, which is item j, and `named` (216) behind it, in body h
-  module _ (j : ℕ) (w : Name) (b : suc j < length C) (q : itemAt (code m) j ≡ i-name w) (c : getD C (suc j) 0 ≡ 216) where
+  module _ (j : ℕ) (w : Name) (b : suc j < length C) (q : itemAt (code m) j ≡ i-name w) (c : getD C (suc j) 0 ≡ c-named) where
     abbrev v : ℕ
     v = getD W j 0
 
@@ -76,9 +77,9 @@ module _ (t : List ℕ) (a : Accepts t) (legal : modelLawful (a .tree) ≡ true)
     name-here : getD C j 0 ≡ 70
     name-here = code-is m C W says j (i-name w) (let z = long m C W says in omega arith) q
 
-    message-there : (h : ℕ) → getD hs (suc j) 0 ≡ h → getD C (lookup C W hs v h j) 0 ≡ 220
+    message-there : (h : ℕ) → getD hs (suc j) 0 ≡ h → getD C (lookup C W hs v h j) 0 ≡ c-message
     message-there h e =
-        eqb-true (getD C (lookup C W hs v h j) 0) 220
+        eqb-true (getD C (lookup C W hs v h j) 0) c-message
         (rule-named m C W says j h c e .sound (λ i x y. K t a legal .ruled i (omega arith)))
 
     -- it is declared before
@@ -98,7 +99,7 @@ module _ (t : List ℕ) (a : Accepts t) (legal : modelLawful (a .tree) ≡ true)
         go false z = refl
 
     -- the first of its name among the globals: there is none before it
-    outer : (d : ℕ) → same w pid ≡ false → find C W hs 1 v 0 j ≡ d → d < j → getD C d 0 ≡ 220 → linkOf T d ≡ is
+    outer : (d : ℕ) → same w pid ≡ false → find C W hs 1 v 0 j ≡ d → d < j → getD C d 0 ≡ c-message → linkOf T d ≡ is
     outer d n e l s = go (whatIn (entriesOf 0 0 0 m) w) (A .gives j w (omega arith) q n) (globals-mean (ofModel m) names.global w (messageFrom 1 (messagesOf m) w) [] [] 0 0 0 0 m tt (parts t a legal))
       where
         A : Scoped m C W hs says (entriesOf 0 0 0 m) 0 (length C) (model-entries m C W says .0) (model-entries m C W says .1 .0)
@@ -115,9 +116,9 @@ module _ (t : List ℕ) (a : Accepts t) (legal : modelLawful (a .tree) ≡ true)
         go none g r = absurd (let z = far in omega arith)
         go (some (slot x o)) g r = absurd (variable (g .1 .coded))
           where
-            variable : (getD C (find C W hs 1 v 0 (length C)) 0 ≡ 212) ⊎ (getD C (find C W hs 1 v 0 (length C)) 0 ≡ 222) → ⊥
-            variable (inl z) = let k : getD C (find C W hs 1 v 0 (length C)) 0 ≡ 220 = ap (λ i. getD C i 0) far ∙ s in omega arith
-            variable (inr z) = let k : getD C (find C W hs 1 v 0 (length C)) 0 ≡ 220 = ap (λ i. getD C i 0) far ∙ s in omega arith
+            variable : (getD C (find C W hs 1 v 0 (length C)) 0 ≡ c-declared) ⊎ (getD C (find C W hs 1 v 0 (length C)) 0 ≡ c-parameter) → ⊥
+            variable (inl z) = let k : getD C (find C W hs 1 v 0 (length C)) 0 ≡ c-message = ap (λ i. getD C i 0) far ∙ s in omega arith
+            variable (inr z) = let k : getD C (find C W hs 1 v 0 (length C)) 0 ≡ c-message = ap (λ i. getD C i 0) far ∙ s in omega arith
         go (some (number i)) g r =
             let k = r .2 in
             let top = few t a legal .messages in
@@ -125,14 +126,14 @@ module _ (t : List ℕ) (a : Accepts t) (legal : modelLawful (a .tree) ≡ true)
         go (some (proctype i)) g r =
             absurd (true-false (inv (g .1 .0) ∙ message-only (getD C (find C W hs 1 v 0 (length C)) 0) (ap (λ i. getD C i 0) far ∙ s)))
 
-    by-lookup : (h : ℕ) → getD hs (suc j) 0 ≡ h → (find C W hs 1 v h j < j → getD C (find C W hs 1 v h j) 0 ≡ 220 → linkOf T (find C W hs 1 v h j) ≡ is)
+    by-lookup : (h : ℕ) → getD hs (suc j) 0 ≡ h → (find C W hs 1 v h j < j → getD C (find C W hs 1 v h j) 0 ≡ c-message → linkOf T (find C W hs 1 v h j) ≡ is)
         → linkOf T (linkOf T (suc j)) ≡ is
     unfolding lookup
     by-lookup h e own =
         ap (linkOf T) (value-link T C W (H t a legal) (K t a legal) j h b c e)
         ∙ go (ltb (find C W hs 1 v h j) j) refl (message-there h e) (before h e)
       where
-        go : (x : Bool) → ltb (find C W hs 1 v h j) j ≡ x → getD C (pick x (find C W hs 1 v h j) (find C W hs 1 v 0 j)) 0 ≡ 220
+        go : (x : Bool) → ltb (find C W hs 1 v h j) j ≡ x → getD C (pick x (find C W hs 1 v h j) (find C W hs 1 v 0 j)) 0 ≡ c-message
             → pick x (find C W hs 1 v h j) (find C W hs 1 v 0 j) < j → linkOf T (pick x (find C W hs 1 v h j) (find C W hs 1 v 0 j)) ≡ is
         go true z s l = own l s
         go false z s l = outer (find C W hs 1 v 0 j) (other h e) refl l s
@@ -151,7 +152,7 @@ module _ (t : List ℕ) (a : Accepts t) (legal : modelLawful (a .tree) ≡ true)
         let e = home-in m C W says (headOf m k) (bodyAt m k) (startOf m k) (endOf m k) F (suc j) (omega arith) (omega arith) in
         by-lookup h e (λ l s. absurd (local h e l s (unit t a legal k o .locals .gives j w (omega arith) q (other h e)) (variables-mean names.local 0 0 (variablesOf (unitAt m k)) w names.unknown)))
       where
-        local : (h : ℕ) → getD hs (suc j) 0 ≡ h → find C W hs 1 v h j < j → getD C (find C W hs 1 v h j) 0 ≡ 220
+        local : (h : ℕ) → getD hs (suc j) 0 ≡ h → find C W hs 1 v h j < j → getD C (find C W hs 1 v h j) 0 ≡ c-message
             → Found C W hs h (find C W hs 1 v h (startOf m k)) (startOf m k) (whatIn (slots 0 (variablesOf (unitAt m k))) w)
             → Variables names.local 0 0 (variablesOf (unitAt m k)) names.unknown (variableFrom names.local 0 (variablesOf (unitAt m k)) w names.unknown) (whatIn (slots 0 (variablesOf (unitAt m k))) w)
             → ⊥
@@ -167,8 +168,8 @@ module _ (t : List ℕ) (a : Accepts t) (legal : modelLawful (a .tree) ≡ true)
             go none g r = let z = far in omega arith
             go (some (slot x p)) g r = variable (g .1 .coded)
               where
-                variable : (getD C (find C W hs 1 v h (startOf m k)) 0 ≡ 212) ⊎ (getD C (find C W hs 1 v h (startOf m k)) 0 ≡ 222) → ⊥
-                variable (inl z) = let k : getD C (find C W hs 1 v h (startOf m k)) 0 ≡ 220 = ap (λ i. getD C i 0) far ∙ s in omega arith
-                variable (inr z) = let k : getD C (find C W hs 1 v h (startOf m k)) 0 ≡ 220 = ap (λ i. getD C i 0) far ∙ s in omega arith
+                variable : (getD C (find C W hs 1 v h (startOf m k)) 0 ≡ c-declared) ⊎ (getD C (find C W hs 1 v h (startOf m k)) 0 ≡ c-parameter) → ⊥
+                variable (inl z) = let k : getD C (find C W hs 1 v h (startOf m k)) 0 ≡ c-message = ap (λ i. getD C i 0) far ∙ s in omega arith
+                variable (inr z) = let k : getD C (find C W hs 1 v h (startOf m k)) 0 ≡ c-message = ap (λ i. getD C i 0) far ∙ s in omega arith
             go (some (number i)) g r = r
             go (some (proctype i)) g r = r

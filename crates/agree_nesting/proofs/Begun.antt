@@ -5,6 +5,7 @@ use mathlib.Core.Path.{_≡_, refl, sym, ap, _∙_, subst}
 use mathlib.Core.Logic.{_⊎_, inl, inr}
 use mathlib.Core.List.{List, [], _∷_, _++_, append-assoc}
 use lib.ListN.{length}
+use Rattle.base_codes.specs.Codes.{c-label}
 use Rattle.base_kinds.specs.Kinds.{Token}
 use Rattle.spec_grammar.specs.Tree.{Sort, action, statement, sequence, Tree, express, assign, increment, decrement, send, receive, assert, print, skip, goto, break, timeout, else, run, set-run, select, loop, bare, labelled, end, then, Body, Part, Model}
 use Rattle.spec_grammar.specs.Code.{Item, i-name, i-text, i-express, i-target, i-assign, i-increment, i-decrement, i-send, i-receive, i-assert, i-skip, i-goto, i-break, i-timeout, i-else, i-run, i-set-run, i-if, i-fi, i-do, i-od, i-end, i-label, each, code-exp, code-argument, code-received, code-tree}
@@ -18,9 +19,9 @@ record Ended (l : List Item) : Type 0 where
   front : List Item
   last : Item
   is : l ≡ front ++ (last ∷ [])
-  plain : codeOf last ≡ 188 → ⊥
+  plain : codeOf last ≡ c-label → ⊥
 
-begun-ended : (front : List Item) (last : Item) → (codeOf last ≡ 188 → ⊥) → Begun (front ++ (last ∷ []))
+begun-ended : (front : List Item) (last : Item) → (codeOf last ≡ c-label → ⊥) → Begun (front ++ (last ∷ []))
 begun-ended [] last n = (omega arith, λ e. absurd (omega arith))
 begun-ended (x ∷ []) last n = (omega arith, λ e. absurd (n e))
 begun-ended (x ∷ y ∷ f) last n = (omega arith, λ e. three f)

@@ -5,6 +5,7 @@ use mathlib.Core.Path.{_≡_, refl, sym, ap, _∙_}
 use mathlib.Core.Bool.{true}
 use mathlib.Core.List.{List}
 use lib.ListN.{length, getD}
+use Rattle.base_codes.specs.Codes.{c-do, c-if, c-option}
 use Rattle.spec_grammar.specs.Code.{Item}
 use Rattle.link_places.specs.Places.{isClosing, closeFrom, closeOf}
 use Rattle.link_phrases_proof.specs.Phrases.{At}
@@ -13,9 +14,9 @@ use Rattle.agree_nesting.proofs.Skips.{Kind, selections, options, stop,
 
 -- an item with code c opens a pair p
 pub data Opener : ℕ → ℕ → Type 0 where
-  is-if : {c : ℕ} → c ≡ 204 → Opener 0 c
-  is-do : {c : ℕ} → c ≡ 206 → Opener 0 c
-  is-option : {c : ℕ} → c ≡ 208 → Opener 2 c
+  is-if : {c : ℕ} → c ≡ c-if → Opener 0 c
+  is-do : {c : ℕ} → c ≡ c-do → Opener 0 c
+  is-option : {c : ℕ} → c ≡ c-option → Opener 2 c
 
 -- what closes the item j
 pub record Match (cs : List ℕ) (p j hi : ℕ) : Type 0 where

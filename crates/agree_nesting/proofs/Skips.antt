@@ -8,6 +8,7 @@ use mathlib.Core.List.{List, _∷_, _++_}
 use lib.ListN.{length, getD, length-append}
 use lib.Dec.{eqb}
 use borrow.Author.Tests.{ne-eqb}
+use Rattle.base_codes.specs.Codes.{c-do, c-end-option, c-fi, c-if, c-od, c-option}
 use Rattle.base_bytes.specs.Choice.{both}
 use Rattle.spec_grammar.specs.Code.{Item}
 use Rattle.table_entries.specs.Items.{codeOf}
@@ -33,25 +34,25 @@ module _ (cs : List ℕ) where
   stop p k f c e h = rw (e, h)
 
 -- an item that is none of them
-neither-closing : {p : ℕ} → Kind p → (c : ℕ) → (c < 204) ⊎ (209 < c) → isClosing p c ≡ false
+neither-closing : {p : ℕ} → Kind p → (c : ℕ) → (c < c-if) ⊎ (c-end-option < c) → isClosing p c ≡ false
 unfolding isClosing
-neither-closing selections c (inl h) = rw (ne-eqb c 205 (λ e. omega arith), ne-eqb c 207 (λ e. omega arith))
-neither-closing selections c (inr h) = rw (ne-eqb c 205 (λ e. omega arith), ne-eqb c 207 (λ e. omega arith))
-neither-closing loops c (inl h) = rw (ne-eqb c 207 (λ e. omega arith))
-neither-closing loops c (inr h) = rw (ne-eqb c 207 (λ e. omega arith))
-neither-closing options c (inl h) = rw (ne-eqb c 209 (λ e. omega arith))
-neither-closing options c (inr h) = rw (ne-eqb c 209 (λ e. omega arith))
+neither-closing selections c (inl h) = rw (ne-eqb c c-fi (λ e. omega arith), ne-eqb c c-od (λ e. omega arith))
+neither-closing selections c (inr h) = rw (ne-eqb c c-fi (λ e. omega arith), ne-eqb c c-od (λ e. omega arith))
+neither-closing loops c (inl h) = rw (ne-eqb c c-od (λ e. omega arith))
+neither-closing loops c (inr h) = rw (ne-eqb c c-od (λ e. omega arith))
+neither-closing options c (inl h) = rw (ne-eqb c c-end-option (λ e. omega arith))
+neither-closing options c (inr h) = rw (ne-eqb c c-end-option (λ e. omega arith))
 
-neither-opening : {p : ℕ} → Kind p → (c : ℕ) → (c < 204) ⊎ (209 < c) → isOpening p c ≡ false
+neither-opening : {p : ℕ} → Kind p → (c : ℕ) → (c < c-if) ⊎ (c-end-option < c) → isOpening p c ≡ false
 unfolding isOpening
-neither-opening selections c (inl h) = rw (ne-eqb c 204 (λ e. omega arith), ne-eqb c 206 (λ e. omega arith))
-neither-opening selections c (inr h) = rw (ne-eqb c 204 (λ e. omega arith), ne-eqb c 206 (λ e. omega arith))
-neither-opening loops c (inl h) = rw (ne-eqb c 206 (λ e. omega arith))
-neither-opening loops c (inr h) = rw (ne-eqb c 206 (λ e. omega arith))
-neither-opening options c (inl h) = rw (ne-eqb c 208 (λ e. omega arith))
-neither-opening options c (inr h) = rw (ne-eqb c 208 (λ e. omega arith))
+neither-opening selections c (inl h) = rw (ne-eqb c c-if (λ e. omega arith), ne-eqb c c-do (λ e. omega arith))
+neither-opening selections c (inr h) = rw (ne-eqb c c-if (λ e. omega arith), ne-eqb c c-do (λ e. omega arith))
+neither-opening loops c (inl h) = rw (ne-eqb c c-do (λ e. omega arith))
+neither-opening loops c (inr h) = rw (ne-eqb c c-do (λ e. omega arith))
+neither-opening options c (inl h) = rw (ne-eqb c c-option (λ e. omega arith))
+neither-opening options c (inr h) = rw (ne-eqb c c-option (λ e. omega arith))
 
-neither-deeper : {p : ℕ} → Kind p → (c d : ℕ) → (c < 204) ⊎ (209 < c) → deeper p c d ≡ d
+neither-deeper : {p : ℕ} → Kind p → (c d : ℕ) → (c < c-if) ⊎ (c-end-option < c) → deeper p c d ≡ d
 unfolding deeper
 neither-deeper k c d h = rw (neither-opening k c h, neither-closing k c h)
 

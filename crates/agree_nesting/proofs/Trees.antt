@@ -8,6 +8,7 @@ use mathlib.Core.Logic.{_⊎_, inl, inr}
 use mathlib.Core.List.{List, [], _∷_, _++_, append-assoc}
 use lib.Dec.{ltb}
 use borrow.Author.Tests.{ltb-true}
+use Rattle.base_codes.specs.Codes.{c-end-option, c-if, c-or-else}
 use Rattle.base_bytes.specs.Choice.{both, either}
 use Rattle.base_bytes.proofs.Tests.{true-false, both-true, either-true}
 use Rattle.spec_grammar.specs.Tree.{Name, Shape, Exp, plain, indexed, num, tru, fls, get, len, unary, binary, choice, Expr, Received, into, equal, exactly, exactly-true, exactly-false, Sort, Tree, express, assign, increment, decrement, send, receive, assert, print, skip, goto, break, timeout, else, run, set-run, select, loop, bare, labelled, end, then, over, option, Value, unset, set-number, set-minus, set-true, set-false, set-name, set-channel, Variable, variable, Declaration, declare, Group, group, Body, body, Activity, idle, once, times, Part, mtypes, global, process, init, Model}
@@ -83,7 +84,7 @@ bracket i-end-body = false
 
 -- any other has a code outside of theirs, if it is an item of the grammar's table
 unfoldable calm : Item → Bool
-calm x = either (bracket x) (either (ltb (codeOf x) 204) (ltb 209 (codeOf x)))
+calm x = either (bracket x) (either (ltb (codeOf x) c-if) (ltb c-end-option (codeOf x)))
 
 unfoldable calms : List Item → Bool
 calms [] = true
@@ -104,19 +105,19 @@ unfolding calm bracket
 known-calm (is-name a b) = refl
 known-calm (is-text a b) = refl
 known-calm is-number = refl
-known-calm (is-mark x a b) = calm-nth items (x - 147) i-plain table-calm refl
+known-calm (is-mark x a b) = calm-nth items (x - c-or-else) i-plain table-calm refl
 
 neither : (x : Item) → Known x → bracket x ≡ false → Neither x
 unfolding calm
-neither x k e = go (either-true (bracket x) (either (ltb (codeOf x) 204) (ltb 209 (codeOf x))) (known-calm k))
+neither x k e = go (either-true (bracket x) (either (ltb (codeOf x) c-if) (ltb c-end-option (codeOf x))) (known-calm k))
   where
-    side : (ltb (codeOf x) 204 ≡ true) ⊎ (ltb 209 (codeOf x) ≡ true) → Neither x
-    side (inl h) = inl (ltb-true (codeOf x) 204 h)
-    side (inr h) = inr (ltb-true 209 (codeOf x) h)
+    side : (ltb (codeOf x) c-if ≡ true) ⊎ (ltb c-end-option (codeOf x) ≡ true) → Neither x
+    side (inl h) = inl (ltb-true (codeOf x) c-if h)
+    side (inr h) = inr (ltb-true c-end-option (codeOf x) h)
 
-    go : (bracket x ≡ true) ⊎ (either (ltb (codeOf x) 204) (ltb 209 (codeOf x)) ≡ true) → Neither x
+    go : (bracket x ≡ true) ⊎ (either (ltb (codeOf x) c-if) (ltb c-end-option (codeOf x)) ≡ true) → Neither x
     go (inl h) = absurd (true-false (sym h ∙ e))
-    go (inr h) = side (either-true (ltb (codeOf x) 204) (ltb 209 (codeOf x)) h)
+    go (inr h) = side (either-true (ltb (codeOf x) c-if) (ltb c-end-option (codeOf x)) h)
 
 -- ---- lists of such items
 abbrev Flat : List Item → Type 0

@@ -4,6 +4,7 @@ use mathlib.Core.Path.{_≡_}
 use mathlib.Core.Logic.{_⊎_}
 use mathlib.Core.List.{List, [], _∷_, _++_}
 use lib.ListN.{length, getD}
+use Rattle.base_codes.specs.Codes.{c-end-option, c-if, c-label}
 use Rattle.spec_grammar.specs.Code.{Item, i-plain, i-if, i-fi, i-do, i-od, i-option, i-end-option}
 use Rattle.table_entries.specs.Items.{codeOf}
 
@@ -15,11 +16,11 @@ pub data Pair : ℕ → Item → Item → Type 0 where
 
 -- an item that opens or closes neither
 abbrev pub Neither : Item → Type 0
-Neither x = (codeOf x < 204) ⊎ (209 < codeOf x)
+Neither x = (codeOf x < c-if) ⊎ (c-end-option < codeOf x)
 
 -- an option begins with a statement, and where that has a label (188), something stands behind it
 abbrev pub Begun : List Item → Type 0
-Begun l = (1 ≤ length l) × (codeOf (getD l 1 i-plain) ≡ 188 → 3 ≤ length l)
+Begun l = (1 ≤ length l) × (codeOf (getD l 1 i-plain) ≡ c-label → 3 ≤ length l)
 
 pub data Balanced : List Item → Type 0 where
   none : Balanced []

@@ -6,6 +6,7 @@ use mathlib.Core.Bool.{true}
 use mathlib.Core.List.{List, [], _∷_, _++_}
 use lib.ListN.{length}
 use borrow.Author.Tests.{ne-eqb}
+use Rattle.base_codes.specs.Codes.{c-do, c-false, c-if, c-label, c-timeout}
 use Rattle.base_bytes.proofs.Tests.{true-false}
 use Rattle.spec_grammar.specs.Tree.{Shape, Exp, plain, indexed, num, tru, fls, get, len, unary, binary, choice, Expr, action, statement, sequence, options, Tree, express, assign, increment, decrement, send, receive, assert, print, skip, goto, break, timeout, else, run, set-run, select, loop, bare, labelled, end, then, over, option}
 use Rattle.spec_grammar.specs.Code.{Item, i-name, i-len, i-unary, i-binary, i-otherwise, i-choice, i-argument, i-express, i-target, i-assign, i-increment, i-decrement, i-send, i-receive, i-assert, i-end, i-set-run, i-fi, i-od, i-end-option, each, code-exp, code-argument, code-received, code-tree}
@@ -24,7 +25,7 @@ use Rattle.agree_offers.proofs.Places.{xs, held-there, proper-there}
 
 module _ (U : List ℕ) where
   -- ---- the first item
-  pub exp-first : {s : Shape} (e : Exp s) (i : ℕ) → Held U i (code-exp e) → codeOf U i ≤ 179
+  pub exp-first : {s : Shape} (e : Exp s) (i : ℕ) → Held U i (code-exp e) → codeOf U i ≤ c-false
   exp-first (plain w) i h = let z = h .0 in omega arith
   exp-first (indexed w e) i h = let z = h .0 in omega arith
   exp-first (num n) i h = let z = h .0 in omega arith
@@ -39,23 +40,23 @@ module _ (U : List ℕ) where
       (held-front U i (code-exp x) (code-exp y)
       (held-front U i (code-exp x ++ code-exp y) (i-otherwise ∷ code-exp z) (held-front U i (code-exp x ++ code-exp y ++ i-otherwise ∷ code-exp z) (i-choice ∷ []) h)))
 
-  pub front-first : {s : Shape} (e : Exp s) (l : List Item) (i : ℕ) → Held U i (code-exp e ++ l) → codeOf U i ≤ 179
+  pub front-first : {s : Shape} (e : Exp s) (l : List Item) (i : ℕ) → Held U i (code-exp e ++ l) → codeOf U i ≤ c-false
   front-first e l i h = exp-first e i (held-front U i (code-exp e) l h)
 
-  low-plain : (i : ℕ) → codeOf U i ≤ 200 → Plain U i
-  low-plain i h = (rw (ne-eqb (codeOf U i) 204 (λ e. omega arith), ne-eqb (codeOf U i) 206 (λ e. omega arith)), λ e. omega arith)
+  low-plain : (i : ℕ) → codeOf U i ≤ c-timeout → Plain U i
+  low-plain i h = (rw (ne-eqb (codeOf U i) c-if (λ e. omega arith), ne-eqb (codeOf U i) c-do (λ e. omega arith)), λ e. omega arith)
 
   pub exp-plain : {s : Shape} (e : Exp s) (l : List Item) (i : ℕ) → Held U i (code-exp e ++ l) → Plain U i
   exp-plain e l i h = let z = front-first e l i h in low-plain i (omega arith)
 
-  pub code-plain : (i c : ℕ) → codeOf U i ≡ c → c ≤ 200 → Plain U i
+  pub code-plain : (i c : ℕ) → codeOf U i ≡ c → c ≤ c-timeout → Plain U i
   code-plain i c e h = low-plain i (omega arith)
 
   -- no label
-  not-label : (i : ℕ) → codeOf U i ≤ 179 → codeOf U i ≡ 188 → ⊥
+  not-label : (i : ℕ) → codeOf U i ≤ c-false → codeOf U i ≡ c-label → ⊥
   not-label i h e = omega arith
 
-  action-first : (x : Tree action) (i : ℕ) → Held U i (code-tree x) → codeOf U i ≡ 188 → ⊥
+  action-first : (x : Tree action) (i : ℕ) → Held U i (code-tree x) → codeOf U i ≡ c-label → ⊥
   action-first (express e) i h = not-label i (front-first e (i-express ∷ []) i h)
   action-first (assign r e) i h = not-label i (front-first r (i-target ∷ code-exp e) i (held-front U i (code-exp r ++ i-target ∷ code-exp e) (i-assign ∷ []) h))
   action-first (increment r) i h = not-label i (front-first r (i-increment ∷ []) i h)
@@ -76,37 +77,37 @@ module _ (U : List ℕ) where
   action-first (select os) i h = λ e. (let z = h .0 in omega arith)
   action-first (loop os) i h = λ e. (let z = h .0 in omega arith)
 
-  statement-first : (x : Tree statement) (i : ℕ) → Held U i (code-tree x) → codeOf U i ≡ 188 → ⊥
+  statement-first : (x : Tree statement) (i : ℕ) → Held U i (code-tree x) → codeOf U i ≡ c-label → ⊥
   statement-first (bare a) i h = action-first a i h
   statement-first (labelled w a) i h = λ e. (let z = h .0 in omega arith)
 
   -- of the statements that follow in an option, or its end
-  pub rest-first : (q : Tree sequence) (l : List Item) (i : ℕ) → Held U i (code-tree q ++ (i-end-option ∷ l)) → codeOf U i ≡ 188 → ⊥
+  pub rest-first : (q : Tree sequence) (l : List Item) (i : ℕ) → Held U i (code-tree q ++ (i-end-option ∷ l)) → codeOf U i ≡ c-label → ⊥
   rest-first end l i h = λ e. (let z = h .0 in omega arith)
   rest-first (then s q) l i h = statement-first s i (held-front U i (code-tree s) (code-tree q) (held-front U i (code-tree s ++ code-tree q) (i-end-option ∷ l) h))
 
   -- ---- the second item
-  inside-no-label : (c : ℕ) → inExpression c ≡ true → c ≡ 188 → ⊥
+  inside-no-label : (c : ℕ) → inExpression c ≡ true → c ≡ c-label → ⊥
   inside-no-label c e z = true-false (inv e ∙ mark-outside c (omega arith))
 
-  list-second : (p : List Item) (i : ℕ) → 1 ≤ length p → all-inside p → Held U i p → (codeOf U (i + length p) ≡ 188 → ⊥) → codeOf U (suc i) ≡ 188 → ⊥
+  list-second : (p : List Item) (i : ℕ) → 1 ≤ length p → all-inside p → Held U i p → (codeOf U (i + length p) ≡ c-label → ⊥) → codeOf U (suc i) ≡ c-label → ⊥
   list-second [] i n k h b e = omega arith
   list-second (x ∷ []) i n k h b e = b (let z : i + 1 ≡ suc i = omega arith in ap (codeOf U) z ∙ e)
   list-second (x ∷ y ∷ p) i n k h b e = inside-no-label (itemCode y) (k .1 .0) (inv (h .2 .0) ∙ e)
 
   -- of an expression and the mark behind it
-  pub exp-second : {s : Shape} (e : Exp s) (m : Item) (l : List Item) (i : ℕ) → Proper e → Held U i (code-exp e ++ (m ∷ l)) → (itemCode m ≡ 188 → ⊥) → codeOf U (suc i) ≡ 188 → ⊥
+  pub exp-second : {s : Shape} (e : Exp s) (m : Item) (l : List Item) (i : ℕ) → Proper e → Held U i (code-exp e ++ (m ∷ l)) → (itemCode m ≡ c-label → ⊥) → codeOf U (suc i) ≡ c-label → ⊥
   exp-second e m l i p h n =
       list-second (code-exp e) i (some-items e) (phrase-inside e p) (held-front U i (code-exp e) (m ∷ l) h)
       (λ z. n (inv (held-back U (code-exp e) (m ∷ l) i (i + length (code-exp e)) refl h .0) ∙ z))
 
-  arguments-first : (es : List Expr) (i : ℕ) → Held U i (each code-argument es ++ i-end ∷ []) → codeOf U i ≡ 188 → ⊥
+  arguments-first : (es : List Expr) (i : ℕ) → Held U i (each code-argument es ++ i-end ∷ []) → codeOf U i ≡ c-label → ⊥
   arguments-first [] i h = λ e. (let z = h .0 in omega arith)
   arguments-first (x ∷ es) i h =
       not-label i
       (front-first x (i-argument ∷ []) i (held-front U i (code-exp x ++ i-argument ∷ []) (each code-argument es) (held-front U i (code-argument x ++ each code-argument es) (i-end ∷ []) h)))
 
-  selection-second : (os : Tree options) (y : Item) (i : ℕ) → (itemCode y ≡ 188 → ⊥) → Held U i (code-tree os ++ (y ∷ [])) → codeOf U i ≡ 188 → ⊥
+  selection-second : (os : Tree options) (y : Item) (i : ℕ) → (itemCode y ≡ c-label → ⊥) → Held U i (code-tree os ++ (y ∷ [])) → codeOf U i ≡ c-label → ⊥
   selection-second over y i n h = λ e. n (inv (h .0) ∙ e)
   selection-second (option q os) y i n h = λ e. (let z = h .0 in omega arith)
 
@@ -115,15 +116,15 @@ module _ (t : List ℕ) (a : Accepts t) where
   U = T t a
 
   -- an expression at the front of a statement
-  front-second : {s : Shape} (e : Exp s) (m : Item) (l : List Item) (i : ℕ) → Lying (xs t a) 0 (code-exp e ++ (m ∷ l)) i → (itemCode m ≡ 188 → ⊥) → codeOf U (suc i) ≡ 188 → ⊥
+  front-second : {s : Shape} (e : Exp s) (m : Item) (l : List Item) (i : ℕ) → Lying (xs t a) 0 (code-exp e ++ (m ∷ l)) i → (itemCode m ≡ c-label → ⊥) → codeOf U (suc i) ≡ c-label → ⊥
   front-second e m l i p n =
       exp-second U e m l i (proper-there t a e i (lying-front (xs t a) (code-exp e) (m ∷ l) 0 i p)) (held-there t a (code-exp e ++ (m ∷ l)) i p) n
 
-  only-one : (i : ℕ) → (codeOf U (i + 1) ≡ 188 → ⊥) → codeOf U (suc i) ≡ 188 → ⊥
+  only-one : (i : ℕ) → (codeOf U (i + 1) ≡ c-label → ⊥) → codeOf U (suc i) ≡ c-label → ⊥
   only-one i b e = b (let z : i + 1 ≡ suc i = omega arith in ap (codeOf U) z ∙ e)
 
   -- of a statement without a label, or of what stands behind it
-  pub action-second : (x : Tree action) (i : ℕ) → Lying (xs t a) 0 (code-tree x) i → (codeOf U (i + sizeIn x) ≡ 188 → ⊥) → codeOf U (suc i) ≡ 188 → ⊥
+  pub action-second : (x : Tree action) (i : ℕ) → Lying (xs t a) 0 (code-tree x) i → (codeOf U (i + sizeIn x) ≡ c-label → ⊥) → codeOf U (suc i) ≡ c-label → ⊥
   action-second (express e) i p b = front-second e i-express [] i p (λ z. omega arith)
   action-second (assign r e) i p b = front-second r i-target (code-exp e) i (lying-front (xs t a) (code-exp r ++ i-target ∷ code-exp e) (i-assign ∷ []) 0 i p) (λ z. omega arith)
   action-second (increment r) i p b = front-second r i-increment [] i p (λ z. omega arith)

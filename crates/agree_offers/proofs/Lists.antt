@@ -4,6 +4,7 @@ use mathlib.Core.Path.{_≡_, refl}
 use mathlib.Core.Bool.{Bool, true, false}
 use mathlib.Core.List.{List, [], _∷_}
 use lib.IntN.{ℤ}
+use Rattle.base_codes.specs.Codes.{c-end-body}
 use Rattle.base_bytes.specs.Choice.{pick}
 use Rattle.base_bytes.specs.Lists.{orElse}
 use Rattle.table_layout.specs.Access.{codeOf, linkOf}
@@ -21,11 +22,11 @@ module _ (t : List ℕ) (s : List ℤ) (p : ℕ) (late : Bool) where
     unfolding offersFrom
     list-selection e = rw e
 
-  end-unready : (q : ℕ) → codeOf t q ≡ 228 → readyOf t s p late q ≡ false
+  end-unready : (q : ℕ) → codeOf t q ≡ c-end-body → readyOf t s p late q ≡ false
   unfolding readyBy isAlways markOf isAlone
   end-unready q e = rw (e, e)
 
-  pub end-offers : (d q stop : ℕ) → codeOf t q ≡ 228 → offersFrom t s p late d q stop ≡ []
+  pub end-offers : (d q stop : ℕ) → codeOf t q ≡ c-end-body → offersFrom t s p late d q stop ≡ []
   unfolding offersFrom
   end-offers zero q stop e = refl
   end-offers (suc d) q stop e = rw (e, end-unready q e)

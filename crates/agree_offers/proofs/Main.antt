@@ -7,6 +7,7 @@ use mathlib.Core.Bool.{Bool}
 use mathlib.Core.List.{List, [], _∷_, _++_}
 use lib.ListN.{length-append}
 use lib.IntN.{ℤ}
+use Rattle.base_codes.specs.Codes.{c-end-body}
 use Rattle.spec_grammar.specs.Tree.{Sort, action, Tree, Body, body, Model}
 use Rattle.spec_grammar.specs.Code.{i-local, i-body, i-end-body, each, code-declaration, code-body, code-tree}
 use Rattle.table_layout.specs.Access.{codeOf}
@@ -95,15 +96,15 @@ module _ (t : List ℕ) (a : Accepts t) where
       subst (λ (T : List ℕ). offersOf T s p late j ≡ offers (λ y i. readyOf T s p late i) x j) (inv (text-tables t a)) (offers-in-tables st s p late)
 
   -- ---- ends of bodies
-  end-in-tables : (b : Body) (k : ℕ) → Lying (xs t a) 0 (code-body b) k → codeOf (T t a) (endIn b k) ≡ 228
+  end-in-tables : (b : Body) (k : ℕ) → Lying (xs t a) 0 (code-body b) k → codeOf (T t a) (endIn b k) ≡ c-end-body
   end-in-tables (body ds q) k l =
       let D = i-body ∷ each (code-declaration i-local) ds in
       let n = length-append D (code-tree q) in
       held-there t a (i-end-body ∷ []) (endIn (body ds q) k) (lying-back (xs t a) (D ++ code-tree q) (i-end-body ∷ []) 0 k (endIn (body ds q) k) (omega arith) l) .0
 
   -- a unit ends with `end-body` (228)
-  pub text-ends : {u j : ℕ} → Ending (a .tree) u j → codeOf (tablesText t) j ≡ 228
+  pub text-ends : {u j : ℕ} → Ending (a .tree) u j → codeOf (tablesText t) j ≡ c-end-body
   text-ends {u} {j} e = ap₂ codeOf (text-tables t a) (e .ends) ∙ end-in-tables (e .own) (e .at) (body-lies (e .held))
 
-  pub text-ended : (s : List ℤ) (p : ℕ) (late : Bool) (j : ℕ) → codeOf (tablesText t) j ≡ 228 → offersOf (tablesText t) s p late j ≡ []
+  pub text-ended : (s : List ℤ) (p : ℕ) (late : Bool) (j : ℕ) → codeOf (tablesText t) j ≡ c-end-body → offersOf (tablesText t) s p late j ≡ []
   text-ended s p late j e = end-offers (tablesText t) s p late 9 j 8192 e

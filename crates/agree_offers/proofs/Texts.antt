@@ -6,6 +6,7 @@ use mathlib.Core.Bool.{true}
 use mathlib.Core.List.{List, [], _∷_, _++_, append-assoc}
 use lib.ListN.{length}
 use borrow.Author.Tests.{eq-eqb, ne-eqb}
+use Rattle.base_codes.specs.Codes.{c-break, c-end-option, c-fi, c-label, c-od, c-skip, c-timeout}
 use Rattle.spec_grammar.specs.Tree.{Sort, sequence, options, Exp, Shape, Tree, express, assign, increment, decrement, send, receive, assert, print, skip, goto, break, timeout, else, run, set-run, select, loop, bare, labelled, end, then, over, option}
 use Rattle.spec_grammar.specs.Code.{Item, i-name, i-label, i-express, i-target, i-assign, i-increment, i-decrement, i-send, i-receive, i-assert, i-end, i-set-run, i-if, i-fi, i-do, i-od, i-option, i-end-option, each, code-exp, code-argument, code-received, code-tree}
 use Rattle.link_places.specs.Places.{isClosing}
@@ -24,15 +25,15 @@ use Rattle.agree_offers.proofs.Counted.{few-options}
 use Rattle.agree_offers.proofs.Places.{xs, held-there, known-there, linked-there}
 use Rattle.agree_offers.proofs.Firsts.{exp-plain, code-plain, rest-first, action-second}
 
-closes-if : isClosing 0 205 ≡ true
+closes-if : isClosing 0 c-fi ≡ true
 unfolding isClosing
 closes-if = refl
 
-closes-do : isClosing 0 207 ≡ true
+closes-do : isClosing 0 c-od ≡ true
 unfolding isClosing
 closes-do = refl
 
-closes-option : isClosing 2 209 ≡ true
+closes-option : isClosing 2 c-end-option ≡ true
 unfolding isClosing
 closes-option = refl
 
@@ -53,17 +54,17 @@ module _ (t : List ℕ) (a : Accepts t) where
   front-plain e l i p = exp-plain U e l i (held-there t a (code-exp e ++ l) i p)
 
   -- ---- the first statement of an option
-  first-labelled : (i : ℕ) → codeOf U (suc (suc i)) ≡ 188 → firstOf U i ≡ i + 1 + 2
+  first-labelled : (i : ℕ) → codeOf U (suc (suc i)) ≡ c-label → firstOf U i ≡ i + 1 + 2
   unfolding firstOf
   first-labelled i e =
       let z : i + 2 ≡ suc (suc i) = omega arith in
-      rw (eq-eqb (codeOf U (i + 2)) 188 (ap (codeOf U) z ∙ e)) (omega arith)
+      rw (eq-eqb (codeOf U (i + 2)) c-label (ap (codeOf U) z ∙ e)) (omega arith)
 
-  first-bare : (i : ℕ) → (codeOf U (suc (i + 1)) ≡ 188 → ⊥) → firstOf U i ≡ i + 1
+  first-bare : (i : ℕ) → (codeOf U (suc (i + 1)) ≡ c-label → ⊥) → firstOf U i ≡ i + 1
   unfolding firstOf
   first-bare i n =
       let z : suc (i + 1) ≡ i + 2 = omega arith in
-      rw (ne-eqb (codeOf U (i + 2)) 188 (λ e. n (ap (codeOf U) z ∙ e)))
+      rw (ne-eqb (codeOf U (i + 2)) c-label (λ e. n (ap (codeOf U) z ∙ e)))
 
   option-first : (q : Tree sequence) (os : Tree options) (i : ℕ) → Starts q → L (code-tree (option q os)) i → firstOf U i ≡ enter q (i + 1) 0
   option-first end os i h p = absurd h
@@ -87,10 +88,10 @@ module _ (t : List ℕ) (a : Accepts t) where
   told (receive r es) i f p = front-plain r (i-receive ∷ each code-received es) i (front (code-exp r ++ i-receive ∷ each code-received es) (i-end ∷ []) i p)
   told (assert e) i f p = front-plain e (i-assert ∷ []) i p
   told (print w es) i f p = code-plain U i 72 (held-there t a (code-tree (print w es)) i p .0) (omega arith)
-  told skip i f p = code-plain U i 197 (held-there t a (code-tree skip) i p .0) (omega arith)
+  told skip i f p = code-plain U i c-skip (held-there t a (code-tree skip) i p .0) (omega arith)
   told (goto w) i f p = code-plain U i 70 (held-there t a (code-tree (goto w)) i p .0) (omega arith)
-  told break i f p = code-plain U i 199 (held-there t a (code-tree break) i p .0) (omega arith)
-  told timeout i f p = code-plain U i 200 (held-there t a (code-tree timeout) i p .0) (omega arith)
+  told break i f p = code-plain U i c-break (held-there t a (code-tree break) i p .0) (omega arith)
+  told timeout i f p = code-plain U i c-timeout (held-there t a (code-tree timeout) i p .0) (omega arith)
   told else i f p = held-there t a (code-tree else) i p .0
   told (run w es) i f p = code-plain U i 70 (held-there t a (code-tree (run w es)) i p .0) (omega arith)
   told (set-run r w es) i f p =

@@ -7,6 +7,7 @@ use mathlib.Core.List.{List, [], _∷_, _++_}
 use lib.ListN.{length-append}
 use lib.IntN.{ℤ}
 use borrow.Author.Tests.{lt-ltb, le-ltb, eq-eqb, ne-eqb}
+use Rattle.base_codes.specs.Codes.{c-do, c-else, c-if, c-option}
 use Rattle.base_bytes.specs.Choice.{pick}
 use Rattle.table_layout.specs.Access.{codeOf, linkOf}
 use Rattle.spec_grammar.specs.Tree.{Sort, action, statement, sequence, options, Tree, express, assign, increment, decrement, send, receive, assert, print, skip, goto, break, timeout, else, run, set-run, select, loop, bare, labelled, end, then, over, option}
@@ -33,13 +34,13 @@ loop-size os = let e = length-append (i-do ∷ code-tree os) (i-od ∷ []) in om
 
 module _ (t : List ℕ) where
   -- ---- one option, and none
-  each-option : (g : ℕ → ℕ → List ℕ) (n i a stop : ℕ) → codeOf t i ≡ 208 → linkOf t i ≡ i + 1 + a → i + 1 + a < stop
+  each-option : (g : ℕ → ℕ → List ℕ) (n i a stop : ℕ) → codeOf t i ≡ c-option → linkOf t i ≡ i + 1 + a → i + 1 + a < stop
       → eachOption t g (suc n) i stop ≡ g (firstOf t i) (i + 1 + a) ++ eachOption t g n (i + 2 + a) stop
   unfolding eachOption
   each-option g n i a stop e l h =
       let z : endOf t i stop ≡ i + 1 + a = omega arith in
       let w : i + 1 + a + 1 ≡ i + 2 + a = omega arith in
-      rw (lt-ltb i stop (omega arith), eq-eqb (codeOf t i) 208 e)
+      rw (lt-ltb i stop (omega arith), eq-eqb (codeOf t i) c-option e)
       (ap₂ (λ (k m : ℕ). g (firstOf t i) k ++ eachOption t g n m stop) z (ap (_+ 1) z ∙ w))
 
   each-over : (g : ℕ → ℕ → List ℕ) (n i stop : ℕ) → stop ≡ i → eachOption t g n i stop ≡ []
@@ -54,13 +55,13 @@ module _ (t : List ℕ) where
   ElseOf sequence q i = Starts q → (stop : ℕ) → elseAt t (enter q i 0) stop ≡ elseOf q i
   ElseOf options os i = (n stop : ℕ) → optionsIn os ≤ n → stop ≡ i + sizeIn os → eachOption t (elseAt t) n i stop ≡ elseOf os i
 
-  no-else : (i stop : ℕ) → (codeOf t i ≡ 201 → ⊥) → elseAt t i stop ≡ []
-  no-else i stop h = rw (ne-eqb (codeOf t i) 201 h)
+  no-else : (i stop : ℕ) → (codeOf t i ≡ c-else → ⊥) → elseAt t i stop ≡ []
+  no-else i stop h = rw (ne-eqb (codeOf t i) c-else h)
 
-  selection-else : (i stop c : ℕ) → codeOf t i ≡ c → (c ≡ 201 → ⊥) → elseAt t i stop ≡ []
-  selection-else i stop c e h = no-else i stop (λ z. h (let w : c ≡ 201 = omega arith in w))
+  selection-else : (i stop c : ℕ) → codeOf t i ≡ c → (c ≡ c-else → ⊥) → elseAt t i stop ≡ []
+  selection-else i stop c e h = no-else i stop (λ z. h (let w : c ≡ c-else = omega arith in w))
 
-  else-is : (i stop : ℕ) → codeOf t i ≡ 201 → elseAt t i stop ≡ i ∷ []
+  else-is : (i stop : ℕ) → codeOf t i ≡ c-else → elseAt t i stop ≡ i ∷ []
   else-is i stop e = rw e
 
   walk-else : {k : Sort} (x : Tree k) (i : ℕ) → Told t x i → ElseOf k x i
@@ -79,8 +80,8 @@ module _ (t : List ℕ) where
   walk-else else i c = λ stop. else-is i stop c
   walk-else (run w es) i c = λ stop. no-else i stop (c .1)
   walk-else (set-run r w es) i c = λ stop. no-else i stop (c .1)
-  walk-else (select os) i c = λ stop. selection-else i stop 204 (c .0) (λ z. omega arith)
-  walk-else (loop os) i c = λ stop. selection-else i stop 206 (c .0) (λ z. omega arith)
+  walk-else (select os) i c = λ stop. selection-else i stop c-if (c .0) (λ z. omega arith)
+  walk-else (loop os) i c = λ stop. selection-else i stop c-do (c .0) (λ z. omega arith)
   walk-else (bare a) i c = λ stop. walk-else a i c stop
   walk-else (labelled w a) i c = λ stop. walk-else a (i + 2) c stop
   walk-else end i c = λ h. absurd h
@@ -123,13 +124,13 @@ module _ (t : List ℕ) where
         ∙ ap (λ k. orElse (eachOption t (λ f e. offersFrom t s p late d f e) 512 (i + 1) k) (eachOption t (elseAt t) 512 (i + 1) k)) z
         ∙ ap₂ orElse (f d 512 (i + 1 + sizeIn os) (omega arith) m refl) (walk-else os (i + 1) c 512 (i + 1 + sizeIn os) m refl)
 
-    is-if : (i : ℕ) → codeOf t i ≡ 204 → isSelection t i ≡ true
+    is-if : (i : ℕ) → codeOf t i ≡ c-if → isSelection t i ≡ true
     is-if i e = rw e
 
-    is-do : (i : ℕ) → codeOf t i ≡ 206 → isSelection t i ≡ true
+    is-do : (i : ℕ) → codeOf t i ≡ c-do → isSelection t i ≡ true
     is-do i e = rw e
 
-    is-else : (i : ℕ) → codeOf t i ≡ 201 → isSelection t i ≡ false
+    is-else : (i : ℕ) → codeOf t i ≡ c-else → isSelection t i ≡ false
     is-else i e = rw e
 
     walk : {k : Sort} (x : Tree k) (i : ℕ) → Told t x i → Offered k x i

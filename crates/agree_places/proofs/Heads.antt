@@ -5,6 +5,7 @@ use native.Mathlib.Decide.{decLt, ℕ-discrete}
 use mathlib.Core.Path.{_≡_, refl, ap, _∙_}
 use mathlib.Core.List.{List, [], _∷_, _++_}
 use lib.ListN.{length, getD}
+use Rattle.base_codes.specs.Codes.{c-body, c-label}
 use Rattle.spec_grammar.specs.Tree.{Name, Declaration, Group, group, Body, body, Model}
 use Rattle.spec_grammar.specs.Code.{Item, i-local, i-init, i-body, i-end-body, each, code-tree, code-declaration, code-parameter, code-group, code-body, code-activity, code-part, code}
 use Rattle.read_accepts_proof.specs.Meaning.{Accepts}
@@ -49,7 +50,7 @@ module _ (t : List ℕ) (a : Accepts t) where
   -- an item of a unit that is no parameter's, not its `body` and no declaration's stands among its statements or behind them
   pub stands-late : {u k : ℕ} (b : Body) (p : Holds (a .tree) 0 u b k) (x : ℕ) → u < x
       → ((gs : List Group) → Lying X 0 (each code-group gs) (suc u) → x < suc u + length (each code-group gs) → ⊥)
-      → (getD (codesAt t a) x 0 ≡ 227 → ⊥)
+      → (getD (codesAt t a) x 0 ≡ c-body → ⊥)
       → ((ds : List Declaration) → Lying X 0 (each (code-declaration i-local) ds) (k + 1) → k + 1 ≤ x → x < k + 1 + length (each (code-declaration i-local) ds) → ⊥) → startIn b k ≤ x
   stands-late {u} {k} (body ds q) p x g f h d = go (decLt x k) (ℕ-discrete x k) (decLt x (startIn (body ds q) k))
     where
@@ -69,7 +70,7 @@ module _ (t : List ℕ) (a : Accepts t) where
       go (no y) (no z) (no w) = omega arith
 
   -- a label item of a unit stands among its statements
-  module _ (x : ℕ) (e : getD (codesAt t a) x 0 ≡ 188) where
+  module _ (x : ℕ) (e : getD (codesAt t a) x 0 ≡ c-label) where
     free : (l : List Item) (j : ℕ) → Bare l → Lying X 0 l j → j ≤ x → x < j + length l → ⊥
     free l j b p g h = bare-at (codesAt t a) l j x b (known-there t a l j p) (at-there t a l j p) g h e
 

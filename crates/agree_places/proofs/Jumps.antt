@@ -10,6 +10,7 @@ use lib.ListN.{length, getD, length-append}
 use lib.Seq.{getD-append-seam}
 use lib.Dec.{eqb}
 use borrow.Author.Tests.{eq-eqb, eqb-true, lt-ltb}
+use Rattle.base_codes.specs.Codes.{c-goto, c-label}
 use Rattle.base_bytes.specs.Choice.{pick, both, either}
 use Rattle.base_bytes.proofs.Tests.{true-false, both-true}
 use Rattle.rule_sheets.specs.Walks.{first}
@@ -56,7 +57,7 @@ module _ (cs vs hs : List ℕ) where
       go true q = eqb-true (getD vs (d - 1) 0) w (both-true (eqb (getD vs (d - 1) 0) w) (eqb (getD hs d 0) h) q .0)
       go false q = absurd (true-false (inv q))
 
-  label-declares : (w h d : ℕ) → getD cs d 0 ≡ 188 → getD vs (d - 1) 0 ≡ w → getD hs d 0 ≡ h → declares cs vs hs 2 w h d ≡ true
+  label-declares : (w h d : ℕ) → getD cs d 0 ≡ c-label → getD vs (d - 1) 0 ≡ w → getD hs d 0 ≡ h → declares cs vs hs 2 w h d ≡ true
   unfolding declares among
   label-declares w h d c e g = rw (c, eq-eqb (getD vs (d - 1) 0) w e, eq-eqb (getD hs d 0) h g)
 
@@ -78,7 +79,7 @@ module _ (cs vs hs : List ℕ) where
       go true q = absurd (n (eqb-true w 0 q))
       go false q = first-most (declares cs vs hs set w h) 0 to d (omega arith) e
 
-label-rule : (cs vs hs ss ts : List ℕ) (j : ℕ) → getD cs j 0 ≡ 188 → badBy cs vs hs ss ts (ruleOf (getD cs j 0)) j ≡ badTwice cs vs hs 2 j
+label-rule : (cs vs hs ss ts : List ℕ) (j : ℕ) → getD cs j 0 ≡ c-label → badBy cs vs hs ss ts (ruleOf (getD cs j 0)) j ≡ badTwice cs vs hs 2 j
 unfolding badBy ruleOf
 label-rule cs vs hs ss ts j e = rw e
 
@@ -91,11 +92,11 @@ once-only cs vs hs j e l = go (eqb (getD vs (j - 1) 0) 0) (ap (λ b. pick (eithe
     go true q = omega arith
     go false q = omega arith
 
-label-quiet : quiet 188 ≡ true
+label-quiet : quiet c-label ≡ true
 unfolding quiet isPart isAlone
 label-quiet = refl
 
-label-marks : isMark 188 ≡ true
+label-marks : isMark c-label ≡ true
 unfolding isPart
 label-marks = refl
 
@@ -161,7 +162,7 @@ module _ (t : List ℕ) (a : Accepts t) where
     ends = text-unit t a p .0
 
     -- ---- a label item of the unit is a label of the tree
-    label-of : (l : ℕ) → u < l → l < endIn b k → getD C l 0 ≡ 188 → (w : Name) × Labelled w q from (l + 1)
+    label-of : (l : ℕ) → u < l → l < endIn b k → getD C l 0 ≡ c-label → (w : Name) × Labelled w q from (l + 1)
     label-of l g h e = label-there C q from l (known-there t a (code-tree q) from all) (at-there t a (code-tree q) from all) (label-late t a l e b p g) (let z = end-is b k in omega arith) e
 
     -- where its statement stands
@@ -178,7 +179,7 @@ module _ (t : List ℕ) (a : Accepts t) where
           let z : r .at ≡ length f = let e = lies .place in omega arith in
           ap (λ (y : List Item). getD y (r .at) i-plain) (lies .split) ∙ ap (λ n. getD (f ++ (marked w (r .act) ++ lies .rest)) n i-plain) z ∙ getD-append-seam f (i-name w) (i-label ∷ code-tree (r .act) ++ lies .rest) i-plain
 
-      label-code-there : getD C (r .at + 1) 0 ≡ 188
+      label-code-there : getD C (r .at + 1) 0 ≡ c-label
       label-code-there = ap (λ n. getD C n 0) (let z : r .at + 1 ≡ suc (r .at) = omega arith in z) ∙ at-there t a (marked w (r .act)) (r .at) lies .1 .0
 
       act-ends : r .at + 2 + sizeIn (r .act) ≤ endIn b k
@@ -240,7 +241,7 @@ module _ (t : List ℕ) (a : Accepts t) where
         let z : j ≡ length f = let e = lies-here .place in omega arith in
         ap (λ (y : List Item). getD y j i-plain) (lies-here .split) ∙ ap (λ i. getD (f ++ (code-tree (goto w) ++ lies-here .rest)) i i-plain) z ∙ getD-append-seam f (i-name w) (i-goto ∷ lies-here .rest) i-plain
 
-    code-here : getD C (j + 1) 0 ≡ 198
+    code-here : getD C (j + 1) 0 ≡ c-goto
     code-here = ap (λ i. getD C i 0) (let z : j + 1 ≡ suc j = omega arith in z) ∙ at-there t a (code-tree (goto w)) j lies-here .1 .0
 
     there : j + 1 < length C
@@ -259,7 +260,7 @@ module _ (t : List ℕ) (a : Accepts t) where
     home-here : getD hs (j + 1) 0 ≡ u + 1
     home-here = unit-home T C S H K u (j + 1) n here
 
-    label-is : getD C l 0 ≡ 188
+    label-is : getD C l 0 ≡ c-label
     label-is = label-code (getD C l 0) (declared-says C S hs 2 (getD S (j + 1 - 1) 0) (getD hs (j + 1) 0) l declared .0)
 
     label-in : (u < l) × (l < endIn b k)
@@ -299,7 +300,7 @@ module _ (t : List ℕ) (a : Accepts t) where
         i : Inside T u (r .at + 1)
         i = let x = inside-there b (s .held) w p m in (x .0, let e = ends b (s .held) in let y = x .1 in omega arith)
 
-        code : getD C (r .at + 1) 0 ≡ 188
+        code : getD C (r .at + 1) 0 ≡ c-label
         code = label-code-there b (s .held) w p m
 
         home : getD hs (r .at + 1) 0 ≡ u + 1

@@ -10,6 +10,7 @@ use mathlib.Core.List.{List, [], _∷_, _++_}
 use lib.ListN.{length, getD, length-append}
 use lib.Dec.{eqb, ltb}
 use borrow.Author.Tests.{ltb-true}
+use Rattle.base_codes.specs.Codes.{c-end-option, c-label, c-option, c-or-else, c-plain}
 use Rattle.base_bytes.specs.Choice.{pick, both}
 use Rattle.base_bytes.proofs.Tests.{true-false, both-true}
 use Rattle.spec_grammar.specs.Tree.{Name, Shape, Exp, Expr, Received, into, equal, exactly, exactly-true, exactly-false, Sort, action, statement, sequence, options, Tree, express, assign, increment, decrement, send, receive, assert, print, skip, goto, break, timeout, else, run, set-run, select, loop, bare, labelled, end, then, over, option, Value, unset, set-number, set-minus, set-true, set-false, set-name, set-channel, Variable, variable, Declaration, declare}
@@ -26,7 +27,7 @@ use Rattle.agree_stage.proofs.Labels.{Labelled}
 
 -- ---- types, by the grammar's table
 unfoldable low : Item → Bool
-low x = pick (eqb (kind x) 1) (ltb (codeOf x) 176) true
+low x = pick (eqb (kind x) 1) (ltb (codeOf x) c-plain) true
 
 unfoldable lows : List Item → Bool
 lows [] = true
@@ -47,16 +48,16 @@ unfolding low kind
 known-low (is-name a b) = refl
 known-low (is-text a b) = refl
 known-low is-number = refl
-known-low (is-mark x a b) = low-nth items (x - 147) i-plain table-low refl
+known-low (is-mark x a b) = low-nth items (x - c-or-else) i-plain table-low refl
 
-type-low : (k : ℕ) → Known (i-type k) → codeOf (i-type k) < 176
+type-low : (k : ℕ) → Known (i-type k) → codeOf (i-type k) < c-plain
 unfolding low kind
-type-low k e = ltb-true (codeOf (i-type k)) 176 (known-low e)
+type-low k e = ltb-true (codeOf (i-type k)) c-plain (known-low e)
 
 -- ---- items that are no label
 abbrev pub Bare : List Item → Type 0
 Bare [] = Unit {0}
-Bare (x ∷ l) = (Known x → codeOf x ≡ 188 → ⊥) × Bare l
+Bare (x ∷ l) = (Known x → codeOf x ≡ c-label → ⊥) × Bare l
 
 bare-append : (x y : List Item) → Bare x → Bare y → Bare (x ++ y)
 bare-append [] y a b = b
@@ -67,15 +68,15 @@ bare-each f h [] = tt
 bare-each f h (a ∷ l) = bare-append (f a) (each f l) (h a) (bare-each f h l)
 
 -- none of them stands in the items where these do
-pub bare-at : (cs : List ℕ) (l : List Item) (k x : ℕ) → Bare l → AllKnown l → At cs k l → k ≤ x → x < k + length l → getD cs x 0 ≡ 188 → ⊥
+pub bare-at : (cs : List ℕ) (l : List Item) (k x : ℕ) → Bare l → AllKnown l → At cs k l → k ≤ x → x < k + length l → getD cs x 0 ≡ c-label → ⊥
 bare-at cs [] k x b n h g d e = omega arith
 bare-at cs (y ∷ l) k x b n h g d e = go (ℕ-discrete x k) (bare-at cs l (suc k) x (b .1) (n .1) (h .1))
   where
-    go : Dec (x ≡ k) → (suc k ≤ x → x < suc k + length l → getD cs x 0 ≡ 188 → ⊥) → ⊥
+    go : Dec (x ≡ k) → (suc k ≤ x → x < suc k + length l → getD cs x 0 ≡ c-label → ⊥) → ⊥
     go (yes z) below = b .0 (n .0) (sym (h .0) ∙ ap (λ i. getD cs i 0) (sym z) ∙ e)
     go (no z) below = below (omega arith) (omega arith) e
 
-part-not : isPart 188 ≡ false
+part-not : isPart c-label ≡ false
 unfolding isPart
 part-not = refl
 
@@ -87,7 +88,7 @@ bare-exp : {s : Shape} (e : Exp s) → Bare (code-exp e)
 bare-exp e = bare-parts (code-exp e) (parts-exp e)
 
 -- an expression and its mark
-bare-phrase : {s : Shape} (e : Exp s) (y : Item) → (codeOf y ≡ 188 → ⊥) → Bare (code-exp e ++ y ∷ [])
+bare-phrase : {s : Shape} (e : Exp s) (y : Item) → (codeOf y ≡ c-label → ⊥) → Bare (code-exp e ++ y ∷ [])
 bare-phrase e y n = bare-append (code-exp e) (y ∷ []) (bare-exp e) (λ k z. n z, tt)
 
 bare-argument : (e : Expr) → Bare (code-argument e)
@@ -101,7 +102,7 @@ bare-received exactly-true = (λ k z. omega arith, (λ k z. omega arith, tt))
 bare-received exactly-false = (λ k z. omega arith, (λ k z. omega arith, tt))
 
 -- ---- declarations
-pub bare-type : (k : ℕ) → Known (i-type k) → codeOf (i-type k) ≡ 188 → ⊥
+pub bare-type : (k : ℕ) → Known (i-type k) → codeOf (i-type k) ≡ c-label → ⊥
 bare-type k n z = let w = type-low k n in omega arith
 
 bare-field : (k : ℕ) → Bare (code-field k)
@@ -132,7 +133,7 @@ abbrev pub Label : {k : Sort} → Tree k → ℕ → ℕ → Type 0
 Label b i x = (w : Name) × Labelled w b i (x + 1)
 
 -- ---- statements that are no selections
-bare-listed : {s : Shape} (e : Exp s) (y : Item) (m : List Item) (z : Item) → (codeOf y ≡ 188 → ⊥) → Bare m → (codeOf z ≡ 188 → ⊥) → Bare (code-exp e ++ y ∷ m ++ z ∷ [])
+bare-listed : {s : Shape} (e : Exp s) (y : Item) (m : List Item) (z : Item) → (codeOf y ≡ c-label → ⊥) → Bare m → (codeOf z ≡ c-label → ⊥) → Bare (code-exp e ++ y ∷ m ++ z ∷ [])
 bare-listed e y m z p b q = bare-append (code-exp e ++ y ∷ m) (z ∷ []) (bare-append (code-exp e) (y ∷ m) (bare-exp e) (λ k. p, b)) (λ k. q, tt)
 
 bare-arguments : (es : List Expr) → Bare (each code-argument es ++ i-end ∷ [])
@@ -141,20 +142,20 @@ bare-arguments es = bare-append (each code-argument es) (i-end ∷ []) (bare-eac
 module _ (cs : List ℕ) where
   -- no label item stands among these
   abbrev Free : List Item → ℕ → Type 0
-  Free l i = (x : ℕ) → i ≤ x → x < i + length l → getD cs x 0 ≡ 188 → ⊥
+  Free l i = (x : ℕ) → i ≤ x → x < i + length l → getD cs x 0 ≡ c-label → ⊥
 
   free : (l : List Item) (i : ℕ) → Bare l → AllKnown l → At cs i l → Free l i
   free l i b k h x g d e = bare-at cs l i x b k h g d e
 
-  not-first : (y : Item) (i x : ℕ) → getD cs i 0 ≡ codeOf y → (codeOf y ≡ 188 → ⊥) → getD cs x 0 ≡ 188 → x ≡ i → ⊥
+  not-first : (y : Item) (i x : ℕ) → getD cs i 0 ≡ codeOf y → (codeOf y ≡ c-label → ⊥) → getD cs x 0 ≡ c-label → x ≡ i → ⊥
   not-first y i x h n e z = n (sym h ∙ ap (λ j. getD cs j 0) (sym z) ∙ e)
 
   -- ---- the parts of a tree
   inner : (b : Item) (m : List Item) (z : Item) (i : ℕ) → At cs i (b ∷ m ++ z ∷ []) → At cs (i + 1) m
   inner b m z i h = subst (λ j. At cs j m) (let y : suc i ≡ i + 1 = omega arith in y) (at-front cs (suc i) m (z ∷ []) (h .1))
 
-  enclosed : {R : Type 0} (b : Item) (m : List Item) (z : Item) → (codeOf b ≡ 188 → ⊥) → (codeOf z ≡ 188 → ⊥) → (i x : ℕ) → At cs i (b ∷ m ++ z ∷ []) → i ≤ x → x < i + length (b ∷ m ++ z ∷ [])
-      → getD cs x 0 ≡ 188 → (i + 1 ≤ x → x < i + 1 + length m → R) → R
+  enclosed : {R : Type 0} (b : Item) (m : List Item) (z : Item) → (codeOf b ≡ c-label → ⊥) → (codeOf z ≡ c-label → ⊥) → (i x : ℕ) → At cs i (b ∷ m ++ z ∷ []) → i ≤ x → x < i + length (b ∷ m ++ z ∷ [])
+      → getD cs x 0 ≡ c-label → (i + 1 ≤ x → x < i + 1 + length m → R) → R
   enclosed {R} b m z nb nz i x h g d e f = go (ℕ-discrete x i) (ℕ-discrete x (i + 1 + length m))
     where
       n : length (b ∷ m ++ z ∷ []) ≡ suc (length m) + 1
@@ -165,7 +166,7 @@ module _ (cs : List ℕ) where
       go (no y) (yes w) = absurd (not-first z (i + 1 + length m) x (at-back cs (b ∷ m) (z ∷ []) i (i + 1 + length m) (omega arith) h .0) nz e w)
       go (no y) (no w) = f (omega arith) (omega (arith, n))
 
-  own : (w : Name) (a : Tree action) (i x : ℕ) → At cs i (code-tree (labelled w a)) → i ≤ x → x < i + sizeIn (labelled w a) → getD cs x 0 ≡ 188 → (i + 2 ≤ x → x < i + 2 + sizeIn a → Label a (i + 2) x)
+  own : (w : Name) (a : Tree action) (i x : ℕ) → At cs i (code-tree (labelled w a)) → i ≤ x → x < i + sizeIn (labelled w a) → getD cs x 0 ≡ c-label → (i + 2 ≤ x → x < i + 2 + sizeIn a → Label a (i + 2) x)
       → Label (labelled w a) i x
   unfolding Labelled
   own w a i x h g d e f = go (ℕ-discrete x i) (ℕ-discrete x (i + 1))
@@ -187,7 +188,7 @@ module _ (cs : List ℕ) where
       go (yes y) = let r = f g y in (r .0, inl (r .1))
       go (no y) = let r = l (omega arith) (omega (arith, n)) in (r .0, inr (r .1))
 
-  in-options : (q : Tree sequence) (os : Tree options) (i x : ℕ) → getD cs i 0 ≡ 208 → getD cs (i + 1 + sizeIn q) 0 ≡ 209 → i ≤ x → x < i + sizeIn (option q os) → getD cs x 0 ≡ 188
+  in-options : (q : Tree sequence) (os : Tree options) (i x : ℕ) → getD cs i 0 ≡ c-option → getD cs (i + 1 + sizeIn q) 0 ≡ c-end-option → i ≤ x → x < i + sizeIn (option q os) → getD cs x 0 ≡ c-label
       → (i + 1 ≤ x → x < i + 1 + sizeIn q → Label q (i + 1) x) → (i + 2 + sizeIn q ≤ x → x < i + 2 + sizeIn q + sizeIn os → Label os (i + 2 + sizeIn q) x) → Label (option q os) i x
   unfolding Labelled
   in-options q os i x a b g d e f l = go (ℕ-discrete x i) (ℕ-discrete x (i + 1 + sizeIn q)) (decLt x (i + 1 + sizeIn q))
@@ -201,7 +202,7 @@ module _ (cs : List ℕ) where
       go (no y) (no z) (yes w) = let r = f (omega arith) w in (r .0, inl (r .1))
       go (no y) (no z) (no w) = let r = l (omega arith) (omega (arith, n)) in (r .0, inr (r .1))
 
-  pub label-there : {k : Sort} (b : Tree k) (i x : ℕ) → AllKnown (code-tree b) → At cs i (code-tree b) → i ≤ x → x < i + sizeIn b → getD cs x 0 ≡ 188 → Label b i x
+  pub label-there : {k : Sort} (b : Tree k) (i x : ℕ) → AllKnown (code-tree b) → At cs i (code-tree b) → i ≤ x → x < i + sizeIn b → getD cs x 0 ≡ c-label → Label b i x
   unfolding Labelled
   label-there (express v) i x k h g d e = absurd (free (code-tree (express v)) i (bare-phrase v i-express (λ z. omega arith)) k h x g d e)
   label-there (assign r v) i x k h g d e = absurd (free (code-tree (assign r v)) i (bare-listed r i-target (code-exp v) i-assign (λ z. omega arith) (bare-exp v) (λ z. omega arith)) k h x g d e)

@@ -9,6 +9,7 @@ use mathlib.Core.List.{List, [], _∷_}
 use lib.ListN.{length, getD}
 use lib.Dec.{eqb, ltb, leb}
 use borrow.Author.Tests.{eqb-true, ltb-true, leb-true, le-leb}
+use Rattle.base_codes.specs.Codes.{c-argument, c-bit, c-break, c-choice, c-complement, c-do, c-else, c-if, c-int, c-or-else, c-plain, c-skip}
 use Rattle.base_bytes.specs.Choice.{pick, both, either}
 use Rattle.base_bytes.proofs.Tests.{true-false, both-true, either-true}
 use Rattle.rule_sheets.specs.Walks.{first}
@@ -31,75 +32,75 @@ part-low : (c : ℕ) → 70 ≤ c → c ≤ 71 → isPart c ≡ true
 unfolding isPart
 part-low c h g = rw (le-leb 70 c h, le-leb c 71 g)
 
-part-operator : (c : ℕ) → 147 ≤ c → c ≤ 167 → isPart c ≡ true
+part-operator : (c : ℕ) → c-or-else ≤ c → c ≤ c-complement → isPart c ≡ true
 unfolding isPart
 part-operator c h g = go (within 70 71 c)
   where
-    go : (b : Bool) → either b (either (within 147 167 c) (within 176 182 c)) ≡ true
+    go : (b : Bool) → either b (either (within c-or-else c-complement c) (within c-plain c-choice c)) ≡ true
     go true = refl
-    go false = rw (le-leb 147 c h, le-leb c 167 g)
+    go false = rw (le-leb c-or-else c h, le-leb c c-complement g)
 
-part-other : (c : ℕ) → 176 ≤ c → c ≤ 182 → isPart c ≡ true
+part-other : (c : ℕ) → c-plain ≤ c → c ≤ c-choice → isPart c ≡ true
 unfolding isPart
-part-other c h g = go (within 70 71 c) (within 147 167 c)
+part-other c h g = go (within 70 71 c) (within c-or-else c-complement c)
   where
-    go : (a b : Bool) → either a (either b (within 176 182 c)) ≡ true
+    go : (a b : Bool) → either a (either b (within c-plain c-choice c)) ≡ true
     go true b = refl
     go false true = refl
-    go false false = rw (le-leb 176 c h, le-leb c 182 g)
+    go false false = rw (le-leb c-plain c h, le-leb c c-choice g)
 
 pub inside-part : (c : ℕ) → inExpression c ≡ true → isPart c ≡ true
 unfolding inExpression
 inside-part c e = one (either-true (eqb c 70) _ e)
   where
-    four : (both (ltb 146 c) (ltb c 168) ≡ true) ⊎ (both (ltb 175 c) (ltb c 183) ≡ true) → isPart c ≡ true
-    four (inl q) = let b = both-true (ltb 146 c) (ltb c 168) q in let x = ltb-true 146 c (b .0) in let y = ltb-true c 168 (b .1) in part-operator c (omega arith) (omega arith)
-    four (inr q) = let b = both-true (ltb 175 c) (ltb c 183) q in let x = ltb-true 175 c (b .0) in let y = ltb-true c 183 (b .1) in part-other c (omega arith) (omega arith)
+    four : (both (ltb 146 c) (ltb c c-bit) ≡ true) ⊎ (both (ltb c-int c) (ltb c c-argument) ≡ true) → isPart c ≡ true
+    four (inl q) = let b = both-true (ltb 146 c) (ltb c c-bit) q in let x = ltb-true 146 c (b .0) in let y = ltb-true c c-bit (b .1) in part-operator c (omega arith) (omega arith)
+    four (inr q) = let b = both-true (ltb c-int c) (ltb c c-argument) q in let x = ltb-true c-int c (b .0) in let y = ltb-true c c-argument (b .1) in part-other c (omega arith) (omega arith)
 
-    two : (eqb c 71 ≡ true) ⊎ (either (both (ltb 146 c) (ltb c 168)) (both (ltb 175 c) (ltb c 183)) ≡ true) → isPart c ≡ true
+    two : (eqb c 71 ≡ true) ⊎ (either (both (ltb 146 c) (ltb c c-bit)) (both (ltb c-int c) (ltb c c-argument)) ≡ true) → isPart c ≡ true
     two (inl q) = let z = eqb-true c 71 q in part-low c (omega arith) (omega arith)
-    two (inr q) = four (either-true (both (ltb 146 c) (ltb c 168)) _ q)
+    two (inr q) = four (either-true (both (ltb 146 c) (ltb c c-bit)) _ q)
 
-    one : (eqb c 70 ≡ true) ⊎ (either (eqb c 71) (either (both (ltb 146 c) (ltb c 168)) (both (ltb 175 c) (ltb c 183))) ≡ true) → isPart c ≡ true
+    one : (eqb c 70 ≡ true) ⊎ (either (eqb c 71) (either (both (ltb 146 c) (ltb c c-bit)) (both (ltb c-int c) (ltb c c-argument))) ≡ true) → isPart c ≡ true
     one (inl q) = let z = eqb-true c 70 q in part-low c (omega arith) (omega arith)
     one (inr q) = two (either-true (eqb c 71) _ q)
 
-pub part-range : (c : ℕ) → isPart c ≡ true → (c ≤ 71) ⊎ ((147 ≤ c) × (c ≤ 182))
+pub part-range : (c : ℕ) → isPart c ≡ true → (c ≤ 71) ⊎ ((c-or-else ≤ c) × (c ≤ c-choice))
 unfolding isPart
 part-range c e = one (either-true (within 70 71 c) _ e)
   where
-    two : (within 147 167 c ≡ true) ⊎ (within 176 182 c ≡ true) → (c ≤ 71) ⊎ ((147 ≤ c) × (c ≤ 182))
-    two (inl q) = let b = both-true (leb 147 c) (leb c 167) q in let x = leb-true 147 c (b .0) in let y = leb-true c 167 (b .1) in inr (omega arith, omega arith)
-    two (inr q) = let b = both-true (leb 176 c) (leb c 182) q in let x = leb-true 176 c (b .0) in let y = leb-true c 182 (b .1) in inr (omega arith, omega arith)
+    two : (within c-or-else c-complement c ≡ true) ⊎ (within c-plain c-choice c ≡ true) → (c ≤ 71) ⊎ ((c-or-else ≤ c) × (c ≤ c-choice))
+    two (inl q) = let b = both-true (leb c-or-else c) (leb c c-complement) q in let x = leb-true c-or-else c (b .0) in let y = leb-true c c-complement (b .1) in inr (omega arith, omega arith)
+    two (inr q) = let b = both-true (leb c-plain c) (leb c c-choice) q in let x = leb-true c-plain c (b .0) in let y = leb-true c c-choice (b .1) in inr (omega arith, omega arith)
 
-    one : (within 70 71 c ≡ true) ⊎ (either (within 147 167 c) (within 176 182 c) ≡ true) → (c ≤ 71) ⊎ ((147 ≤ c) × (c ≤ 182))
+    one : (within 70 71 c ≡ true) ⊎ (either (within c-or-else c-complement c) (within c-plain c-choice c) ≡ true) → (c ≤ 71) ⊎ ((c-or-else ≤ c) × (c ≤ c-choice))
     one (inl q) = inl (leb-true c 71 (both-true (leb 70 c) (leb c 71) q .1))
-    one (inr q) = two (either-true (within 147 167 c) _ q)
+    one (inr q) = two (either-true (within c-or-else c-complement c) _ q)
 
-alone-range : (c : ℕ) → isAlone c ≡ true → (c ≡ 72) ⊎ (197 ≤ c)
+alone-range : (c : ℕ) → isAlone c ≡ true → (c ≡ 72) ⊎ (c-skip ≤ c)
 unfolding isAlone
-alone-range c e = one (either-true (either (eqb c 72) (eqb c 197)) _ e)
+alone-range c e = one (either-true (either (eqb c 72) (eqb c c-skip)) _ e)
   where
-    low : (eqb c 72 ≡ true) ⊎ (eqb c 197 ≡ true) → (c ≡ 72) ⊎ (197 ≤ c)
+    low : (eqb c 72 ≡ true) ⊎ (eqb c c-skip ≡ true) → (c ≡ 72) ⊎ (c-skip ≤ c)
     low (inl q) = inl (eqb-true c 72 q)
-    low (inr q) = let z = eqb-true c 197 q in inr (omega arith)
+    low (inr q) = let z = eqb-true c c-skip q in inr (omega arith)
 
-    last : (eqb c 204 ≡ true) ⊎ (eqb c 206 ≡ true) → (c ≡ 72) ⊎ (197 ≤ c)
-    last (inl q) = let z = eqb-true c 204 q in inr (omega arith)
-    last (inr q) = let z = eqb-true c 206 q in inr (omega arith)
+    last : (eqb c c-if ≡ true) ⊎ (eqb c c-do ≡ true) → (c ≡ 72) ⊎ (c-skip ≤ c)
+    last (inl q) = let z = eqb-true c c-if q in inr (omega arith)
+    last (inr q) = let z = eqb-true c c-do q in inr (omega arith)
 
-    high : (within 199 201 c ≡ true) ⊎ (either (eqb c 204) (eqb c 206) ≡ true) → (c ≡ 72) ⊎ (197 ≤ c)
-    high (inl q) = let z = leb-true 199 c (both-true (leb 199 c) (leb c 201) q .0) in inr (omega arith)
-    high (inr q) = last (either-true (eqb c 204) (eqb c 206) q)
+    high : (within c-break c-else c ≡ true) ⊎ (either (eqb c c-if) (eqb c c-do) ≡ true) → (c ≡ 72) ⊎ (c-skip ≤ c)
+    high (inl q) = let z = leb-true c-break c (both-true (leb c-break c) (leb c c-else) q .0) in inr (omega arith)
+    high (inr q) = last (either-true (eqb c c-if) (eqb c c-do) q)
 
-    one : (either (eqb c 72) (eqb c 197) ≡ true) ⊎ (either (within 199 201 c) (either (eqb c 204) (eqb c 206)) ≡ true) → (c ≡ 72) ⊎ (197 ≤ c)
-    one (inl q) = low (either-true (eqb c 72) (eqb c 197) q)
-    one (inr q) = high (either-true (within 199 201 c) _ q)
+    one : (either (eqb c 72) (eqb c c-skip) ≡ true) ⊎ (either (within c-break c-else c) (either (eqb c c-if) (eqb c c-do)) ≡ true) → (c ≡ 72) ⊎ (c-skip ≤ c)
+    one (inl q) = low (either-true (eqb c 72) (eqb c c-skip) q)
+    one (inr q) = high (either-true (within c-break c-else c) _ q)
 
 part-alone : (c : ℕ) → isPart c ≡ true → isAlone c ≡ false
 part-alone c e = go (isAlone c) refl
   where
-    apart : (c ≤ 71) ⊎ ((147 ≤ c) × (c ≤ 182)) → (c ≡ 72) ⊎ (197 ≤ c) → ⊥
+    apart : (c ≤ 71) ⊎ ((c-or-else ≤ c) × (c ≤ c-choice)) → (c ≡ 72) ⊎ (c-skip ≤ c) → ⊥
     apart (inl x) (inl y) = omega arith
     apart (inl x) (inr y) = omega arith
     apart (inr x) (inl y) = let z = x .0 in omega arith

@@ -6,6 +6,7 @@ use mathlib.Core.Path.{_≡_, refl, sym as inv, ap, _∙_, subst}
 use mathlib.Core.Bool.{true, false}
 use mathlib.Core.List.{List, [], _∷_, _++_}
 use lib.ListN.{length, getD, length-append}
+use Rattle.base_codes.specs.Codes.{c-argument, c-assert, c-assign, c-constant, c-decrement, c-end, c-end-option, c-equal, c-express, c-false, c-fi, c-goto, c-increment, c-into, c-label, c-od, c-option, c-receive, c-run, c-send, c-set-run, c-target, c-true}
 use Rattle.spec_grammar.specs.Tree.{Name, Shape, Exp, Expr, Received, into, equal, exactly, exactly-true, exactly-false}
 use Rattle.spec_grammar.specs.Code.{Item, i-name, i-number, i-true, i-false, i-argument, i-into, i-equal, i-constant, each, code-exp, code-argument, code-received, code}
 use Rattle.base_bytes.specs.Choice.{pick}
@@ -28,47 +29,47 @@ Dull c = Plain c × (isLead c ≡ false)
 marks : (c : ℕ) → Plain c → isMark c ≡ true
 marks c p = ap (λ b. pick b false true) (p .1)
 
-argument-dull : Dull 183
+argument-dull : Dull c-argument
 unfolding isAlone isPart isLead
 argument-dull = ((refl, refl), refl)
 
-into-dull : Dull 184
+into-dull : Dull c-into
 unfolding isAlone isPart isLead
 into-dull = ((refl, refl), refl)
 
-equal-dull : Dull 185
+equal-dull : Dull c-equal
 unfolding isAlone isPart isLead
 equal-dull = ((refl, refl), refl)
 
-constant-dull : Dull 186
+constant-dull : Dull c-constant
 unfolding isAlone isPart isLead
 constant-dull = ((refl, refl), refl)
 
-pub end-dull : Dull 187
+pub end-dull : Dull c-end
 unfolding isAlone isPart isLead
 end-dull = ((refl, refl), refl)
 
-pub label-dull : Dull 188
+pub label-dull : Dull c-label
 unfolding isAlone isPart isLead
 label-dull = ((refl, refl), refl)
 
-pub assign-dull : Dull 191
+pub assign-dull : Dull c-assign
 unfolding isAlone isPart isLead
 assign-dull = ((refl, refl), refl)
 
-pub set-run-dull : Dull 203
+pub set-run-dull : Dull c-set-run
 unfolding isAlone isPart isLead
 set-run-dull = ((refl, refl), refl)
 
-pub closing-plain : Plain 205 × Plain 207 × Plain 208 × Plain 209
+pub closing-plain : Plain c-fi × Plain c-od × Plain c-option × Plain c-end-option
 unfolding isAlone isPart
 closing-plain = ((refl, refl), (refl, refl), (refl, refl), (refl, refl))
 
-pub lead-plain : Plain 189 × Plain 190 × Plain 192 × Plain 193 × Plain 194 × Plain 195 × Plain 196 × Plain 198 × Plain 202
+pub lead-plain : Plain c-express × Plain c-target × Plain c-increment × Plain c-decrement × Plain c-send × Plain c-receive × Plain c-assert × Plain c-goto × Plain c-run
 unfolding isAlone isPart
 lead-plain = ((refl, refl), (refl, refl), (refl, refl), (refl, refl), (refl, refl), (refl, refl), (refl, refl), (refl, refl), (refl, refl))
 
-pub leaf-parts : (isPart 70 ≡ true) × (isPart 71 ≡ true) × (isPart 178 ≡ true) × (isPart 179 ≡ true)
+pub leaf-parts : (isPart 70 ≡ true) × (isPart 71 ≡ true) × (isPart c-true ≡ true) × (isPart c-false ≡ true)
 unfolding isPart
 leaf-parts = (refl, refl, refl, refl)
 

@@ -5,6 +5,7 @@ use native.Mathlib.Decide.{decLt, ℕ-discrete}
 use mathlib.Core.Path.{_≡_, refl, sym as inv, ap, _∙_, subst}
 use mathlib.Core.List.{List, [], _∷_, _++_}
 use lib.ListN.{length, getD, length-append}
+use Rattle.base_codes.specs.Codes.{c-body, c-end-body, c-init, c-proctype}
 use Rattle.spec_grammar.specs.Tree.{Name, Declaration, declare, Body, body, Activity, idle, once, times, Part, mtypes, global, process, init, Model}
 use Rattle.spec_grammar.specs.Code.{Item, i-local, i-body, i-end-body, each, code-tree, code-variable, code-declaration, code-group, code-body, code-activity, code-message, code-part, code}
 use Rattle.table_entries.specs.Items.{AllKnown}
@@ -18,12 +19,12 @@ use Rattle.agree_places.specs.Stated.{Head}
 -- ---- items inside of units have low codes
 module _ (cs : List ℕ) where
   -- none of these begins a unit
-  pub inner-low : (l : List Item) (k x : ℕ) → Inner l → AllKnown l → At cs k l → k ≤ x → x < k + length l → getD cs x 0 < 223
+  pub inner-low : (l : List Item) (k x : ℕ) → Inner l → AllKnown l → At cs k l → k ≤ x → x < k + length l → getD cs x 0 < c-proctype
   inner-low [] k x n a h g d = absurd (omega arith)
   inner-low (y ∷ l) k x n a h g d = go (ℕ-discrete x k) (inner-low l (suc k) x (n .1) (a .1) (h .1))
     where
-      go : Dec (x ≡ k) → (suc k ≤ x → x < suc k + length l → getD cs x 0 < 223) → getD cs x 0 < 223
-      go (yes z) below = subst (_< 223) (inv (ap (λ i. getD cs i 0) z ∙ h .0)) (inner-known y (a .0) (n .0))
+      go : Dec (x ≡ k) → (suc k ≤ x → x < suc k + length l → getD cs x 0 < c-proctype) → getD cs x 0 < c-proctype
+      go (yes z) below = subst (_< c-proctype) (inv (ap (λ i. getD cs i 0) z ∙ h .0)) (inner-known y (a .0) (n .0))
       go (no z) below = below (omega arith) (omega arith)
 
 inner-message : (w : Name) → Inner (code-message w)
@@ -39,7 +40,7 @@ unfolding kind
 inner-global (declare k xs) = (refl, (refl, inner-each code-variable inner-variable xs))
 
 -- the bounds of a body are above what begins a unit
-body-apart : (cs : List ℕ) (b : Body) (k x : ℕ) → AllKnown (code-body b) → At cs k (code-body b) → k ≤ x → x < k + length (code-body b) → 223 ≤ getD cs x 0 → getD cs x 0 ≤ 226 → ⊥
+body-apart : (cs : List ℕ) (b : Body) (k x : ℕ) → AllKnown (code-body b) → At cs k (code-body b) → k ≤ x → x < k + length (code-body b) → c-proctype ≤ getD cs x 0 → getD cs x 0 ≤ c-init → ⊥
 body-apart cs (body ds q) k x a h g d l m = go (ℕ-discrete x k) (decLt x (k + length (i-body ∷ D ++ code-tree q)))
   where
     D : List Item
@@ -52,19 +53,19 @@ body-apart cs (body ds q) k x a h g d l m = go (ℕ-discrete x k) (decLt x (k + 
     n = length-append B (i-end-body ∷ [])
 
     go : Dec (x ≡ k) → Dec (x < k + length B) → ⊥
-    go (yes z) y = let c : getD cs x 0 ≡ 227 = ap (λ i. getD cs i 0) z ∙ h .0 in omega arith
+    go (yes z) y = let c : getD cs x 0 ≡ c-body = ap (λ i. getD cs i 0) z ∙ h .0 in omega arith
     go (no z) (yes y) =
         let r = inner-low cs (D ++ code-tree q) (suc k) x (inner-append D (code-tree q) (inner-declarations ds) (inner-tree q)) (known-front B (i-end-body ∷ []) a .1) (at-front cs k B (i-end-body ∷ []) h .1) (omega arith) (omega arith) in
         omega arith
     go (no z) (no y) =
         let c = at-back cs B (i-end-body ∷ []) k (k + length B) refl h .0 in
-        let e : getD cs x 0 ≡ 228 = ap (λ i. getD cs i 0) (let v : x ≡ k + length B = omega (arith, n) in v) ∙ c in
+        let e : getD cs x 0 ≡ c-end-body = ap (λ i. getD cs i 0) (let v : x ≡ k + length B = omega (arith, n) in v) ∙ c in
         omega arith
 
 -- ---- what begins a unit
 module _ (cs : List ℕ) where
   -- it is the last item of its activity and name
-  activity-head : (x : Activity) (w : Name) (i u : ℕ) → At cs i (code-activity x w) → i ≤ u → u < i + length (code-activity x w) → 223 ≤ getD cs u 0 → suc u ≡ i + length (code-activity x w)
+  activity-head : (x : Activity) (w : Name) (i u : ℕ) → At cs i (code-activity x w) → i ≤ u → u < i + length (code-activity x w) → c-proctype ≤ getD cs u 0 → suc u ≡ i + length (code-activity x w)
   activity-head idle w i u h g d l = go (ℕ-discrete u i)
     where
       go : Dec (u ≡ i) → suc u ≡ i + 2
@@ -82,7 +83,7 @@ module _ (cs : List ℕ) where
       go (no z) (yes y) = absurd (let c : getD cs u 0 ≡ 70 = ap (λ n. getD cs n 0) y ∙ h .1 .0 in omega arith)
       go (no z) (no y) = omega arith
 
-  part-head : (x : Part) (m : Model) (i u : ℕ) → AllKnown (code-part x) → At cs i (code-part x) → i ≤ u → u < i + length (code-part x) → 223 ≤ getD cs u 0 → getD cs u 0 ≤ 226 → Head (x ∷ m) i u
+  part-head : (x : Part) (m : Model) (i u : ℕ) → AllKnown (code-part x) → At cs i (code-part x) → i ≤ u → u < i + length (code-part x) → c-proctype ≤ getD cs u 0 → getD cs u 0 ≤ c-init → Head (x ∷ m) i u
   part-head (mtypes ws) m i u a h g d l n = absurd (let r = inner-low cs (code-part (mtypes ws)) i u (inner-mtypes ws) a h g d in omega arith)
   part-head (global e) m i u a h g d l n = absurd (let r = inner-low cs (code-part (global e)) i u (inner-global e) a h g d in omega arith)
   part-head (init b) m i u a h g d l n = go (ℕ-discrete u i)
@@ -119,7 +120,7 @@ module _ (cs : List ℕ) where
       go (no z) (no y) =
           absurd (body-apart cs b (i + length A + length G) u (known-back (A ++ G) (code-body b) a) (at-back cs (A ++ G) (code-body b) i (i + length A + length G) (omega (arith, n2)) h) (omega arith) (omega (arith, n1, n2)) l n)
 
-  pub head-in : (m : Model) (i u : ℕ) → AllKnown (code m) → At cs i (code m) → i ≤ u → u < i + length (code m) → 223 ≤ getD cs u 0 → getD cs u 0 ≤ 226 → Head m i u
+  pub head-in : (m : Model) (i u : ℕ) → AllKnown (code m) → At cs i (code m) → i ≤ u → u < i + length (code m) → c-proctype ≤ getD cs u 0 → getD cs u 0 ≤ c-init → Head m i u
   head-in [] i u a h g d l n = absurd (omega arith)
   head-in (x ∷ m) i u a h g d l n =
       go (decLt u (i + length (code-part x)))

@@ -6,6 +6,7 @@ use mathlib.Core.Bool.{Bool, true, false}
 use mathlib.Core.List.{List}
 use lib.ListN.{length, getD}
 use lib.Dec.{eqb}
+use Rattle.base_codes.specs.Codes.{c-body, c-end-body}
 use Rattle.base_bytes.specs.Choice.{pick, both, either}
 use Rattle.base_bytes.proofs.Tests.{true-false, both-true}
 use Rattle.spec_grammar.specs.Tree.{Name, Group, group, Body}
@@ -53,7 +54,7 @@ dull-group (group c ws) k = mark (type-known (i-type c) (k .0) refl) (mark refl 
 
 stop-if : (cs : List ℕ) (x : ℕ) → isPlace cs x ≡ true → isStop cs x ≡ true
 unfolding isStop
-stop-if cs x e = go (eqb (getD cs x 0) 228)
+stop-if cs x e = go (eqb (getD cs x 0) c-end-body)
   where
     go : (b : Bool) → either b (isPlace cs x) ≡ true
     go true = refl
@@ -67,7 +68,7 @@ dull-none cs {l} d k x h g a b e =
     let f = first-is (isStop cs) (length cs - (k + length l)) (k + length l) .from in
     omega arith
 
-body-plain : (isAlone 227 ≡ false) × (isPart 227 ≡ false)
+body-plain : (isAlone c-body ≡ false) × (isPart c-body ≡ false)
 unfolding isAlone isPart
 body-plain = (refl, refl)
 
@@ -125,7 +126,7 @@ module _ (t : List ℕ) (a : Accepts t) where
 
     place-late : {u k : ℕ} (b : Body) → Holds (a .tree) 0 u b k → u < x → startIn b k ≤ x
     place-late {u} {k} b p g =
-        stands-late t a b p x g (λ gs l h. free (suc u) (dull-each code-group dull-group gs) l (omega arith) h) (λ z. none-at C x 227 z (body-plain .0) (body-plain .1) e)
+        stands-late t a b p x g (λ gs l h. free (suc u) (dull-each code-group dull-group gs) l (omega arith) h) (λ z. none-at C x c-body z (body-plain .0) (body-plain .1) e)
         (λ ds l y h. free (k + 1) (dull-declarations ds) l y h)
 
   -- each place of a unit is that of a statement

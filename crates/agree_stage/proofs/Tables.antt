@@ -11,6 +11,7 @@ use lib.ListN.{length, length-append}
 use lib.IntN.{ℤ, pos, negsuc}
 use lib.Dec.{eqb, ltb}
 use borrow.Author.Tests.{lt-leb, ne-eqb, le-ltb}
+use Rattle.base_codes.specs.Codes.{c-and-then, c-bit-or, c-choice, c-complement, c-false, c-index, c-len, c-message, c-negate, c-not, c-or-else, c-plain, c-remainder, c-true}
 use Rattle.base_bytes.specs.Choice.{pick}
 use Rattle.base_bytes.specs.Lists.{same}
 use Rattle.spec_text.specs.Names.{pid}
@@ -41,27 +42,27 @@ node-number : nodeOf 71 ≡ Number
 unfolding nodeOf
 node-number = refl
 
-node-true : nodeOf 178 ≡ True
+node-true : nodeOf c-true ≡ True
 unfolding nodeOf
 node-true = refl
 
-node-false : nodeOf 179 ≡ False
+node-false : nodeOf c-false ≡ False
 unfolding nodeOf
 node-false = refl
 
-node-plain : nodeOf 176 ≡ Plain
+node-plain : nodeOf c-plain ≡ Plain
 unfolding nodeOf
 node-plain = refl
 
-node-index : nodeOf 177 ≡ Index
+node-index : nodeOf c-index ≡ Index
 unfolding nodeOf
 node-index = refl
 
-node-length : nodeOf 180 ≡ Length
+node-length : nodeOf c-len ≡ Length
 unfolding nodeOf
 node-length = refl
 
-node-choice : nodeOf 182 ≡ Choice
+node-choice : nodeOf c-choice ≡ Choice
 unfolding nodeOf
 node-choice = refl
 
@@ -71,11 +72,11 @@ node-unary is-minus = refl
 node-unary is-not = refl
 node-unary is-flip = refl
 
-node-or : nodeOf 147 ≡ Lazy 1
+node-or : nodeOf c-or-else ≡ Lazy 1
 unfolding nodeOf
 node-or = refl
 
-node-and : nodeOf 148 ≡ Lazy 2
+node-and : nodeOf c-and-then ≡ Lazy 2
 unfolding nodeOf
 node-and = refl
 
@@ -84,7 +85,7 @@ unfolding nodeOf
 node-binary o a b =
     let c = 146 + o in
     let z : 146 + o - 146 ≡ o = omega arith in
-    rw (ne-eqb c 71 (λ e. omega arith), ne-eqb c 147 (λ e. omega arith), ne-eqb c 148 (λ e. omega arith), ne-eqb c 165 (λ e. omega arith), ne-eqb c 166 (λ e. omega arith), ne-eqb c 167 (λ e. omega arith), ne-eqb c 176 (λ e. omega arith), ne-eqb c 177 (λ e. omega arith), ne-eqb c 178 (λ e. omega arith), ne-eqb c 179 (λ e. omega arith), ne-eqb c 180 (λ e. omega arith), ne-eqb c 182 (λ e. omega arith), le-ltb c 149 (omega arith), le-ltb 164 c (omega arith)) (ap Binary z)
+    rw (ne-eqb c 71 (λ e. omega arith), ne-eqb c c-or-else (λ e. omega arith), ne-eqb c c-and-then (λ e. omega arith), ne-eqb c c-negate (λ e. omega arith), ne-eqb c c-not (λ e. omega arith), ne-eqb c c-complement (λ e. omega arith), ne-eqb c c-plain (λ e. omega arith), ne-eqb c c-index (λ e. omega arith), ne-eqb c c-true (λ e. omega arith), ne-eqb c c-false (λ e. omega arith), ne-eqb c c-len (λ e. omega arith), ne-eqb c c-choice (λ e. omega arith), le-ltb c c-bit-or (omega arith), le-ltb c-remainder c (omega arith)) (ap Binary z)
 
 -- ---- what was worked out, in the words of the tree
 truth-is : (y : Answer) → truthOf y ≡ truth y
@@ -123,7 +124,7 @@ unary-is o (Fails f) = refl
 module _ (t : List ℕ) (s : List ℤ) (p : ℕ) (decl : Name → ℕ) where
   number-is : (d : ℕ) → plainOf t s p d ≡ Value (numberAt t s p d)
   unfolding plainOf numberAt
-  number-is d = go (eqb (codeOf t d) 220) (eqb (codeOf t d) 70)
+  number-is d = go (eqb (codeOf t d) c-message) (eqb (codeOf t d) 70)
     where
       go : (a b : Bool)
           → pick a (Value (kept (linkOf t d))) (pick b (Value (pos p)) (Value (cellOf s (slotOf (linkOf t d) p 0))))
@@ -201,8 +202,8 @@ module _ (t : List ℕ) (s : List ℤ) (p : ℕ) (decl : Name → ℕ) where
       q = start-is from j k l a b
 
       go : Dec (o ≡ 1) → Dec (o ≡ 2) → evalT t s p h from (j + 1) ≡ operateBy o x y
-      go (yes e) z = by-last h from (j + 1) j 147 g refl d (c ∙ ap (λ n. 146 + n) e) node-or ∙ lazy-at 1 (h - 1) from j k q ex ey ∙ or-is x y ∙ rw e
-      go (no n) (yes e) = by-last h from (j + 1) j 148 g refl d (c ∙ ap (λ n. 146 + n) e) node-and ∙ lazy-at 2 (h - 1) from j k q ex ey ∙ and-is x y ∙ rw e
+      go (yes e) z = by-last h from (j + 1) j c-or-else g refl d (c ∙ ap (λ n. 146 + n) e) node-or ∙ lazy-at 1 (h - 1) from j k q ex ey ∙ or-is x y ∙ rw e
+      go (no n) (yes e) = by-last h from (j + 1) j c-and-then g refl d (c ∙ ap (λ n. 146 + n) e) node-and ∙ lazy-at 2 (h - 1) from j k q ex ey ∙ and-is x y ∙ rw e
       go (no n) (no m) =
           by-last h from (j + 1) j (146 + o) g refl d c (node-binary o (omega arith) hi) ∙ both-at o (h - 1) from j k q ex ey ∙ both-is o x y ∙ rw (ne-eqb o 1 n, ne-eqb o 2 m)
 
@@ -213,24 +214,24 @@ module _ (t : List ℕ) (s : List ℤ) (p : ℕ) (decl : Name → ℕ) where
   pub eval-tables : {k : Shape} (e : Exp k) (i from h : ℕ) → Proper e → Stands t e i → Named t decl e i → from ≤ i → height e ≤ h → evalT t s p h from (i + sizeIn e) ≡ eval scene e
   unfolding Stands Named eval
   eval-tables (plain w) i from h r z n f g =
-      by-last h from (i + 2) (i + 1) 176 (omega arith) (omega arith) (omega arith) z node-plain ∙ plain-is w (linkOf t (i + 1)) (n .0) ∙ ap Value (pid-number w (n .1))
+      by-last h from (i + 2) (i + 1) c-plain (omega arith) (omega arith) (omega arith) z node-plain ∙ plain-is w (linkOf t (i + 1)) (n .0) ∙ ap Value (pid-number w (n .1))
   eval-tables (indexed w e) i from h r z n f g =
       let m = sizeIn e in
       let q : length (code-exp e ++ i-index ∷ []) ≡ m + 1 = length-append (code-exp e) (i-index ∷ []) in
       let j = i + 1 + m in
-      by-last h from (i + sizeIn (indexed w e)) j 177 (omega arith) (omega arith) (omega arith) (z .1) node-index
+      by-last h from (i + sizeIn (indexed w e)) j c-index (omega arith) (omega arith) (omega arith) (z .1) node-index
       ∙ ap (λ d. loadOf s (elementOf (linkOf t d) p (evalT t s p (h - 1) from j))) (n .1)
       ∙ ap (λ x. loadOf s (elementOf (linkOf t (decl w)) p x)) (eval-tables e (i + 1) from (h - 1) r (z .0) (n .0) (omega arith) (omega arith)) ∙ element-is w (eval scene e)
   eval-tables (num v) i from h r z n f g =
       by-last h from (i + 1) i 71 (omega arith) (omega arith) f (z .0) node-number
       ∙ ap (λ y. Value (kept y)) (z .1) ∙ (let b = z .2 in let y : min 2147483647 v ≡ v = omega arith in ap (λ y. Value (pos y)) y)
-  eval-tables tru i from h r z n f g = by-last h from (i + 1) i 178 (omega arith) (omega arith) f z node-true
-  eval-tables fls i from h r z n f g = by-last h from (i + 1) i 179 (omega arith) (omega arith) f z node-false
+  eval-tables tru i from h r z n f g = by-last h from (i + 1) i c-true (omega arith) (omega arith) f z node-true
+  eval-tables fls i from h r z n f g = by-last h from (i + 1) i c-false (omega arith) (omega arith) f z node-false
   eval-tables (get v) i from h r z n f g = eval-tables v i from h r z n f g
   eval-tables (len v) i from h r z n f g =
       let m = sizeIn v in
       let q : length (code-exp v ++ i-len ∷ []) ≡ m + 1 = length-append (code-exp v) (i-len ∷ []) in
-      by-last h from (i + sizeIn (len v)) (i + m) 180 (omega arith) (omega arith) (omega arith) (z .1) node-length
+      by-last h from (i + sizeIn (len v)) (i + m) c-len (omega arith) (omega arith) (omega arith) (z .1) node-length
       ∙ ap (λ x. lengthOf s (channelOf s x)) (eval-tables v i from (h - 1) r (z .0) n f (omega arith)) ∙ length-is (eval scene v)
   eval-tables (unary o e) i from h r z n f g =
       let m = sizeIn e in
@@ -259,7 +260,7 @@ module _ (t : List ℕ) (s : List ℤ) (p : ℕ) (decl : Name → ℕ) where
       let q3 : length (A ++ B) ≡ m + k = length-append A B in
       let u = i + m + k + 1 in
       let y : i + m + k ≡ u - 1 = omega arith in
-      by-last h from (i + sizeIn (choice a b c)) (u + d) 182 (omega arith) (omega arith) (omega arith) (z .4) node-choice
+      by-last h from (i + sizeIn (choice a b c)) (u + d) c-choice (omega arith) (omega arith) (omega arith) (z .4) node-choice
       ∙ choice-at (h - 1) from (u + d) u (i + m) (start-is from (u + d) u (z .5) (omega arith) (omega arith))
       (start-is from (u - 1) (i + m) (ap (linkOf t) (sym y) ∙ z .2) (omega arith) (omega arith))
       (eval-tables a i from (h - 1) (r .0) (z .0) (n .0) f (omega arith))
@@ -271,11 +272,11 @@ module _ (t : List ℕ) (s : List ℤ) (p : ℕ) (decl : Name → ℕ) where
   eval-is e i to r z n g q = ap (evalOf t s p i) q ∙ eval-tables e i i 32 r z n (omega arith) g
 
   -- ---- references
-  locate-element : (from to j : ℕ) → to - 1 ≡ j → codeOf t j ≡ 177 → locateOf t s p from to ≡ elementOf (variableOf t j) p (evalOf t s p from j)
+  locate-element : (from to j : ℕ) → to - 1 ≡ j → codeOf t j ≡ c-index → locateOf t s p from to ≡ elementOf (variableOf t j) p (evalOf t s p from j)
   unfolding locateOf
   locate-element from to j q e = rw (q, e)
 
-  locate-plain : (from to j : ℕ) → to - 1 ≡ j → codeOf t j ≡ 176 → locateOf t s p from to ≡ At (slotOf (variableOf t j) p 0)
+  locate-plain : (from to j : ℕ) → to - 1 ≡ j → codeOf t j ≡ c-plain → locateOf t s p from to ≡ At (slotOf (variableOf t j) p 0)
   unfolding locateOf
   locate-plain from to j q e = rw (q, e)
 

@@ -7,6 +7,7 @@ use mathlib.Core.Logic.{_⊎_}
 use lib.ListN.{length}
 use lib.IntN.{ℤ, pos}
 use lib.Dec.{eqb}
+use Rattle.base_codes.specs.Codes.{c-choice, c-false, c-index, c-len, c-message, c-plain, c-true}
 use Rattle.base_bytes.specs.Choice.{pick}
 use Rattle.base_bytes.specs.Lists.{same}
 use Rattle.spec_text.specs.Names.{pid}
@@ -24,7 +25,7 @@ use Rattle.spec_machine.specs.Eval.{Scene, eval}
 
 -- a plain reference to declaration d: the number of an mtype name (220), `_pid` (its own name, 70), or a variable
 unfoldable pub numberAt : List ℕ → List ℤ → ℕ → ℕ → ℤ
-numberAt t s p d = pick (eqb (codeOf t d) 220) (kept (linkOf t d)) (pick (eqb (codeOf t d) 70) (pos p) (cellOf s (slotOf (linkOf t d) p 0)))
+numberAt t s p d = pick (eqb (codeOf t d) c-message) (kept (linkOf t d)) (pick (eqb (codeOf t d) 70) (pos p) (cellOf s (slotOf (linkOf t d) p 0)))
 
 abbrev pub sceneOf : List ℕ → List ℤ → ℕ → (Name → ℕ) → Scene
 sceneOf t s p decl =
@@ -42,19 +43,19 @@ sizeIn e = length (code-exp e)
 
 -- the items of the expression stand in the tables from item i on; an operator and the two parts of a conditional link to where the phrase before them starts
 unfoldable pub Stands : List ℕ → {k : Shape} → Exp k → ℕ → Type 0
-Stands t (plain w) i = codeOf t (i + 1) ≡ 176
-Stands t (indexed w e) i = Stands t e (i + 1) × (codeOf t (i + 1 + sizeIn e) ≡ 177)
+Stands t (plain w) i = codeOf t (i + 1) ≡ c-plain
+Stands t (indexed w e) i = Stands t e (i + 1) × (codeOf t (i + 1 + sizeIn e) ≡ c-index)
 Stands t (num n) i = (codeOf t i ≡ 71) × (numberOf t i ≡ n) × (n ≤ 2147483647)
-Stands t tru i = codeOf t i ≡ 178
-Stands t fls i = codeOf t i ≡ 179
+Stands t tru i = codeOf t i ≡ c-true
+Stands t fls i = codeOf t i ≡ c-false
 Stands t (get r) i = Stands t r i
-Stands t (len r) i = Stands t r i × (codeOf t (i + sizeIn r) ≡ 180)
+Stands t (len r) i = Stands t r i × (codeOf t (i + sizeIn r) ≡ c-len)
 Stands t (unary o e) i = Stands t e i × (codeOf t (i + sizeIn e) ≡ items.codeOf (i-unary o))
 Stands t (binary o a b) i =
     Stands t a i × Stands t b (i + sizeIn a) × (codeOf t (i + sizeIn a + sizeIn b) ≡ items.codeOf (i-binary o)) × (linkOf t (i + sizeIn a + sizeIn b) ≡ i + sizeIn a)
 Stands t (choice a b c) i =
     Stands t a i × Stands t b (i + sizeIn a) × (linkOf t (i + sizeIn a + sizeIn b) ≡ i + sizeIn a) × Stands t c (i + sizeIn a + sizeIn b + 1)
-    × (codeOf t (i + sizeIn a + sizeIn b + 1 + sizeIn c) ≡ 182) × (linkOf t (i + sizeIn a + sizeIn b + 1 + sizeIn c) ≡ i + sizeIn a + sizeIn b + 1)
+    × (codeOf t (i + sizeIn a + sizeIn b + 1 + sizeIn c) ≡ c-choice) × (linkOf t (i + sizeIn a + sizeIn b + 1 + sizeIn c) ≡ i + sizeIn a + sizeIn b + 1)
 
 -- item d is what a name stands for, if that is item k; `_pid`, which is not declared, stands for itself wherever it is (70)
 abbrev pub Meant : List ℕ → ℕ → ℕ → Type 0

@@ -6,6 +6,7 @@ use mathlib.Core.List.{List}
 use lib.ListN.{set}
 use lib.IntN.{ℤ}
 use lib.Dec.{eqb}
+use Rattle.base_codes.specs.Codes.{c-message}
 use Rattle.table_layout.specs.Access.{codeOf, linkOf}
 use Rattle.base_values.specs.Types.{castOf}
 use Rattle.state_layout.specs.Layout.{kept, processesOf, declaredOf, fieldOf}
@@ -25,7 +26,7 @@ abbrev pub stageOf : List ℕ → List ℤ → ℕ → (Name → ℕ) → (Name 
 stageOf t s p decl unit =
     record {
       scene = sceneOf t s p decl;
-      constant = λ w. eqb (codeOf t (decl w)) 220;
+      constant = λ w. eqb (codeOf t (decl w)) c-message;
       capacity = λ v. capacityOf t (declaredOf s (nat v - 1));
       fields = λ v. fieldsOf t (declaredOf s (nat v - 1));
       oldest = λ v f. fieldOf s (nat v - 1) 0 f;

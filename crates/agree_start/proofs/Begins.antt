@@ -7,6 +7,7 @@ use lib.ListN.{length, set}
 use lib.IntN.{ℤ}
 use lib.Dec.{ltb}
 use borrow.Author.Tests.{ne-eqb}
+use Rattle.base_codes.specs.Codes.{c-body, c-declared, c-group, c-local, c-parameter}
 use Rattle.base_bytes.specs.Choice.{pick}
 use Rattle.spec_grammar.specs.Tree.{Name, Group, group, Body, body}
 use Rattle.spec_grammar.specs.Code.{Item, i-type, i-local, i-body, i-end-body, each, code-tree, code-declaration, code-parameter, code-group, code}
@@ -31,15 +32,15 @@ use Rattle.agree_start.proofs.Units.{here, clear-body, clear-end, unit-
 
 -- ---- what is done at an item that a process enters
 module _ (t : List ℕ) (p : ℕ) where
-  enters-else : (c : ℕ) → (c ≡ 227 → ⊥) → (c ≡ 212 → ⊥) → Mute (entered t p) t c
+  enters-else : (c : ℕ) → (c ≡ c-body → ⊥) → (c ≡ c-declared → ⊥) → Mute (entered t p) t c
   unfolding entered
-  enters-else c a b j s e = rw (ne-eqb (codeOf t j) 227 (λ z. a (omega arith)), ne-eqb (codeOf t j) 212 (λ z. b (omega arith)))
+  enters-else c a b j s e = rw (ne-eqb (codeOf t j) c-body (λ z. a (omega arith)), ne-eqb (codeOf t j) c-declared (λ z. b (omega arith)))
 
-  enters-body : (j : ℕ) (s : List ℤ) → codeOf t j ≡ 227 → entered t p j s ≡ set s (processAt p + 1) (kept (linkOf t j))
+  enters-body : (j : ℕ) (s : List ℤ) → codeOf t j ≡ c-body → entered t p j s ≡ set s (processAt p + 1) (kept (linkOf t j))
   unfolding entered
   enters-body j s e = rw e
 
-  enters-declared : (j : ℕ) (s : List ℤ) → codeOf t j ≡ 212 → entered t p j s ≡ declared t p j s
+  enters-declared : (j : ℕ) (s : List ℤ) → codeOf t j ≡ c-declared → entered t p j s ≡ declared t p j s
   unfolding entered
   enters-declared j s e = rw e
 
@@ -52,16 +53,16 @@ module _ (t : List ℕ) (p : ℕ) where
       }
 
   enters-parameter : (w : Name) → Muted (entered t p) t (code-parameter w)
-  enters-parameter w = (λ k. enters-else 70 (λ e. omega arith) (λ e. omega arith), (λ k. enters-else 222 (λ e. omega arith) (λ e. omega arith), tt))
+  enters-parameter w = (λ k. enters-else 70 (λ e. omega arith) (λ e. omega arith), (λ k. enters-else c-parameter (λ e. omega arith) (λ e. omega arith), tt))
 
   enters-group : (g : Group) → Muted (entered t p) t (code-group g)
   enters-group (group n ws) = (
     λ k. let h = type-below n k in enters-else (items.codeOf (i-type n)) (λ e. omega arith) (λ e. omega arith),
-    (λ k. enters-else 221 (λ e. omega arith) (λ e. omega arith), muted-each (entered t p) t code-parameter enters-parameter ws),
+    (λ k. enters-else c-group (λ e. omega arith) (λ e. omega arith), muted-each (entered t p) t code-parameter enters-parameter ws),
   )
 
 -- items below 210
-pub muted-below : (f : ℕ → List ℤ → List ℤ) (t : List ℕ) → ((c : ℕ) → c < 210 → Mute f t c) → (l : List Item) → Below l → Muted f t l
+pub muted-below : (f : ℕ → List ℤ → List ℤ) (t : List ℕ) → ((c : ℕ) → c < c-local → Mute f t c) → (l : List Item) → Below l → Muted f t l
 muted-below f t h [] b = tt
 muted-below f t h (x ∷ l) b = (λ k. h (items.codeOf x) (b .0 k), muted-below f t h l (b .1))
 
@@ -92,7 +93,7 @@ module _ (t : List ℕ) (a : Accepts t) where
     pub statements-lie : Lying X 0 Q (startIn (body ds q) k)
     statements-lie = lying-back X (i-body ∷ D) Q 0 k (startIn (body ds q) k) (omega arith) front
 
-    pub body-code : codeOf (tablesText t) k ≡ 227
+    pub body-code : codeOf (tablesText t) k ≡ c-body
     body-code = here t a (i-body ∷ D ++ Q ++ i-end-body ∷ []) k whole .0
 
     ended : Lying X 0 (Q ++ i-end-body ∷ []) (startIn (body ds q) k)

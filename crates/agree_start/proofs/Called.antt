@@ -7,6 +7,7 @@ use mathlib.Core.List.{List, [], _∷_, _++_}
 use lib.ListN.{length, getD, set, length-append}
 use lib.IntN.{ℤ, pos}
 use borrow.Author.Tests.{ne-eqb}
+use Rattle.base_codes.specs.Codes.{c-body, c-channel, c-declared, c-false, c-field, c-group, c-local, c-minus, c-named, c-parameter, c-size, c-true, c-value}
 use Rattle.spec_grammar.specs.Tree.{Name, Value, unset, set-number, set-minus, set-true, set-false, set-name, set-channel, Variable, variable, Declaration, declare, Group, group, Body, body}
 use Rattle.spec_grammar.specs.Code.{Item, i-type, i-local, each, code-field, code-size, code-value, code-variable, code-declaration, code-parameter, code-group, code-tree, code-body, code}
 use Rattle.table_entries.specs.Items as items
@@ -38,42 +39,42 @@ use Rattle.agree_start.proofs.Begins.{muted-below, locals-lie, statemen
 use Rattle.agree_start.proofs.Offsets.{before, before-unit, before-else, before-parameter, parameter-at}
 
 -- ---- declarations, where nothing is done at codes up to 218
-module _ (f : ℕ → List ℤ → List ℤ) (t : List ℕ) (h : (c : ℕ) → c ≤ 218 → Mute f t c) where
+module _ (f : ℕ → List ℤ → List ℤ) (t : List ℕ) (h : (c : ℕ) → c ≤ c-field → Mute f t c) where
   muted-size : (z : Option ℕ) → Muted f t (code-size z)
   muted-size none = tt
-  muted-size (some n) = (λ k. h 71 (omega arith), (λ k. h 213 (omega arith), tt))
+  muted-size (some n) = (λ k. h 71 (omega arith), (λ k. h c-size (omega arith), tt))
 
   muted-type : (k : ℕ) → Known (i-type k) → Mute f t (items.codeOf (i-type k))
   muted-type k e = let b = type-below k e in h (items.codeOf (i-type k)) (omega arith)
 
   muted-field : (k : ℕ) → Muted f t (code-field k)
-  muted-field k = (muted-type k, (λ e. h 218 (omega arith), tt))
+  muted-field k = (muted-type k, (λ e. h c-field (omega arith), tt))
 
   muted-value : (v : Value) → Muted f t (code-value v)
   muted-value unset = tt
-  muted-value (set-number n) = (λ k. h 71 (omega arith), (λ k. h 214 (omega arith), tt))
-  muted-value (set-minus n) = (λ k. h 71 (omega arith), (λ k. h 215 (omega arith), tt))
-  muted-value set-true = (λ k. h 178 (omega arith), (λ k. h 214 (omega arith), tt))
-  muted-value set-false = (λ k. h 179 (omega arith), (λ k. h 214 (omega arith), tt))
-  muted-value (set-name w) = (λ k. h 70 (omega arith), (λ k. h 216 (omega arith), tt))
-  muted-value (set-channel n ks) = (λ k. h 71 (omega arith), (λ k. h 217 (omega arith), muted-each f t code-field muted-field ks))
+  muted-value (set-number n) = (λ k. h 71 (omega arith), (λ k. h c-value (omega arith), tt))
+  muted-value (set-minus n) = (λ k. h 71 (omega arith), (λ k. h c-minus (omega arith), tt))
+  muted-value set-true = (λ k. h c-true (omega arith), (λ k. h c-value (omega arith), tt))
+  muted-value set-false = (λ k. h c-false (omega arith), (λ k. h c-value (omega arith), tt))
+  muted-value (set-name w) = (λ k. h 70 (omega arith), (λ k. h c-named (omega arith), tt))
+  muted-value (set-channel n ks) = (λ k. h 71 (omega arith), (λ k. h c-channel (omega arith), muted-each f t code-field muted-field ks))
 
   muted-variable : (x : Variable) → Muted f t (code-variable x)
-  muted-variable (variable w z v) = (λ k. h 70 (omega arith), (λ k. h 212 (omega arith), muted-both f t (code-size z) (code-value v) (muted-size z) (muted-value v)))
+  muted-variable (variable w z v) = (λ k. h 70 (omega arith), (λ k. h c-declared (omega arith), muted-both f t (code-size z) (code-value v) (muted-size z) (muted-value v)))
 
   muted-declaration : (d : Declaration) → Muted f t (code-declaration i-local d)
-  muted-declaration (declare k xs) = (muted-type k, (λ e. h 210 (omega arith), muted-each f t code-variable muted-variable xs))
+  muted-declaration (declare k xs) = (muted-type k, (λ e. h c-local (omega arith), muted-each f t code-variable muted-variable xs))
 
   muted-locals : (ds : List Declaration) → Muted f t (each (code-declaration i-local) ds)
   muted-locals ds = muted-each f t (code-declaration i-local) muted-declaration ds
 
 -- ---- what is done at an item for the arguments l
 module _ (t : List ℕ) (p : ℕ) (l : List ℤ) where
-  sets-else : (c : ℕ) → (c ≡ 222 → ⊥) → Mute (parameterSet t p l) t c
+  sets-else : (c : ℕ) → (c ≡ c-parameter → ⊥) → Mute (parameterSet t p l) t c
   unfolding parameterSet
-  sets-else c a j s e = rw (ne-eqb (codeOf t j) 222 (λ z. a (omega arith)))
+  sets-else c a j s e = rw (ne-eqb (codeOf t j) c-parameter (λ z. a (omega arith)))
 
-  sets-parameter : (j n : ℕ) (s : List ℤ) → codeOf t j ≡ 222 → linkOf t j / 1024 ≡ n → parameterSet t p l j s ≡ set s (slotOf (linkOf t j) p 0) (castOf (typeOf (linkOf t j)) (getD l n (pos 0)))
+  sets-parameter : (j n : ℕ) (s : List ℤ) → codeOf t j ≡ c-parameter → linkOf t j / 1024 ≡ n → parameterSet t p l j s ≡ set s (slotOf (linkOf t j) p 0) (castOf (typeOf (linkOf t j)) (getD l n (pos 0)))
   unfolding parameterSet
   sets-parameter j n s e o = rw e (ap (λ x. set s (slotOf (linkOf t j) p 0) (castOf (typeOf (linkOf t j)) (getD l x (pos 0)))) o)
 
@@ -142,14 +143,14 @@ module _ (t : List ℕ) (a : Accepts t) where
         let r : i + length (G ++ L) ≡ E + length L = omega arith in
         let x = first-group T gs E hL (λ o. z (ap (codeOf T) r ∙ o)) in
         let b1 = before-else t a u U i (items.codeOf (i-type c)) (omega arith) (h .0) (λ o. omega arith) (λ o. omega arith) in
-        let b2 = before-else t a u U (suc i) 221 (omega arith) (h .2 .0) (λ o. omega arith) (λ o. omega arith) in
+        let b2 = before-else t a u U (suc i) c-group (omega arith) (h .2 .0) (λ o. omega arith) (λ o. omega arith) in
         let R = names-over ws n (suc (suc i)) s (omega arith) (omega arith) (omega arith) (hG .2 .2) (λ o. x (ap (codeOf T) (let q : E ≡ suc (suc i) + length N = omega arith in q) ∙ o)) (omega arith) in
         let b3 : before t a u U E ≡ n + length ws = ap (before t a u U) (let q : E ≡ suc (suc i) + length N = omega arith in q) ∙ R .1 in
         let room = enough ws in
         over-both f G L i s
         ∙ ap (over f L E)
         (walk-one f i (suc (length N)) s ∙ ap (walk f (suc i) (suc (length N))) (sets-else T p l (items.codeOf (i-type c)) (λ o. omega arith) i s (h .0)) ∙ walk-one f (suc i) (length N) s
-        ∙ ap (over f N (suc (suc i))) (sets-else T p l 221 (λ o. omega arith) (suc i) s (h .2 .0)) ∙ R .0 ∙ ap (λ j. namesIn T p l n ws j s) i2)
+        ∙ ap (over f N (suc (suc i))) (sets-else T p l c-group (λ o. omega arith) (suc i) s (h .2 .0)) ∙ R .0 ∙ ap (λ j. namesIn T p l n ws j s) i2)
         ∙ groups-over gs (n + length ws) E (namesIn T p l n ws (i + 2) s) (omega arith) (omega arith) (omega arith) (known-back G L k) hL (λ o. z (ap (codeOf T) r ∙ o)) b3
       where
         enough : (ws : List Name) → length ws ≤ length (each code-parameter ws)
@@ -180,7 +181,7 @@ module _ (t : List ℕ) (a : Accepts t) where
         ∙ over-muted f T Q (startIn (body ds q) k) _ (muted-below f T (λ c g. sets-else T p l c (λ o. omega arith)) Q (below-tree q)) (known-there t a Q (startIn (body ds q) k) L)
         (here t a Q (startIn (body ds q) k) L)
         ∙ over-muted f T D (k + 1) _ (muted-locals f T (λ c g. sets-else T p l c (λ o. omega arith)) ds) (known-there t a D (k + 1) K) (here t a D (k + 1) K)
-        ∙ sets-else T p l 227 (λ o. omega arith) k _ B
+        ∙ sets-else T p l c-body (λ o. omega arith) k _ B
         ∙ ap (over f G (suc u)) (sets-else T p l (codeOf T u) (λ o. omega arith) u s refl)
         ∙ groups-over p l u k U (omega arith) (omega arith) (r .groups) 0 (suc u) s (omega arith) (omega arith) (omega arith) (known-there t a G (suc u) (r .lies)) (here t a G (suc u) (r .lies))
         (λ o. let y : codeOf T k ≡ 71 = ap (codeOf T) (let x : k ≡ suc u + length G = omega arith in x) ∙ o in omega arith) (before-unit t a u U)

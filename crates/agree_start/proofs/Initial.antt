@@ -9,6 +9,7 @@ use lib.ListN.{length, length-append}
 use lib.IntN.{ℤ}
 use lib.Dec.{eqb}
 use borrow.Author.Tests.{ne-eqb}
+use Rattle.base_codes.specs.Codes.{c-active, c-active-many, c-body, c-declared, c-end-body, c-init, c-message, c-mtypes, c-proctype}
 use Rattle.base_bytes.specs.Choice.{pick}
 use Rattle.spec_grammar.specs.Tree.{Name, Body, body, Activity, idle, once, times, Part, mtypes, global, process, init, Model}
 use Rattle.spec_grammar.specs.Code.{Item, i-global, i-local, i-init, i-body, i-end-body, each, code-tree, code-declaration, code-group, code-body, code-activity, code-message, code-part, code}
@@ -42,44 +43,44 @@ use Rattle.agree_start.proofs.Parts.{inner-global, inner-mtypes, inside
 
 -- ---- what is done at an item for a global variable
 module _ (t : List ℕ) where
-  global-else : (c : ℕ) → (c ≡ 212 → ⊥) → Mute (globalMade t) t c
+  global-else : (c : ℕ) → (c ≡ c-declared → ⊥) → Mute (globalMade t) t c
   unfolding globalMade
-  global-else c a j s e = rw (ne-eqb (codeOf t j) 212 (λ z. a (omega arith)))
+  global-else c a j s e = rw (ne-eqb (codeOf t j) c-declared (λ z. a (omega arith)))
 
   global-local : (j : ℕ) (s : List ℤ) → linkOf t j / 8 % 2 ≡ 1 → globalMade t j s ≡ s
   unfolding globalMade
-  global-local j s e = rw e (same (eqb (codeOf t j) 212))
+  global-local j s e = rw e (same (eqb (codeOf t j) c-declared))
     where
       same : (b : Bool) → pick b s s ≡ s
       same true = refl
       same false = refl
 
-  global-there : (j : ℕ) (s : List ℤ) → codeOf t j ≡ 212 → linkOf t j / 8 % 2 ≡ 0 → globalMade t j s ≡ declared t 0 j s
+  global-there : (j : ℕ) (s : List ℤ) → codeOf t j ≡ c-declared → linkOf t j / 8 % 2 ≡ 0 → globalMade t j s ≡ declared t 0 j s
   unfolding globalMade
   global-there j s e z = rw (e, z)
 
-  is-local : (j : ℕ) → codeOf t j ≡ 212 → isLocal t j ≡ true
+  is-local : (j : ℕ) → codeOf t j ≡ c-declared → isLocal t j ≡ true
   is-local j e = rw e
 
   -- ---- and for processes
-  started-else : (c : ℕ) → (c ≡ 224 → ⊥) → (c ≡ 225 → ⊥) → (c ≡ 226 → ⊥) → Mute (unitStarted t) t c
+  started-else : (c : ℕ) → (c ≡ c-active → ⊥) → (c ≡ c-active-many → ⊥) → (c ≡ c-init → ⊥) → Mute (unitStarted t) t c
   unfolding unitStarted startsOf
   started-else c x y z j s e =
-      rw (ne-eqb (codeOf t j) 224 (λ o. x (omega arith)), ne-eqb (codeOf t j) 225 (λ o. y (omega arith)), ne-eqb (codeOf t j) 226 (λ o. z (omega arith))) (walk-none (λ k x. processMade t j x) 0 s)
+      rw (ne-eqb (codeOf t j) c-active (λ o. x (omega arith)), ne-eqb (codeOf t j) c-active-many (λ o. y (omega arith)), ne-eqb (codeOf t j) c-init (λ o. z (omega arith))) (walk-none (λ k x. processMade t j x) 0 s)
 
-  started-one : (j : ℕ) (s : List ℤ) → codeOf t j ≡ 224 → unitStarted t j s ≡ processMade t j s
+  started-one : (j : ℕ) (s : List ℤ) → codeOf t j ≡ c-active → unitStarted t j s ≡ processMade t j s
   unfolding unitStarted startsOf
   started-one j s e = rw e (walk-one (λ k x. processMade t j x) 0 0 s ∙ walk-none (λ k x. processMade t j x) 1 (processMade t j s))
 
-  started-init : (j : ℕ) (s : List ℤ) → codeOf t j ≡ 226 → unitStarted t j s ≡ processMade t j s
+  started-init : (j : ℕ) (s : List ℤ) → codeOf t j ≡ c-init → unitStarted t j s ≡ processMade t j s
   unfolding unitStarted startsOf
   started-init j s e = rw e (walk-one (λ k x. processMade t j x) 0 0 s ∙ walk-none (λ k x. processMade t j x) 1 (processMade t j s))
 
-  started-many : (j n : ℕ) (s : List ℤ) → codeOf t j ≡ 225 → numberOf t (j - 2) ≡ n → unitStarted t j s ≡ walk (λ k x. processMade t j x) 0 (min processesMost n) s
+  started-many : (j n : ℕ) (s : List ℤ) → codeOf t j ≡ c-active-many → numberOf t (j - 2) ≡ n → unitStarted t j s ≡ walk (λ k x. processMade t j x) 0 (min processesMost n) s
   unfolding unitStarted startsOf
   started-many j n s e z = rw (e, z)
 
-muted-inner : (f : ℕ → List ℤ → List ℤ) (t : List ℕ) → ((c : ℕ) → c < 223 → Mute f t c) → (l : List Item) → Inner l → Muted f t l
+muted-inner : (f : ℕ → List ℤ → List ℤ) (t : List ℕ) → ((c : ℕ) → c < c-proctype → Mute f t c) → (l : List Item) → Inner l → Muted f t l
 muted-inner f t h [] n = tt
 muted-inner f t h (x ∷ l) n = (λ k. h (items.codeOf x) (inner-known x k (n .0)), muted-inner f t h l (n .1))
 
@@ -101,7 +102,7 @@ module _ (t : List ℕ) (a : Accepts t) where
   -- ---- global variables
   -- none is made in a unit behind its first item
   unit-idle : {u k : ℕ} {b : Body} → Holds (a .tree) 0 u b k → (n : ℕ) (s : List ℤ) → suc u + n ≤ endIn b k + 1 → walk (globalMade T) (suc u) n s ≡ s
-  unit-idle {u} {k} {b} h n s z = walk-idle (globalMade T) n (suc u) s (λ j x g d. go j x g (omega arith) (ℕ-discrete (codeOf T j) 212))
+  unit-idle {u} {k} {b} h n s z = walk-idle (globalMade T) n (suc u) s (λ j x g d. go j x g (omega arith) (ℕ-discrete (codeOf T j) c-declared))
     where
       unit : Unit T u
       unit =
@@ -113,12 +114,12 @@ module _ (t : List ℕ) (a : Accepts t) where
           let y : u < itemsOf T = omega arith in
           (y, c .2, c .3)
 
-      go : (j : ℕ) (x : List ℤ) → suc u ≤ j → j ≤ endIn b k → Dec (codeOf T j ≡ 212) → globalMade T j x ≡ x
+      go : (j : ℕ) (x : List ℤ) → suc u ≤ j → j ≤ endIn b k → Dec (codeOf T j ≡ c-declared) → globalMade T j x ≡ x
       go j x g d (no e) = global-else T (codeOf T j) e j x refl
       go j x g d (yes e) = inner (ℕ-discrete j (endIn b k))
         where
           inner : Dec (j ≡ endIn b k) → globalMade T j x ≡ x
-          inner (yes q) = absurd (let c = text-unit t a h .1 in let y : codeOf T (endIn b k) ≡ 212 = ap (codeOf T) (inv q) ∙ e in omega arith)
+          inner (yes q) = absurd (let c = text-unit t a h .1 in let y : codeOf T (endIn b k) ≡ c-declared = ap (codeOf T) (inv q) ∙ e in omega arith)
           inner (no q) = let c = text-unit t a h .0 in global-local T j x (text-well t a .locals-local u j unit (g, omega arith) (is-local T j e))
 
   unit-ended : {u k : ℕ} {b : Body} → Holds (a .tree) 0 u b k → insideOf C (suc (endIn b k)) ≡ 0
@@ -137,10 +138,10 @@ module _ (t : List ℕ) (a : Accepts t) where
       (over-muted (globalMade T) T P i s (muted-mtypes ws) k (here t a P i l), inside-none C P i (i + length P) (inner-mtypes ws) k (at-there t a P i l) z (omega arith) (omega arith))
     where
       muted-message : (w : Name) → Muted (globalMade T) T (code-message w)
-      muted-message w = (λ k. global-else T 70 (λ o. omega arith), (λ k. global-else T 220 (λ o. omega arith), tt))
+      muted-message w = (λ k. global-else T 70 (λ o. omega arith), (λ k. global-else T c-message (λ o. omega arith), tt))
 
       muted-mtypes : (ws : List Name) → Muted (globalMade T) T (code-part (mtypes ws))
-      muted-mtypes ws = (λ k. global-else T 219 (λ o. omega arith), muted-each (globalMade T) T code-message muted-message ws)
+      muted-mtypes ws = (λ k. global-else T c-mtypes (λ o. omega arith), muted-each (globalMade T) T code-message muted-message ws)
   globals-part (global d) m i s p n g z =
       let P = code-declaration i-global d in
       let l = lying-front X P (code m) 0 i p in
@@ -183,9 +184,9 @@ module _ (t : List ℕ) (a : Accepts t) where
       )
     where
       activity : (x : Activity) (w : Name) → Muted (globalMade T) T (code-activity x w)
-      activity idle w = (λ k. global-else T 70 (λ o. omega arith), (λ k. global-else T 223 (λ o. omega arith), tt))
-      activity once w = (λ k. global-else T 70 (λ o. omega arith), (λ k. global-else T 224 (λ o. omega arith), tt))
-      activity (times n) w = (λ k. global-else T 71 (λ o. omega arith), (λ k. global-else T 70 (λ o. omega arith), (λ k. global-else T 225 (λ o. omega arith), tt)))
+      activity idle w = (λ k. global-else T 70 (λ o. omega arith), (λ k. global-else T c-proctype (λ o. omega arith), tt))
+      activity once w = (λ k. global-else T 70 (λ o. omega arith), (λ k. global-else T c-active (λ o. omega arith), tt))
+      activity (times n) w = (λ k. global-else T 71 (λ o. omega arith), (λ k. global-else T 70 (λ o. omega arith), (λ k. global-else T c-active-many (λ o. omega arith), tt)))
   globals-part (init b) m i s p n g z =
       let B = code-body b in
       let k = i + 1 in
@@ -193,7 +194,7 @@ module _ (t : List ℕ) (a : Accepts t) where
       let l = lying-front X (i-init ∷ B) (code m) 0 i p in
       let v = body-ends t a b k in
       let e : suc (endIn b k) ≡ i + length (i-init ∷ B) = omega arith in (
-        walk-one (globalMade T) i (length B) s ∙ ap (walk (globalMade T) (suc i) (length B)) (global-else T 226 (λ o. omega arith) i s (here t a (i-init ∷ B) i l .0)) ∙ unit-idle h (length B) s (omega arith),
+        walk-one (globalMade T) i (length B) s ∙ ap (walk (globalMade T) (suc i) (length B)) (global-else T c-init (λ o. omega arith) i s (here t a (i-init ∷ B) i l .0)) ∙ unit-idle h (length B) s (omega arith),
         ap (insideOf C) (inv e) ∙ unit-ended h,
       )
 
@@ -209,7 +210,7 @@ module _ (t : List ℕ) (a : Accepts t) where
       ∙ globals-over m e (globalIn T x i s) (lying-back X P (code m) 0 i e refl p) (omega arith) (λ u k b h. g u k b (later h)) (r .1)
 
   -- ---- processes
-  inner-else : (c : ℕ) → c < 223 → Mute (unitStarted T) T c
+  inner-else : (c : ℕ) → c < c-proctype → Mute (unitStarted T) T c
   inner-else c h = started-else T c (λ o. omega arith) (λ o. omega arith) (λ o. omega arith)
 
   -- none begins at an item of a body
@@ -218,8 +219,8 @@ module _ (t : List ℕ) (a : Accepts t) where
       let f = unitStarted T in
       let D = each (code-declaration i-local) ds in
       let Q = code-tree q in
-      let B : Mute f T 227 = started-else T 227 (λ o. omega arith) (λ o. omega arith) (λ o. omega arith) in
-      let E : Mute f T 228 = started-else T 228 (λ o. omega arith) (λ o. omega arith) (λ o. omega arith) in
+      let B : Mute f T c-body = started-else T c-body (λ o. omega arith) (λ o. omega arith) (λ o. omega arith) in
+      let E : Mute f T c-end-body = started-else T c-end-body (λ o. omega arith) (λ o. omega arith) (λ o. omega arith) in
       muted-both f T (i-body ∷ D ++ Q) (i-end-body ∷ [])
       (muted-both f T (i-body ∷ D) Q (λ k. B, muted-inner f T inner-else D (inner-declarations ds)) (muted-inner f T inner-else Q (inner-tree q))) (λ k. E, tt)
 
@@ -228,7 +229,7 @@ module _ (t : List ℕ) (a : Accepts t) where
       → over (unitStarted T) (code-activity x w) i s ≡ repeated r (startsIn x) s
   head-started idle w i s r h e =
       walk-one f i 1 s ∙ ap (walk f (suc i) 1) (inner-else 70 (omega arith) i s (h .0)) ∙ walk-one f (suc i) 0 s ∙ walk-none f (suc (suc i)) (f (suc i) s)
-      ∙ started-else T 223 (λ o. omega arith) (λ o. omega arith) (λ o. omega arith) (suc i) s (h .2 .0)
+      ∙ started-else T c-proctype (λ o. omega arith) (λ o. omega arith) (λ o. omega arith) (suc i) s (h .2 .0)
     where
       f : ℕ → List ℤ → List ℤ
       f = unitStarted T

@@ -6,6 +6,7 @@ use mathlib.Core.Bool.{Bool, true}
 use mathlib.Core.List.{List, [], _∷_, _++_}
 use lib.Dec.{ltb}
 use borrow.Author.Tests.{ltb-true}
+use Rattle.base_codes.specs.Codes.{c-local, c-or-else}
 use Rattle.base_bytes.specs.Choice.{pick, both}
 use Rattle.base_bytes.proofs.Tests.{both-true}
 use Rattle.spec_grammar.specs.Tree.{Shape, Exp, Expr, Received, into, equal, exactly, exactly-true, exactly-false, Sort, Tree, express, assign, increment, decrement, send, receive, assert, print, skip, goto, break, timeout, else, run, set-run, select, loop, bare, labelled, end, then, over, option}
@@ -16,7 +17,7 @@ use Rattle.agree_control.proofs.Insides.{kind, Parts, parts-exp}
 
 -- ---- parts of expressions (kind 0) and types (kind 1), by the grammar's table
 unfoldable low : Item → Bool
-low x = pick (ltb (kind x) 2) (ltb (codeOf x) 210) true
+low x = pick (ltb (kind x) 2) (ltb (codeOf x) c-local) true
 
 unfoldable lows : List Item → Bool
 lows [] = true
@@ -37,20 +38,20 @@ unfolding low kind
 known-low (is-name a b) = refl
 known-low (is-text a b) = refl
 known-low is-number = refl
-known-low (is-mark x a b) = low-nth items (x - 147) i-plain table-low refl
+known-low (is-mark x a b) = low-nth items (x - c-or-else) i-plain table-low refl
 
-pub type-below : (k : ℕ) → Known (i-type k) → codeOf (i-type k) < 210
+pub type-below : (k : ℕ) → Known (i-type k) → codeOf (i-type k) < c-local
 unfolding low kind
-type-below k e = ltb-true (codeOf (i-type k)) 210 (known-low e)
+type-below k e = ltb-true (codeOf (i-type k)) c-local (known-low e)
 
-part-below : (x : Item) → Known x → kind x ≡ 0 → codeOf x < 210
+part-below : (x : Item) → Known x → kind x ≡ 0 → codeOf x < c-local
 unfolding low
-part-below x k e = ltb-true (codeOf x) 210 (sym (ap (λ n. pick (ltb n 2) (ltb (codeOf x) 210) true) e) ∙ known-low k)
+part-below x k e = ltb-true (codeOf x) c-local (sym (ap (λ n. pick (ltb n 2) (ltb (codeOf x) c-local) true) e) ∙ known-low k)
 
 -- ---- the items of statements
 abbrev pub Below : List Item → Type 0
 Below [] = Unit {0}
-Below (x ∷ l) = (Known x → codeOf x < 210) × Below l
+Below (x ∷ l) = (Known x → codeOf x < c-local) × Below l
 
 below-both : (x y : List Item) → Below x → Below y → Below (x ++ y)
 below-both [] y a b = b
@@ -68,10 +69,10 @@ below-exp : {s : Shape} (e : Exp s) → Below (code-exp e)
 below-exp e = below-parts (code-exp e) (parts-exp e)
 
 -- an expression and its mark
-below-phrase : {s : Shape} (e : Exp s) (x : Item) → codeOf x < 210 → Below (code-exp e ++ x ∷ [])
+below-phrase : {s : Shape} (e : Exp s) (x : Item) → codeOf x < c-local → Below (code-exp e ++ x ∷ [])
 below-phrase e x h = below-both (code-exp e) (x ∷ []) (below-exp e) (λ k. h, tt)
 
-below-last : (l : List Item) (x : Item) → codeOf x < 210 → Below l → Below (l ++ x ∷ [])
+below-last : (l : List Item) (x : Item) → codeOf x < c-local → Below l → Below (l ++ x ∷ [])
 below-last l x h f = below-both l (x ∷ []) f (λ k. h, tt)
 
 below-argument : (e : Expr) → Below (code-argument e)

@@ -8,6 +8,7 @@ use mathlib.Core.List.{List}
 use lib.ListN.{length, getD}
 use lib.Dec.{eqb}
 use borrow.Author.Tests.{eq-eqb, ne-eqb, eqb-true}
+use Rattle.base_codes.specs.Codes.{c-declared, c-end-body, c-parameter}
 use Rattle.base_bytes.specs.Choice.{pick}
 use Rattle.base_bytes.proofs.Tests.{true-false}
 use Rattle.rule_sheets.specs.Walks.{sum}
@@ -29,17 +30,17 @@ use Rattle.keep_tables.proofs.Sums.{sum-next, sum-zero}
 use Rattle.keep_tables.proofs.Variables.{slot-of, unit-home}
 
 -- ---- the set of what declares a variable
-not-end : among 14 228 ≡ false
+not-end : among 14 c-end-body ≡ false
 unfolding among
 not-end = refl
 
-is-parameter : among 14 222 ≡ true
+is-parameter : among 14 c-parameter ≡ true
 unfolding among
 is-parameter = refl
 
-not-among : (c : ℕ) → (c ≡ 212 → ⊥) → (c ≡ 222 → ⊥) → among 14 c ≡ false
+not-among : (c : ℕ) → (c ≡ c-declared → ⊥) → (c ≡ c-parameter → ⊥) → among 14 c ≡ false
 unfolding among
-not-among c a b = rw (ne-eqb c 212 a, ne-eqb c 222 b)
+not-among c a b = rw (ne-eqb c c-declared a, ne-eqb c c-parameter b)
 
 -- ---- the numbers of an item in a body
 none-else : (cs vs hs : List ℕ) (h j : ℕ) → among 14 (getD cs j 0) ≡ false → numbersAt cs vs hs h j ≡ 0
@@ -55,7 +56,7 @@ none-elsewhere cs vs hs h j n = go (among 14 (getD cs j 0)) refl (eqb (getD hs j
     go true e false f = refl
     go false e d f = refl
 
-one-there : (cs vs hs : List ℕ) (h j : ℕ) → getD cs j 0 ≡ 222 → getD hs j 0 ≡ h → (getD cs (j + 1) 0 ≡ 71 → ⊥) → numbersAt cs vs hs h j ≡ 1
+one-there : (cs vs hs : List ℕ) (h j : ℕ) → getD cs j 0 ≡ c-parameter → getD hs j 0 ≡ h → (getD cs (j + 1) 0 ≡ 71 → ⊥) → numbersAt cs vs hs h j ≡ 1
 unfolding numbersAt isArray
 one-there cs vs hs h j c e n = rw (ap (among 14) c ∙ is-parameter, eq-eqb (getD hs j 0) h e, ne-eqb (getD cs (j + 1) 0) 71 n)
 
@@ -99,23 +100,23 @@ module _ (t : List ℕ) (a : Accepts t) where
         (λ m e. let r = body-inside C (K .formed) (K .few) u (linkOf (tablesText t) u) (s .head) (s .closed) j (omega arith) (λ y. true-false (inv m ∙ ap (among 14) y ∙ not-end)) e .0 in omega arith))
 
     -- one for each parameter
-    pub before-else : (j c : ℕ) → j < length C → codeOf (tablesText t) j ≡ c → (c ≡ 212 → ⊥) → (c ≡ 222 → ⊥) → before (suc j) ≡ before j
+    pub before-else : (j c : ℕ) → j < length C → codeOf (tablesText t) j ≡ c → (c ≡ c-declared → ⊥) → (c ≡ c-parameter → ⊥) → before (suc j) ≡ before j
     before-else j c h e x y =
         let z = none-else C S (homes C) (u + 1) j (ap (among 14) (code-here j c h e) ∙ not-among c x y) in
         let n = next j in
         omega arith
 
-    module _ (j : ℕ) (h : suc j < length C) (i : Inside (tablesText t) u j) (e : codeOf (tablesText t) j ≡ 222) where
+    module _ (j : ℕ) (h : suc j < length C) (i : Inside (tablesText t) u j) (e : codeOf (tablesText t) j ≡ c-parameter) where
       home : getD (homes C) j 0 ≡ u + 1
       home = unit-home (tablesText t) C S H K u j U i
 
       pub before-parameter : (codeOf (tablesText t) (suc j) ≡ 71 → ⊥) → before (suc j) ≡ before j + 1
       before-parameter n =
           let q : j + 1 ≡ suc j = omega arith in
-          let z = one-there C S (homes C) (u + 1) j (code-here j 222 (omega arith) e) home (λ x. n (H .codes (suc j) h ∙ ap (λ y. getD C y 0) (inv q) ∙ x)) in
+          let z = one-there C S (homes C) (u + 1) j (code-here j c-parameter (omega arith) e) home (λ x. n (H .codes (suc j) h ∙ ap (λ y. getD C y 0) (inv q) ∙ x)) in
           let n = next j in
           omega arith
 
       pub parameter-at : before j ≤ 65535 → linkOf (tablesText t) j / 1024 ≡ before j
       unfolding before
-      parameter-at l = slot-of (tablesText t) C S H K j (omega arith) (inr (code-here j 222 (omega arith) e)) .offset ∙ offset-is C S (homes C) (u + 1) j home l
+      parameter-at l = slot-of (tablesText t) C S H K j (omega arith) (inr (code-here j c-parameter (omega arith) e)) .offset ∙ offset-is C S (homes C) (u + 1) j home l

@@ -7,6 +7,7 @@ use mathlib.Core.Logic.{inl}
 use mathlib.Core.List.{List, [], _∷_}
 use lib.ListN.{length, getD}
 use borrow.Author.Tests.{ne-eqb, le-ltb}
+use Rattle.base_codes.specs.Codes.{c-active, c-body, c-declared, c-end-body, c-global, c-parameter, c-proctype}
 use Rattle.spec_grammar.specs.Tree.{Name, Declaration, declare, body, idle, once, times, mtypes, global, process, init, Model}
 use Rattle.spec_grammar.specs.Code.{Item, i-global, code-variable, code-declaration, code-message, code-part, code}
 use Rattle.table_entries.specs.Items as items
@@ -41,9 +42,9 @@ unfolding kind
 inner-mtypes ws = (refl, inner-each code-message inner-message ws)
 
 module _ (cs : List ℕ) where
-  inside-same : (i c : ℕ) → getD cs i 0 ≡ c → c < 223 → insideOf cs (suc i) ≡ insideOf cs i
+  inside-same : (i c : ℕ) → getD cs i 0 ≡ c → c < c-proctype → insideOf cs (suc i) ≡ insideOf cs i
   unfolding insideOf
-  inside-same i c e h = rw (e, le-ltb 222 c (omega arith), ne-eqb c 228 (λ z. omega arith))
+  inside-same i c e h = rw (e, le-ltb c-parameter c (omega arith), ne-eqb c c-end-body (λ z. omega arith))
 
   -- in no body before them, in none among them and behind them
   pub inside-none : (l : List Item) (i j : ℕ) → Inner l → AllKnown l → At cs i l → insideOf cs i ≡ 0 → i ≤ j → j ≤ i + length l → insideOf cs j ≡ 0
@@ -56,7 +57,7 @@ module _ (cs : List ℕ) where
       go (no z) r = r (omega arith)
 
   -- behind the end of a body
-  pub inside-ended : (e : ℕ) → getD cs e 0 ≡ 228 → insideOf cs (suc e) ≡ 0
+  pub inside-ended : (e : ℕ) → getD cs e 0 ≡ c-end-body → insideOf cs (suc e) ≡ 0
   unfolding insideOf
   inside-ended e c = rw c
 
@@ -64,7 +65,7 @@ module _ (cs : List ℕ) where
   unfolding insideOf
   inside-first = refl
 
-  home-none : (j : ℕ) → getD cs j 0 ≡ 212 → insideOf cs j ≡ 0 → homeOf cs j ≡ 0
+  home-none : (j : ℕ) → getD cs j 0 ≡ c-declared → insideOf cs j ≡ 0 → homeOf cs j ≡ 0
   unfolding homeOf
   home-none j c e = rw c e
 
@@ -82,9 +83,9 @@ module _ (t : List ℕ) (a : Accepts t) where
   K = text-facts t a
 
   -- what is declared in no body is global
-  pub global-flag : (j : ℕ) → j < length C → codeOf (tablesText t) j ≡ 212 → insideOf C j ≡ 0 → linkOf (tablesText t) j / 8 % 2 ≡ 0
+  pub global-flag : (j : ℕ) → j < length C → codeOf (tablesText t) j ≡ c-declared → insideOf C j ≡ 0 → linkOf (tablesText t) j / 8 % 2 ≡ 0
   global-flag j h c e =
-      let d : getD C j 0 ≡ 212 = inv (H .codes j h) ∙ c in
+      let d : getD C j 0 ≡ c-declared = inv (H .codes j h) ∙ c in
       let z : getD (homes C) j 0 ≡ 0 = home-is C (K .formed) (K .few) j h ∙ home-none C j d e in
       slot-of (tablesText t) C S H K j h (inl d) .flag ∙ rw z
 
@@ -94,8 +95,8 @@ module _ (t : List ℕ) (a : Accepts t) where
   clear-next (mtypes [] ∷ m) e k h n =
       clear-code (tablesText t) e (codeOf (tablesText t) (suc e)) refl (first-model (tablesText t) m (suc e) (k .1) (h .2) (λ z. past t a (suc e) (omega arith)))
   clear-next (mtypes (w ∷ ws) ∷ m) e k h n = clear-code (tablesText t) e 70 (h .2 .0) (λ x y. omega arith)
-  clear-next (global (declare c xs) ∷ m) e k h n = clear-code (tablesText t) e 211 (h .2 .0) (λ x y. omega arith)
-  clear-next (process idle w gs b ∷ m) e k h n = clear-code (tablesText t) e 223 (h .2 .0) (λ x y. omega arith)
-  clear-next (process once w gs b ∷ m) e k h n = clear-code (tablesText t) e 224 (h .2 .0) (λ x y. omega arith)
+  clear-next (global (declare c xs) ∷ m) e k h n = clear-code (tablesText t) e c-global (h .2 .0) (λ x y. omega arith)
+  clear-next (process idle w gs b ∷ m) e k h n = clear-code (tablesText t) e c-proctype (h .2 .0) (λ x y. omega arith)
+  clear-next (process once w gs b ∷ m) e k h n = clear-code (tablesText t) e c-active (h .2 .0) (λ x y. omega arith)
   clear-next (process (times c) w gs b ∷ m) e k h n = clear-code (tablesText t) e 70 (h .2 .0) (λ x y. omega arith)
-  clear-next (init (body ds q) ∷ m) e k h n = clear-code (tablesText t) e 227 (h .2 .0) (λ x y. omega arith)
+  clear-next (init (body ds q) ∷ m) e k h n = clear-code (tablesText t) e c-body (h .2 .0) (λ x y. omega arith)

@@ -6,6 +6,7 @@ use mathlib.Core.List.{List, [], _∷_, _++_, append-assoc}
 use lib.ListN.{length, length-append}
 use lib.IntN.{ℤ}
 use borrow.Author.Tests.{le-ltb}
+use Rattle.base_codes.specs.Codes.{c-channel, c-end-body, c-local, c-size}
 use Rattle.spec_grammar.specs.Tree.{Name, Declaration, declare, Body, body, Activity, idle, once, times, Part, mtypes, global, process, init, Model}
 use Rattle.spec_grammar.specs.Code.{Item, i-local, i-init, i-body, i-end-body, each, code-tree, code-declaration, code-group, code-body, code-activity, code-part, code}
 use Rattle.table_entries.specs.Items as items
@@ -65,9 +66,9 @@ holds-behind {i = i} {k = k} (later {x = x} {m = m} {b = b} p) =
 -- ---- no size and no value
 module _ (t : List ℕ) where
   abbrev Plain : ℕ → Type 0
-  Plain c = 213 ≤ c → c ≤ 217 → ⊥
+  Plain c = c-size ≤ c → c ≤ c-channel → ⊥
 
-  low-plain : (c : ℕ) → c < 210 → Plain c
+  low-plain : (c : ℕ) → c < c-local → Plain c
   low-plain c h a b = omega arith
 
   first-activity : (x : Activity) (w : Name) (l : List Item) (j : ℕ) → Held t j (code-activity x w ++ l) → Plain (codeOf t j)
@@ -93,7 +94,7 @@ module _ (t : List ℕ) where
   -- what is behind the declarations of a body, where nothing of that kind is behind the body
   pub clear-body : (l : List Item) (e : ℕ) → Below l → AllKnown l → Held t e (l ++ i-end-body ∷ []) → Clear t (e + length l) → Clear t e
   clear-body [] e b k h c = clear-here t e 0 refl c
-  clear-body (x ∷ []) e b k h c = clear-code t e 228 (h .2 .0) (λ y z. omega arith)
+  clear-body (x ∷ []) e b k h c = clear-code t e c-end-body (h .2 .0) (λ y z. omega arith)
   clear-body (x ∷ y ∷ l) e b k h c = clear-code t e (items.codeOf y) (h .2 .0) (low-plain (items.codeOf y) (b .1 .0 (k .1 .0)))
 
 -- ---- accepted texts

@@ -8,6 +8,7 @@ use mathlib.Core.List.{List, [], _∷_, _++_}
 use lib.ListN.{length, length-append}
 use lib.IntN.{ℤ}
 use borrow.Author.Tests.{ne-eqb}
+use Rattle.base_codes.specs.Codes.{c-channel, c-declared, c-false, c-field, c-global, c-local, c-minus, c-named, c-size, c-true, c-value}
 use Rattle.spec_grammar.specs.Tree.{Value, unset, set-number, set-minus, set-true, set-false, set-name, set-channel, Variable, variable, Declaration, declare}
 use Rattle.spec_grammar.specs.Code.{Item, i-type, i-local, each, code-field, code-size, code-value, code-variable, code-declaration}
 use Rattle.table_entries.specs.Items as items
@@ -26,12 +27,12 @@ use Rattle.agree_start.proofs.Items.{type-below}
 module _ (t : List ℕ) where
   -- behind item e no size and no value ends: its second item is no mark of one
   abbrev pub Clear : ℕ → Type 0
-  Clear e = 213 ≤ codeOf t (e + 1) → codeOf t (e + 1) ≤ 217 → ⊥
+  Clear e = c-size ≤ codeOf t (e + 1) → codeOf t (e + 1) ≤ c-channel → ⊥
 
   second : (k c : ℕ) → codeOf t (suc k) ≡ c → codeOf t (k + 1) ≡ c
   second k c e = ap (codeOf t) (let z : k + 1 ≡ suc k = omega arith in z) ∙ e
 
-  pub clear-code : (k c : ℕ) → codeOf t (suc k) ≡ c → (213 ≤ c → c ≤ 217 → ⊥) → Clear k
+  pub clear-code : (k c : ℕ) → codeOf t (suc k) ≡ c → (c-size ≤ c → c ≤ c-channel → ⊥) → Clear k
   clear-code k c e h a b = let z = second k c e in h (omega arith) (omega arith)
 
   pub clear-here : (k n : ℕ) → n ≡ 0 → Clear (k + n) → Clear k
@@ -42,28 +43,28 @@ module _ (t : List ℕ) where
   unfolding variableMade valueOf literalOf
   made l p unset k s h c =
       let d = clear-here k 0 refl c in
-      let m : (n : ℕ) → 213 ≤ n → n ≤ 217 → codeOf t (k + 1) ≡ n → ⊥ = λ n x y e. d (omega arith) (omega arith) in
+      let m : (n : ℕ) → c-size ≤ n → n ≤ c-channel → codeOf t (k + 1) ≡ n → ⊥ = λ n x y e. d (omega arith) (omega arith) in
       rw (
-        ne-eqb (codeOf t (k + 1)) 217 (m 217 (omega arith) (omega arith)),
-        ne-eqb (codeOf t (k + 1)) 214 (m 214 (omega arith) (omega arith)),
-        ne-eqb (codeOf t (k + 1)) 215 (m 215 (omega arith) (omega arith)),
-        ne-eqb (codeOf t (k + 1)) 216 (m 216 (omega arith) (omega arith)),
+        ne-eqb (codeOf t (k + 1)) c-channel (m c-channel (omega arith) (omega arith)),
+        ne-eqb (codeOf t (k + 1)) c-value (m c-value (omega arith) (omega arith)),
+        ne-eqb (codeOf t (k + 1)) c-minus (m c-minus (omega arith) (omega arith)),
+        ne-eqb (codeOf t (k + 1)) c-named (m c-named (omega arith) (omega arith)),
       )
-  made l p (set-number n) k s h c = rw (second k 214 (h .2 .0), h .0, h .1 refl .0)
-  made l p (set-minus n) k s h c = rw (second k 215 (h .2 .0), h .0, h .1 refl .0)
-  made l p set-true k s h c = rw (second k 214 (h .2 .0), h .0)
-  made l p set-false k s h c = rw (second k 214 (h .2 .0), h .0)
-  made l p (set-name w) k s h c = rw (second k 216 (h .2 .0))
-  made l p (set-channel n ks) k s h c = rw (second k 217 (h .2 .0))
+  made l p (set-number n) k s h c = rw (second k c-value (h .2 .0), h .0, h .1 refl .0)
+  made l p (set-minus n) k s h c = rw (second k c-minus (h .2 .0), h .0, h .1 refl .0)
+  made l p set-true k s h c = rw (second k c-value (h .2 .0), h .0)
+  made l p set-false k s h c = rw (second k c-value (h .2 .0), h .0)
+  made l p (set-name w) k s h c = rw (second k c-named (h .2 .0))
+  made l p (set-channel n ks) k s h c = rw (second k c-channel (h .2 .0))
 
-  no-size : (v : Value) (k : ℕ) → Held t k (code-value v) → Clear (k + length (code-value v)) → codeOf t (k + 1) ≡ 213 → ⊥
+  no-size : (v : Value) (k : ℕ) → Held t k (code-value v) → Clear (k + length (code-value v)) → codeOf t (k + 1) ≡ c-size → ⊥
   no-size unset k h c e = clear-here k 0 refl c (omega arith) (omega arith)
-  no-size (set-number n) k h c e = let z = second k 214 (h .2 .0) in omega arith
-  no-size (set-minus n) k h c e = let z = second k 215 (h .2 .0) in omega arith
-  no-size set-true k h c e = let z = second k 214 (h .2 .0) in omega arith
-  no-size set-false k h c e = let z = second k 214 (h .2 .0) in omega arith
-  no-size (set-name w) k h c e = let z = second k 216 (h .2 .0) in omega arith
-  no-size (set-channel n ks) k h c e = let z = second k 217 (h .2 .0) in omega arith
+  no-size (set-number n) k h c e = let z = second k c-value (h .2 .0) in omega arith
+  no-size (set-minus n) k h c e = let z = second k c-minus (h .2 .0) in omega arith
+  no-size set-true k h c e = let z = second k c-value (h .2 .0) in omega arith
+  no-size set-false k h c e = let z = second k c-value (h .2 .0) in omega arith
+  no-size (set-name w) k h c e = let z = second k c-named (h .2 .0) in omega arith
+  no-size (set-channel n ks) k h c e = let z = second k c-channel (h .2 .0) in omega arith
 
   -- where it stands
   value-at : (z : Option ℕ) (v : Value) (d : ℕ) → Held t (suc d) (code-size z ++ code-value v) → Clear (suc d + length (code-size z) + length (code-value v))
@@ -72,34 +73,34 @@ module _ (t : List ℕ) where
   value-at none v d h c =
       let x : d + 2 ≡ suc d + 1 = omega arith in
       let y : suc d + 0 ≡ suc d = omega arith in
-      rw (ne-eqb (codeOf t (d + 2)) 213 (λ e. no-size v (suc d) h (subst (λ n. Clear (n + length (code-value v))) y c) (ap (codeOf t) (sym x) ∙ e))) (omega arith)
+      rw (ne-eqb (codeOf t (d + 2)) c-size (λ e. no-size v (suc d) h (subst (λ n. Clear (n + length (code-value v))) y c) (ap (codeOf t) (sym x) ∙ e))) (omega arith)
   value-at (some n) v d h c = let x : d + 2 ≡ suc (suc d) = omega arith in rw (ap (codeOf t) x ∙ h .2 .0) (omega arith)
 
 -- ---- what is done at each item of declarations: at `declared` (212), from item lo to before item hi, its variable is made; at a name, a type and the other marks nothing is
 pub record Makes (t : List ℕ) (f : ℕ → List ℤ → List ℤ) (p lo hi : ℕ) : Type 0 where
-  pub low : (c : ℕ) → c < 210 → Mute f t c
-  pub marks : (c : ℕ) → 210 ≤ c → c ≤ 218 → (c ≡ 212 → ⊥) → Mute f t c
-  pub makes : (j : ℕ) (s : List ℤ) → lo ≤ j → j < hi → codeOf t j ≡ 212 → f j s ≡ declared t p j s
+  pub low : (c : ℕ) → c < c-local → Mute f t c
+  pub marks : (c : ℕ) → c-local ≤ c → c ≤ c-field → (c ≡ c-declared → ⊥) → Mute f t c
+  pub makes : (j : ℕ) (s : List ℤ) → lo ≤ j → j < hi → codeOf t j ≡ c-declared → f j s ≡ declared t p j s
 
 module _ (t : List ℕ) (f : ℕ → List ℤ → List ℤ) (p lo hi : ℕ) (M : Makes t f p lo hi) where
-  muted-mark : (c : ℕ) → 213 ≤ c → c ≤ 218 → Mute f t c
+  muted-mark : (c : ℕ) → c-size ≤ c → c ≤ c-field → Mute f t c
   muted-mark c a b = M .marks c (omega arith) b (λ e. omega arith)
 
   muted-size : (z : Option ℕ) → Muted f t (code-size z)
   muted-size none = tt
-  muted-size (some n) = (λ k. M .low 71 (omega arith), (λ k. muted-mark 213 (omega arith) (omega arith), tt))
+  muted-size (some n) = (λ k. M .low 71 (omega arith), (λ k. muted-mark c-size (omega arith) (omega arith), tt))
 
   muted-field : (k : ℕ) → Muted f t (code-field k)
-  muted-field k = (λ e. M .low (items.codeOf (i-type k)) (type-below k e), (λ e. muted-mark 218 (omega arith) (omega arith), tt))
+  muted-field k = (λ e. M .low (items.codeOf (i-type k)) (type-below k e), (λ e. muted-mark c-field (omega arith) (omega arith), tt))
 
   muted-value : (v : Value) → Muted f t (code-value v)
   muted-value unset = tt
-  muted-value (set-number n) = (λ k. M .low 71 (omega arith), (λ k. muted-mark 214 (omega arith) (omega arith), tt))
-  muted-value (set-minus n) = (λ k. M .low 71 (omega arith), (λ k. muted-mark 215 (omega arith) (omega arith), tt))
-  muted-value set-true = (λ k. M .low 178 (omega arith), (λ k. muted-mark 214 (omega arith) (omega arith), tt))
-  muted-value set-false = (λ k. M .low 179 (omega arith), (λ k. muted-mark 214 (omega arith) (omega arith), tt))
-  muted-value (set-name w) = (λ k. M .low 70 (omega arith), (λ k. muted-mark 216 (omega arith) (omega arith), tt))
-  muted-value (set-channel n ks) = (λ k. M .low 71 (omega arith), (λ k. muted-mark 217 (omega arith) (omega arith), muted-each f t code-field muted-field ks))
+  muted-value (set-number n) = (λ k. M .low 71 (omega arith), (λ k. muted-mark c-value (omega arith) (omega arith), tt))
+  muted-value (set-minus n) = (λ k. M .low 71 (omega arith), (λ k. muted-mark c-minus (omega arith) (omega arith), tt))
+  muted-value set-true = (λ k. M .low c-true (omega arith), (λ k. muted-mark c-value (omega arith) (omega arith), tt))
+  muted-value set-false = (λ k. M .low c-false (omega arith), (λ k. muted-mark c-value (omega arith) (omega arith), tt))
+  muted-value (set-name w) = (λ k. M .low 70 (omega arith), (λ k. muted-mark c-named (omega arith) (omega arith), tt))
+  muted-value (set-channel n ks) = (λ k. M .low 71 (omega arith), (λ k. muted-mark c-channel (omega arith) (omega arith), muted-each f t code-field muted-field ks))
 
   -- one variable
   variable-over : (x : Variable) (i : ℕ) (s : List ℤ) → lo ≤ i → i + length (code-variable x) ≤ hi → AllKnown (code-variable x) → Held t i (code-variable x) → Clear t (i + length (code-variable x))
@@ -118,7 +119,7 @@ module _ (t : List ℕ) (f : ℕ → List ℤ → List ℤ) (p lo hi : ℕ) (M :
 
   clear-variables : (xs : List Variable) (e : ℕ) → Held t e (each code-variable xs) → Clear t (e + length (each code-variable xs)) → Clear t e
   clear-variables [] e h c = clear-here t e 0 refl c
-  clear-variables (variable w z v ∷ xs) e h c = clear-code t e 212 (h .2 .0) (λ a b. omega arith)
+  clear-variables (variable w z v ∷ xs) e h c = clear-code t e c-declared (h .2 .0) (λ a b. omega arith)
 
   variables-over : (xs : List Variable) (i : ℕ) (s : List ℤ) → lo ≤ i → i + length (each code-variable xs) ≤ hi → AllKnown (each code-variable xs) → Held t i (each code-variable xs)
       → Clear t (i + length (each code-variable xs)) → over f (each code-variable xs) i s ≡ variablesIn t p xs i s
@@ -135,7 +136,7 @@ module _ (t : List ℕ) (f : ℕ → List ℤ → List ℤ) (p lo hi : ℕ) (M :
       ∙ variables-over xs m (variableIn t p x i s) (omega arith) (omega arith) (known-back X L k) g d
 
   -- one declaration, with its mark `local` (210) or `global` (211)
-  pub declaration-over : (y : Item) → 210 ≤ items.codeOf y → items.codeOf y ≤ 211 → (d : Declaration) (i : ℕ) (s : List ℤ) → lo ≤ i → i + length (code-declaration y d) ≤ hi → AllKnown (code-declaration y d)
+  pub declaration-over : (y : Item) → c-local ≤ items.codeOf y → items.codeOf y ≤ c-global → (d : Declaration) (i : ℕ) (s : List ℤ) → lo ≤ i → i + length (code-declaration y d) ≤ hi → AllKnown (code-declaration y d)
       → Held t i (code-declaration y d) → Clear t (i + length (code-declaration y d)) → over f (code-declaration y d) i s ≡ declarationIn t p d i s
   declaration-over y e g (declare k xs) i s a b n h c =
       let L = each code-variable xs in
@@ -147,7 +148,7 @@ module _ (t : List ℕ) (f : ℕ → List ℤ → List ℤ) (p lo hi : ℕ) (M :
 
   clear-locals : (ds : List Declaration) (e : ℕ) → Held t e (each (code-declaration i-local) ds) → Clear t (e + length (each (code-declaration i-local) ds)) → Clear t e
   clear-locals [] e h c = clear-here t e 0 refl c
-  clear-locals (declare k xs ∷ ds) e h c = clear-code t e 210 (h .2 .0) (λ a b. omega arith)
+  clear-locals (declare k xs ∷ ds) e h c = clear-code t e c-local (h .2 .0) (λ a b. omega arith)
 
   -- those of a body
   pub locals-over : (ds : List Declaration) (i : ℕ) (s : List ℤ) → lo ≤ i → i + length (each (code-declaration i-local) ds) ≤ hi → AllKnown (each (code-declaration i-local) ds)

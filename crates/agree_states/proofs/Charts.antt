@@ -9,6 +9,7 @@ use mathlib.Core.Logic.{_⊎_, inl, inr}
 use lib.ListN.{length, getD}
 use lib.IntN.{pos}
 use lib.Dec.{eqb}
+use Rattle.base_codes.specs.Codes.{c-channel, c-declared, c-init, c-parameter, c-proctype}
 use Rattle.base_bytes.specs.Choice.{pick}
 use Rattle.base_bytes.proofs.Tests.{both-true, either-true, true-false}
 use Rattle.spec_grammar.specs.Tree.{Name, sequence, Value, unset, set-number, set-minus, set-true, set-false, set-name, set-channel, Variable, variable, Declaration, Group, group, Body, Part, mtypes, global, process, init, Model}
@@ -184,13 +185,13 @@ module _ (t : List ℕ) (a : Accepts t) (small : modest (a .tree) ≡ true) (S :
   head-is : (k : ℕ) → headIn (unitAt m k) (0 + itemsBefore m k) ≡ headOf m k
   head-is k = ap (headIn (unitAt m k)) (let z : 0 + itemsBefore m k ≡ itemsBefore m k = omega arith in z)
 
-  units : (k : ℕ) → Bodied (unitAt m k) → (223 ≤ codeOf T (headOf m k)) × (codeOf T (headOf m k) ≤ 226)
+  units : (k : ℕ) → Bodied (unitAt m k) → (c-proctype ≤ codeOf T (headOf m k)) × (codeOf T (headOf m k) ≤ c-init)
   units k b = let c = text-unit t a (held k b) in (c .2, c .3)
 
   unit-in : (k : ℕ) → Bodied (unitAt m k) → well.Unit T (headOf m k)
   unit-in k b = let c = units k b in let c0 = c .0 in (code-inside T (headOf m k) (omega arith), c .0, c .1)
 
-  units-only : (u : ℕ) → 223 ≤ codeOf T u → codeOf T u ≤ 226 → (k : ℕ) × (Bodied (unitAt m k) × (headOf m k ≡ u))
+  units-only : (u : ℕ) → c-proctype ≤ codeOf T u → codeOf T u ≤ c-init → (k : ℕ) × (Bodied (unitAt m k) × (headOf m k ≡ u))
   units-only u h g = let r = holds-unit (text-head t a u (code-inside T u (omega arith), h, g) .held) in (r .unit, (r .bodied, inv (head-is (r .unit)) ∙ r .head))
 
   places-only : (k j : ℕ) → Bodied (unitAt m k) → Placed T (headOf m k) j → Belongs m k j
@@ -228,7 +229,7 @@ module _ (t : List ℕ) (a : Accepts t) (small : modest (a .tree) ≡ true) (S :
   start-is : (k : ℕ) → unitSites (unitAt m k) (0 + itemsBefore m k) ≡ sitesAt m k
   start-is k = ap (unitSites (unitAt m k)) (let z : 0 + itemsBefore m k ≡ itemsBefore m k = omega arith in z)
 
-  channels-only : (d : ℕ) → codeOf T d ≡ 217 → Made m d
+  channels-only : (d : ℕ) → codeOf T d ≡ c-channel → Made m d
   channels-only d e =
       let w = spot d (omega arith) in
       let c = subst (λ (l : List Site). Makes l d) (start-is (w .unit)) (w .spotted .channel e) in
@@ -251,7 +252,7 @@ module _ (t : List ℕ) (a : Accepts t) (small : modest (a .tree) ≡ true) (S :
 
   locals-only : (k : ℕ) → Bodied (unitAt m k) → (j : ℕ) → j < unitLength T (headOf m k) → isLocal T (headOf m k + j) ≡ true
       → (i : ℕ) × ((i < length (variablesOf (unitAt m k))) × (localItem m k i ≡ headOf m k + j))
-  locals-only k b j h e = go (either-true (eqb (codeOf T (headOf m k + j)) 212) (eqb (codeOf T (headOf m k + j)) 222) e)
+  locals-only k b j h e = go (either-true (eqb (codeOf T (headOf m k + j)) c-declared) (eqb (codeOf T (headOf m k + j)) c-parameter) e)
     where
       found : 1 ≤ codeOf T (headOf m k + j) → ((n : ℕ) → Spotted T (unitSites (unitAt m n) (0 + itemsBefore m n)) (headOf m k + j) → Tells (unitSites (unitAt m n) (0 + itemsBefore m n)) (headOf m k + j))
           → (i : ℕ) × ((i < length (variablesOf (unitAt m k))) × (localItem m k i ≡ headOf m k + j))
@@ -265,9 +266,9 @@ module _ (t : List ℕ) (a : Accepts t) (small : modest (a .tree) ≡ true) (S :
           let r : Tells (sitesAt m k) (headOf m k + j) = subst (λ n. Tells (sitesAt m n) (headOf m k + j)) u (subst (λ (l : List Site). Tells l (headOf m k + j)) (start-is (w .unit)) (f (w .unit) (w .spotted))) in
           (r .site, (subst (r .site <_) (sites-long (sitesAt m k) (variablesOf (unitAt m k)) (unit-vars (unitAt m k) (itemsBefore m k))) (r .here), r .is))
 
-      go : (eqb (codeOf T (headOf m k + j)) 212 ≡ true) ⊎ (eqb (codeOf T (headOf m k + j)) 222 ≡ true) → (i : ℕ) × ((i < length (variablesOf (unitAt m k))) × (localItem m k i ≡ headOf m k + j))
-      go (inl z) = let c = eqb-true (codeOf T (headOf m k + j)) 212 z in found (omega arith) (λ n s. s .declared c)
-      go (inr z) = let c = eqb-true (codeOf T (headOf m k + j)) 222 z in found (omega arith) (λ n s. s .parameter c)
+      go : (eqb (codeOf T (headOf m k + j)) c-declared ≡ true) ⊎ (eqb (codeOf T (headOf m k + j)) c-parameter ≡ true) → (i : ℕ) × ((i < length (variablesOf (unitAt m k))) × (localItem m k i ≡ headOf m k + j))
+      go (inl z) = let c = eqb-true (codeOf T (headOf m k + j)) c-declared z in found (omega arith) (λ n s. s .declared c)
+      go (inr z) = let c = eqb-true (codeOf T (headOf m k + j)) c-parameter z in found (omega arith) (λ n s. s .parameter c)
 
   -- ---- where variables are declared
   held-unit : (k : ℕ) → k < length m → Held T (itemsBefore m k) (code-part (unitAt m k))
@@ -278,7 +279,7 @@ module _ (t : List ℕ) (a : Accepts t) (small : modest (a .tree) ≡ true) (S :
       standing-at T (headOf m k) (endIn (bodyOf (unitAt m k)) (bodyAt m k)) (sitesAt m k) (unit-stands T (unitAt m k) (itemsBefore m k) b (held-unit k (bodied-there m k b))) i
       (subst (i <_) (inv (sites-long (sitesAt m k) (variablesOf (unitAt m k)) (unit-vars (unitAt m k) (itemsBefore m k)))) h)
 
-  is-local : (d : ℕ) → (codeOf T d ≡ 212) ⊎ (codeOf T d ≡ 222) → isLocal T d ≡ true
+  is-local : (d : ℕ) → (codeOf T d ≡ c-declared) ⊎ (codeOf T d ≡ c-parameter) → isLocal T d ≡ true
   is-local d (inl e) = rw e
   is-local d (inr e) = rw e
 
@@ -296,7 +297,7 @@ module _ (t : List ℕ) (a : Accepts t) (small : modest (a .tree) ≡ true) (S :
   some-number : (d : ℕ) → isLocal T d ≡ true → 1 ≤ codeOf T d → 1 ≤ sizeOf (linkOf T d)
   some-number d e h = text-well t a .sized d (code-inside T d h) e
 
-  global-stands : (i : ℕ) → i < length (globalsOf m) → (codeOf T (globalItem m i) ≡ 212) × (globalItem m i < length (code m))
+  global-stands : (i : ℕ) → i < length (globalsOf m) → (codeOf T (globalItem m i) ≡ c-declared) × (globalItem m i < length (code m))
   global-stands i h =
       declaring-at T (length (code m)) (globalSites m 0) (globals-declare T m 0 (length (code m)) (omega arith) all-held) i
       (subst (i <_) (inv (sites-long (globalSites m 0) (globalsOf m) (global-vars m 0))) h)
@@ -319,13 +320,13 @@ module _ (t : List ℕ) (a : Accepts t) (small : modest (a .tree) ≡ true) (S :
 
   globals-only : (j : ℕ) → j < scanned T → isGlobal T j ≡ true → (i : ℕ) × ((i < length (globalsOf m)) × (globalItem m i ≡ j))
   globals-only j h e =
-      let p = both-true (eqb (codeOf T j) 212) (eqb (linkOf T j / 8 % 2) 0) e in
-      let c = eqb-true (codeOf T j) 212 (p .0) in
+      let p = both-true (eqb (codeOf T j) c-declared) (eqb (linkOf T j / 8 % 2) 0) e in
+      let c = eqb-true (codeOf T j) c-declared (p .0) in
       let w = spot j (omega arith) in
       let r = subst (λ (l : List Site). Tells l j) (start-is (w .unit)) (w .spotted .declared c) in
       go (w .unit) r (eqb-true (linkOf T j / 8 % 2) 0 (p .1)) c (kind-of (unitAt m (w .unit)) (itemsBefore m (w .unit)))
     where
-      go : (k : ℕ) (r : Tells (sitesAt m k) j) → linkOf T j / 8 % 2 ≡ 0 → codeOf T j ≡ 212 → Bodied (unitAt m k) ⊎ (globalHere (unitAt m k) (itemsBefore m k) ≡ unitSites (unitAt m k) (itemsBefore m k))
+      go : (k : ℕ) (r : Tells (sitesAt m k) j) → linkOf T j / 8 % 2 ≡ 0 → codeOf T j ≡ c-declared → Bodied (unitAt m k) ⊎ (globalHere (unitAt m k) (itemsBefore m k) ≡ unitSites (unitAt m k) (itemsBefore m k))
           → (i : ℕ) × ((i < length (globalsOf m)) × (globalItem m i ≡ j))
       go k r z c (inl b) =
           let v = unit-vars (unitAt m k) (itemsBefore m k) in
@@ -379,7 +380,7 @@ module _ (t : List ℕ) (a : Accepts t) (small : modest (a .tree) ≡ true) (S :
         ap (λ (x : Var). x .value) (site-var (sitesAt m k) (variablesOf (unitAt m k)) (unit-vars (unitAt m k) (itemsBefore m k)) (c .variable) s) ∙ e in
         subst (λ v. Held T (getD (sitesAt m (c .unit)) (c .variable) noSite .worth) (code-value v)) v (value-held k (c .variable) s)
 
-    channel-codes : codeOf T (channelItem m c) ≡ 217
+    channel-codes : codeOf T (channelItem m c) ≡ c-channel
     channel-codes = ap (codeOf T) (made-item m c n ks e ∙ (let z : d + 1 ≡ suc d = omega arith in z)) ∙ channel-held .2 .0
 
   pub text-charted : Charted (a .tree) (tablesText t)

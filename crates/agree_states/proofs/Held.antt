@@ -10,6 +10,7 @@ use lib.ListN.{length, getD, length-append}
 use lib.IntN.{ℤ, pos}
 use borrow.Author.Tests.{ltb-true}
 use lib.Dec.{ltb}
+use Rattle.base_codes.specs.Codes.{c-init, c-proctype}
 use Rattle.base_bytes.specs.Choice.{pick}
 use Rattle.table_layout.specs.Access.{itemsOf, codeOf, linkOf}
 use Rattle.base_values.specs.Types.{castOf}
@@ -294,7 +295,7 @@ module _ (m : Model) (T : List ℕ) (X : Charted m T) (σ : State) (F : Fits (Be
         globals = global-type;
         locals = λ p j k g b e q. local-type p (there p g) j k b e q;
         units = λ p g. let h = there p g in
-            subst (λ u. (223 ≤ codeOf T u) × (codeOf T u ≤ 226)) (inv (unit-is p h)) (X .units (me p h .unit) (bodied p h));
+            subst (λ u. (c-proctype ≤ codeOf T u) × (codeOf T u ≤ c-init)) (inv (unit-is p h)) (X .units (me p h .unit) (bodied p h));
         places = λ p g. let h = there p g in
             subst (λ u. Placed T u (placeOf S p)) (inv (unit-is p h))
             (subst (Placed T (headOf m (me p h .unit))) (inv (place-is p h)) (X .places (me p h .unit) (me p h .place) (F .each p h .place) .0));

@@ -8,6 +8,7 @@ use mathlib.Core.Option.{Option, none, some}
 use mathlib.Core.Logic.{_⊎_, inl, inr}
 use mathlib.Core.List.{List, [], _∷_, _++_}
 use lib.ListN.{length, getD, length-append}
+use Rattle.base_codes.specs.Codes.{c-active, c-active-many, c-body, c-channel, c-declared, c-end-body, c-false, c-field, c-global, c-group, c-init, c-local, c-message, c-minus, c-mtypes, c-named, c-parameter, c-proctype, c-size, c-true, c-value}
 use Rattle.spec_grammar.specs.Tree.{Name, Value, unset, set-number, set-minus, set-true, set-false, set-name, set-channel, Variable, variable, Declaration, declare, Group, group, Body, body, Activity, idle, once, times, Part, mtypes, global, process, init, Model}
 use Rattle.spec_grammar.specs.Code.{Item, i-name, i-number, i-true, i-false, i-declared, i-size, i-value, i-minus, i-named, i-channel, i-field, i-mtypes, i-message, i-group, i-parameter, i-proctype, i-active, i-active-many, i-type, i-local, i-global, i-init, i-body, i-end-body, each, code-tree, code-field, code-size, code-value, code-variable, code-declaration, code-parameter, code-group, code-body, code-activity, code-message, code-part, code}
 use Rattle.table_entries.specs.Items as items
@@ -79,9 +80,9 @@ body-end u i h = let e = body-span u i h in let f = last (bodyOf u) (bodyIn u i)
 module _ (T : List ℕ) where
   -- item j, if it declares, does so for one of these sites
   pub record Spotted (L : List Site) (j : ℕ) : Type 0 where
-    pub channel : codeOf T j ≡ 217 → Makes L j
-    pub declared : codeOf T j ≡ 212 → Tells L j
-    pub parameter : codeOf T j ≡ 222 → Tells L j
+    pub channel : codeOf T j ≡ c-channel → Makes L j
+    pub declared : codeOf T j ≡ c-declared → Tells L j
+    pub parameter : codeOf T j ≡ c-parameter → Tells L j
 
   abbrev pub Seen : List Site → List Item → ℕ → Type 0
   Seen L l i = (j : ℕ) → i ≤ j → j < i + length l → Spotted L j
@@ -118,10 +119,10 @@ module _ (T : List ℕ) where
       go (no z) = r j (omega arith) (omega arith)
 
   -- any other code
-  plain : (L : List Site) (j c : ℕ) → codeOf T j ≡ c → (c ≡ 217 → ⊥) → (c ≡ 212 → ⊥) → (c ≡ 222 → ⊥) → Spotted L j
+  plain : (L : List Site) (j c : ℕ) → codeOf T j ≡ c → (c ≡ c-channel → ⊥) → (c ≡ c-declared → ⊥) → (c ≡ c-parameter → ⊥) → Spotted L j
   plain L j c e x y z = record { channel = λ q. absurd (x (inv e ∙ q)); declared = λ q. absurd (y (inv e ∙ q)); parameter = λ q. absurd (z (inv e ∙ q)) }
 
-  low : (L : List Site) (j c : ℕ) → codeOf T j ≡ c → c < 210 → Spotted L j
+  low : (L : List Site) (j c : ℕ) → codeOf T j ≡ c → c < c-local → Spotted L j
   low L j c e h = plain L j c e (λ z. omega arith) (λ z. omega arith) (λ z. omega arith)
 
   seen-below : (L : List Site) (l : List Item) (i : ℕ) → Below l → AllKnown l → Held T i l → Seen L l i
@@ -133,18 +134,18 @@ module _ (T : List ℕ) where
   fields-seen L [] i k h = seen-none L i
   fields-seen L (c ∷ ks) i k h =
       seen-first L (i-type c) (i-field ∷ each code-field ks) i (low L i (items.codeOf (i-type c)) (h .0) (type-below c (k .0)))
-      (seen-first L i-field (each code-field ks) (suc i) (plain L (suc i) 218 (h .2 .0) (λ z. omega arith) (λ z. omega arith) (λ z. omega arith)) (fields-seen L ks (suc (suc i)) (k .1 .1) (h .2 .2)))
+      (seen-first L i-field (each code-field ks) (suc i) (plain L (suc i) c-field (h .2 .0) (λ z. omega arith) (λ z. omega arith) (λ z. omega arith)) (fields-seen L ks (suc (suc i)) (k .1 .1) (h .2 .2)))
 
-  two-seen : (L : List Site) (x y : Item) (i a b : ℕ) → codeOf T i ≡ a → a < 210 → codeOf T (suc i) ≡ b → (b ≡ 217 → ⊥) → (b ≡ 212 → ⊥) → (b ≡ 222 → ⊥) → Seen L (x ∷ y ∷ []) i
+  two-seen : (L : List Site) (x y : Item) (i a b : ℕ) → codeOf T i ≡ a → a < c-local → codeOf T (suc i) ≡ b → (b ≡ c-channel → ⊥) → (b ≡ c-declared → ⊥) → (b ≡ c-parameter → ⊥) → Seen L (x ∷ y ∷ []) i
   two-seen L x y i a b e h f p q r = seen-first L x (y ∷ []) i (low L i a e h) (seen-first L y [] (suc i) (plain L (suc i) b f p q r) (seen-none L (suc (suc i))))
 
   value-seen : (L : List Site) (v : Value) (i : ℕ) → (chan v ≡ true → Makes L (suc i)) → AllKnown (code-value v) → Held T i (code-value v) → Seen L (code-value v) i
   value-seen L unset i m k h = seen-none L i
-  value-seen L (set-number n) i m k h = two-seen L (i-number n) i-value i 71 214 (h .0) (omega arith) (h .2 .0) (λ z. omega arith) (λ z. omega arith) (λ z. omega arith)
-  value-seen L (set-minus n) i m k h = two-seen L (i-number n) i-minus i 71 215 (h .0) (omega arith) (h .2 .0) (λ z. omega arith) (λ z. omega arith) (λ z. omega arith)
-  value-seen L set-true i m k h = two-seen L i-true i-value i 178 214 (h .0) (omega arith) (h .2 .0) (λ z. omega arith) (λ z. omega arith) (λ z. omega arith)
-  value-seen L set-false i m k h = two-seen L i-false i-value i 179 214 (h .0) (omega arith) (h .2 .0) (λ z. omega arith) (λ z. omega arith) (λ z. omega arith)
-  value-seen L (set-name w) i m k h = two-seen L (i-name w) i-named i 70 216 (h .0) (omega arith) (h .2 .0) (λ z. omega arith) (λ z. omega arith) (λ z. omega arith)
+  value-seen L (set-number n) i m k h = two-seen L (i-number n) i-value i 71 c-value (h .0) (omega arith) (h .2 .0) (λ z. omega arith) (λ z. omega arith) (λ z. omega arith)
+  value-seen L (set-minus n) i m k h = two-seen L (i-number n) i-minus i 71 c-minus (h .0) (omega arith) (h .2 .0) (λ z. omega arith) (λ z. omega arith) (λ z. omega arith)
+  value-seen L set-true i m k h = two-seen L i-true i-value i c-true c-value (h .0) (omega arith) (h .2 .0) (λ z. omega arith) (λ z. omega arith) (λ z. omega arith)
+  value-seen L set-false i m k h = two-seen L i-false i-value i c-false c-value (h .0) (omega arith) (h .2 .0) (λ z. omega arith) (λ z. omega arith) (λ z. omega arith)
+  value-seen L (set-name w) i m k h = two-seen L (i-name w) i-named i 70 c-named (h .0) (omega arith) (h .2 .0) (λ z. omega arith) (λ z. omega arith) (λ z. omega arith)
   value-seen L (set-channel n ks) i m k h =
       let c = h .2 .0 in
       seen-first L (i-number n) (i-channel ∷ each code-field ks) i (low L i 71 (h .0) (omega arith))
@@ -153,7 +154,7 @@ module _ (T : List ℕ) where
 
   size-seen : (L : List Site) (z : Option ℕ) (i : ℕ) → Held T i (code-size z) → Seen L (code-size z) i
   size-seen L none i h = seen-none L i
-  size-seen L (some n) i h = two-seen L (i-number n) i-size i 71 213 (h .0) (omega arith) (h .2 .0) (λ z. omega arith) (λ z. omega arith) (λ z. omega arith)
+  size-seen L (some n) i h = two-seen L (i-number n) i-size i 71 c-size (h .0) (omega arith) (h .2 .0) (λ z. omega arith) (λ z. omega arith) (λ z. omega arith)
 
   one-seen : (k : ℕ) (x : Variable) (i : ℕ) → AllKnown (code-variable x) → Held T i (code-variable x) → Seen (siteOf k x i ∷ []) (code-variable x) i
   one-seen c (variable w z v) i k h =
@@ -180,7 +181,7 @@ module _ (T : List ℕ) where
       (variables-seen c xs (i + length Y) (known-back Y R k) (held-back T Y R i (i + length Y) refl h))
 
   -- a mark is 210 or 211
-  declaration-seen : (mark : Item) (d : Declaration) (i : ℕ) → 210 ≤ items.codeOf mark → items.codeOf mark ≤ 211 → AllKnown (code-declaration mark d) → Held T i (code-declaration mark d)
+  declaration-seen : (mark : Item) (d : Declaration) (i : ℕ) → c-local ≤ items.codeOf mark → items.codeOf mark ≤ c-global → AllKnown (code-declaration mark d) → Held T i (code-declaration mark d)
       → Seen (sitesIn d i) (code-declaration mark d) i
   declaration-seen mark (declare c xs) i a b k h =
       let L = sitesOf c xs (i + 2) in
@@ -222,7 +223,7 @@ module _ (T : List ℕ) where
       let R = each code-parameter ws in
       let q : suc (suc i) ≡ i + 2 = omega arith in
       seen-first L (i-type c) (i-group ∷ R) i (low L i (items.codeOf (i-type c)) (h .0) (type-below c (k .0)))
-      (seen-first L i-group R (suc i) (plain L (suc i) 221 (h .2 .0) (λ z. omega arith) (λ z. omega arith) (λ z. omega arith))
+      (seen-first L i-group R (suc i) (plain L (suc i) c-group (h .2 .0) (λ z. omega arith) (λ z. omega arith) (λ z. omega arith))
       (subst (Seen L R) (inv q) (names-seen c ws (i + 2) (subst (λ n. Held T n R) q (h .2 .2)))))
 
   groups-seen : (gs : List Group) (i : ℕ) → AllKnown (each code-group gs) → Held T i (each code-group gs) → Seen (groupSites gs i) (each code-group gs) i
@@ -249,25 +250,25 @@ module _ (T : List ℕ) where
       let hE = held-back T (A ++ Q) E i (i + length (A ++ Q)) refl h in
       seen-more L (A ++ Q) E i
       (seen-more L A Q i
-      (seen-first L i-body D i (plain L i 227 (hA .0) (λ z. omega arith) (λ z. omega arith) (λ z. omega arith))
+      (seen-first L i-body D i (plain L i c-body (hA .0) (λ z. omega arith) (λ z. omega arith) (λ z. omega arith))
       (subst (Seen L D) (inv s) (locals-seen ds (i + 1) (kA .1) (subst (λ n. Held T n D) s (hA .2)))))
       (seen-below L Q (i + length A) (below-tree q) (known-back A Q k1) (held-back T A Q i (i + length A) refl h1)))
-      (seen-first L i-end-body [] (i + length (A ++ Q)) (plain L (i + length (A ++ Q)) 228 (hE .0) (λ z. omega arith) (λ z. omega arith) (λ z. omega arith)) (seen-none L (suc (i + length (A ++ Q)))))
+      (seen-first L i-end-body [] (i + length (A ++ Q)) (plain L (i + length (A ++ Q)) c-end-body (hE .0) (λ z. omega arith) (λ z. omega arith) (λ z. omega arith)) (seen-none L (suc (i + length (A ++ Q)))))
 
   activity-seen : (L : List Site) (a : Activity) (w : Name) (i : ℕ) → Held T i (code-activity a w) → Seen L (code-activity a w) i
-  activity-seen L idle w i h = two-seen L (i-name w) i-proctype i 70 223 (h .0) (omega arith) (h .2 .0) (λ z. omega arith) (λ z. omega arith) (λ z. omega arith)
-  activity-seen L once w i h = two-seen L (i-name w) i-active i 70 224 (h .0) (omega arith) (h .2 .0) (λ z. omega arith) (λ z. omega arith) (λ z. omega arith)
+  activity-seen L idle w i h = two-seen L (i-name w) i-proctype i 70 c-proctype (h .0) (omega arith) (h .2 .0) (λ z. omega arith) (λ z. omega arith) (λ z. omega arith)
+  activity-seen L once w i h = two-seen L (i-name w) i-active i 70 c-active (h .0) (omega arith) (h .2 .0) (λ z. omega arith) (λ z. omega arith) (λ z. omega arith)
   activity-seen L (times n) w i h =
-      seen-first L (i-number n) (i-name w ∷ i-active-many ∷ []) i (low L i 71 (h .0) (omega arith)) (two-seen L (i-name w) i-active-many (suc i) 70 225 (h .2 .0) (omega arith) (h .2 .2 .0) (λ z. omega arith) (λ z. omega arith) (λ z. omega arith))
+      seen-first L (i-number n) (i-name w ∷ i-active-many ∷ []) i (low L i 71 (h .0) (omega arith)) (two-seen L (i-name w) i-active-many (suc i) 70 c-active-many (h .2 .0) (omega arith) (h .2 .2 .0) (λ z. omega arith) (λ z. omega arith) (λ z. omega arith))
 
   messages-seen : (L : List Site) (ws : List Name) (i : ℕ) → Held T i (each code-message ws) → Seen L (each code-message ws) i
   messages-seen L [] i h = seen-none L i
   messages-seen L (w ∷ ws) i h =
       seen-first L (i-name w) (i-message ∷ each code-message ws) i (low L i 70 (h .0) (omega arith))
-      (seen-first L i-message (each code-message ws) (suc i) (plain L (suc i) 220 (h .2 .0) (λ z. omega arith) (λ z. omega arith) (λ z. omega arith)) (messages-seen L ws (suc (suc i)) (h .2 .2)))
+      (seen-first L i-message (each code-message ws) (suc i) (plain L (suc i) c-message (h .2 .0) (λ z. omega arith) (λ z. omega arith) (λ z. omega arith)) (messages-seen L ws (suc (suc i)) (h .2 .2)))
 
   pub unit-seen : (u : Part) (i : ℕ) → AllKnown (code-part u) → Held T i (code-part u) → Seen (unitSites u i) (code-part u) i
-  unit-seen (mtypes ws) i k h = seen-first [] i-mtypes (each code-message ws) i (plain [] i 219 (h .0) (λ z. omega arith) (λ z. omega arith) (λ z. omega arith)) (messages-seen [] ws (suc i) (h .2))
+  unit-seen (mtypes ws) i k h = seen-first [] i-mtypes (each code-message ws) i (plain [] i c-mtypes (h .0) (λ z. omega arith) (λ z. omega arith) (λ z. omega arith)) (messages-seen [] ws (suc i) (h .2))
   unit-seen (global d) i k h = declaration-seen i-global d i (omega arith) (omega arith) k h
   unit-seen (process a w gs b) i k h =
       let A = code-activity a w in
@@ -284,7 +285,7 @@ module _ (T : List ℕ) where
   unit-seen (init b) i k h =
       let q : suc i ≡ i + 1 = omega arith in
       let L = bodySites b (i + 1) in
-      seen-first L i-init (code-body b) i (plain L i 226 (h .0) (λ z. omega arith) (λ z. omega arith) (λ z. omega arith))
+      seen-first L i-init (code-body b) i (plain L i c-init (h .0) (λ z. omega arith) (λ z. omega arith) (λ z. omega arith))
       (subst (Seen L (code-body b)) (inv q) (body-seen b (i + 1) (k .1) (subst (λ n. Held T n (code-body b)) q (h .2))))
 
   -- ---- the model: the unit in which an item stands
@@ -327,7 +328,7 @@ module _ (T : List ℕ) where
   pub record Stood (lo hi : ℕ) (x : Site) : Type 0 where
     pub from : lo ≤ x .item
     pub to : x .item < hi
-    pub tells : (codeOf T (x .item) ≡ 212) ⊎ (codeOf T (x .item) ≡ 222)
+    pub tells : (codeOf T (x .item) ≡ c-declared) ⊎ (codeOf T (x .item) ≡ c-parameter)
     -- and its value
     pub value : Held T (x .worth) (code-value (x .var .value))
 
@@ -471,13 +472,13 @@ module _ (T : List ℕ) where
   -- ---- globals are declared by `declared` items
   abbrev pub Declaring : ℕ → List Site → Type 0
   Declaring hi [] = Unit {0}
-  Declaring hi (x ∷ l) = ((codeOf T (x .item) ≡ 212) × (x .item < hi)) × Declaring hi l
+  Declaring hi (x ∷ l) = ((codeOf T (x .item) ≡ c-declared) × (x .item < hi)) × Declaring hi l
 
   declaring-both : (hi : ℕ) (l k : List Site) → Declaring hi l → Declaring hi k → Declaring hi (l ++ k)
   declaring-both hi [] k a b = b
   declaring-both hi (x ∷ l) k a b = (a .0, declaring-both hi l k (a .1) b)
 
-  pub declaring-at : (hi : ℕ) (l : List Site) → Declaring hi l → (n : ℕ) → n < length l → (codeOf T (getD l n noSite .item) ≡ 212) × (getD l n noSite .item < hi)
+  pub declaring-at : (hi : ℕ) (l : List Site) → Declaring hi l → (n : ℕ) → n < length l → (codeOf T (getD l n noSite .item) ≡ c-declared) × (getD l n noSite .item < hi)
   declaring-at hi [] s n h = absurd (omega arith)
   declaring-at hi (x ∷ l) s zero h = s .0
   declaring-at hi (x ∷ l) s (suc n) h = declaring-at hi l (s .1) n (omega arith)

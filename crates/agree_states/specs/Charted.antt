@@ -6,6 +6,7 @@ use mathlib.Core.List.{List}
 use mathlib.Core.Logic.{_⊎_}
 use lib.ListN.{length, getD}
 use lib.IntN.{pos}
+use Rattle.base_codes.specs.Codes.{c-channel, c-init, c-proctype}
 use Rattle.table_layout.specs.Access.{itemsOf, codeOf, linkOf}
 use Rattle.state_layout.specs.Layout.{kept, globalAt, localAt}
 use Rattle.state_start.specs.Starting.{unitLength, scanned}
@@ -70,14 +71,14 @@ pub record Charted (m : Model) (T : List ℕ) : Type 0 where
       → valueIn T (getD (sitesAt m k) i noSite .var .value) (getD (sitesAt m k) i noSite .worth) ≡ valueOf m (getD (sitesAt m k) i noSite .var .value)
   pub singles : (k i : ℕ) → i < length (sitesAt m k) → chan (getD (sitesAt m k) i noSite .var .value) ≡ true → getD (sitesAt m k) i noSite .var .size ≡ 1
   -- ## units, and their places
-  pub units : (k : ℕ) → Bodied (unitAt m k) → (223 ≤ codeOf T (headOf m k)) × (codeOf T (headOf m k) ≤ 226)
-  pub units-only : (u : ℕ) → 223 ≤ codeOf T u → codeOf T u ≤ 226 → (k : ℕ) × (Bodied (unitAt m k) × (headOf m k ≡ u))
+  pub units : (k : ℕ) → Bodied (unitAt m k) → (c-proctype ≤ codeOf T (headOf m k)) × (codeOf T (headOf m k) ≤ c-init)
+  pub units-only : (u : ℕ) → c-proctype ≤ codeOf T u → codeOf T u ≤ c-init → (k : ℕ) × (Bodied (unitAt m k) × (headOf m k ≡ u))
   pub places : (k j : ℕ) → Belongs m k j → Placed T (headOf m k) j × (j < itemsOf T)
   pub places-only : (k j : ℕ) → Bodied (unitAt m k) → Placed T (headOf m k) j → Belongs m k j
   -- ## channels by their declarations
   pub channels : (c : Channel) (n : ℕ) (ks : List ℕ) → madeBy m c ≡ set-channel n ks → Channelled T (channelItem m c) n ks
-  pub channel-codes : (c : Channel) (n : ℕ) (ks : List ℕ) → madeBy m c ≡ set-channel n ks → codeOf T (channelItem m c) ≡ 217
-  pub channels-only : (d : ℕ) → codeOf T d ≡ 217 → Made m d
+  pub channel-codes : (c : Channel) (n : ℕ) (ks : List ℕ) → madeBy m c ≡ set-channel n ks → codeOf T (channelItem m c) ≡ c-channel
+  pub channels-only : (d : ℕ) → codeOf T d ≡ c-channel → Made m d
 
 -- what of it is said by names and links; of this the rest follows for accepted texts (`text-charted`, proofs/Charts.antt)
 pub record Surveyed (m : Model) (T : List ℕ) : Type 0 where

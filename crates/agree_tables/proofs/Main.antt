@@ -7,6 +7,7 @@ use mathlib.Core.List.{List, [], _∷_, _++_}
 use lib.ListN.{length, getD}
 use lib.IntN.{ℤ}
 use lib.Dec.{eqb, leb}
+use Rattle.base_codes.specs.Codes.{c-end-body}
 use Rattle.base_bytes.specs.Choice.{both}
 use Rattle.base_bytes.proofs.Tests.{true-false, both-true}
 use Rattle.spec_grammar.specs.Tree.{action, Tree, Body, body, Model}
@@ -72,7 +73,7 @@ module _ (t : List ℕ) (a : Accepts t) (legal : modelLawful (a .tree) ≡ true)
 
   -- what begins a statement is no `end-body`
   abbrev Begun : Type 0
-  Begun = (k : ℕ) → Bodied (unitAt m k) → (x : Tree action) (j n o : ℕ) → At m k x j n o → eqb (codeOf T j) 228 ≡ false
+  Begun = (k : ℕ) → Bodied (unitAt m k) → (x : Tree action) (j n o : ℕ) → At m k x j n o → eqb (codeOf T j) c-end-body ≡ false
 
   -- and it has few arguments
   abbrev Spare : Type 0
@@ -163,14 +164,14 @@ module _ (t : List ℕ) (a : Accepts t) (legal : modelLawful (a .tree) ≡ true)
               (c .0, record { fits = c .1 .fits; is = c .1 .is }))
 
       -- WHETHER IT HAS ENDED
-      ended-same : endedOf m σ p ≡ eqb (codeOf T (placeOf S p)) 228
+      ended-same : endedOf m σ p ≡ eqb (codeOf T (placeOf S p)) c-end-body
       unfolding endedOf
-      ended-same = go (f .each p g .place) ∙ ap (λ i. eqb (codeOf T i) 228) (inv place-there)
+      ended-same = go (f .each p g .place) ∙ ap (λ i. eqb (codeOf T i) c-end-body) (inv place-there)
         where
-          go : Belongs m k j → eqb j (endOf m k) ≡ eqb (codeOf T j) 228
+          go : Belongs m k j → eqb j (endOf m k) ≡ eqb (codeOf T j) c-end-body
           go (ends b e) =
               eq-eqb j (endOf m k) e
-              ∙ inv (eq-eqb (codeOf T j) 228 (text-ends t a record { own = bodyOf (unitAt m k); at = bodyAt m k; held = unit-holds m k 0 (itemsBefore m k) (omega arith) b; ends = e }))
+              ∙ inv (eq-eqb (codeOf T j) c-end-body (text-ends t a record { own = bodyOf (unitAt m k); at = bodyAt m k; held = unit-holds m k 0 (itemsBefore m k) (omega arith) b; ends = e }))
           go (stands {x = x} {n = n} {o = o} b w) =
               let r = within-range w .1 in
               let e = end-most (bodyOf (unitAt m k)) (bodyAt m k) in
@@ -187,6 +188,6 @@ module _ (t : List ℕ) (a : Accepts t) (legal : modelLawful (a .tree) ≡ true)
               let n = r .fits .processes in
               inv (ap (λ s. min 16 (processesOf s)) (r .is) ∙ ap (min 16) (processes-are m rest x n) ∙ (let z : min 16 (length (x .processes)) ≡ length (x .processes) = omega arith in z));
           steps = λ {x} {y} r late p h. steps-same x (r .fits) p h late ∙ ap (λ s. offersOf T s p late (placeOf s p)) (inv (r .is));
-          ended = λ {x} {y} r p h. ended-same x (r .fits) p h ∙ ap (λ s. eqb (codeOf T (placeOf s p)) 228) (inv (r .is));
+          ended = λ {x} {y} r p h. ended-same x (r .fits) p h ∙ ap (λ s. eqb (codeOf T (placeOf s p)) c-end-body) (inv (r .is));
           take = λ {x} {y} r late p q h i. subst (λ s. Related Holding (takeOf m x p q) (takenOf T p q s)) (inv (r .is)) (take-same x (r .fits) p h late q i);
         }

@@ -3,6 +3,7 @@ use Prim.Native.Nat.{ℕ}
 use mathlib.Core.List.{List}
 use lib.IntN.{ℤ}
 use lib.Dec.{eqb}
+use Rattle.base_codes.specs.Codes.{c-end-body}
 use Rattle.table_layout.specs.Access.{codeOf}
 use Rattle.state_layout.specs.Layout.{placeOf}
 use Rattle.step_offers.specs.Offers.{offersOf}
@@ -16,7 +17,7 @@ machineIn T =
     record {
       processes = λ s. processes s;
       steps = λ s late p. offersOf T s p late (placeOf s p);
-      ended = λ s p. eqb (codeOf T (placeOf s p)) 228;
+      ended = λ s p. eqb (codeOf T (placeOf s p)) c-end-body;
       take = λ s p q. takenOf T p q s;
       printed = λ s p q. printedAt T s p q;
     }

@@ -9,6 +9,7 @@ use native.Mathlib.Decide.{ℕ-discrete, decLt}
 use lib.ListN.{length, getD, length-append}
 use lib.Dec.{eqb, leb}
 use borrow.Author.Tests.{eqb-true, leb-true}
+use Rattle.base_codes.specs.Codes.{c-argument, c-decrement, c-increment, c-into, c-target}
 use Rattle.base_bytes.specs.Choice.{either}
 use Rattle.base_bytes.proofs.Tests.{both-true, either-true, true-false}
 use Rattle.rule_search.specs.Sets.{within}
@@ -45,16 +46,16 @@ each-aimed f [] h = none
 each-aimed f (a ∷ l) h = join (f a) (each f l) (h .0) (each-aimed f l (h .1))
 
 -- ---- expressions
-aims-most : (c : ℕ) → aims c ≡ true → 183 ≤ c
-aims-most c e = go (either-true (eqb c 184) (either (eqb c 190) (within 192 193 c)) e)
+aims-most : (c : ℕ) → aims c ≡ true → c-argument ≤ c
+aims-most c e = go (either-true (eqb c c-into) (either (eqb c c-target) (within c-increment c-decrement c)) e)
   where
-    more : (eqb c 190 ≡ true) ⊎ (within 192 193 c ≡ true) → 183 ≤ c
-    more (inl x) = let z = eqb-true c 190 x in omega arith
-    more (inr x) = let z = leb-true 192 c (both-true (leb 192 c) (leb c 193) x .0) in omega arith
+    more : (eqb c c-target ≡ true) ⊎ (within c-increment c-decrement c ≡ true) → c-argument ≤ c
+    more (inl x) = let z = eqb-true c c-target x in omega arith
+    more (inr x) = let z = leb-true c-increment c (both-true (leb c-increment c) (leb c c-decrement) x .0) in omega arith
 
-    go : (eqb c 184 ≡ true) ⊎ (either (eqb c 190) (within 192 193 c) ≡ true) → 183 ≤ c
-    go (inl x) = let z = eqb-true c 184 x in omega arith
-    go (inr x) = more (either-true (eqb c 190) (within 192 193 c) x)
+    go : (eqb c c-into ≡ true) ⊎ (either (eqb c c-target) (within c-increment c-decrement c) ≡ true) → c-argument ≤ c
+    go (inl x) = let z = eqb-true c c-into x in omega arith
+    go (inr x) = more (either-true (eqb c c-target) (within c-increment c-decrement c) x)
 
 inside-aims : (c : ℕ) → inExpression c ≡ true → aims c ≡ false
 inside-aims c e = go (aims c) refl

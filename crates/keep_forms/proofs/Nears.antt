@@ -5,6 +5,7 @@ use mathlib.Core.Bool.{Bool, true, false}
 use mathlib.Core.List.{List}
 use lib.ListN.{length, getD}
 use lib.Dec.{eqb}
+use Rattle.base_codes.specs.Codes.{c-label}
 use Rattle.base_bytes.specs.Choice.{either}
 use Rattle.base_bytes.proofs.Tests.{true-false}
 use Rattle.keep_forms.specs.Forms.{isPart, joins, step, formAt, Formed}
@@ -26,5 +27,5 @@ module _ (cs : List ℕ) where
   module _ (F : Formed cs) where
     -- an operator, `plain` or `index` stands behind a part
     pub before-part : (j : ℕ) → j < length cs → joins (getD cs j 0) ≡ true → (i : ℕ) × (j ≡ suc i) × (isPart (getD cs i 0) ≡ true)
-    before-part zero h e = absurd (true-false (sym (said cs F 0 h .joined (left-holds (joins (getD cs 0 0)) (eqb (getD cs 0 0) 188) e)) ∙ first-part .0))
-    before-part (suc j) h e = (j, refl, sym (part-next j) ∙ said cs F (suc j) h .joined (left-holds (joins (getD cs (suc j) 0)) (eqb (getD cs (suc j) 0) 188) e))
+    before-part zero h e = absurd (true-false (sym (said cs F 0 h .joined (left-holds (joins (getD cs 0 0)) (eqb (getD cs 0 0) c-label) e)) ∙ first-part .0))
+    before-part (suc j) h e = (j, refl, sym (part-next j) ∙ said cs F (suc j) h .joined (left-holds (joins (getD cs (suc j) 0)) (eqb (getD cs (suc j) 0) c-label) e))

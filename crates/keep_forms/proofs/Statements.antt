@@ -5,6 +5,7 @@ use mathlib.Core.Bool.{Bool, true, false}
 use mathlib.Core.List.{List, [], _∷_, _++_}
 use native.Mathlib.Omega.{arith}
 use borrow.Author.Tests.{lt-ltb}
+use Rattle.base_codes.specs.Codes.{c-end-option, c-fi, c-od}
 use Rattle.base_bytes.specs.Choice.{pick}
 use Rattle.base_kinds.specs.Kinds.{Token}
 use Rattle.spec_grammar.specs.Tree.{Expr, Ref, Received, into, equal, exactly, exactly-true, exactly-false, Sort, action, statement, sequence, options, Tree}
@@ -99,15 +100,15 @@ module _ (o l : ℕ) where
   referred r p g n i K k = join (code-exp r) i _ K (phrase o l false false r p false false g n _ (λ r g n z. subst (λ r. Passes i (form 2 o l true r false false g n) K) (sym z) (k g n)))
 
 -- ---- selections
-close-fits : (o l : ℕ) → (fits (calm (o + 1) l 0) 205 ≡ true) × (fits (calm (o + 1) (l + 1) 0) 207 ≡ true) × (fits (calm (o + 1) l 0) 209 ≡ true)
+close-fits : (o l : ℕ) → (fits (calm (o + 1) l 0) c-fi ≡ true) × (fits (calm (o + 1) (l + 1) 0) c-od ≡ true) × (fits (calm (o + 1) l 0) c-end-option ≡ true)
 unfolding fits
 close-fits o l = (rw (lt-ltb 0 (o + 1) (omega arith)), rw (lt-ltb 0 (o + 1) (omega arith), lt-ltb 0 (l + 1) (omega arith)), rw (lt-ltb 0 (o + 1) (omega arith)))
 
-fi-step : (o l : ℕ) → step (calm (o + 1) l 0) 205 ≡ calm o l 0
+fi-step : (o l : ℕ) → step (calm (o + 1) l 0) c-fi ≡ calm o l 0
 unfolding step
 fi-step o l = ap (λ o. calm o l 0) (let e : o + 1 - 1 ≡ o = omega arith in e)
 
-od-step : (o l : ℕ) → step (calm (o + 1) (l + 1) 0) 207 ≡ calm o l 0
+od-step : (o l : ℕ) → step (calm (o + 1) (l + 1) 0) c-od ≡ calm o l 0
 unfolding step
 od-step o l = (λ i. calm ((let e : o + 1 - 1 ≡ o = omega arith in e) i) ((let e : l + 1 - 1 ≡ l = omega arith in e) i) 0)
 

@@ -6,6 +6,7 @@ use mathlib.Core.Bool.{Bool}
 use mathlib.Core.List.{List}
 use lib.ListN.{length}
 use lib.Dec.{eqb}
+use Rattle.base_codes.specs.Codes.{c-decrement, c-increment, c-into, c-target}
 use Rattle.base_bytes.specs.Choice.{either}
 use Rattle.rule_search.specs.Sets.{within}
 use Rattle.spec_grammar.specs.Tree.{Ref}
@@ -13,7 +14,7 @@ use Rattle.spec_grammar.specs.Code.{code-exp}
 use Rattle.link_phrases_proof.specs.Phrases.{Proper, At}
 
 abbrev pub aims : ℕ → Bool
-aims c = either (eqb c 184) (either (eqb c 190) (within 192 193 c))
+aims c = either (eqb c c-into) (either (eqb c c-target) (within c-increment c-decrement c))
 
 -- a reference stands right before item m
 abbrev pub Behind : List ℕ → ℕ → Type 0

@@ -8,6 +8,7 @@ use native.Mathlib.Decide.{ℕ-discrete}
 use lib.ListN.{length, getD, replicate, length-replicate}
 use lib.Dec.{eqb, ltb, leb}
 use borrow.Author.Tests.{ne-eqb, ltb-true, lt-ltb, le-leb, leb-true}
+use Rattle.base_codes.specs.Codes.{c-body, c-end-body, c-init, c-parameter, c-proctype}
 use Rattle.base_bytes.specs.Choice.{pick, both}
 use Rattle.base_bytes.proofs.Tests.{both-true, true-false}
 use Rattle.rule_sheets.specs.Homes.{heads, insideOf, homeOf}
@@ -22,17 +23,17 @@ both-hold false b e f = e
 
 heads-begins : (c : ℕ) → heads c ≡ true → begins c ≡ true
 heads-begins c e =
-    let a = both-true (ltb 222 c) (ltb c 227) e in
-    let x = ltb-true 222 c (a .0) in
-    let y = ltb-true c 227 (a .1) in
-    both-hold (leb 223 c) (leb c 226) (le-leb 223 c (omega arith)) (le-leb c 226 (omega arith))
+    let a = both-true (ltb c-parameter c) (ltb c c-body) e in
+    let x = ltb-true c-parameter c (a .0) in
+    let y = ltb-true c c-body (a .1) in
+    both-hold (leb c-proctype c) (leb c c-init) (le-leb c-proctype c (omega arith)) (le-leb c c-init (omega arith))
 
 begins-heads : (c : ℕ) → begins c ≡ true → heads c ≡ true
 begins-heads c e =
-    let a = both-true (leb 223 c) (leb c 226) e in
-    let x = leb-true 223 c (a .0) in
-    let y = leb-true c 226 (a .1) in
-    both-hold (ltb 222 c) (ltb c 227) (lt-ltb 222 c (omega arith)) (lt-ltb c 227 (omega arith))
+    let a = both-true (leb c-proctype c) (leb c c-init) e in
+    let x = leb-true c-proctype c (a .0) in
+    let y = leb-true c c-init (a .1) in
+    both-hold (ltb c-parameter c) (ltb c c-body) (lt-ltb c-parameter c (omega arith)) (lt-ltb c c-body (omega arith))
 
 pub no-heads : (c : ℕ) → begins c ≡ false → heads c ≡ false
 no-heads c e = go (heads c) refl
@@ -42,7 +43,7 @@ no-heads c e = go (heads c) refl
     go false h = refl
 
 module _ (cs : List ℕ) where
-  inside-next : (j : ℕ) → insideOf cs (suc j) ≡ pick (heads (getD cs j 0)) (j + 1) (pick (eqb (getD cs j 0) 228) 0 (insideOf cs j))
+  inside-next : (j : ℕ) → insideOf cs (suc j) ≡ pick (heads (getD cs j 0)) (j + 1) (pick (eqb (getD cs j 0) c-end-body) 0 (insideOf cs j))
   unfolding insideOf
   inside-next j = refl
 
@@ -68,7 +69,7 @@ module _ (cs : List ℕ) where
       inside-up (suc n) j q h =
           let i = suc u + n in
           let x = c .3 i (omega arith) (omega arith) in
-          ap (insideOf cs) (let z : j ≡ suc i = omega arith in z) ∙ inside-next i ∙ rw (no-heads (getD cs i 0) (x .0), ne-eqb (getD cs i 0) 228 (x .1)) (inside-up n i refl (omega arith))
+          ap (insideOf cs) (let z : j ≡ suc i = omega arith in z) ∙ inside-next i ∙ rw (no-heads (getD cs i 0) (x .0), ne-eqb (getD cs i 0) c-end-body (x .1)) (inside-up n i refl (omega arith))
 
       -- what stands in the unit, before its end
       pub inside-home : (j : ℕ) → u < j → j < e → getD (homes cs) j 0 ≡ u + 1
@@ -80,13 +81,13 @@ module _ (cs : List ℕ) where
       -- what is in its body stands there, or is its end
       home-inside : (j : ℕ) → insideOf cs j ≡ u + 1 → (u < j) × (j ≤ e)
       home-inside zero q = absurd (let z = inside-none in omega arith)
-      home-inside (suc j) q = go (heads (getD cs j 0)) refl (ℕ-discrete (getD cs j 0) 228) (home-inside j)
+      home-inside (suc j) q = go (heads (getD cs j 0)) refl (ℕ-discrete (getD cs j 0) c-end-body) (home-inside j)
         where
-          go : (b : Bool) → heads (getD cs j 0) ≡ b → Dec (getD cs j 0 ≡ 228) → (insideOf cs j ≡ u + 1 → (u < j) × (j ≤ e)) → (u < suc j) × (suc j ≤ e)
+          go : (b : Bool) → heads (getD cs j 0) ≡ b → Dec (getD cs j 0 ≡ c-end-body) → (insideOf cs j ≡ u + 1 → (u < j) × (j ≤ e)) → (u < suc j) × (suc j ≤ e)
           go true h d r = let z : j + 1 ≡ u + 1 = sym (inside-next j ∙ rw h) ∙ q in let l = c .0 in (omega arith, omega arith)
           go false h (yes d) r = absurd (let z : 0 ≡ u + 1 = sym (inside-next j ∙ rw (h, d)) ∙ q in omega arith)
           go false h (no d) r =
-              let z : insideOf cs j ≡ u + 1 = sym (inside-next j ∙ rw (h, ne-eqb (getD cs j 0) 228 d)) ∙ q in
+              let z : insideOf cs j ≡ u + 1 = sym (inside-next j ∙ rw (h, ne-eqb (getD cs j 0) c-end-body d)) ∙ q in
               let k = r z in
               let m = k .1 in
               (let g = k .0 in omega arith, before (ℕ-discrete j e) m)
@@ -95,7 +96,7 @@ module _ (cs : List ℕ) where
               before (yes z) m = absurd (d (ap (λ i. getD cs i 0) z ∙ c .2))
               before (no z) m = omega arith
 
-      pub body-inside : (j : ℕ) → j < length cs → (getD cs j 0 ≡ 228 → ⊥) → getD (homes cs) j 0 ≡ u + 1 → (u < j) × (j < e)
+      pub body-inside : (j : ℕ) → j < length cs → (getD cs j 0 ≡ c-end-body → ⊥) → getD (homes cs) j 0 ≡ u + 1 → (u < j) × (j < e)
       body-inside j h n q = go (heads (getD cs j 0)) refl
         where
           go : (b : Bool) → heads (getD cs j 0) ≡ b → (u < j) × (j < e)

@@ -7,6 +7,7 @@ use native.Mathlib.Omega.{arith}
 use lib.ListN.{length, getD}
 use lib.Dec.{eqb, ltb}
 use borrow.Author.Tests.{eqb-true, ltb-true}
+use Rattle.base_codes.specs.Codes.{c-end-body, c-goto, c-label}
 use Rattle.base_bytes.specs.Choice.{pick, both}
 use Rattle.base_bytes.proofs.Tests.{both-true, true-false}
 use Rattle.rule_sheets.specs.Walks.{first}
@@ -41,20 +42,20 @@ module _ (cs vs hs : List ℕ) where
       go true e q = (e, eqb-true (getD hs d 0) h (both-true (eqb (getD vs (d - 1) 0) w) (eqb (getD hs d 0) h) q .1))
       go false e q = absurd (true-false (sym q))
 
-pub label-code : (c : ℕ) → among 2 c ≡ true → c ≡ 188
+pub label-code : (c : ℕ) → among 2 c ≡ true → c ≡ c-label
 unfolding among
-label-code c e = eqb-true c 188 e
+label-code c e = eqb-true c c-label e
 
 module _ (t cs vs : List ℕ) (H : Held t cs vs (linksIn cs vs)) (K : Facts cs vs) (u : ℕ) (n : Unit t u) where
   abbrev hs : List ℕ
   hs = homes cs
 
   -- what is in the unit's body stands in it
-  pub body-in : (j : ℕ) → j < length cs → (getD cs j 0 ≡ 228 → ⊥) → getD hs j 0 ≡ u + 1 → Inside t u j
+  pub body-in : (j : ℕ) → j < length cs → (getD cs j 0 ≡ c-end-body → ⊥) → getD hs j 0 ≡ u + 1 → Inside t u j
   body-in j h z q = let s = span-of t cs vs H K u n in let r = body-inside cs (K .formed) (K .few) u (linkOf t u) (s .head) (s .closed) j h z q in (r .0, r .1)
 
   -- ---- goto
-  pub goto-rule : (j : ℕ) → j < length cs → getD cs j 0 ≡ 198 → find cs vs hs 2 (getD vs (j - 1) 0) (getD hs j 0) (length cs) < length cs
+  pub goto-rule : (j : ℕ) → j < length cs → getD cs j 0 ≡ c-goto → find cs vs hs 2 (getD vs (j - 1) 0) (getD hs j 0) (length cs) < length cs
   unfolding ruleOf badBy badGoto
   goto-rule j h c = go (ltb (find cs vs hs 2 (getD vs (j - 1) 0) (getD hs j 0) (length cs)) (length cs)) refl (sym (ap (λ c. badBy cs vs hs (starts cs) (heights cs) (ruleOf c) j) c) ∙ K .ruled j h)
     where
@@ -62,6 +63,6 @@ module _ (t cs vs : List ℕ) (H : Held t cs vs (linksIn cs vs)) (K : Facts cs v
       go true q z = ltb-true _ _ q
       go false q z = absurd (omega arith)
 
-  pub goto-link : (m : List ℕ) (j : ℕ) → getD cs j 0 ≡ 198 → linkBy cs vs hs (starts cs) (classOf (getD cs j 0)) m j ≡ placeFrom cs (find cs vs hs 2 (getD vs (j - 1) 0) (getD hs j 0) (length cs))
+  pub goto-link : (m : List ℕ) (j : ℕ) → getD cs j 0 ≡ c-goto → linkBy cs vs hs (starts cs) (classOf (getD cs j 0)) m j ≡ placeFrom cs (find cs vs hs 2 (getD vs (j - 1) 0) (getD hs j 0) (length cs))
   unfolding linkBy classOf
   goto-link m j c = rw c

@@ -9,6 +9,7 @@ use native.Mathlib.Decide.{ℕ-discrete}
 use lib.ListN.{length, getD}
 use lib.Dec.{leb}
 use borrow.Author.Tests.{eq-eqb, ne-eqb, le-leb, leb-true}
+use Rattle.base_codes.specs.Codes.{c-choice, c-complement, c-end-body, c-false, c-index, c-len, c-or-else, c-plain, c-true}
 use Rattle.base_bytes.specs.Choice.{pick, both, either}
 use Rattle.base_bytes.proofs.Tests.{both-true, either-true, true-false}
 use Rattle.rule_sheets.specs.Walks.{first}
@@ -41,44 +42,44 @@ left-holds : (a b : Bool) → a ≡ true → either a b ≡ true
 left-holds true b e = refl
 left-holds false b e = absurd (true-false (sym e))
 
-joined-part : (c : ℕ) → 147 ≤ c → c ≤ 167 → joins c ≡ true
-joined-part c h g = left-holds (within 147 167 c) _ (within-holds 147 167 c h g)
+joined-part : (c : ℕ) → c-or-else ≤ c → c ≤ c-complement → joins c ≡ true
+joined-part c h g = left-holds (within c-or-else c-complement c) _ (within-holds c-or-else c-complement c h g)
 
-joined-ref : (c : ℕ) → 176 ≤ c → c ≤ 177 → joins c ≡ true
-joined-ref c h g = right-holds (within 147 167 c) _ (left-holds (within 176 177 c) _ (within-holds 176 177 c h g))
+joined-ref : (c : ℕ) → c-plain ≤ c → c ≤ c-index → joins c ≡ true
+joined-ref c h g = right-holds (within c-or-else c-complement c) _ (left-holds (within c-plain c-index c) _ (within-holds c-plain c-index c h g))
 
-joined-last : (c : ℕ) → 180 ≤ c → c ≤ 182 → joins c ≡ true
-joined-last c h g = right-holds (within 147 167 c) _ (right-holds (within 176 177 c) _ (within-holds 180 182 c h g))
+joined-last : (c : ℕ) → c-len ≤ c → c ≤ c-choice → joins c ≡ true
+joined-last c h g = right-holds (within c-or-else c-complement c) _ (right-holds (within c-plain c-index c) _ (within-holds c-len c-choice c h g))
 
 pub leaf-class : (c : ℕ) → isPart c ≡ true → joins c ≡ false → classOf c ≡ 5
 unfolding isPart classOf
-leaf-class c e f = go (ℕ-discrete c 70) (ℕ-discrete c 71) (ℕ-discrete c 178) (ℕ-discrete c 179)
+leaf-class c e f = go (ℕ-discrete c 70) (ℕ-discrete c 71) (ℕ-discrete c c-true) (ℕ-discrete c c-false)
   where
     no-join : joins c ≡ true → ⊥
     no-join j = true-false (sym j ∙ f)
 
-    last : (c ≡ 178 → ⊥) → (c ≡ 179 → ⊥) → (176 ≤ c) × (c ≤ 182) → Dec (c ≡ 176) → Dec (c ≡ 177) → ⊥
+    last : (c ≡ c-true → ⊥) → (c ≡ c-false → ⊥) → (c-plain ≤ c) × (c ≤ c-choice) → Dec (c ≡ c-plain) → Dec (c ≡ c-index) → ⊥
     last n m b (yes x) y = no-join (joined-ref c (omega arith) (omega arith))
     last n m b (no x) (yes y) = no-join (joined-ref c (omega arith) (omega arith))
     last n m b (no x) (no y) = let p = b .0 in let q = b .1 in no-join (joined-last c (omega arith) (omega arith))
 
-    none : (c ≡ 70 → ⊥) → (c ≡ 71 → ⊥) → (c ≡ 178 → ⊥) → (c ≡ 179 → ⊥) → (within 70 71 c ≡ true) ⊎ (either (within 147 167 c) (within 176 182 c) ≡ true) → ⊥
+    none : (c ≡ 70 → ⊥) → (c ≡ 71 → ⊥) → (c ≡ c-true → ⊥) → (c ≡ c-false → ⊥) → (within 70 71 c ≡ true) ⊎ (either (within c-or-else c-complement c) (within c-plain c-choice c) ≡ true) → ⊥
     none n m o p (inl x) = let b = within-true 70 71 c x in let y = b .0 in let z = b .1 in omega arith
-    none n m o p (inr x) = more (either-true (within 147 167 c) (within 176 182 c) x)
+    none n m o p (inr x) = more (either-true (within c-or-else c-complement c) (within c-plain c-choice c) x)
       where
-        more : (within 147 167 c ≡ true) ⊎ (within 176 182 c ≡ true) → ⊥
-        more (inl y) = let b = within-true 147 167 c y in no-join (joined-part c (b .0) (b .1))
-        more (inr y) = last o p (within-true 176 182 c y) (ℕ-discrete c 176) (ℕ-discrete c 177)
+        more : (within c-or-else c-complement c ≡ true) ⊎ (within c-plain c-choice c ≡ true) → ⊥
+        more (inl y) = let b = within-true c-or-else c-complement c y in no-join (joined-part c (b .0) (b .1))
+        more (inr y) = last o p (within-true c-plain c-choice c y) (ℕ-discrete c c-plain) (ℕ-discrete c c-index)
 
-    go : Dec (c ≡ 70) → Dec (c ≡ 71) → Dec (c ≡ 178) → Dec (c ≡ 179) → classOf c ≡ 5
+    go : Dec (c ≡ 70) → Dec (c ≡ 71) → Dec (c ≡ c-true) → Dec (c ≡ c-false) → classOf c ≡ 5
     go (yes z) b g d = rw z
     go (no a) (yes z) g d = rw z
     go (no a) (no b) (yes z) d = rw z
     go (no a) (no b) (no g) (yes z) = rw z
-    go (no a) (no b) (no g) (no d) = absurd (none a b g d (either-true (within 70 71 c) (either (within 147 167 c) (within 176 182 c)) e))
+    go (no a) (no b) (no g) (no d) = absurd (none a b g d (either-true (within 70 71 c) (either (within c-or-else c-complement c) (within c-plain c-choice c)) e))
 
 -- an end of a body is a mark
-end-mark : isMark 228 ≡ true
+end-mark : isMark c-end-body ≡ true
 unfolding isPart
 end-mark = refl
 
@@ -89,13 +90,13 @@ mark-says c = go (isPart c)
     go true e = absurd (true-false (sym e))
     go false e = refl
 
-end-stop : (cs : List ℕ) (e : ℕ) → getD cs e 0 ≡ 228 → isStop cs e ≡ true
+end-stop : (cs : List ℕ) (e : ℕ) → getD cs e 0 ≡ c-end-body → isStop cs e ≡ true
 unfolding isStop
-end-stop cs e z = rw (eq-eqb (getD cs e 0) 228 z)
+end-stop cs e z = rw (eq-eqb (getD cs e 0) c-end-body z)
 
-stop-place : (cs : List ℕ) (q : ℕ) → isStop cs q ≡ true → (getD cs q 0 ≡ 228 → ⊥) → isPlace cs q ≡ true
+stop-place : (cs : List ℕ) (q : ℕ) → isStop cs q ≡ true → (getD cs q 0 ≡ c-end-body → ⊥) → isPlace cs q ≡ true
 unfolding isStop
-stop-place cs q e n = sym (ap (λ b. either b (isPlace cs q)) (ne-eqb (getD cs q 0) 228 n)) ∙ e
+stop-place cs q e n = sym (ap (λ b. either b (isPlace cs q)) (ne-eqb (getD cs q 0) c-end-body n)) ∙ e
 
 module _ (t cs vs : List ℕ) (H : Held t cs vs (linksIn cs vs)) (K : Facts cs vs) where
   mark-link : (m : List ℕ) (q : ℕ) → classOf (getD cs q 0) ≡ 5 → linkBy cs vs (homes cs) (starts cs) (classOf (getD cs q 0)) m q ≡ markOf cs q

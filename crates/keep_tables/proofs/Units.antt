@@ -7,6 +7,7 @@ use native.Mathlib.Omega.{arith}
 use native.Mathlib.Decide.{ℕ-discrete}
 use lib.ListN.{length, getD}
 use borrow.Author.Tests.{eq-eqb, ne-eqb}
+use Rattle.base_codes.specs.Codes.{c-active, c-active-many, c-end-body, c-init, c-proctype}
 use Rattle.table_layout.specs.Access.{itemsOf, codeOf, linkOf}
 use Rattle.link_places.specs.Places.{isOpening, isClosing, deeper, closeFrom, closeOf}
 use Rattle.link_items.specs.Links.{classOf, linkBy}
@@ -18,34 +19,34 @@ use Rattle.keep_tables.specs.Facts.{homes, starts, linksIn, Facts}
 use Rattle.keep_tables.proofs.Links.{link-is}
 
 -- each of the four codes of what begins a unit
-by-four : (P : ℕ → Type 0) → P 223 → P 224 → P 225 → P 226 → (c : ℕ) → 223 ≤ c → c ≤ 226 → P c
-by-four P a b d e c h g = subst P (let z : 223 + (c - 223) ≡ c = omega arith in z) (go (c - 223) (omega arith))
+by-four : (P : ℕ → Type 0) → P c-proctype → P c-active → P c-active-many → P c-init → (c : ℕ) → c-proctype ≤ c → c ≤ c-init → P c
+by-four P a b d e c h g = subst P (let z : c-proctype + (c - c-proctype) ≡ c = omega arith in z) (go (c - c-proctype) (omega arith))
   where
-    go : (k : ℕ) → k < 4 → P (223 + k)
+    go : (k : ℕ) → k < 4 → P (c-proctype + k)
     go zero h = a
     go (suc zero) h = b
     go (suc (suc zero)) h = d
     go (suc (suc (suc zero))) h = e
     go (suc (suc (suc (suc k)))) h = absurd (omega arith)
 
-begins-holds : (c : ℕ) → 223 ≤ c → c ≤ 226 → begins c ≡ true
+begins-holds : (c : ℕ) → c-proctype ≤ c → c ≤ c-init → begins c ≡ true
 begins-holds = by-four (λ c. begins c ≡ true) refl refl refl refl
 
-unit-class : (c : ℕ) → 223 ≤ c → c ≤ 226 → classOf c ≡ 12
+unit-class : (c : ℕ) → c-proctype ≤ c → c ≤ c-init → classOf c ≡ 12
 unfolding classOf
 unit-class = by-four (λ c. classOf c ≡ 12) refl refl refl refl
 
 -- ---- the first end behind a place
 module _ (cs : List ℕ) where
-  close-step : (k f : ℕ) → (getD cs k 0 ≡ 228 → ⊥) → closeFrom cs 3 k 1 (suc f) ≡ closeFrom cs 3 (k + 1) 1 f
+  close-step : (k f : ℕ) → (getD cs k 0 ≡ c-end-body → ⊥) → closeFrom cs 3 k 1 (suc f) ≡ closeFrom cs 3 (k + 1) 1 f
   unfolding closeFrom isClosing isOpening deeper
-  close-step k f n = rw (ne-eqb (getD cs k 0) 228 n)
+  close-step k f n = rw (ne-eqb (getD cs k 0) c-end-body n)
 
-  close-here : (k f : ℕ) → getD cs k 0 ≡ 228 → closeFrom cs 3 k 1 (suc f) ≡ k
+  close-here : (k f : ℕ) → getD cs k 0 ≡ c-end-body → closeFrom cs 3 k 1 (suc f) ≡ k
   unfolding closeFrom isClosing
-  close-here k f e = rw (eq-eqb (getD cs k 0) 228 e)
+  close-here k f e = rw (eq-eqb (getD cs k 0) c-end-body e)
 
-  close-is : (f k e : ℕ) → k ≤ e → e < k + f → getD cs e 0 ≡ 228 → ((i : ℕ) → k ≤ i → i < e → getD cs i 0 ≡ 228 → ⊥) → closeFrom cs 3 k 1 f ≡ e
+  close-is : (f k e : ℕ) → k ≤ e → e < k + f → getD cs e 0 ≡ c-end-body → ((i : ℕ) → k ≤ i → i < e → getD cs i 0 ≡ c-end-body → ⊥) → closeFrom cs 3 k 1 f ≡ e
   close-is zero k e g h c n = absurd (omega arith)
   close-is (suc f) k e g h c n = go (ℕ-discrete k e) (λ l. close-is f (k + 1) e l (omega arith) c (λ i p q. n i (omega arith) q))
     where
@@ -60,7 +61,7 @@ module _ (t cs vs : List ℕ) (H : Held t cs vs (linksIn cs vs)) (K : Facts cs v
     pub head : begins (getD cs u 0) ≡ true
     pub closed : Closed cs (K .formed) (suc u) (linkOf t u)
 
-  unit-link : (m : List ℕ) (u : ℕ) → 223 ≤ getD cs u 0 → getD cs u 0 ≤ 226 → linkBy cs vs (homes cs) (starts cs) (classOf (getD cs u 0)) m u ≡ closeOf cs 3 (u + 1)
+  unit-link : (m : List ℕ) (u : ℕ) → c-proctype ≤ getD cs u 0 → getD cs u 0 ≤ c-init → linkBy cs vs (homes cs) (starts cs) (classOf (getD cs u 0)) m u ≡ closeOf cs 3 (u + 1)
   unfolding linkBy
   unit-link m u a b = rw (unit-class (getD cs u 0) a b)
 
@@ -72,8 +73,8 @@ module _ (t cs vs : List ℕ) (H : Held t cs vs (linksIn cs vs)) (K : Facts cs v
   span-of u n =
       let h : u < length cs = subst (λ k. u < k) (H .items) (n .0) in
       let q = H .codes u h in
-      let a : 223 ≤ getD cs u 0 = subst (λ c. 223 ≤ c) q (n .1) in
-      let b : getD cs u 0 ≤ 226 = subst (λ c. c ≤ 226) q (n .2) in
+      let a : c-proctype ≤ getD cs u 0 = subst (λ c. c-proctype ≤ c) q (n .1) in
+      let b : getD cs u 0 ≤ c-init = subst (λ c. c ≤ c-init) q (n .2) in
       let g = begins-holds (getD cs u 0) a b in
       let r = unit-closed cs (K .formed) u h g in
       let l = link-is cs vs u (K .few) h in
@@ -83,7 +84,7 @@ module _ (t cs vs : List ℕ) (H : Held t cs vs (linksIn cs vs)) (K : Facts cs v
       record { before = h; head = g; closed = subst (Closed cs (K .formed) (suc u)) (sym z) (r .1) }
 
   -- ---- fields of `Well`
-  pub text-ends : (u : ℕ) → Unit t u → (u < linkOf t u) × (linkOf t u < itemsOf t) × (codeOf t (linkOf t u) ≡ 228)
+  pub text-ends : (u : ℕ) → Unit t u → (u < linkOf t u) × (linkOf t u < itemsOf t) × (codeOf t (linkOf t u) ≡ c-end-body)
   text-ends u n =
       let s = span-of u n in
       let c = s .closed in

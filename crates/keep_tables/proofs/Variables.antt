@@ -9,6 +9,7 @@ use native.Mathlib.Decide.{decLt}
 use lib.ListN.{length, getD}
 use lib.Dec.{eqb, ltb, leb}
 use borrow.Author.Tests.{eq-eqb, ne-eqb, eqb-true, ltb-true, ltb-false, leb-true}
+use Rattle.base_codes.specs.Codes.{c-declared, c-parameter, c-size}
 use Rattle.base_bytes.specs.Choice.{pick, both, either}
 use Rattle.base_bytes.proofs.Tests.{either-false, true-false}
 use Rattle.rule_sheets.specs.Walks.{sum}
@@ -78,7 +79,7 @@ item-there cs j c h e = go (decLt j (length cs))
 
 -- ---- the size of an array
 module _ (cs vs : List ℕ) (K : Facts cs vs) where
-  size-rule : (j : ℕ) → j < length cs → getD cs j 0 ≡ 213 → (0 < getD vs (j - 1) 0) × (getD vs (j - 1) 0 ≤ 32)
+  size-rule : (j : ℕ) → j < length cs → getD cs j 0 ≡ c-size → (0 < getD vs (j - 1) 0) × (getD vs (j - 1) 0 ≤ 32)
   unfolding ruleOf badBy badSize
   size-rule j h e = go (ltb 0 (getD vs (j - 1) 0)) (leb (getD vs (j - 1) 0) 32) refl refl (sym (ap (λ c. badBy cs vs (homes cs) (starts cs) (heights cs) (ruleOf c) j) e) ∙ K .ruled j h)
     where
@@ -90,12 +91,12 @@ module _ (cs vs : List ℕ) (K : Facts cs vs) where
   -- an array has the number that its declaration says, 1 to 32, and a scalar 1
   pub size-is : (d : ℕ) → (1 ≤ sizeAt cs vs d) × (sizeAt cs vs d ≡ pick (isArray cs d) (getD vs (d + 1) 0) 1)
   unfolding sizeAt isArray
-  size-is d = go (eqb (getD cs (d + 1) 0) 71) (eqb (getD cs (d + 2) 0) 213) refl
+  size-is d = go (eqb (getD cs (d + 1) 0) 71) (eqb (getD cs (d + 2) 0) c-size) refl
     where
-      go : (a b : Bool) → eqb (getD cs (d + 2) 0) 213 ≡ b → (1 ≤ pick (both a b) (min 63 (getD vs (d + 1) 0)) 1) × (pick (both a b) (min 63 (getD vs (d + 1) 0)) 1 ≡ pick (both a b) (getD vs (d + 1) 0) 1)
+      go : (a b : Bool) → eqb (getD cs (d + 2) 0) c-size ≡ b → (1 ≤ pick (both a b) (min 63 (getD vs (d + 1) 0)) 1) × (pick (both a b) (min 63 (getD vs (d + 1) 0)) 1 ≡ pick (both a b) (getD vs (d + 1) 0) 1)
       go true true e =
-          let c = eqb-true (getD cs (d + 2) 0) 213 e in
-          let r = size-rule (d + 2) (item-there cs (d + 2) 213 (omega arith) c) c in
+          let c = eqb-true (getD cs (d + 2) 0) c-size e in
+          let r = size-rule (d + 2) (item-there cs (d + 2) c-size (omega arith) c) c in
           let q : getD vs (d + 2 - 1) 0 ≡ getD vs (d + 1) 0 = ap (λ k. getD vs k 0) (let z : d + 2 - 1 ≡ d + 1 = omega arith in z) in
           let x = r .0 in
           let y = r .1 in
@@ -126,7 +127,7 @@ offset-most : (cs vs hs : List ℕ) (d : ℕ) → offsetAt cs vs hs d ≤ 65535
 unfolding offsetAt
 offset-most cs vs hs d = omega arith
 
-variable-class : (c : ℕ) → (c ≡ 212) ⊎ (c ≡ 222) → classOf c ≡ 14
+variable-class : (c : ℕ) → (c ≡ c-declared) ⊎ (c ≡ c-parameter) → classOf c ≡ 14
 unfolding classOf
 variable-class c (inl e) = rw e
 variable-class c (inr e) = rw e
@@ -139,7 +140,7 @@ module _ (t cs vs : List ℕ) (H : Held t cs vs (linksIn cs vs)) (K : Facts cs v
   unfolding linkBy
   variable-link m d e = rw e
 
-  slot-is : (d : ℕ) → d < length cs → (getD cs d 0 ≡ 212) ⊎ (getD cs d 0 ≡ 222) → linkOf t d ≡ typeAt cs d + 8 * localAt hs d + 16 * sizeAt cs vs d + 1024 * offsetAt cs vs hs d
+  slot-is : (d : ℕ) → d < length cs → (getD cs d 0 ≡ c-declared) ⊎ (getD cs d 0 ≡ c-parameter) → linkOf t d ≡ typeAt cs d + 8 * localAt hs d + 16 * sizeAt cs vs d + 1024 * offsetAt cs vs hs d
   unfolding slotAt
   slot-is d h v =
       let l = link-is cs vs d (K .few) h in
@@ -156,7 +157,7 @@ module _ (t cs vs : List ℕ) (H : Held t cs vs (linksIn cs vs)) (K : Facts cs v
     pub size : sizeOf (linkOf t d) ≡ sizeAt cs vs d
     pub flag : linkOf t d / 8 % 2 ≡ localAt hs d
 
-  pub slot-of : (d : ℕ) → d < length cs → (getD cs d 0 ≡ 212) ⊎ (getD cs d 0 ≡ 222) → Slot d
+  pub slot-of : (d : ℕ) → d < length cs → (getD cs d 0 ≡ c-declared) ⊎ (getD cs d 0 ≡ c-parameter) → Slot d
   slot-of d h v =
       let e = slot-is d h v in
       let u = unpacked (typeAt cs d) (localAt hs d) (sizeAt cs vs d) (offsetAt cs vs hs d) (type-most cs d) (local-most hs d) (size-most cs vs d) in
@@ -166,10 +167,10 @@ module _ (t cs vs : List ℕ) (H : Held t cs vs (linksIn cs vs)) (K : Facts cs v
   below : (d : ℕ) → d < itemsOf t → d < length cs
   below d h = subst (λ n. d < n) (H .items) h
 
-  code-as : (d : ℕ) → d < length cs → isLocal t d ≡ true → (getD cs d 0 ≡ 212) ⊎ (getD cs d 0 ≡ 222)
+  code-as : (d : ℕ) → d < length cs → isLocal t d ≡ true → (getD cs d 0 ≡ c-declared) ⊎ (getD cs d 0 ≡ c-parameter)
   code-as d h e = go (local-is t d e)
     where
-      go : (codeOf t d ≡ 212) ⊎ (codeOf t d ≡ 222) → (getD cs d 0 ≡ 212) ⊎ (getD cs d 0 ≡ 222)
+      go : (codeOf t d ≡ c-declared) ⊎ (codeOf t d ≡ c-parameter) → (getD cs d 0 ≡ c-declared) ⊎ (getD cs d 0 ≡ c-parameter)
       go (inl z) = inl (sym (H .codes d h) ∙ z)
       go (inr z) = inr (sym (H .codes d h) ∙ z)
 

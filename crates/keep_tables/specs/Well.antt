@@ -5,6 +5,7 @@ use mathlib.Core.Path.{_≡_}
 use mathlib.Core.Bool.{true}
 use mathlib.Core.List.{List}
 use mathlib.Core.Logic.{_⊎_}
+use Rattle.base_codes.specs.Codes.{c-init, c-proctype}
 use Rattle.table_layout.specs.Access.{itemsOf, codeOf, linkOf}
 use Rattle.step_eval.specs.Variables.{sizeOf}
 use Rattle.state_types.specs.Fits.{isLocal}
@@ -13,7 +14,7 @@ use Rattle.state_check.specs.Standing.{placeAt}
 module _ (t : List ℕ) where
   -- item u begins a unit with a body: proctype, active, active-many or init
   abbrev pub Unit : ℕ → Type 0
-  Unit u = (u < itemsOf t) × (223 ≤ codeOf t u) × (codeOf t u ≤ 226)
+  Unit u = (u < itemsOf t) × (c-proctype ≤ codeOf t u) × (codeOf t u ≤ c-init)
 
   -- item j stands in the unit, before its end
   abbrev pub Inside : ℕ → ℕ → Type 0

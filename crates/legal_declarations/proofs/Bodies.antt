@@ -9,6 +9,7 @@ use mathlib.Core.Logic.{_⊎_, inl, inr}
 use mathlib.Core.List.{List, [], _∷_, _++_}
 use lib.ListN.{length, getD, length-append, length-map}
 use borrow.Author.Tests.{ne-eqb, eq-eqb, lt-ltb, lt-leb}
+use Rattle.base_codes.specs.Codes.{c-argument, c-body, c-declared, c-end-body, c-end-option, c-field, c-len, c-local, c-message, c-option, c-parameter, c-proctype, c-size}
 use Rattle.base_bytes.specs.Choice.{pick, both}
 use Rattle.base_bytes.proofs.Tests.{true-false}
 use Rattle.spec_text.specs.Names.{pid}
@@ -35,40 +36,40 @@ use Rattle.legal_declarations.proofs.Judging.{hs, fault-mark, Clean, Ju
 use Rattle.legal_declarations.proofs.Variables.{Pidless, is-unknown, After}
 use Rattle.legal_declarations.proofs.Declarations.{type-low, declarations-judged}
 
-spoken-one : (c : ℕ) → c ≤ 209 → among 1 c ≡ false
+spoken-one : (c : ℕ) → c ≤ c-end-option → among 1 c ≡ false
 unfolding among
-spoken-one c h = rw (ne-eqb c 212 (λ z. omega arith), ne-eqb c 220 (λ z. omega arith), lt-leb 222 c (omega arith))
+spoken-one c h = rw (ne-eqb c c-declared (λ z. omega arith), ne-eqb c c-message (λ z. omega arith), lt-leb c-parameter c (omega arith))
 
-not-six : (c : ℕ) → (c ≡ 222 → ⊥) → among 6 c ≡ false
+not-six : (c : ℕ) → (c ≡ c-parameter → ⊥) → among 6 c ≡ false
 unfolding among
-not-six c n = ne-eqb c 222 n
+not-six c n = ne-eqb c c-parameter n
 
-six : among 6 222 ≡ true
+six : among 6 c-parameter ≡ true
 unfolding among
 six = refl
 
-thirteen : (c : ℕ) → c ≤ 222 → among 13 c ≡ false
+thirteen : (c : ℕ) → c ≤ c-parameter → among 13 c ≡ false
 unfolding among
-thirteen c h = rw (lt-leb 223 c (omega arith))
+thirteen c h = rw (lt-leb c-proctype c (omega arith))
 
-fourteen : (c : ℕ) → among 14 c ≡ true → c ≤ 222
+fourteen : (c : ℕ) → among 14 c ≡ true → c ≤ c-parameter
 unfolding among
-fourteen c e = go (ℕ-discrete c 212) (ℕ-discrete c 222)
+fourteen c e = go (ℕ-discrete c c-declared) (ℕ-discrete c c-parameter)
   where
-    go : Dec (c ≡ 212) → Dec (c ≡ 222) → c ≤ 222
+    go : Dec (c ≡ c-declared) → Dec (c ≡ c-parameter) → c ≤ c-parameter
     go (yes z) d = omega arith
     go (no z) (yes y) = omega arith
-    go (no z) (no y) = absurd (true-false (sym e ∙ rw (ne-eqb c 212 z, ne-eqb c 222 y) refl))
+    go (no z) (no y) = absurd (true-false (sym e ∙ rw (ne-eqb c c-declared z, ne-eqb c c-parameter y) refl))
 
 end-none : (l : List ℕ) → getD l (length l) 0 ≡ 0
 end-none [] = refl
 end-none (x ∷ l) = end-none l
 
-marks : (ruleOf 227 ≡ 0) × (ruleOf 228 ≡ 0)
+marks : (ruleOf c-body ≡ 0) × (ruleOf c-end-body ≡ 0)
 unfolding ruleOf
 marks = (refl, refl)
 
-body-one : among 1 227 ≡ false
+body-one : among 1 c-body ≡ false
 unfolding among
 body-one = refl
 
@@ -93,21 +94,21 @@ module _ (m : Model) (cs vs : List ℕ) (S : Says m cs vs) where
     pub last : f ≤ t
     pub top : t < length cs
     pub before : (j : ℕ) → suc u ≤ j → j < b → Calm (getD cs j 0)
-    pub begin : getD cs b 0 ≡ 227
-    pub own : (j : ℕ) → suc b ≤ j → j < f → (getD cs j 0 ≤ 218) × Calm (getD cs j 0)
-    pub said : (j : ℕ) → f ≤ j → j < t → getD cs j 0 ≤ 209
-    pub ends : getD cs t 0 ≡ 228
+    pub begin : getD cs b 0 ≡ c-body
+    pub own : (j : ℕ) → suc b ≤ j → j < f → (getD cs j 0 ≤ c-field) × Calm (getD cs j 0)
+    pub said : (j : ℕ) → f ≤ j → j < t → getD cs j 0 ≤ c-end-option
+    pub ends : getD cs t 0 ≡ c-end-body
 
   module _ (u b f t : ℕ) (F : Frame u b f t) where
-    plain-in : (j : ℕ) → suc u ≤ j → j < t → (heads (getD cs j 0) ≡ false) × (getD cs j 0 ≡ 228 → ⊥)
+    plain-in : (j : ℕ) → suc u ≤ j → j < t → (heads (getD cs j 0) ≡ false) × (getD cs j 0 ≡ c-end-body → ⊥)
     plain-in j g h = go (decLt j b) (ℕ-discrete j b) (decLt j f)
       where
-        low : getD cs j 0 ≤ 222 → (heads (getD cs j 0) ≡ false) × (getD cs j 0 ≡ 228 → ⊥)
+        low : getD cs j 0 ≤ c-parameter → (heads (getD cs j 0) ≡ false) × (getD cs j 0 ≡ c-end-body → ⊥)
         low l = (no-head (getD cs j 0) l, λ z. omega arith)
 
-        go : Dec (j < b) → Dec (j ≡ b) → Dec (j < f) → (heads (getD cs j 0) ≡ false) × (getD cs j 0 ≡ 228 → ⊥)
+        go : Dec (j < b) → Dec (j ≡ b) → Dec (j < f) → (heads (getD cs j 0) ≡ false) × (getD cs j 0 ≡ c-end-body → ⊥)
         go (yes x) y z = low (F .before j g x .most)
-        go (no x) (yes y) z = let c : getD cs j 0 ≡ 227 = ap (λ n. getD cs n 0) y ∙ F .begin in (rw c refl, λ z. omega arith)
+        go (no x) (yes y) z = let c : getD cs j 0 ≡ c-body = ap (λ n. getD cs n 0) y ∙ F .begin in (rw c refl, λ z. omega arith)
         go (no x) (no y) (yes z) = low (F .own j (omega arith) z .1 .most)
         go (no x) (no y) (no z) = let a = F .said j (omega arith) h in low (omega arith)
 
@@ -118,7 +119,7 @@ module _ (m : Model) (cs vs : List ℕ) (S : Says m cs vs) where
     home-in j g h = let a = F .top in home-inside cs (S .few) j (omega arith) (go (ℕ-discrete j t)) ∙ inside-unit j g h
       where
         go : Dec (j ≡ t) → heads (getD cs j 0) ≡ false
-        go (yes z) = let c : getD cs j 0 ≡ 228 = ap (λ n. getD cs n 0) z ∙ F .ends in rw c refl
+        go (yes z) = let c : getD cs j 0 ≡ c-end-body = ap (λ n. getD cs n 0) z ∙ F .ends in rw c refl
         go (no z) = plain-in j g (omega arith) .0
 
     pub inside-after : insideOf cs (suc t) ≡ 0
@@ -139,7 +140,7 @@ module _ (m : Model) (cs vs : List ℕ) (S : Says m cs vs) where
         above (yes z) = absurd (later (home-later cs (S .few) (suc t) j inside-after (omega arith) g))
         above (no z) = omega arith
 
-    inner-only : (j : ℕ) → j < length cs → getD H j 0 ≡ suc u → (Calm (getD cs j 0) → ⊥) → (getD cs j 0 ≡ 227 → ⊥) → (getD cs j 0 ≡ 228 → ⊥) → (f ≤ j) × (j < t)
+    inner-only : (j : ℕ) → j < length cs → getD H j 0 ≡ suc u → (Calm (getD cs j 0) → ⊥) → (getD cs j 0 ≡ c-body → ⊥) → (getD cs j 0 ≡ c-end-body → ⊥) → (f ≤ j) × (j < t)
     inner-only j g e n p q = go (decLt j b) (ℕ-discrete j b) (decLt j f) (ℕ-discrete j t)
       where
         go : Dec (j < b) → Dec (j ≡ b) → Dec (j < f) → Dec (j ≡ t) → (f ≤ j) × (j < t)
@@ -165,7 +166,7 @@ module _ (m : Model) (cs vs : List ℕ) (S : Says m cs vs) where
         go true = refl
         go false = refl
 
-    unit-one : (j : ℕ) → getD cs j 0 ≡ 222 → getD H j 0 ≡ u + 1 → unit j ≡ 1
+    unit-one : (j : ℕ) → getD cs j 0 ≡ c-parameter → getD H j 0 ≡ u + 1 → unit j ≡ 1
     unfolding one
     unit-one j e g = rw (ap (among 6) e ∙ six, eq-eqb (getD H j 0) (u + 1) g)
 
@@ -234,10 +235,10 @@ module _ (m : Model) (cs vs : List ℕ) (S : Says m cs vs) where
         body-none j x z = go (ℕ-discrete j b) (decLt j f) (decLt j t) (ℕ-discrete j t)
           where
             go : Dec (j ≡ b) → Dec (j < f) → Dec (j < t) → Dec (j ≡ t) → one cs (hs m cs vs S) 6 (u + 1) j ≡ 0
-            go (yes p) q r s = unit-none j (not-six (getD cs j 0) (λ y. (let c : getD cs j 0 ≡ 227 = ap (λ n. getD cs n 0) p ∙ F .begin in omega arith)))
+            go (yes p) q r s = unit-none j (not-six (getD cs j 0) (λ y. (let c : getD cs j 0 ≡ c-body = ap (λ n. getD cs n 0) p ∙ F .begin in omega arith)))
             go (no p) (yes q) r s = unit-none j (not-six (getD cs j 0) (λ y. (let c = F .own j (omega arith) q .0 in omega arith)))
             go (no p) (no q) (yes r) s = unit-none j (not-six (getD cs j 0) (λ y. (let c = F .said j (omega arith) r in omega arith)))
-            go (no p) (no q) (no r) (yes s) = unit-none j (not-six (getD cs j 0) (λ y. (let c : getD cs j 0 ≡ 228 = ap (λ n. getD cs n 0) s ∙ F .ends in omega arith)))
+            go (no p) (no q) (no r) (yes s) = unit-none j (not-six (getD cs j 0) (λ y. (let c : getD cs j 0 ≡ c-end-body = ap (λ n. getD cs n 0) s ∙ F .ends in omega arith)))
             go (no p) (no q) (no r) (no s) = unit-other j (λ y. (let a = home-only j z (y ∙ (let w : u + 1 ≡ suc u = omega arith in w)) .1 in omega arith))
 
     -- ---- what searches find for the names of the statements, with the locals l, the globals g before them and those of the whole model
@@ -266,7 +267,7 @@ module _ (m : Model) (cs vs : List ℕ) (S : Says m cs vs) where
           pidless = (is-unknown (senseIn l pid) nl, is-unknown (senseIn M pid) nm);
         }
       where
-        after-mark : (c : ℕ) → (180 ≤ c → 210 ≤ c) → 183 ≤ c → c ≤ 209 → ⊥
+        after-mark : (c : ℕ) → (c-len ≤ c → c-local ≤ c) → c-argument ≤ c → c ≤ c-end-option → ⊥
         after-mark c z x y = let a = z (omega arith) in omega arith
 
         name : (j : ℕ) (w : Name) → j < length cs → itemAt (code m) j ≡ i-name w → getD cs j 0 ≡ 70
@@ -281,23 +282,23 @@ module _ (m : Model) (cs vs : List ℕ) (S : Says m cs vs) where
             let i1 = F .inner in
             scoped-over m cs vs H S g 0 (suc u) j (omega arith) (λ i a c. inr (λ z. (let q = home-in i a (omega arith) in omega arith))) sg
 
-    low-end : (getD cs (suc t) 0 ≡ 213 → ⊥) → (j : ℕ) → f ≤ j → j ≤ suc t → getD cs j 0 ≡ 213 → ⊥
+    low-end : (getD cs (suc t) 0 ≡ c-size → ⊥) → (j : ℕ) → f ≤ j → j ≤ suc t → getD cs j 0 ≡ c-size → ⊥
     low-end after j x z e = go (decLt j t) (ℕ-discrete j t)
       where
         go : Dec (j < t) → Dec (j ≡ t) → ⊥
         go (yes a) c = let r = F .said j x a in omega arith
-        go (no a) (yes c) = let r : getD cs j 0 ≡ 228 = ap (λ n. getD cs n 0) c ∙ F .ends in omega arith
+        go (no a) (yes c) = let r : getD cs j 0 ≡ c-end-body = ap (λ n. getD cs n 0) c ∙ F .ends in omega arith
         go (no a) (no c) = after (ap (λ n. getD cs n 0) (let w : suc t ≡ j = omega arith in w) ∙ e)
 
     -- no size stands where the statements begin
-    pub frame-behind : (getD cs (suc t) 0 ≡ 213 → ⊥) → After m cs vs S f
+    pub frame-behind : (getD cs (suc t) 0 ≡ c-size → ⊥) → After m cs vs S f
     frame-behind after = let i2 = F .last in (low-end after f (omega arith) (omega arith), low-end after (suc f) (omega arith) (omega arith))
 
   -- what is known of the statements of a body: crate `legal_statements`
   abbrev pub Statements : Type 0
   Statements =
       (q : Tree sequence) (from to h : ℕ) (at : Place) → Lying xs 0 (code-tree q) from → to ≡ from + sizeIn q → Setting xs cs vs H h from to at → at .labels ≡ labelsOf q →
-      (getD cs (from - 1) 0 ≡ 208 → ⊥)
+      (getD cs (from - 1) 0 ≡ c-option → ⊥)
       → (Clean m cs vs S from to → both (apart (labelsOf q)) (allowed at false false q) ≡ true) × (both (apart (labelsOf q)) (allowed at false false q) ≡ true → Clean m cs vs S from to)
 
   -- the frame of a unit, by its items
@@ -327,7 +328,7 @@ module _ (m : Model) (cs vs : List ℕ) (S : Says m cs vs) where
 
   module _ (ruled : Statements) (u b f t : ℕ) (F : Frame u b f t) where
     pub body-judged : (ds : List Declaration) (q : Tree sequence) (l g M : Scope) → Lying xs 0 (code-tree q) f → t ≡ f + sizeIn q → f ≡ suc b + length (each (code-declaration i-local) ds)
-        → Lies xs (suc b) (each (code-declaration i-local) ds) → (getD cs (suc t) 0 ≡ 213 → ⊥) → Sc l (suc u) b → Sc g 0 (suc u) → Sc M 0 (length cs) → Pidless l → Pidless g → Pidless M
+        → Lies xs (suc b) (each (code-declaration i-local) ds) → (getD cs (suc t) 0 ≡ c-size → ⊥) → Sc l (suc u) b → Sc g 0 (suc u) → Sc M 0 (length cs) → Pidless l → Pidless g → Pidless M
         → J b (suc t) (bodyLawful M g l (body ds q))
     unfolding bodyLawful
     body-judged ds q l g M lying et ef y after sl sg sm nl ng nm =
@@ -339,11 +340,11 @@ module _ (m : Model) (cs vs : List ℕ) (S : Says m cs vs) where
         (suc b) f ef (omega arith) (omega arith) y (frame-behind u b f t F after) sl2 in
         let W : Place = record { locals = l ++ ofDeclarations ds; globals = g; model = M; labels = labelsOf q } in
         let B = both (apart (labelsOf q)) (allowed W false false q) in
-        judges-skip m cs vs S b (suc b) (suc t) (both (declarations g l ds) B) (omega arith) (omega arith) (clean-one m cs vs S b (fault-mark m cs vs S b 227 (marks .0) (F .begin)))
+        judges-skip m cs vs S b (suc b) (suc t) (both (declarations g l ds) B) (omega arith) (omega arith) (clean-one m cs vs S b (fault-mark m cs vs S b c-body (marks .0) (F .begin)))
         (judges-both m cs vs S (suc b) f (suc t) (declarations g l ds) B (omega arith) (omega arith) (D .judged nl)
         (λ e. (let R = ruled q f t (suc u) W lying et (setting u b f t F (l ++ ofDeclarations ds) g M (labelsOf q) (D .scope) sg sm (D .pidless nl e) nm) refl before in
         judges-trail m cs vs S f t (suc t) B (omega arith) (omega arith) (record { sound = R .0; complete = R .1 })
-        (clean-one m cs vs S t (fault-mark m cs vs S t 228 (marks .1) (F .ends))))))
+        (clean-one m cs vs S t (fault-mark m cs vs S t c-end-body (marks .1) (F .ends))))))
       where
         sl2 : Scoped m cs vs (hs m cs vs S) S l (suc u) (suc b)
         sl2 = scoped-over m cs vs H S l (suc u) b (suc b) (omega arith) (λ j x z. inl (ap (λ n. among 1 (getD cs n 0)) (let w : j ≡ b = omega arith in w) ∙ ap (among 1) (F .begin)
@@ -352,9 +353,9 @@ module _ (m : Model) (cs vs : List ℕ) (S : Says m cs vs) where
         globals : (j : ℕ) → suc u ≤ j → j ≤ t → Scoped m cs vs (hs m cs vs S) S g 0 j
         globals j x z = scoped-over m cs vs H S g 0 (suc u) j x (λ i a c. inr (λ w. (let r = home-in u b f t F i a (omega arith) in omega arith))) sg
 
-        before : getD cs (f - 1) 0 ≡ 208 → ⊥
+        before : getD cs (f - 1) 0 ≡ c-option → ⊥
         before e = let i1 = F .inner in go (ℕ-discrete f (suc b))
           where
             go : Dec (f ≡ suc b) → ⊥
-            go (yes z) = let c : getD cs (f - 1) 0 ≡ 227 = ap (λ n. getD cs n 0) (let w : f - 1 ≡ b = omega arith in w) ∙ F .begin in omega arith
+            go (yes z) = let c : getD cs (f - 1) 0 ≡ c-body = ap (λ n. getD cs n 0) (let w : f - 1 ≡ b = omega arith in w) ∙ F .begin in omega arith
             go (no z) = let i1 = F .inner in let c = F .own (f - 1) (omega arith) (omega arith) .1 .high (omega arith) in omega arith

@@ -8,6 +8,7 @@ use mathlib.Core.Logic.{inl}
 use mathlib.Core.List.{List, [], _∷_, _++_, map, append-assoc, append-nil}
 use lib.ListN.{length, getD, length-append}
 use lib.Dec.{eqb}
+use Rattle.base_codes.specs.Codes.{c-global, c-group, c-local, c-message, c-parameter, c-size}
 use Rattle.base_bytes.specs.Choice.{both}
 use Rattle.base_bytes.specs.Lists.{same}
 use Rattle.base_bytes.proofs.Tests.{both-true}
@@ -57,12 +58,12 @@ name-three : among 3 70 ≡ false
 unfolding among
 name-three = refl
 
-marks : (ruleOf 70 ≡ 0) × (ruleOf 210 ≡ 0) × (ruleOf 211 ≡ 0) × (ruleOf 221 ≡ 0)
+marks : (ruleOf 70 ≡ 0) × (ruleOf c-local ≡ 0) × (ruleOf c-global ≡ 0) × (ruleOf c-group ≡ 0)
 unfolding ruleOf
 marks = (refl, refl, refl, refl)
 
-opens : (among 1 210 ≡ false) × (among 1 211 ≡ false) × (among 1 221 ≡ false) × (among 3 210 ≡ true) × (among 3 211 ≡ true)
-    × (among 3 221 ≡ true) × (among 1 222 ≡ true) × (among 3 222 ≡ false) × (among 14 222 ≡ true)
+opens : (among 1 c-local ≡ false) × (among 1 c-global ≡ false) × (among 1 c-group ≡ false) × (among 3 c-local ≡ true) × (among 3 c-global ≡ true)
+    × (among 3 c-group ≡ true) × (among 1 c-parameter ≡ true) × (among 3 c-parameter ≡ false) × (among 14 c-parameter ≡ true)
 unfolding among
 opens = (refl, refl, refl, refl, refl, refl, refl, refl, refl)
 
@@ -97,7 +98,7 @@ module _ (m : Model) (cs vs : List ℕ) (S : Says m cs vs) where
     pub judged : J k e b
     pub pidless : Pidless l → b ≡ true → Pidless l2
 
-  module _ (x : Item) (c h lo hi p : ℕ) (t : Sense) (coded : codeOf x ≡ c) (one : among 1 c ≡ true) (three : among 3 c ≡ false) (not : c ≡ 213 → ⊥) (certain : isUnknown t ≡ false)
+  module _ (x : Item) (c h lo hi p : ℕ) (t : Sense) (coded : codeOf x ≡ c) (one : among 1 c ≡ true) (three : among 3 c ≡ false) (not : c ≡ c-size → ⊥) (certain : isUnknown t ≡ false)
       (home : (j : ℕ) → lo ≤ j → j < hi → getD H j 0 ≡ h) (top : hi ≤ length cs)
       (fact : (k : ℕ) → getD cs (suc k) 0 ≡ c → last cs 3 (suc k) ≡ p → After m cs vs S (suc (suc k)) → Out cs H (suc k) (suc (suc k)) t) where
     pub names-judged : (ws : List Name) (l : Scope) (k e : ℕ) → e ≡ k + length (each (marked x) ws) → lo ≤ k → e ≤ hi → Lies xs k (each (marked x) ws) → last cs 3 k ≡ p
@@ -144,7 +145,7 @@ module _ (m : Model) (cs vs : List ℕ) (S : Says m cs vs) where
             (λ z. omega arith, λ z. not (sym cx ∙ z))
 
   -- ---- parameters
-  parameter-out : (t p k : ℕ) → getD cs p 0 ≡ 130 + t → getD cs (suc k) 0 ≡ 222 → last cs 3 (suc k) ≡ suc (suc p) → After m cs vs S (suc (suc k))
+  parameter-out : (t p k : ℕ) → getD cs p 0 ≡ 130 + t → getD cs (suc k) 0 ≡ c-parameter → last cs 3 (suc k) ≡ suc (suc p) → After m cs vs S (suc (suc k))
       → Out cs H (suc k) (suc (suc k)) (variable (eqb t 43) false)
   parameter-out t p k typed c l a = (omega arith, ap (among 14) c ∙ opens .8, chan-is m cs vs S (suc k) p t l typed, array-none m cs vs S k (a .1))
 
@@ -189,7 +190,7 @@ module _ (m : Model) (cs vs : List ℕ) (S : Says m cs vs) where
       (among 1) cg ∙ opens .2)) s1 in
       let aft = after-groups gs k3 back (subst (After m cs vs S) (let z : e ≡ k3 + length G = omega arith in z) a) in
       let ps =
-      names-judged i-parameter 222 h lo hi (suc (suc k)) (variable (eqb t 43) false) refl (opens .6) (opens .7) (λ z. omega arith) refl home top
+      names-judged i-parameter c-parameter h lo hi (suc (suc k)) (variable (eqb t 43) false) refl (opens .6) (opens .7) (λ z. omega arith) refl home top
       (λ i u v r. parameter-out t k i ct u v r) ws l k2 k3 refl (omega arith)
       (omega arith) (front .2 .2) (last-here m cs vs S 3 (suc k) (ap (among 3) cg ∙ opens .5)) aft s2 in
       let rest = groups-judged h lo hi home top gs (l ++ ofGroup (group t ws)) k3 e (omega arith) (omega arith) d back a (ps .scope) in
@@ -201,7 +202,7 @@ module _ (m : Model) (cs vs : List ℕ) (S : Says m cs vs) where
           kind = rest .1 .kind;
           judged = subst (λ i. J k e i) (sym cut)
               (judges-skip m cs vs S k k2 e _ (omega arith) (omega arith)
-              (clean-join m cs vs S k (suc k) k2 (type-clean m cs vs S k t (y .0) (y .1)) (mark-clean m cs vs S (suc k) 221 i-group (y .2 .0) (y .2 .1) refl (marks .3)))
+              (clean-join m cs vs S k (suc k) k2 (type-clean m cs vs S k t (y .0) (y .1)) (mark-clean m cs vs S (suc k) c-group i-group (y .2 .0) (y .2 .1) refl (marks .3)))
               (judges-both m cs vs S k2 k3 e (joins l (ofGroup (group t ws))) (joins (l ++ ofGroup (group t ws)) (ofGroups gs)) (omega arith) (omega arith) (ps .judged)
               (λ u. rest .1 .judged)));
           pidless = λ n v. (let g = both-true (joins l (ofGroup (group t ws))) (joins (l ++ ofGroup (group t ws)) (ofGroups gs)) (sym cut ∙ v) in
@@ -212,22 +213,22 @@ module _ (m : Model) (cs vs : List ℕ) (S : Says m cs vs) where
   -- ---- what the name of a value means
   -- in body h, with the locals so far, behind the globals g
   named-local : (g l : Scope) (h j : ℕ) (w : Name) → j < length cs → itemAt xs j ≡ i-name w → Sc l h j → Sc g 0 j → Pidless l → Pidless g
-      → eqb (getD cs (lookup cs vs H (getD vs j 0) h j) 0) 220 ≡ isConstant (senseOf l g w)
+      → eqb (getD cs (lookup cs vs H (getD vs j 0) h j) 0) c-message ≡ isConstant (senseOf l g w)
   named-local g l h j w b q s r n o = go (same w pid) refl
     where
       cn : getD cs j 0 ≡ 70
       cn = code-is m cs vs S j (i-name w) (let z = long m cs vs S in omega arith) q
 
-      go : (x : Bool) → same w pid ≡ x → eqb (getD cs (lookup cs vs H (getD vs j 0) h j) 0) 220 ≡ isConstant (senseOf l g w)
+      go : (x : Bool) → same w pid ≡ x → eqb (getD cs (lookup cs vs H (getD vs j 0) h j) 0) c-message ≡ isConstant (senseOf l g w)
       go true e =
           let z = same-eq w pid e in
-          ap (λ i. eqb (getD cs i 0) 220) (lookup-pid m cs vs H S h j b (q ∙ ap i-name z)) ∙ ap (λ c. eqb c 220) cn ∙ sym
+          ap (λ i. eqb (getD cs i 0) c-message) (lookup-pid m cs vs H S h j b (q ∙ ap i-name z)) ∙ ap (λ c. eqb c c-message) cn ∙ sym
           (ap (λ v. isConstant (senseOf l g v)) z ∙ ap isConstant (sense-pid l g n o))
       go false e = finds-constant cs (lookup cs vs H (getD vs j 0) h j) (senseOf l g w) (lookup-finds m cs vs H S l g h j w s r b q cn e)
 
   -- outside of bodies
   named-global : (l : Scope) (j : ℕ) (w : Name) → j < length cs → itemAt xs j ≡ i-name w → Sc l 0 j → Pidless l
-      → eqb (getD cs (lookup cs vs H (getD vs j 0) 0 j) 0) 220 ≡ isConstant (senseOf [] l w)
+      → eqb (getD cs (lookup cs vs H (getD vs j 0) 0 j) 0) c-message ≡ isConstant (senseOf [] l w)
   unfolding senseOf senseIn
   named-global l j w b q s n = named-local l l 0 j w b q s s n n ∙ ap isConstant (hides-itself (senseIn l w))
 
@@ -237,7 +238,7 @@ module _ (m : Model) (cs vs : List ℕ) (S : Says m cs vs) where
       (F : (l : Scope) (w : Name) (s : Option ℕ) (v : Value) → f l (tree.variable w s v)
       ≡ both (fresh l w) (both (sized s) (valued (sense (l ++ ofVariable t (tree.variable w s v) ∷ [])) v)))
       (home : (j : ℕ) → lo ≤ j → j < hi → getD H j 0 ≡ h) (top : hi ≤ length cs)
-      (look : (l : Scope) (j : ℕ) (w : Name) → lo ≤ j → j < hi → itemAt xs j ≡ i-name w → Sc l h j → Pidless l → eqb (getD cs (lookup cs vs H (getD vs j 0) h j) 0) 220 ≡ isConstant
+      (look : (l : Scope) (j : ℕ) (w : Name) → lo ≤ j → j < hi → itemAt xs j ≡ i-name w → Sc l h j → Pidless l → eqb (getD cs (lookup cs vs H (getD vs j 0) h j) 0) c-message ≡ isConstant
       (sense l w)) where
     pub record Declares (l : Scope) (b : Bool) (k e : ℕ) (l2 : Scope) : Type 0 where
       pub scope : Sc l2 h e
@@ -303,7 +304,7 @@ module _ (m : Model) (cs vs : List ℕ) (S : Says m cs vs) where
         let back = lies-back xs X E k k2 refl y in
         let f : Scope → Variable → Bool = λ l x. localLawful g l t x in
         let one =
-        declaration-judged i-local 210 t h lo hi (λ l. senseOf l g) f refl (opens .0) (opens .3) (marks .1) (λ l w s v. refl) home top
+        declaration-judged i-local c-local t h lo hi (λ l. senseOf l g) f refl (opens .0) (opens .3) (marks .1) (λ l w s v. refl) home top
         (λ l j w i u v s n. named-local g l h j w (omega arith) v s (globals j i u) n outer) us l k k2 refl b
         (omega arith) (lies-front xs k X E y) (after-declarations ds k2 back (subst (After m cs vs S) (let z : e ≡ k2 + length E = omega arith in z) a)) sc in
         let l2 = l ++ ofDeclaration (declare t us) in
@@ -324,6 +325,6 @@ module _ (m : Model) (cs vs : List ℕ) (S : Says m cs vs) where
   global-judged t lo hi home top us l k e q b d y a sc =
       let f : Scope → Variable → Bool = λ l x. globalLawful l t x in
       let r =
-      declaration-judged i-global 211 t 0 lo hi (λ l. senseOf [] l) f refl (opens .1) (opens .4) (marks .2) (λ l w s v. refl) home top
+      declaration-judged i-global c-global t 0 lo hi (λ l. senseOf [] l) f refl (opens .1) (opens .4) (marks .2) (λ l w s v. refl) home top
       (λ l j w i u v s n. named-global l j w (omega arith) v s n) us l k e q b d y a sc in
       (r .scope, r .judged, r .pidless)

@@ -8,15 +8,16 @@ use mathlib.Core.List.{List}
 use lib.ListN.{length, getD, replicate, length-replicate}
 use lib.Dec.{eqb}
 use borrow.Author.Tests.{ne-eqb, le-ltb}
+use Rattle.base_codes.specs.Codes.{c-end-body, c-parameter}
 use Rattle.base_bytes.specs.Choice.{pick}
 use Rattle.rule_sheets.specs.Homes.{heads, insideOf, homeOf, homesOf}
 use Rattle.rule_sheets.proofs.Meaning.{home-at}
 
-pub no-head : (c : ℕ) → c ≤ 222 → heads c ≡ false
-no-head c h = rw (le-ltb 222 c h)
+pub no-head : (c : ℕ) → c ≤ c-parameter → heads c ≡ false
+no-head c h = rw (le-ltb c-parameter c h)
 
 module _ (cs : List ℕ) where
-  inside-next : (j : ℕ) → insideOf cs (suc j) ≡ pick (heads (getD cs j 0)) (j + 1) (pick (eqb (getD cs j 0) 228) 0 (insideOf cs j))
+  inside-next : (j : ℕ) → insideOf cs (suc j) ≡ pick (heads (getD cs j 0)) (j + 1) (pick (eqb (getD cs j 0) c-end-body) 0 (insideOf cs j))
   unfolding insideOf
   inside-next j = refl
 
@@ -27,25 +28,25 @@ module _ (cs : List ℕ) where
   pub inside-head : (j : ℕ) → heads (getD cs j 0) ≡ true → insideOf cs (suc j) ≡ suc j
   inside-head j e = inside-next j ∙ rw e (let z : j + 1 ≡ suc j = omega arith in z)
 
-  pub inside-end : (j : ℕ) → getD cs j 0 ≡ 228 → insideOf cs (suc j) ≡ 0
+  pub inside-end : (j : ℕ) → getD cs j 0 ≡ c-end-body → insideOf cs (suc j) ≡ 0
   inside-end j e = inside-next j ∙ rw e
 
-  inside-step : (j : ℕ) → heads (getD cs j 0) ≡ false → (getD cs j 0 ≡ 228 → ⊥) → insideOf cs (suc j) ≡ insideOf cs j
-  inside-step j e n = inside-next j ∙ rw (e, ne-eqb (getD cs j 0) 228 n)
+  inside-step : (j : ℕ) → heads (getD cs j 0) ≡ false → (getD cs j 0 ≡ c-end-body → ⊥) → insideOf cs (suc j) ≡ insideOf cs j
+  inside-step j e n = inside-next j ∙ rw (e, ne-eqb (getD cs j 0) c-end-body n)
 
   -- over items that neither begin a unit nor end a body
-  inside-far : (n i : ℕ) → ((j : ℕ) → i ≤ j → j < i + n → (heads (getD cs j 0) ≡ false) × (getD cs j 0 ≡ 228 → ⊥)) → insideOf cs (i + n) ≡ insideOf cs i
+  inside-far : (n i : ℕ) → ((j : ℕ) → i ≤ j → j < i + n → (heads (getD cs j 0) ≡ false) × (getD cs j 0 ≡ c-end-body → ⊥)) → insideOf cs (i + n) ≡ insideOf cs i
   inside-far zero i h = ap (insideOf cs) (let z : i + 0 ≡ i = omega arith in z)
   inside-far (suc n) i h =
       let a = h (i + n) (omega arith) (omega arith) in
       ap (insideOf cs) (let z : i + suc n ≡ suc (i + n) = omega arith in z) ∙ inside-step (i + n) (a .0) (a .1) ∙ inside-far n i (λ j b c. h j b (omega arith))
 
-  pub inside-over : (i e : ℕ) → i ≤ e → ((j : ℕ) → i ≤ j → j < e → (heads (getD cs j 0) ≡ false) × (getD cs j 0 ≡ 228 → ⊥)) → insideOf cs e ≡ insideOf cs i
+  pub inside-over : (i e : ℕ) → i ≤ e → ((j : ℕ) → i ≤ j → j < e → (heads (getD cs j 0) ≡ false) × (getD cs j 0 ≡ c-end-body → ⊥)) → insideOf cs e ≡ insideOf cs i
   inside-over i e b h = ap (insideOf cs) (let z : e ≡ i + (e - i) = omega arith in z) ∙ inside-far (e - i) i (λ j c d. h j c (omega arith))
 
   inside-most : (j : ℕ) → insideOf cs j ≤ j
   inside-most zero = let a = inside-none in omega arith
-  inside-most (suc j) = go (heads (getD cs j 0)) (eqb (getD cs j 0) 228) (inside-next j) (inside-most j)
+  inside-most (suc j) = go (heads (getD cs j 0)) (eqb (getD cs j 0) c-end-body) (inside-next j) (inside-most j)
     where
       go : (a b : Bool) → insideOf cs (suc j) ≡ pick a (j + 1) (pick b 0 (insideOf cs j)) → insideOf cs j ≤ j → insideOf cs (suc j) ≤ suc j
       go true b e r = omega arith
@@ -57,7 +58,7 @@ module _ (cs : List ℕ) where
   inside-later zero i h = inl (ap (insideOf cs) (let z : i + 0 ≡ i = omega arith in z) ∙ h)
   inside-later (suc n) i h =
       subst (λ k. (insideOf cs k ≡ 0) ⊎ (i < insideOf cs k)) (let z : suc (i + n) ≡ i + suc n = omega arith in z)
-      (go (heads (getD cs (i + n) 0)) (eqb (getD cs (i + n) 0) 228) (inside-next (i + n)) (inside-later n i h))
+      (go (heads (getD cs (i + n) 0)) (eqb (getD cs (i + n) 0) c-end-body) (inside-next (i + n)) (inside-later n i h))
     where
       go : (a b : Bool) → insideOf cs (suc (i + n)) ≡ pick a (i + n + 1) (pick b 0 (insideOf cs (i + n))) → (insideOf cs (i + n) ≡ 0) ⊎ (i < insideOf cs (i + n))
           → (insideOf cs (suc (i + n)) ≡ 0) ⊎ (i < insideOf cs (suc (i + n)))

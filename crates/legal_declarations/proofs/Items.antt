@@ -8,6 +8,7 @@ use mathlib.Core.Logic.{_⊎_, inl, inr}
 use mathlib.Core.List.{List, [], _∷_, _++_}
 use lib.Dec.{eqb, ltb, leb}
 use borrow.Author.Tests.{ltb-true, leb-true}
+use Rattle.base_codes.specs.Codes.{c-bit, c-end-option, c-false, c-field, c-group, c-int, c-len, c-local, c-message, c-mtypes, c-or-else, c-parameter, c-size, c-true}
 use Rattle.base_bytes.specs.Choice.{pick, both, either}
 use Rattle.base_bytes.proofs.Tests.{both-true, either-true}
 use Rattle.spec_grammar.specs.Tree.{Name, Shape, Exp, plain, indexed, num, tru, fls, get, len, unary, binary, choice, Expr, Received, into, equal, exactly, exactly-true, exactly-false, Sort, Tree, express, assign, increment, decrement, send, receive, assert, print, skip, goto, break, timeout, else, run, set-run, select, loop, bare, labelled, end, then, over, option, Value, unset, set-number, set-minus, set-true, set-false, set-name, set-channel, Variable, variable, Declaration, declare, Group, group}
@@ -92,16 +93,16 @@ declaring x = either (settled x) (eqb (class x) 6)
 
 -- ---- what a class says of a code
 abbrev low : ℕ → Bool
-low c = either (ltb c 72) (either (within 168 175 c) (either (within 178 179 c) (within 213 218 c)))
+low c = either (ltb c 72) (either (within c-bit c-int c) (either (within c-true c-false c) (within c-size c-field c)))
 
 abbrev calm : ℕ → Bool
-calm c = either (ltb c 72) (either (within 168 175 c) (either (within 178 179 c) (either (within 210 218 c) (within 221 222 c))))
+calm c = either (ltb c 72) (either (within c-bit c-int c) (either (within c-true c-false c) (either (within c-local c-field c) (within c-group c-parameter c))))
 
 unfoldable fair : Item → Bool
 fair x =
-    both (pick (spoken x) (leb (codeOf x) 209) true)
-    (both (pick (valued x) (low (codeOf x)) true) (both (pick (declaring x) (calm (codeOf x)) true) (both (pick (eqb (class x) 5) (within 168 175 (codeOf x)) true)
-    (pick (settled x) (leb (codeOf x) 218) true))))
+    both (pick (spoken x) (leb (codeOf x) c-end-option) true)
+    (both (pick (valued x) (low (codeOf x)) true) (both (pick (declaring x) (calm (codeOf x)) true) (both (pick (eqb (class x) 5) (within c-bit c-int (codeOf x)) true)
+    (pick (settled x) (leb (codeOf x) c-field) true))))
 
 unfoldable fairs : List Item → Bool
 fairs [] = true
@@ -122,97 +123,97 @@ unfolding fair spoken valued settled declaring class
 known-fair (is-name a b) = refl
 known-fair (is-text a b) = refl
 known-fair is-number = refl
-known-fair (is-mark x a b) = fair-nth items (x - 147) i-plain table-fair refl
+known-fair (is-mark x a b) = fair-nth items (x - c-or-else) i-plain table-fair refl
 
-pub spoken-code : (x : Item) → Known x → spoken x ≡ true → codeOf x ≤ 209
+pub spoken-code : (x : Item) → Known x → spoken x ≡ true → codeOf x ≤ c-end-option
 unfolding fair
-spoken-code x k e = leb-true (codeOf x) 209 (sym (ap (λ b. pick b (leb (codeOf x) 209) true) e) ∙ both-true (pick (spoken x) (leb (codeOf x) 209) true) _ (known-fair k) .0)
+spoken-code x k e = leb-true (codeOf x) c-end-option (sym (ap (λ b. pick b (leb (codeOf x) c-end-option) true) e) ∙ both-true (pick (spoken x) (leb (codeOf x) c-end-option) true) _ (known-fair k) .0)
 
-pub type-code : (k : ℕ) → Known (i-type k) → (168 ≤ codeOf (i-type k)) × (codeOf (i-type k) ≤ 175)
+pub type-code : (k : ℕ) → Known (i-type k) → (c-bit ≤ codeOf (i-type k)) × (codeOf (i-type k) ≤ c-int)
 unfolding fair class spoken valued settled declaring
 type-code k kn =
     let a = both-true (low (130 + k)) _ (known-fair kn) .1 in
     let b = both-true (calm (130 + k)) _ a .1 in
-    let c = both-true (leb 168 (130 + k)) (leb (130 + k) 175) (both-true (within 168 175 (130 + k)) _ b .0) in
-    (leb-true 168 (130 + k) (c .0), leb-true (130 + k) 175 (c .1))
+    let c = both-true (leb c-bit (130 + k)) (leb (130 + k) c-int) (both-true (within c-bit c-int (130 + k)) _ b .0) in
+    (leb-true c-bit (130 + k) (c .0), leb-true (130 + k) c-int (c .1))
 
 within-true : (a b c : ℕ) → within a b c ≡ true → (a ≤ c) × (c ≤ b)
 within-true a b c e = let h = both-true (leb a c) (leb c b) e in (leb-true a c (h .0), leb-true c b (h .1))
 
 -- codes of values, and of what stands in declarations and parameters
 pub record Low (c : ℕ) : Type 0 where
-  pub most : c ≤ 218
+  pub most : c ≤ c-field
   pub string : c ≡ 72 → ⊥
-  pub high : 180 ≤ c → 213 ≤ c
+  pub high : c-len ≤ c → c-size ≤ c
 
 pub record Calm (c : ℕ) : Type 0 where
-  pub most : c ≤ 222
+  pub most : c ≤ c-parameter
   pub string : c ≡ 72 → ⊥
-  pub high : 180 ≤ c → 210 ≤ c
-  pub mtypes : c ≡ 219 → ⊥
+  pub high : c-len ≤ c → c-local ≤ c
+  pub mtypes : c ≡ c-mtypes → ⊥
 
 low-is : (c : ℕ) → low c ≡ true → Low c
 low-is c e = first (either-true (ltb c 72) _ e)
   where
-    fourth : ((178 ≤ c) × (c ≤ 179)) ⊎ ((213 ≤ c) × (c ≤ 218)) → Low c
+    fourth : ((c-true ≤ c) × (c ≤ c-false)) ⊎ ((c-size ≤ c) × (c ≤ c-field)) → Low c
     fourth (inl h) = let a = h .0 in let b = h .1 in record { most = omega arith; string = λ z. omega arith; high = λ z. omega arith }
     fourth (inr h) = let a = h .0 in let b = h .1 in record { most = omega arith; string = λ z. omega arith; high = λ z. omega arith }
 
-    third : (within 178 179 c ≡ true) ⊎ (within 213 218 c ≡ true) → Low c
-    third (inl h) = fourth (inl (within-true 178 179 c h))
-    third (inr h) = fourth (inr (within-true 213 218 c h))
+    third : (within c-true c-false c ≡ true) ⊎ (within c-size c-field c ≡ true) → Low c
+    third (inl h) = fourth (inl (within-true c-true c-false c h))
+    third (inr h) = fourth (inr (within-true c-size c-field c h))
 
-    second : (within 168 175 c ≡ true) ⊎ (either (within 178 179 c) (within 213 218 c) ≡ true) → Low c
-    second (inl h) = let a = within-true 168 175 c h .0 in let b = within-true 168 175 c h .1 in record { most = omega arith; string = λ z. omega arith; high = λ z. omega arith }
-    second (inr h) = third (either-true (within 178 179 c) (within 213 218 c) h)
+    second : (within c-bit c-int c ≡ true) ⊎ (either (within c-true c-false c) (within c-size c-field c) ≡ true) → Low c
+    second (inl h) = let a = within-true c-bit c-int c h .0 in let b = within-true c-bit c-int c h .1 in record { most = omega arith; string = λ z. omega arith; high = λ z. omega arith }
+    second (inr h) = third (either-true (within c-true c-false c) (within c-size c-field c) h)
 
-    first : (ltb c 72 ≡ true) ⊎ (either (within 168 175 c) (either (within 178 179 c) (within 213 218 c)) ≡ true) → Low c
+    first : (ltb c 72 ≡ true) ⊎ (either (within c-bit c-int c) (either (within c-true c-false c) (within c-size c-field c)) ≡ true) → Low c
     first (inl h) = let a = ltb-true c 72 h in record { most = omega arith; string = λ z. omega arith; high = λ z. omega arith }
-    first (inr h) = second (either-true (within 168 175 c) _ h)
+    first (inr h) = second (either-true (within c-bit c-int c) _ h)
 
 calm-is : (c : ℕ) → calm c ≡ true → Calm c
 calm-is c e = first (either-true (ltb c 72) _ e)
   where
-    by : (a b : ℕ) → a ≤ c → c ≤ b → b ≤ 222 → 73 ≤ a → (180 ≤ b → 210 ≤ a) → (b ≤ 218) ⊎ (220 ≤ a) → Calm c
+    by : (a b : ℕ) → a ≤ c → c ≤ b → b ≤ c-parameter → 73 ≤ a → (c-len ≤ b → c-local ≤ a) → (b ≤ c-field) ⊎ (c-message ≤ a) → Calm c
     by a b h g u v w (inl z) = record { most = omega arith; string = λ y. omega arith; high = λ y. (let t = w (omega arith) in omega arith); mtypes = λ y. omega arith }
     by a b h g u v w (inr z) = record { most = omega arith; string = λ y. omega arith; high = λ y. (let t = w (omega arith) in omega arith); mtypes = λ y. omega arith }
 
-    fourth : (within 210 218 c ≡ true) ⊎ (within 221 222 c ≡ true) → Calm c
-    fourth (inl h) = let z = within-true 210 218 c h in by 210 218 (z .0) (z .1) (omega arith) (omega arith) (λ y. omega arith) (inl (omega arith))
-    fourth (inr h) = let z = within-true 221 222 c h in by 221 222 (z .0) (z .1) (omega arith) (omega arith) (λ y. omega arith) (inr (omega arith))
+    fourth : (within c-local c-field c ≡ true) ⊎ (within c-group c-parameter c ≡ true) → Calm c
+    fourth (inl h) = let z = within-true c-local c-field c h in by c-local c-field (z .0) (z .1) (omega arith) (omega arith) (λ y. omega arith) (inl (omega arith))
+    fourth (inr h) = let z = within-true c-group c-parameter c h in by c-group c-parameter (z .0) (z .1) (omega arith) (omega arith) (λ y. omega arith) (inr (omega arith))
 
-    third : (within 178 179 c ≡ true) ⊎ (either (within 210 218 c) (within 221 222 c) ≡ true) → Calm c
-    third (inl h) = let z = within-true 178 179 c h in by 178 179 (z .0) (z .1) (omega arith) (omega arith) (λ y. omega arith) (inl (omega arith))
-    third (inr h) = fourth (either-true (within 210 218 c) (within 221 222 c) h)
+    third : (within c-true c-false c ≡ true) ⊎ (either (within c-local c-field c) (within c-group c-parameter c) ≡ true) → Calm c
+    third (inl h) = let z = within-true c-true c-false c h in by c-true c-false (z .0) (z .1) (omega arith) (omega arith) (λ y. omega arith) (inl (omega arith))
+    third (inr h) = fourth (either-true (within c-local c-field c) (within c-group c-parameter c) h)
 
-    second : (within 168 175 c ≡ true) ⊎ (either (within 178 179 c) (either (within 210 218 c) (within 221 222 c)) ≡ true) → Calm c
-    second (inl h) = let z = within-true 168 175 c h in by 168 175 (z .0) (z .1) (omega arith) (omega arith) (λ y. omega arith) (inl (omega arith))
-    second (inr h) = third (either-true (within 178 179 c) _ h)
+    second : (within c-bit c-int c ≡ true) ⊎ (either (within c-true c-false c) (either (within c-local c-field c) (within c-group c-parameter c)) ≡ true) → Calm c
+    second (inl h) = let z = within-true c-bit c-int c h in by c-bit c-int (z .0) (z .1) (omega arith) (omega arith) (λ y. omega arith) (inl (omega arith))
+    second (inr h) = third (either-true (within c-true c-false c) _ h)
 
-    first : (ltb c 72 ≡ true) ⊎ (either (within 168 175 c) (either (within 178 179 c) (either (within 210 218 c) (within 221 222 c))) ≡ true) → Calm c
+    first : (ltb c 72 ≡ true) ⊎ (either (within c-bit c-int c) (either (within c-true c-false c) (either (within c-local c-field c) (within c-group c-parameter c))) ≡ true) → Calm c
     first (inl h) = let a = ltb-true c 72 h in record { most = omega arith; string = λ z. omega arith; high = λ z. omega arith; mtypes = λ z. omega arith }
-    first (inr h) = second (either-true (within 168 175 c) _ h)
+    first (inr h) = second (either-true (within c-bit c-int c) _ h)
 
 pub valued-code : (x : Item) → Known x → valued x ≡ true → Low (codeOf x)
 unfolding fair
 valued-code x k e =
-    let a = both-true (pick (spoken x) (leb (codeOf x) 209) true) _ (known-fair k) .1 in
+    let a = both-true (pick (spoken x) (leb (codeOf x) c-end-option) true) _ (known-fair k) .1 in
     low-is (codeOf x) (sym (ap (λ b. pick b (low (codeOf x)) true) e) ∙ both-true (pick (valued x) (low (codeOf x)) true) _ a .0)
 
 pub declaring-code : (x : Item) → Known x → declaring x ≡ true → Calm (codeOf x)
 unfolding fair
 declaring-code x k e =
-    let a = both-true (pick (spoken x) (leb (codeOf x) 209) true) _ (known-fair k) .1 in
+    let a = both-true (pick (spoken x) (leb (codeOf x) c-end-option) true) _ (known-fair k) .1 in
     let b = both-true (pick (valued x) (low (codeOf x)) true) _ a .1 in
     calm-is (codeOf x) (sym (ap (λ b. pick b (calm (codeOf x)) true) e) ∙ both-true (pick (declaring x) (calm (codeOf x)) true) _ b .0)
 
-pub settled-code : (x : Item) → Known x → settled x ≡ true → codeOf x ≤ 218
+pub settled-code : (x : Item) → Known x → settled x ≡ true → codeOf x ≤ c-field
 unfolding fair
 settled-code x k e =
-    let a = both-true (pick (spoken x) (leb (codeOf x) 209) true) _ (known-fair k) .1 in
+    let a = both-true (pick (spoken x) (leb (codeOf x) c-end-option) true) _ (known-fair k) .1 in
     let b = both-true (pick (valued x) (low (codeOf x)) true) _ a .1 in
     let c = both-true (pick (declaring x) (calm (codeOf x)) true) _ b .1 in
-    leb-true (codeOf x) 218 (sym (ap (λ b. pick b (leb (codeOf x) 218) true) e) ∙ both-true (pick (eqb (class x) 5) (within 168 175 (codeOf x)) true) _ c .1)
+    leb-true (codeOf x) c-field (sym (ap (λ b. pick b (leb (codeOf x) c-field) true) e) ∙ both-true (pick (eqb (class x) 5) (within c-bit c-int (codeOf x)) true) _ c .1)
 
 -- ---- all items of a list
 abbrev pub All : (Item → Bool) → List Item → Type 0

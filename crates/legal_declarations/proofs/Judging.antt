@@ -9,6 +9,7 @@ use mathlib.Core.List.{List}
 use lib.ListN.{length, getD, replicate}
 use lib.Dec.{eqb, ltb, leb}
 use borrow.Author.Tests.{lt-ltb, ne-eqb, eq-eqb, le-leb, lt-leb, leb-true, eqb-true}
+use Rattle.base_codes.specs.Codes.{c-active-many, c-argument, c-assert, c-break, c-channel, c-declared, c-else, c-end, c-equal, c-express, c-field, c-goto, c-init, c-into, c-label, c-message, c-mtypes, c-named, c-parameter, c-plain, c-receive, c-run, c-size}
 use Rattle.base_bytes.specs.Choice.{pick, both, either}
 use Rattle.base_bytes.specs.Lists.{same}
 use Rattle.base_bytes.proofs.Tests.{true-false, both-true, either-true}
@@ -26,17 +27,17 @@ use Rattle.legal_terms.specs.Says.{itemAt, Says}
 use Rattle.legal_declarations.proofs.Scopes.{Scoped, out-known}
 
 -- ---- which rule an item has
-declaring-codes : (c : ℕ) → among 1 c ≡ true → (212 ≤ c) × (c ≤ 225) × (c ≡ 219 → ⊥)
+declaring-codes : (c : ℕ) → among 1 c ≡ true → (c-declared ≤ c) × (c ≤ c-active-many) × (c ≡ c-mtypes → ⊥)
 unfolding among
-declaring-codes c e = first (either-true (eqb c 212) (either (eqb c 220) (within 222 225 c)) e)
+declaring-codes c e = first (either-true (eqb c c-declared) (either (eqb c c-message) (within c-parameter c-active-many c)) e)
   where
-    second : (eqb c 220 ≡ true) ⊎ (within 222 225 c ≡ true) → (212 ≤ c) × (c ≤ 225) × (c ≡ 219 → ⊥)
-    second (inl h) = let z = eqb-true c 220 h in (omega arith, omega arith, λ y. omega arith)
-    second (inr h) = let a = both-true (leb 222 c) (leb c 225) h in let x = leb-true 222 c (a .0) in let y = leb-true c 225 (a .1) in (omega arith, omega arith, λ y. omega arith)
+    second : (eqb c c-message ≡ true) ⊎ (within c-parameter c-active-many c ≡ true) → (c-declared ≤ c) × (c ≤ c-active-many) × (c ≡ c-mtypes → ⊥)
+    second (inl h) = let z = eqb-true c c-message h in (omega arith, omega arith, λ y. omega arith)
+    second (inr h) = let a = both-true (leb c-parameter c) (leb c c-active-many) h in let x = leb-true c-parameter c (a .0) in let y = leb-true c c-active-many (a .1) in (omega arith, omega arith, λ y. omega arith)
 
-    first : (eqb c 212 ≡ true) ⊎ (either (eqb c 220) (within 222 225 c) ≡ true) → (212 ≤ c) × (c ≤ 225) × (c ≡ 219 → ⊥)
-    first (inl h) = let z = eqb-true c 212 h in (omega arith, omega arith, λ y. omega arith)
-    first (inr h) = second (either-true (eqb c 220) (within 222 225 c) h)
+    first : (eqb c c-declared ≡ true) ⊎ (either (eqb c c-message) (within c-parameter c-active-many c) ≡ true) → (c-declared ≤ c) × (c ≤ c-active-many) × (c ≡ c-mtypes → ⊥)
+    first (inl h) = let z = eqb-true c c-declared h in (omega arith, omega arith, λ y. omega arith)
+    first (inr h) = second (either-true (eqb c c-message) (within c-parameter c-active-many c) h)
 
 rule-declaring : (c : ℕ) → among 1 c ≡ true → ruleOf c ≡ 8
 unfolding among ruleOf
@@ -46,46 +47,46 @@ rule-declaring c e =
     let y = a .1 in
     rw (
       ne-eqb c 72 (λ z. omega arith),
-      le-leb 183 c (omega arith),
-      lt-leb c 184 (omega arith),
-      le-leb 189 c (omega arith),
-      lt-leb c 195 (omega arith),
-      ne-eqb c 199 (λ z. omega arith),
-      ne-eqb c 201 (λ z. omega arith),
-      ne-eqb c 219 (a .2),
-      ne-eqb c 226 (λ z. omega arith),
-      ne-eqb c 188 (λ z. omega arith),
-    ) (rest (either (eqb c 212) (either (eqb c 220) (within 222 225 c))) _ e)
+      le-leb c-argument c (omega arith),
+      lt-leb c c-into (omega arith),
+      le-leb c-express c (omega arith),
+      lt-leb c c-receive (omega arith),
+      ne-eqb c c-break (λ z. omega arith),
+      ne-eqb c c-else (λ z. omega arith),
+      ne-eqb c c-mtypes (a .2),
+      ne-eqb c c-init (λ z. omega arith),
+      ne-eqb c c-label (λ z. omega arith),
+    ) (rest (either (eqb c c-declared) (either (eqb c c-message) (within c-parameter c-active-many c))) _ e)
   where
     rest : (b : Bool) (n : ℕ) → b ≡ true → pick b 8 n ≡ 8
     rest true n e = refl
     rest false n e = absurd (true-false (sym e))
 
-pub rule-none : (c : ℕ) → c < 176 → (c ≡ 72 → ⊥) → ruleOf c ≡ 0
+pub rule-none : (c : ℕ) → c < c-plain → (c ≡ 72 → ⊥) → ruleOf c ≡ 0
 unfolding ruleOf
 rule-none c h n =
     rw (
       ne-eqb c 72 n,
-      lt-leb 183 c (omega arith),
-      lt-leb 189 c (omega arith),
-      ne-eqb c 199 (λ z. omega arith),
-      ne-eqb c 201 (λ z. omega arith),
-      ne-eqb c 219 (λ z. omega arith),
-      ne-eqb c 226 (λ z. omega arith),
-      ne-eqb c 188 (λ z. omega arith),
-      ne-eqb c 212 (λ z. omega arith),
-      ne-eqb c 220 (λ z. omega arith),
-      lt-leb 222 c (omega arith),
-      ne-eqb c 198 (λ z. omega arith),
-      lt-leb 202 c (omega arith),
-      ne-eqb c 213 (λ z. omega arith),
-      ne-eqb c 216 (λ z. omega arith),
-      ne-eqb c 217 (λ z. omega arith),
-      ne-eqb c 218 (λ z. omega arith),
-      lt-leb 176 c (omega arith),
-      ne-eqb c 187 (λ z. omega arith),
-      ne-eqb c 185 (λ z. omega arith),
-      ne-eqb c 196 (λ z. omega arith),
+      lt-leb c-argument c (omega arith),
+      lt-leb c-express c (omega arith),
+      ne-eqb c c-break (λ z. omega arith),
+      ne-eqb c c-else (λ z. omega arith),
+      ne-eqb c c-mtypes (λ z. omega arith),
+      ne-eqb c c-init (λ z. omega arith),
+      ne-eqb c c-label (λ z. omega arith),
+      ne-eqb c c-declared (λ z. omega arith),
+      ne-eqb c c-message (λ z. omega arith),
+      lt-leb c-parameter c (omega arith),
+      ne-eqb c c-goto (λ z. omega arith),
+      lt-leb c-run c (omega arith),
+      ne-eqb c c-size (λ z. omega arith),
+      ne-eqb c c-named (λ z. omega arith),
+      ne-eqb c c-channel (λ z. omega arith),
+      ne-eqb c c-field (λ z. omega arith),
+      lt-leb c-plain c (omega arith),
+      ne-eqb c c-end (λ z. omega arith),
+      ne-eqb c c-equal (λ z. omega arith),
+      ne-eqb c c-assert (λ z. omega arith),
     )
 
 module _ (m : Model) (cs vs : List ℕ) (S : Says m cs vs) where
@@ -187,11 +188,11 @@ module _ (m : Model) (cs vs : List ℕ) (S : Says m cs vs) where
   unfolding badTwice
   rule-pid j a e f = let z : _≡_ {A = ℕ} 4 0 = sym (fault-declaring j a ∙ rw e refl) ∙ f in omega arith
 
-  fault-size : (j : ℕ) → getD cs j 0 ≡ 213 → fault j ≡ badSize vs 32 j
+  fault-size : (j : ℕ) → getD cs j 0 ≡ c-size → fault j ≡ badSize vs 32 j
   unfolding badBy ruleOf
   fault-size j e = rw e
 
-  fault-channel : (j : ℕ) → getD cs j 0 ≡ 217 → fault j ≡ badSize vs 8 j
+  fault-channel : (j : ℕ) → getD cs j 0 ≡ c-channel → fault j ≡ badSize vs 8 j
   unfolding badBy ruleOf
   fault-channel j e = rw e
 
@@ -199,16 +200,16 @@ module _ (m : Model) (cs vs : List ℕ) (S : Says m cs vs) where
   unfolding badSize
   size-is most k n b q = rw (back k, S .numbers k n (omega arith) q) refl
 
-  pub rule-size : (k n : ℕ) → suc k < length cs → itemAt (code m) k ≡ i-number n → getD cs (suc k) 0 ≡ 213 → Judges (suc k) (suc (suc k)) (both (leb 1 n) (leb n 32))
+  pub rule-size : (k n : ℕ) → suc k < length cs → itemAt (code m) k ≡ i-number n → getD cs (suc k) 0 ≡ c-size → Judges (suc k) (suc (suc k)) (both (leb 1 n) (leb n 32))
   rule-size k n b q e = judges-one (suc k) 4 (both (leb 1 n) (leb n 32)) (fault-size (suc k) e ∙ size-is 32 k n b q)
 
-  pub rule-channel : (k n : ℕ) → suc k < length cs → itemAt (code m) k ≡ i-number n → getD cs (suc k) 0 ≡ 217 → Judges (suc k) (suc (suc k)) (both (leb 1 n) (leb n 8))
+  pub rule-channel : (k n : ℕ) → suc k < length cs → itemAt (code m) k ≡ i-number n → getD cs (suc k) 0 ≡ c-channel → Judges (suc k) (suc (suc k)) (both (leb 1 n) (leb n 8))
   rule-channel k n b q e = judges-one (suc k) 4 (both (leb 1 n) (leb n 8)) (fault-channel (suc k) e ∙ size-is 8 k n b q)
 
   -- the value of a name is an mtype name
-  pub rule-named : (k h : ℕ) → getD cs (suc k) 0 ≡ 216 → getD hs (suc k) 0 ≡ h → Judges (suc k) (suc (suc k)) (eqb (getD cs (lookup cs vs hs (getD vs k 0) h k) 0) 220)
+  pub rule-named : (k h : ℕ) → getD cs (suc k) 0 ≡ c-named → getD hs (suc k) 0 ≡ h → Judges (suc k) (suc (suc k)) (eqb (getD cs (lookup cs vs hs (getD vs k 0) h k) 0) c-message)
   unfolding badBy ruleOf badNamed
-  rule-named k h e g = judges-one (suc k) 3 (eqb (getD cs (lookup cs vs hs (getD vs k 0) h k) 0) 220) (rw e (rw (back k, g) refl))
+  rule-named k h e g = judges-one (suc k) 3 (eqb (getD cs (lookup cs vs hs (getD vs k 0) h k) 0) c-message) (rw e (rw (back k, g) refl))
 
   -- "second `mtype` list or `init`"
   second-is : (set j : ℕ) → badSecond cs hs set j ≡ pick (eqb (count cs hs set 0 0 j) 0) 0 5
@@ -219,18 +220,18 @@ module _ (m : Model) (cs vs : List ℕ) (S : Says m cs vs) where
       go zero = refl
       go (suc n) = rw (ne-eqb (suc n) 0 (λ z. omega arith), lt-ltb 0 (suc n) (omega arith)) refl
 
-  fault-mtypes : (j : ℕ) → getD cs j 0 ≡ 219 → fault j ≡ badSecond cs hs 9 j
+  fault-mtypes : (j : ℕ) → getD cs j 0 ≡ c-mtypes → fault j ≡ badSecond cs hs 9 j
   unfolding badBy ruleOf
   fault-mtypes j e = rw e
 
-  fault-init : (j : ℕ) → getD cs j 0 ≡ 226 → fault j ≡ badSecond cs hs 10 j
+  fault-init : (j : ℕ) → getD cs j 0 ≡ c-init → fault j ≡ badSecond cs hs 10 j
   unfolding badBy ruleOf
   fault-init j e = rw e
 
-  pub rule-mtypes : (j n : ℕ) → getD cs j 0 ≡ 219 → count cs hs 9 0 0 j ≡ n → Judges j (suc j) (eqb n 0)
+  pub rule-mtypes : (j n : ℕ) → getD cs j 0 ≡ c-mtypes → count cs hs 9 0 0 j ≡ n → Judges j (suc j) (eqb n 0)
   rule-mtypes j n e q = judges-one j 4 (eqb n 0) (fault-mtypes j e ∙ second-is 9 j ∙ ap (λ x. pick (eqb x 0) 0 5) q)
 
-  pub rule-init : (j n : ℕ) → getD cs j 0 ≡ 226 → count cs hs 10 0 0 j ≡ n → Judges j (suc j) (eqb n 0)
+  pub rule-init : (j n : ℕ) → getD cs j 0 ≡ c-init → count cs hs 10 0 0 j ≡ n → Judges j (suc j) (eqb n 0)
   rule-init j n e q = judges-one j 4 (eqb n 0) (fault-init j e ∙ second-is 10 j ∙ ap (λ x. pick (eqb x 0) 0 5) q)
 
   -- ---- the last of a set
@@ -253,7 +254,7 @@ module _ (m : Model) (cs vs : List ℕ) (S : Says m cs vs) where
   last-over set i e b p = ap (last cs set) (let z : e ≡ i + (e - i) = omega arith in z) ∙ last-far set (e - i) i (λ j c d. p j c (omega arith))
 
   -- the i-th type, from 0 on, of a channel that is item c: the fifth is bad
-  pub rule-field : (c i j : ℕ) → getD cs j 0 ≡ 218 → last cs 16 j ≡ suc c → j ≡ c + 2 + 2 * i → fault j ≡ pick (eqb i 4) 5 0
+  pub rule-field : (c i j : ℕ) → getD cs j 0 ≡ c-field → last cs 16 j ≡ suc c → j ≡ c + 2 + 2 * i → fault j ≡ pick (eqb i 4) 5 0
   unfolding badBy ruleOf badField
   rule-field c i j e q z = rw e (rw q (ap (λ b. pick b 5 0) (go (ℕ-discrete i 4))))
     where

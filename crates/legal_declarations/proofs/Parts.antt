@@ -7,6 +7,7 @@ use mathlib.Core.Bool.{Bool, true}
 use mathlib.Core.List.{List, [], _∷_, _++_, append-assoc, append-nil}
 use lib.ListN.{length, getD, length-append}
 use borrow.Author.Tests.{eq-eqb, eqb-true}
+use Rattle.base_codes.specs.Codes.{c-active, c-active-many, c-proctype}
 use Rattle.base_bytes.specs.Choice.{both}
 use Rattle.base_bytes.proofs.Tests.{both-true}
 use Rattle.rule_sheets.specs.Homes.{insideOf}
@@ -169,15 +170,15 @@ module _ (m : Model) (cs vs : List ℕ) (S : Says m cs vs) where
     part-done (mtypes ws) e split q after sc ins c9 c10 y top = done-mtypes m cs vs S ruled g c d ws j e q y top after sc ins c9 c10
     part-done (global (declare t us)) e split q after sc ins c9 c10 y top = done-global m cs vs S ruled g c d t us j e q y top after sc ins c9 c10
     part-done (process idle w gs (body ds q)) e split eq after sc ins c9 c10 y top =
-        process-done idle w gs ds q j 223 e split y eq (omega arith) plainly (omega arith) (y .0) (y .1) (y .2 .0) (code-is m cs vs S (suc j) i-proctype (y .2 .0) (y .2 .1))
+        process-done idle w gs ds q j c-proctype e split y eq (omega arith) plainly (omega arith) (y .0) (y .1) (y .2 .0) (code-is m cs vs S (suc j) i-proctype (y .2 .0) (y .2 .1))
         (clean-empty m cs vs S j j (omega arith))
         (λ i u v. (let k : getD cs i 0 ≡ 70 = ap (λ n. getD cs n 0) (let z : i ≡ j = omega arith in z) ∙ code-is m cs vs S j (i-name w) (y .0) (y .1) in omega arith)) after sc ins c9 c10
     part-done (process once w gs (body ds q)) e split eq after sc ins c9 c10 y top =
-        process-done once w gs ds q j 224 e split y eq (omega arith) once-more (omega arith) (y .0) (y .1) (y .2 .0) (code-is m cs vs S (suc j) i-active (y .2 .0) (y .2 .1))
+        process-done once w gs ds q j c-active e split y eq (omega arith) once-more (omega arith) (y .0) (y .1) (y .2 .0) (code-is m cs vs S (suc j) i-active (y .2 .0) (y .2 .1))
         (clean-empty m cs vs S j j (omega arith))
         (λ i u v. (let k : getD cs i 0 ≡ 70 = ap (λ n. getD cs n 0) (let z : i ≡ j = omega arith in z) ∙ code-is m cs vs S j (i-name w) (y .0) (y .1) in omega arith)) after sc ins c9 c10
     part-done (process (times r) w gs (body ds q)) e split eq after sc ins c9 c10 y top =
-        process-done (times r) w gs ds q (suc j) 225 e split y eq (omega arith) many (omega arith) (y .2 .0) (y .2 .1) (y .2 .2 .0)
+        process-done (times r) w gs ds q (suc j) c-active-many e split y eq (omega arith) many (omega arith) (y .2 .0) (y .2 .1) (y .2 .2 .0)
         (code-is m cs vs S (suc (suc j)) i-active-many (y .2 .2 .0) (y .2 .2 .1))
         (mark-clean m cs vs S j 71 (i-number r) (y .0) (y .1) refl (marks .1)) (λ i u v. low i u v (ℕ-discrete i j)) after sc ins c9 c10
       where

@@ -8,6 +8,7 @@ use mathlib.Core.List.{List, [], _∷_, _++_}
 use lib.ListN.{length, getD}
 use lib.Dec.{eqb, ltb}
 use borrow.Author.Tests.{lt-ltb, le-ltb, ne-eqb, eq-eqb}
+use Rattle.base_codes.specs.Codes.{c-message}
 use Rattle.base_bytes.specs.Choice.{pick, both}
 use Rattle.base_bytes.specs.Lists.{same}
 use Rattle.base_bytes.proofs.Tests.{true-false}
@@ -107,7 +108,7 @@ module _ (cs hs : List ℕ) where
   -- item d is what a search below item j gives for a name of this sense
   abbrev pub Out : ℕ → ℕ → Sense → Type 0
   Out d j (variable c a) = (d < j) × (among 14 (getD cs d 0) ≡ true) × (isChan cs d ≡ c) × (isArray cs d ≡ a)
-  Out d j constant = (d < j) × (getD cs d 0 ≡ 220)
+  Out d j constant = (d < j) × (getD cs d 0 ≡ c-message)
   Out d j (procedure n) = (d < j) × (among 13 (getD cs d 0) ≡ true) × (count cs hs 6 (d + 1) 0 (length cs) ≡ n)
   Out d j unknown = d ≡ j
 
@@ -216,7 +217,7 @@ module _ (m : Model) (cs vs hs : List ℕ) (S : Says m cs vs) where
   out-finds d j (procedure n) e o = o .1
   out-finds d j unknown e o = subst (λ x. Finds cs x unknown) (sym o) (name-none (getD cs j 0) e)
     where
-      name-none : (c : ℕ) → c ≡ 70 → (among 14 c ≡ false) × (c ≡ 220 → ⊥)
+      name-none : (c : ℕ) → c ≡ 70 → (among 14 c ≡ false) × (c ≡ c-message → ⊥)
       name-none c e = (ap (among 14) e ∙ name-no-variable, λ z. omega arith)
 
   pub lookup-finds : (l g : Scope) (h k : ℕ) (w : Name) → Scoped l h k → Scoped g 0 k → k < length cs → itemAt (code m) k ≡ i-name w → getD cs k 0 ≡ 70 → same w pid ≡ false
@@ -246,9 +247,9 @@ module _ (m : Model) (cs vs hs : List ℕ) (S : Says m cs vs) where
       go true = refl
       go false = refl
 
-pub finds-constant : (cs : List ℕ) (d : ℕ) (s : Sense) → Finds cs d s → eqb (getD cs d 0) 220 ≡ isConstant s
+pub finds-constant : (cs : List ℕ) (d : ℕ) (s : Sense) → Finds cs d s → eqb (getD cs d 0) c-message ≡ isConstant s
 unfolding among
-finds-constant cs d (variable c a) f = ne-eqb (getD cs d 0) 220 (λ z. true-false (sym (f .0) ∙ rw z refl))
-finds-constant cs d constant f = eq-eqb (getD cs d 0) 220 f
-finds-constant cs d (procedure n) f = ne-eqb (getD cs d 0) 220 (λ z. true-false (sym f ∙ rw z refl))
-finds-constant cs d unknown f = ne-eqb (getD cs d 0) 220 (f .1)
+finds-constant cs d (variable c a) f = ne-eqb (getD cs d 0) c-message (λ z. true-false (sym (f .0) ∙ rw z refl))
+finds-constant cs d constant f = eq-eqb (getD cs d 0) c-message f
+finds-constant cs d (procedure n) f = ne-eqb (getD cs d 0) c-message (λ z. true-false (sym f ∙ rw z refl))
+finds-constant cs d unknown f = ne-eqb (getD cs d 0) c-message (f .1)

@@ -7,6 +7,7 @@ use mathlib.Core.Bool.{Bool, true}
 use mathlib.Core.List.{List, [], _∷_, _++_, map, append-assoc}
 use lib.ListN.{length, getD, length-append, length-map}
 use lib.Seq.{getD-append-add}
+use Rattle.base_codes.specs.Codes.{c-end-option, c-field}
 use Rattle.spec_grammar.specs.Tree.{Model}
 use Rattle.spec_grammar.specs.Code.{Item, i-plain, code}
 use Rattle.table_entries.specs.Items.{codeOf, Known, AllKnown}
@@ -68,7 +69,7 @@ module _ (m : Model) (cs vs : List ℕ) (S : Says m cs vs) where
   pub code-is : (j : ℕ) (x : Item) → j < length (code m) → itemAt (code m) j ≡ x → getD cs j 0 ≡ codeOf x
   code-is j x h e = code-at j h ∙ ap codeOf e
 
-  pub spoken-at : (j : ℕ) → j < length (code m) → spoken (itemAt (code m) j) ≡ true → getD cs j 0 ≤ 209
+  pub spoken-at : (j : ℕ) → j < length (code m) → spoken (itemAt (code m) j) ≡ true → getD cs j 0 ≤ c-end-option
   spoken-at j h e = let a = spoken-code (itemAt (code m) j) (known-at j h) e in let b = code-at j h in omega arith
 
   pub valued-at : (j : ℕ) → j < length (code m) → valued (itemAt (code m) j) ≡ true → Low (getD cs j 0)
@@ -77,6 +78,6 @@ module _ (m : Model) (cs vs : List ℕ) (S : Says m cs vs) where
   pub declaring-at : (j : ℕ) → j < length (code m) → declaring (itemAt (code m) j) ≡ true → Calm (getD cs j 0)
   declaring-at j h e = subst Calm (sym (code-at j h)) (declaring-code (itemAt (code m) j) (known-at j h) e)
 
-  pub settled-at : (j : ℕ) → j < length (code m) → settled (itemAt (code m) j) ≡ true → (getD cs j 0 ≤ 218) × Calm (getD cs j 0)
+  pub settled-at : (j : ℕ) → j < length (code m) → settled (itemAt (code m) j) ≡ true → (getD cs j 0 ≤ c-field) × Calm (getD cs j 0)
   settled-at j h e =
       (let a = settled-code (itemAt (code m) j) (known-at j h) e in let b = code-at j h in omega arith, declaring-at j h (settled-declaring (itemAt (code m) j) e))

@@ -9,6 +9,7 @@ use mathlib.Core.List.{List, [], _∷_, _++_, map, append-nil}
 use lib.ListN.{length, getD}
 use lib.Dec.{eqb}
 use borrow.Author.Tests.{ne-eqb}
+use Rattle.base_codes.specs.Codes.{c-active, c-active-many, c-body, c-end-body, c-field, c-init, c-message, c-mtypes, c-parameter, c-proctype, c-size}
 use Rattle.base_bytes.specs.Choice.{both, either}
 use Rattle.base_bytes.proofs.Tests.{true-false, both-true}
 use Rattle.rule_sheets.specs.Walks.{sum}
@@ -35,15 +36,15 @@ use Rattle.legal_declarations.proofs.Declarations.{names-judged, groups
 use Rattle.legal_declarations.proofs.Bodies.{Frame, frame-made, frame-behind, home-in, inside-after, parameters-counted, Statements, body-judged}
 
 -- ---- sets
-not-nine : (c : ℕ) → (c ≡ 219 → ⊥) → among 9 c ≡ false
+not-nine : (c : ℕ) → (c ≡ c-mtypes → ⊥) → among 9 c ≡ false
 unfolding among
-not-nine c n = ne-eqb c 219 n
+not-nine c n = ne-eqb c c-mtypes n
 
-not-ten : (c : ℕ) → (c ≡ 226 → ⊥) → among 10 c ≡ false
+not-ten : (c : ℕ) → (c ≡ c-init → ⊥) → among 10 c ≡ false
 unfolding among
-not-ten c n = ne-eqb c 226 n
+not-ten c n = ne-eqb c c-init n
 
-sets : (among 9 219 ≡ true) × (among 10 226 ≡ true) × (among 1 219 ≡ false) × (among 1 220 ≡ true) × (among 3 220 ≡ false) × (among 1 226 ≡ false) × (among 1 70 ≡ false) × (among 1 71 ≡ false)
+sets : (among 9 c-mtypes ≡ true) × (among 10 c-init ≡ true) × (among 1 c-mtypes ≡ false) × (among 1 c-message ≡ true) × (among 3 c-message ≡ false) × (among 1 c-init ≡ false) × (among 1 70 ≡ false) × (among 1 71 ≡ false)
 unfolding among
 sets = (refl, refl, refl, refl, refl, refl, refl, refl)
 
@@ -53,31 +54,31 @@ marks = (refl, refl)
 
 -- what begins a proctype
 pub data Begins : ℕ → Type 0 where
-  plainly : Begins 223
-  once-more : Begins 224
-  many : Begins 225
+  plainly : Begins c-proctype
+  once-more : Begins c-active
+  many : Begins c-active-many
 
-begins-head : {c : ℕ} → Begins c → (heads c ≡ true) × (among 1 c ≡ true) × (among 13 c ≡ true) × (c ≡ 219 → ⊥) × (c ≡ 226 → ⊥)
+begins-head : {c : ℕ} → Begins c → (heads c ≡ true) × (among 1 c ≡ true) × (among 13 c ≡ true) × (c ≡ c-mtypes → ⊥) × (c ≡ c-init → ⊥)
 unfolding among
 begins-head plainly = (refl, refl, refl, (λ z. omega arith), (λ z. omega arith))
 begins-head once-more = (refl, refl, refl, (λ z. omega arith), (λ z. omega arith))
 begins-head many = (refl, refl, refl, (λ z. omega arith), (λ z. omega arith))
 
 message : Item → Bool
-message x = either (eqb (codeOf x) 70) (eqb (codeOf x) 220)
+message x = either (eqb (codeOf x) 70) (eqb (codeOf x) c-message)
 
 message-all : (w : Name) → All message (code-message w)
 unfolding message
 message-all w = (refl, (refl, tt))
 
-message-code : (x : Item) → message x ≡ true → (codeOf x ≤ 220) × (codeOf x ≡ 219 → ⊥)
+message-code : (x : Item) → message x ≡ true → (codeOf x ≤ c-message) × (codeOf x ≡ c-mtypes → ⊥)
 unfolding message
-message-code x e = go (ℕ-discrete (codeOf x) 70) (ℕ-discrete (codeOf x) 220)
+message-code x e = go (ℕ-discrete (codeOf x) 70) (ℕ-discrete (codeOf x) c-message)
   where
-    go : Dec (codeOf x ≡ 70) → Dec (codeOf x ≡ 220) → (codeOf x ≤ 220) × (codeOf x ≡ 219 → ⊥)
+    go : Dec (codeOf x ≡ 70) → Dec (codeOf x ≡ c-message) → (codeOf x ≤ c-message) × (codeOf x ≡ c-mtypes → ⊥)
     go (yes z) d = (omega arith, λ y. omega arith)
     go (no z) (yes d) = (omega arith, λ y. omega arith)
-    go (no z) (no d) = absurd (true-false (sym e ∙ rw (ne-eqb (codeOf x) 70 z, ne-eqb (codeOf x) 220 d) refl))
+    go (no z) (no d) = absurd (true-false (sym e ∙ rw (ne-eqb (codeOf x) 70 z, ne-eqb (codeOf x) c-message d) refl))
 
 no-pid : Pidless []
 unfolding senseIn
@@ -130,7 +131,7 @@ module _ (m : Model) (cs vs : List ℕ) (S : Says m cs vs) where
   count-over set i e b p = ap (count cs H set 0 0) (let z : e ≡ i + (e - i) = omega arith in z) ∙ count-far set (e - i) i (λ j x y. p j x (omega arith))
 
   -- ---- items outside of bodies
-  flat : (j e : ℕ) → insideOf cs j ≡ 0 → j ≤ e → e ≤ length cs → ((i : ℕ) → j ≤ i → i < e → getD cs i 0 ≤ 222) → ((i : ℕ) → j ≤ i → i < e → getD H i 0 ≡ 0) × (insideOf cs e ≡ 0)
+  flat : (j e : ℕ) → insideOf cs j ≡ 0 → j ≤ e → e ≤ length cs → ((i : ℕ) → j ≤ i → i < e → getD cs i 0 ≤ c-parameter) → ((i : ℕ) → j ≤ i → i < e → getD H i 0 ≡ 0) × (insideOf cs e ≡ 0)
   flat j e q b t l =
       (λ i x y. home-inside cs (S .few) i (omega arith) (no-head (getD cs i 0) (l i x y)) ∙ far i x (omega arith), far e b (omega arith))
     where
@@ -154,17 +155,17 @@ module _ (m : Model) (cs vs : List ℕ) (S : Says m cs vs) where
     done-mtypes ws j e q y top a sc ins c9 c10 =
         let cm = code-is m cs vs S j i-mtypes (y .0) (y .1) in
         let lg = long m cs vs S in
-        let codes : (i : ℕ) → suc j ≤ i → i < e → (getD cs i 0 ≤ 220) × (getD cs i 0 ≡ 219 → ⊥) =
+        let codes : (i : ℕ) → suc j ≤ i → i < e → (getD cs i 0 ≤ c-message) × (getD cs i 0 ≡ c-mtypes → ⊥) =
         λ i u v. (let k = message-code (itemAt xs i) (lies-all xs message (each code-message ws) (suc j) (y .2) (all-each message code-message message-all ws) i u (omega arith)) in
         let z = code-at m cs vs S i (omega arith) in
         let k0 = k .0 in
         (omega arith, λ w. k .1 (sym z ∙ w))) in
-        let most : (i : ℕ) → j ≤ i → i < e → getD cs i 0 ≤ 222 = λ i u v. upto i u v cm codes (ℕ-discrete i j) in
+        let most : (i : ℕ) → j ≤ i → i < e → getD cs i 0 ≤ c-parameter = λ i u v. upto i u v cm codes (ℕ-discrete i j) in
         let fl = flat j e ins (omega arith) top most in
         let s1 : Sc g 0 (suc j) = scoped-over m cs vs H S g 0 j (suc j) (omega arith) (λ i u v. inl (ap (λ n. among 1 (getD cs n 0)) (let z : i ≡ j = omega arith in z) ∙ ap
         (among 1) cm ∙ sets .2)) sc in
         let r =
-        names-judged m cs vs S i-message 220 0 j e (last cs 3 (suc j)) constant refl (sets .3) (sets .4) (λ z. omega arith) refl (fl .0) top (λ k u v w. (omega arith, u)) ws g
+        names-judged m cs vs S i-message c-message 0 j e (last cs 3 (suc j)) constant refl (sets .3) (sets .4) (λ z. omega arith) refl (fl .0) top (λ k u v w. (omega arith, u)) ws g
         (suc j) e (omega arith) (omega arith) (omega arith) (y .2)
         refl a s1 in
         record {
@@ -182,8 +183,8 @@ module _ (m : Model) (cs vs : List ℕ) (S : Says m cs vs) where
           pidless = λ M n u. r .pidless n u;
         }
       where
-        upto : (i : ℕ) → j ≤ i → i < e → getD cs j 0 ≡ 219 → ((i : ℕ) → suc j ≤ i → i < e → (getD cs i 0 ≤ 220) × (getD cs i 0 ≡ 219 → ⊥)) → Dec (i ≡ j) → getD cs i 0 ≤ 222
-        upto i u v cm codes (yes z) = let w : getD cs i 0 ≡ 219 = ap (λ n. getD cs n 0) z ∙ cm in omega arith
+        upto : (i : ℕ) → j ≤ i → i < e → getD cs j 0 ≡ c-mtypes → ((i : ℕ) → suc j ≤ i → i < e → (getD cs i 0 ≤ c-message) × (getD cs i 0 ≡ c-mtypes → ⊥)) → Dec (i ≡ j) → getD cs i 0 ≤ c-parameter
+        upto i u v cm codes (yes z) = let w : getD cs i 0 ≡ c-mtypes = ap (λ n. getD cs n 0) z ∙ cm in omega arith
         upto i u v cm codes (no z) = let w = codes i (omega arith) v .0 in omega arith
 
     -- ---- a global declaration
@@ -192,7 +193,7 @@ module _ (m : Model) (cs vs : List ℕ) (S : Says m cs vs) where
         → count cs H 9 0 0 j ≡ c → count cs H 10 0 0 j ≡ d → Done g c d (global (declare t us)) j e
     done-global t us j e q y top a sc ins c9 c10 =
         let lg = long m cs vs S in
-        let codes : (i : ℕ) → j ≤ i → i < e → getD cs i 0 ≤ 218 =
+        let codes : (i : ℕ) → j ≤ i → i < e → getD cs i 0 ≤ c-field =
         λ i u v. settled-at m cs vs S i (omega arith) (lies-all xs settled (code-declaration i-global (declare t us)) j y
         (all-declaration i-global global-settled (declare t us)) i u (omega arith)) .0 in
         let fl = flat j e ins (omega arith) top (λ i u v. (let w = codes i u v in omega arith)) in
@@ -208,15 +209,15 @@ module _ (m : Model) (cs vs : List ℕ) (S : Says m cs vs) where
 
     -- ---- units with a body
     module _ (u b f t : ℕ) (F : Frame m cs vs S u b f t) where
-      frame-codes : (i : ℕ) → suc u ≤ i → i ≤ t → (getD cs i 0 ≡ 219 → ⊥) × (getD cs i 0 ≡ 226 → ⊥)
+      frame-codes : (i : ℕ) → suc u ≤ i → i ≤ t → (getD cs i 0 ≡ c-mtypes → ⊥) × (getD cs i 0 ≡ c-init → ⊥)
       frame-codes i x y = go (decLt i b) (ℕ-discrete i b) (decLt i f) (decLt i t)
         where
-          go : Dec (i < b) → Dec (i ≡ b) → Dec (i < f) → Dec (i < t) → (getD cs i 0 ≡ 219 → ⊥) × (getD cs i 0 ≡ 226 → ⊥)
+          go : Dec (i < b) → Dec (i ≡ b) → Dec (i < f) → Dec (i < t) → (getD cs i 0 ≡ c-mtypes → ⊥) × (getD cs i 0 ≡ c-init → ⊥)
           go (yes p) q r s = let k = F .before i x p in let n = k .most in (k .mtypes, λ z. omega arith)
-          go (no p) (yes q) r s = let k : getD cs i 0 ≡ 227 = ap (λ n. getD cs n 0) q ∙ F .begin in (λ z. omega arith, λ z. omega arith)
+          go (no p) (yes q) r s = let k : getD cs i 0 ≡ c-body = ap (λ n. getD cs n 0) q ∙ F .begin in (λ z. omega arith, λ z. omega arith)
           go (no p) (no q) (yes r) s = let k = F .own i (omega arith) r .0 in (λ z. omega arith, λ z. omega arith)
           go (no p) (no q) (no r) (yes s) = let k = F .said i (omega arith) s in (λ z. omega arith, λ z. omega arith)
-          go (no p) (no q) (no r) (no s) = let k : getD cs i 0 ≡ 228 = ap (λ n. getD cs n 0) (let z : i ≡ t = omega arith in z) ∙ F .ends in (λ z. omega arith, λ z. omega arith)
+          go (no p) (no q) (no r) (no s) = let k : getD cs i 0 ≡ c-end-body = ap (λ n. getD cs n 0) (let z : i ≡ t = omega arith in z) ∙ F .ends in (λ z. omega arith, λ z. omega arith)
 
       frame-scope : (l : Scope) → Sc l 0 (suc u) → Sc l 0 (suc t)
       frame-scope l s =
@@ -253,7 +254,7 @@ module _ (m : Model) (cs vs : List ℕ) (S : Says m cs vs) where
         → Clean m cs vs S j n → ((i : ℕ) → j ≤ i → i ≤ n → getD cs i 0 ≤ 71)
         → b ≡ suc (suc n) + length (each code-group gs) → f ≡ suc b + length (each (code-declaration i-local) ds) → t ≡ f + sizeIn q → Lies xs (suc (suc n)) (each code-group gs)
         → Lies xs b (code-body (body ds q))
-        → Lying xs 0 (code-tree q) f → (getD cs (suc t) 0 ≡ 213 → ⊥) → Sc g 0 j → insideOf cs j ≡ 0 → count cs H 9 0 0 j ≡ c → count cs H 10 0 0 j ≡ d
+        → Lying xs 0 (code-tree q) f → (getD cs (suc t) 0 ≡ c-size → ⊥) → Sc g 0 j → insideOf cs j ≡ 0 → count cs H 9 0 0 j ≡ c → count cs H 10 0 0 j ≡ d
         → Done g c d (process a w gs (body ds q)) j (suc t)
     done-process a w gs ds q j n b f t k bg jn bn qn bu ck clean low eb ef et yg yb lying after sc ins c9 c10 =
         let u = suc n in
@@ -302,14 +303,14 @@ module _ (m : Model) (cs vs : List ℕ) (S : Says m cs vs) where
         low-none : (x : ℕ) → x ≤ 71 → among 1 x ≡ false
         low-none x h = low-one x (record { most = omega arith; string = λ z. omega arith; high = λ z. omega arith })
 
-        heading : (i : ℕ) → j ≤ i → i ≤ suc n → Dec (i ≡ suc n) → getD cs (suc n) 0 ≡ k → (k ≡ 219 → ⊥) → (k ≡ 226 → ⊥) → ((i : ℕ) → j ≤ i → i ≤ n → getD cs i 0 ≤ 71)
-            → (getD cs i 0 ≡ 219 → ⊥) × (getD cs i 0 ≡ 226 → ⊥)
+        heading : (i : ℕ) → j ≤ i → i ≤ suc n → Dec (i ≡ suc n) → getD cs (suc n) 0 ≡ k → (k ≡ c-mtypes → ⊥) → (k ≡ c-init → ⊥) → ((i : ℕ) → j ≤ i → i ≤ n → getD cs i 0 ≤ 71)
+            → (getD cs i 0 ≡ c-mtypes → ⊥) × (getD cs i 0 ≡ c-init → ⊥)
         heading i x y (yes z) ck p q low = let e : getD cs i 0 ≡ k = ap (λ n. getD cs n 0) z ∙ ck in (λ r. p (sym e ∙ r), λ r. q (sym e ∙ r))
         heading i x y (no z) ck p q low = let e = low i x (omega arith) in (λ r. omega arith, λ r. omega arith)
 
     pub done-init : (ds : List Declaration) (q : Tree sequence) (j b f t : ℕ) → j < length xs → itemAt xs j ≡ i-init → b ≡ suc j
         → f ≡ suc b + length (each (code-declaration i-local) ds) → t ≡ f + sizeIn q
-        → Lies xs b (code-body (body ds q)) → Lying xs 0 (code-tree q) f → (getD cs (suc t) 0 ≡ 213 → ⊥) → Sc g 0 j → insideOf cs j ≡ 0 → count cs H 9 0 0 j ≡ c → count cs H 10 0 0 j ≡ d
+        → Lies xs b (code-body (body ds q)) → Lying xs 0 (code-tree q) f → (getD cs (suc t) 0 ≡ c-size → ⊥) → Sc g 0 j → insideOf cs j ≡ 0 → count cs H 9 0 0 j ≡ c → count cs H 10 0 0 j ≡ d
         → Done g c d (init (body ds q)) j (suc t)
     done-init ds q j b f t bj qj eb ef et yb lying after sc ins c9 c10 =
         let ci = code-is m cs vs S j i-init bj qj in
@@ -324,7 +325,7 @@ module _ (m : Model) (cs vs : List ℕ) (S : Says m cs vs) where
         (among 1) ci ∙ sets .5)) sc in
         let yd = lies-front xs b (i-body ∷ each (code-declaration i-local) ds) (code-tree q) (lies-front xs b (i-body ∷ each (code-declaration i-local) ds ++ code-tree q)
         (i-end-body ∷ []) yb) in
-        let n9 = count-over 9 j (suc j) (omega arith) (λ i x y. not-nine (getD cs i 0) (λ z. (let e : getD cs i 0 ≡ 226 = ap (λ n. getD cs n 0) (let w : i ≡ j = omega arith in w)
+        let n9 = count-over 9 j (suc j) (omega arith) (λ i x y. not-nine (getD cs i 0) (λ z. (let e : getD cs i 0 ≡ c-init = ap (λ n. getD cs n 0) (let w : i ≡ j = omega arith in w)
         ∙ ci in omega arith))) in
         let n10 = count-next 10 j in
         let o10 = one-here 10 j (ap (among 10) ci ∙ sets .1) hj in

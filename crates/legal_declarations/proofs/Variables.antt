@@ -10,6 +10,7 @@ use mathlib.Core.List.{List, [], _∷_, _++_, map, append-assoc, append-nil}
 use lib.ListN.{length, getD, length-append}
 use lib.Dec.{eqb, leb}
 use borrow.Author.Tests.{ne-eqb, eq-eqb, le-leb, lt-leb, leb-true}
+use Rattle.base_codes.specs.Codes.{c-chan, c-channel, c-declared, c-false, c-field, c-global, c-group, c-len, c-local, c-message, c-minus, c-parameter, c-size, c-true, c-value}
 use Rattle.base_bytes.specs.Choice.{pick, both, either}
 use Rattle.base_bytes.specs.Lists.{same}
 use Rattle.base_bytes.proofs.Tests.{true-false, both-true}
@@ -36,34 +37,34 @@ pub low-one : (c : ℕ) → Low c → among 1 c ≡ false
 unfolding among
 low-one c l =
     let a = l .most in
-    rw (ne-eqb c 212 (λ z. (let h = l .high (omega arith) in omega arith)), ne-eqb c 220 (λ z. omega arith), lt-leb 222 c (omega arith))
+    rw (ne-eqb c c-declared (λ z. (let h = l .high (omega arith) in omega arith)), ne-eqb c c-message (λ z. omega arith), lt-leb c-parameter c (omega arith))
 
 pub low-three : (c : ℕ) → Low c → among 3 c ≡ false
 unfolding among
-low-three c l = go (decLt c 180)
+low-three c l = go (decLt c c-len)
   where
-    go : Dec (c < 180) → either (both (leb 210 c) (leb c 211)) (eqb c 221) ≡ false
-    go (yes h) = rw (lt-leb 210 c (omega arith), ne-eqb c 221 (λ z. omega arith))
-    go (no h) = let a = l .most in let b = l .high (omega arith) in rw (le-leb 210 c (omega arith), lt-leb c 211 (omega arith), ne-eqb c 221 (λ z. omega arith))
+    go : Dec (c < c-len) → either (both (leb c-local c) (leb c c-global)) (eqb c c-group) ≡ false
+    go (yes h) = rw (lt-leb c-local c (omega arith), ne-eqb c c-group (λ z. omega arith))
+    go (no h) = let a = l .most in let b = l .high (omega arith) in rw (le-leb c-local c (omega arith), lt-leb c c-global (omega arith), ne-eqb c c-group (λ z. omega arith))
 
-among-16 : (c : ℕ) → (c ≡ 217 → ⊥) → among 16 c ≡ false
+among-16 : (c : ℕ) → (c ≡ c-channel → ⊥) → among 16 c ≡ false
 unfolding among
-among-16 c n = ne-eqb c 217 n
+among-16 c n = ne-eqb c c-channel n
 
-sets : (among 1 70 ≡ false) × (among 3 70 ≡ false) × (among 1 212 ≡ true) × (among 3 212 ≡ false) × (among 14 212 ≡ true) × (among 16 217 ≡ true) × (among 16 218 ≡ false)
+sets : (among 1 70 ≡ false) × (among 3 70 ≡ false) × (among 1 c-declared ≡ true) × (among 3 c-declared ≡ false) × (among 14 c-declared ≡ true) × (among 16 c-channel ≡ true) × (among 16 c-field ≡ false)
 unfolding among
 sets = (refl, refl, refl, refl, refl, refl, refl)
 
-marks : (ruleOf 70 ≡ 0) × (ruleOf 71 ≡ 0) × (ruleOf 214 ≡ 0) × (ruleOf 215 ≡ 0) × (ruleOf 178 ≡ 0) × (ruleOf 179 ≡ 0)
+marks : (ruleOf 70 ≡ 0) × (ruleOf 71 ≡ 0) × (ruleOf c-value ≡ 0) × (ruleOf c-minus ≡ 0) × (ruleOf c-true ≡ 0) × (ruleOf c-false ≡ 0)
 unfolding ruleOf
 marks = (refl, refl, refl, refl, refl, refl)
 
-chan-code : (t : ℕ) → eqb (130 + t) 173 ≡ eqb t 43
+chan-code : (t : ℕ) → eqb (130 + t) c-chan ≡ eqb t 43
 chan-code t = go (ℕ-discrete t 43)
   where
-    go : Dec (t ≡ 43) → eqb (130 + t) 173 ≡ eqb t 43
-    go (yes z) = eq-eqb (130 + t) 173 (omega arith) ∙ sym (eq-eqb t 43 z)
-    go (no z) = ne-eqb (130 + t) 173 (λ y. z (omega arith)) ∙ sym (ne-eqb t 43 z)
+    go : Dec (t ≡ 43) → eqb (130 + t) c-chan ≡ eqb t 43
+    go (yes z) = eq-eqb (130 + t) c-chan (omega arith) ∙ sym (eq-eqb t 43 z)
+    go (no z) = ne-eqb (130 + t) c-chan (λ y. z (omega arith)) ∙ sym (ne-eqb t 43 z)
 
 -- ---- `_pid` is not declared
 abbrev pub Pidless : Scope → Type 0
@@ -122,7 +123,7 @@ module _ (m : Model) (cs vs : List ℕ) (S : Says m cs vs) where
       (judges-true m cs vs S k k (clean-empty m cs vs S k k (omega arith)))
   fields (t ∷ ks) c i k h e q b = go (decLt i 4) (fields ks c (i + 1) (suc (suc k)) (h .2 .2) (omega arith) (last-skip m cs vs S 16 (suc k) (ap (among 16) field ∙ sets .6) ∙ was))
     where
-      field : getD cs (suc k) 0 ≡ 218
+      field : getD cs (suc k) 0 ≡ c-field
       field = code-is m cs vs S (suc k) i-field (h .2 .0) (h .2 .1)
 
       was : last cs 16 (suc k) ≡ suc c
@@ -155,16 +156,16 @@ module _ (m : Model) (cs vs : List ℕ) (S : Says m cs vs) where
 
   -- ---- values and sizes
   value-judged : (v : Value) (k h : ℕ) (sense : Name → Sense) → Lies xs k (code-value v) → ((j : ℕ) → k ≤ j → j < k + length (code-value v) → getD H j 0 ≡ h)
-      → ((w : Name) → k < length xs → itemAt xs k ≡ i-name w → k < k + length (code-value v) → eqb (getD cs (lookup cs vs H (getD vs k 0) h k) 0) 220 ≡ isConstant (sense w))
+      → ((w : Name) → k < length xs → itemAt xs k ≡ i-name w → k < k + length (code-value v) → eqb (getD cs (lookup cs vs H (getD vs k 0) h k) 0) c-message ≡ isConstant (sense w))
       → J k (k + length (code-value v)) (units.valued sense v)
   value-judged unset k h sense l o n = judges-true m cs vs S k (k + 0) (clean-empty m cs vs S k (k + 0) (omega arith))
-  value-judged (set-number x) k h sense l o n = two k (mark-clean k 71 (i-number x) (l .0) (l .1) refl (marks .1)) (mark-clean (suc k) 214 i-value (l .2 .0) (l .2 .1) refl (marks .2))
-  value-judged (set-minus x) k h sense l o n = two k (mark-clean k 71 (i-number x) (l .0) (l .1) refl (marks .1)) (mark-clean (suc k) 215 i-minus (l .2 .0) (l .2 .1) refl (marks .3))
-  value-judged set-true k h sense l o n = two k (mark-clean k 178 i-true (l .0) (l .1) refl (marks .4)) (mark-clean (suc k) 214 i-value (l .2 .0) (l .2 .1) refl (marks .2))
-  value-judged set-false k h sense l o n = two k (mark-clean k 179 i-false (l .0) (l .1) refl (marks .5)) (mark-clean (suc k) 214 i-value (l .2 .0) (l .2 .1) refl (marks .2))
+  value-judged (set-number x) k h sense l o n = two k (mark-clean k 71 (i-number x) (l .0) (l .1) refl (marks .1)) (mark-clean (suc k) c-value i-value (l .2 .0) (l .2 .1) refl (marks .2))
+  value-judged (set-minus x) k h sense l o n = two k (mark-clean k 71 (i-number x) (l .0) (l .1) refl (marks .1)) (mark-clean (suc k) c-minus i-minus (l .2 .0) (l .2 .1) refl (marks .3))
+  value-judged set-true k h sense l o n = two k (mark-clean k c-true i-true (l .0) (l .1) refl (marks .4)) (mark-clean (suc k) c-value i-value (l .2 .0) (l .2 .1) refl (marks .2))
+  value-judged set-false k h sense l o n = two k (mark-clean k c-false i-false (l .0) (l .1) refl (marks .5)) (mark-clean (suc k) c-value i-value (l .2 .0) (l .2 .1) refl (marks .2))
   value-judged (set-name w) k h sense l o n =
-      judges-to k (suc (suc k)) (k + 2) (eqb (getD cs (lookup cs vs H (getD vs k 0) h k) 0) 220) (isConstant (sense w)) (omega arith) (n w (l .0) (l .1) (omega arith))
-      (judges-skip m cs vs S k (suc k) (suc (suc k)) (eqb (getD cs (lookup cs vs H (getD vs k 0) h k) 0) 220) (omega arith) (omega arith)
+      judges-to k (suc (suc k)) (k + 2) (eqb (getD cs (lookup cs vs H (getD vs k 0) h k) 0) c-message) (isConstant (sense w)) (omega arith) (n w (l .0) (l .1) (omega arith))
+      (judges-skip m cs vs S k (suc k) (suc (suc k)) (eqb (getD cs (lookup cs vs H (getD vs k 0) h k) 0) c-message) (omega arith) (omega arith)
       (mark-clean k 70 (i-name w) (l .0) (l .1) refl (marks .0))
       (rule-named m cs vs S k h (code-is m cs vs S (suc k) i-named (l .2 .0) (l .2 .1)) (o (suc k) (omega arith) (omega arith))))
   value-judged (set-channel x ks) k h sense l o n =
@@ -186,25 +187,25 @@ module _ (m : Model) (cs vs : List ℕ) (S : Says m cs vs) where
   -- ---- is it an array, is it a chan
   -- no size stands at an item or behind it
   abbrev pub After : ℕ → Type 0
-  After e = (getD cs e 0 ≡ 213 → ⊥) × (getD cs (suc e) 0 ≡ 213 → ⊥)
+  After e = (getD cs e 0 ≡ c-size → ⊥) × (getD cs (suc e) 0 ≡ c-size → ⊥)
 
-  pub array-none : (k : ℕ) → (getD cs (suc (suc (suc k))) 0 ≡ 213 → ⊥) → rules.isArray cs (suc k) ≡ false
+  pub array-none : (k : ℕ) → (getD cs (suc (suc (suc k))) 0 ≡ c-size → ⊥) → rules.isArray cs (suc k) ≡ false
   unfolding rules.isArray
   array-none k n =
-      rw (let z : suc k + 2 ≡ suc (suc (suc k)) = omega arith in z) (rw (ne-eqb (getD cs (suc (suc (suc k))) 0) 213 n) (go (eqb (getD cs (suc k + 1) 0) 71)))
+      rw (let z : suc k + 2 ≡ suc (suc (suc k)) = omega arith in z) (rw (ne-eqb (getD cs (suc (suc (suc k))) 0) c-size n) (go (eqb (getD cs (suc k + 1) 0) 71)))
     where
       go : (b : Bool) → both b false ≡ false
       go true = refl
       go false = refl
 
-  array-some : (k : ℕ) → getD cs (suc (suc k)) 0 ≡ 71 → getD cs (suc (suc (suc k))) 0 ≡ 213 → rules.isArray cs (suc k) ≡ true
+  array-some : (k : ℕ) → getD cs (suc (suc k)) 0 ≡ 71 → getD cs (suc (suc (suc k))) 0 ≡ c-size → rules.isArray cs (suc k) ≡ true
   unfolding rules.isArray
   array-some k a b = rw ((let z : suc k + 1 ≡ suc (suc k) = omega arith in z), (let z : suc k + 2 ≡ suc (suc (suc k)) = omega arith in z)) (rw (a, b) refl)
 
   array-is : (s : Option ℕ) (v : Value) (k : ℕ) → Lies xs (suc (suc k)) (code-size s ++ code-value v) → After (suc (suc k) + length (code-size s ++ code-value v))
       → rules.isArray cs (suc k) ≡ isArray s
   array-is (some n) v k l a = array-some k (code-is m cs vs S (suc (suc k)) (i-number n) (l .0) (l .1)) (code-is m cs vs S (suc (suc (suc k))) i-size (l .2 .0) (l .2 .1))
-  array-is none unset k l a = array-none k (subst (λ x. getD cs (suc x) 0 ≡ 213 → ⊥) (let z : suc (suc k) + 0 ≡ suc (suc k) = omega arith in z) (a .1))
+  array-is none unset k l a = array-none k (subst (λ x. getD cs (suc x) 0 ≡ c-size → ⊥) (let z : suc (suc k) + 0 ≡ suc (suc k) = omega arith in z) (a .1))
   array-is none (set-number x) k l a = array-none k (λ z. (let c = code-is m cs vs S (suc (suc (suc k))) i-value (l .2 .0) (l .2 .1) in omega arith))
   array-is none (set-minus x) k l a = array-none k (λ z. (let c = code-is m cs vs S (suc (suc (suc k))) i-minus (l .2 .0) (l .2 .1) in omega arith))
   array-is none set-true k l a = array-none k (λ z. (let c = code-is m cs vs S (suc (suc (suc k))) i-value (l .2 .0) (l .2 .1) in omega arith))
@@ -220,7 +221,7 @@ module _ (m : Model) (cs vs : List ℕ) (S : Says m cs vs) where
   module _ (t h lo hi p : ℕ) (sense : Scope → Name → Sense) (f : Scope → Variable → Bool)
       (F : (l : Scope) (w : Name) (s : Option ℕ) (v : Value) → f l (variable w s v) ≡ both (fresh l w) (both (sized s) (units.valued (sense (l ++ ofVariable t (variable w s v) ∷ [])) v)))
       (home : (j : ℕ) → lo ≤ j → j < hi → getD H j 0 ≡ h) (top : hi ≤ length cs) (typed : getD cs p 0 ≡ 130 + t)
-      (look : (l : Scope) (j : ℕ) (w : Name) → lo ≤ j → j < hi → itemAt xs j ≡ i-name w → Sc l h j → Pidless l → eqb (getD cs (lookup cs vs H (getD vs j 0) h j) 0) 220 ≡ isConstant
+      (look : (l : Scope) (j : ℕ) (w : Name) → lo ≤ j → j < hi → itemAt xs j ≡ i-name w → Sc l h j → Pidless l → eqb (getD cs (lookup cs vs H (getD vs j 0) h j) 0) c-message ≡ isConstant
       (sense l w)) where
     -- what stands behind a variable
     pub record Passed (l : Scope) (b : Bool) (k e : ℕ) (l2 : Scope) : Type 0 where
@@ -263,7 +264,7 @@ module _ (m : Model) (cs vs : List ℕ) (S : Says m cs vs) where
         ends : e ≡ suc (suc k) + length (code-size s) + length (code-value v)
         ends = let z = sizes in omega arith
 
-        cd : getD cs (suc k) 0 ≡ 212
+        cd : getD cs (suc k) 0 ≡ c-declared
         cd = code-is m cs vs S (suc k) i-declared (y .2 .0) (y .2 .1)
 
         hd : getD H (suc k) 0 ≡ h

@@ -8,6 +8,7 @@ use mathlib.Core.List.{List, [], _∷_, _++_}
 use lib.ListN.{length, getD, length-append}
 use lib.Dec.{eqb}
 use borrow.Author.Tests.{le-ltb}
+use Rattle.base_codes.specs.Codes.{c-end-body, c-parameter}
 use Rattle.base_bytes.specs.Choice.{pick}
 use Rattle.spec_grammar.specs.Tree.{sequence, Tree, Declaration, Group, body}
 use Rattle.spec_grammar.specs.Code.{i-local, i-body, i-end-body, each, code-tree, code-declaration, code-group, code-body}
@@ -16,14 +17,14 @@ use Rattle.legal_items.proofs.Codes.{every-lift, InTree, tree-codes, In
 use Rattle.legal_items.proofs.Standing.{weigh, weigh-append, Lain, lain-front, lain-back, Stood, Inner, inside-head, settled, settled-end}
 
 -- ---- which body an item can be in
-low-heads : (c : ℕ) → c ≤ 222 → heads c ≡ false
-low-heads c h = rw (le-ltb 222 c h)
+low-heads : (c : ℕ) → c ≤ c-parameter → heads c ≡ false
+low-heads c h = rw (le-ltb c-parameter c h)
 
 module _ (cs : List ℕ) where
   inside-most : (j : ℕ) → insideOf cs j ≤ j
   unfolding insideOf
   inside-most zero = omega arith
-  inside-most (suc j) = go (heads (getD cs j 0)) (eqb (getD cs j 0) 228) (inside-most j)
+  inside-most (suc j) = go (heads (getD cs j 0)) (eqb (getD cs j 0) c-end-body) (inside-most j)
     where
       go : (a b : Bool) → insideOf cs j ≤ j → pick a (j + 1) (pick b 0 (insideOf cs j)) ≤ suc j
       go true b r = omega arith
@@ -44,7 +45,7 @@ module _ (cs : List ℕ) where
     unfolding insideOf
     inside-past zero = inl (ap (insideOf cs) (let z : e + 0 ≡ e = omega arith in z) ∙ shut)
     inside-past (suc d) =
-        subst (λ n. (insideOf cs n ≡ 0) ⊎ (e < insideOf cs n)) (let z : suc (e + d) ≡ e + suc d = omega arith in z) (go (heads (getD cs (e + d) 0)) (eqb (getD cs (e + d) 0) 228) (inside-past d))
+        subst (λ n. (insideOf cs n ≡ 0) ⊎ (e < insideOf cs n)) (let z : suc (e + d) ≡ e + suc d = omega arith in z) (go (heads (getD cs (e + d) 0)) (eqb (getD cs (e + d) 0) c-end-body) (inside-past d))
       where
         go : (a b : Bool) → (insideOf cs (e + d) ≡ 0) ⊎ (e < insideOf cs (e + d))
             → (pick a (e + d + 1) (pick b 0 (insideOf cs (e + d))) ≡ 0) ⊎ (e < pick a (e + d + 1) (pick b 0 (insideOf cs (e + d))))

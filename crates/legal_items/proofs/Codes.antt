@@ -8,6 +8,7 @@ use mathlib.Core.Logic.{_⊎_, inl, inr}
 use mathlib.Core.List.{List, [], _∷_, _++_}
 use lib.Dec.{leb}
 use borrow.Author.Tests.{leb-true}
+use Rattle.base_codes.specs.Codes.{c-argument, c-choice, c-constant, c-end-option, c-field, c-group, c-int, c-local, c-message, c-or-else, c-parameter, c-plain, c-size}
 use Rattle.base_bytes.specs.Choice.{pick, both}
 use Rattle.base_bytes.proofs.Tests.{both-true}
 use Rattle.spec_grammar.specs.Tree.{Name, Shape, Exp, plain, indexed, num, tru, fls, get, len, unary, binary, choice, Expr, Received, into, equal, exactly, exactly-true, exactly-false, Sort, Tree, express, assign, increment, decrement, send, receive, assert, print, skip, goto, break, timeout, else, run, set-run, select, loop, bare, labelled, end, then, over, option, Value, unset, set-number, set-minus, set-true, set-false, set-name, set-channel, Variable, variable, Declaration, declare, Group, group}
@@ -79,7 +80,7 @@ loose i-end-body = false
 
 -- "low": below all marks
 unfoldable low : Item → Bool
-low x = pick (loose x) (both (leb 73 (codeOf x)) (leb (codeOf x) 175)) true
+low x = pick (loose x) (both (leb 73 (codeOf x)) (leb (codeOf x) c-int)) true
 
 unfoldable lows : List Item → Bool
 lows [] = true
@@ -100,22 +101,22 @@ unfolding low loose
 known-low (is-name a b) = refl
 known-low (is-text a b) = refl
 known-low is-number = refl
-known-low (is-mark x a b) = low-nth items (x - 147) i-plain table-low refl
+known-low (is-mark x a b) = low-nth items (x - c-or-else) i-plain table-low refl
 
 abbrev pub Low : ℕ → Type 0
-Low c = (73 ≤ c) × (c ≤ 175)
+Low c = (73 ≤ c) × (c ≤ c-int)
 
 binary-low : (o : ℕ) → Known (i-binary o) → Low (codeOf (i-binary o))
 unfolding low loose
-binary-low o k = let z = both-true (leb 73 (codeOf (i-binary o))) (leb (codeOf (i-binary o)) 175) (known-low k) in (leb-true _ _ (z .0), leb-true _ _ (z .1))
+binary-low o k = let z = both-true (leb 73 (codeOf (i-binary o))) (leb (codeOf (i-binary o)) c-int) (known-low k) in (leb-true _ _ (z .0), leb-true _ _ (z .1))
 
 unary-low : (o : ℕ) → Known (i-unary o) → Low (codeOf (i-unary o))
 unfolding low loose
-unary-low o k = let z = both-true (leb 73 (codeOf (i-unary o))) (leb (codeOf (i-unary o)) 175) (known-low k) in (leb-true _ _ (z .0), leb-true _ _ (z .1))
+unary-low o k = let z = both-true (leb 73 (codeOf (i-unary o))) (leb (codeOf (i-unary o)) c-int) (known-low k) in (leb-true _ _ (z .0), leb-true _ _ (z .1))
 
 pub type-low : (o : ℕ) → Known (i-type o) → Low (codeOf (i-type o))
 unfolding low loose
-type-low o k = let z = both-true (leb 73 (codeOf (i-type o))) (leb (codeOf (i-type o)) 175) (known-low k) in (leb-true _ _ (z .0), leb-true _ _ (z .1))
+type-low o k = let z = both-true (leb 73 (codeOf (i-type o))) (leb (codeOf (i-type o)) c-int) (known-low k) in (leb-true _ _ (z .0), leb-true _ _ (z .1))
 
 -- ---- what holds of the codes of all items of a list
 abbrev pub Every : (ℕ → Type 0) → List Item → Type 0
@@ -137,7 +138,7 @@ every-lift P Q h (x ∷ l) a = (λ k. h (codeOf x) (a .0 k), every-lift P Q h l 
 
 -- ---- expressions: no string, and no mark beyond them
 abbrev pub InExp : ℕ → Type 0
-InExp c = (c ≤ 182) × (c ≡ 72 → ⊥)
+InExp c = (c ≤ c-choice) × (c ≡ 72 → ⊥)
 
 low-exp : (c : ℕ) → Low c → InExp c
 low-exp c h = (omega arith, λ e. omega arith)
@@ -161,7 +162,7 @@ exp-codes (choice a b c) =
 
 -- ---- arguments: expressions, each with its mark
 abbrev pub InArgs : ℕ → Type 0
-InArgs c = (c ≤ 186) × (c ≡ 72 → ⊥)
+InArgs c = (c ≤ c-constant) × (c ≡ 72 → ⊥)
 
 exp-args : {s : Shape} (e : Exp s) → Every InArgs (code-exp e)
 exp-args e = every-lift InExp InArgs (λ c h. (omega arith, h .1)) (code-exp e) (exp-codes e)
@@ -181,7 +182,7 @@ all-received-codes xs = every-each InArgs code-received received-codes xs
 
 -- ---- statements
 abbrev pub InTree : ℕ → Type 0
-InTree c = c ≤ 209
+InTree c = c ≤ c-end-option
 
 exp-tree : {s : Shape} (e : Exp s) → Every InTree (code-exp e)
 exp-tree e = every-lift InExp InTree (λ c h. omega arith) (code-exp e) (exp-codes e)
@@ -230,11 +231,11 @@ tree-codes (option q os) =
 
 -- ---- declarations: nothing that stands in statements alone
 abbrev pub InDeclaration : ℕ → Type 0
-InDeclaration c = (c ≤ 218) × (c ≡ 72 → ⊥) × (183 ≤ c → 210 ≤ c)
+InDeclaration c = (c ≤ c-field) × (c ≡ 72 → ⊥) × (c-argument ≤ c → c-local ≤ c)
 
 -- what stands behind a declared name
 abbrev pub InValue : ℕ → Type 0
-InValue c = (c ≤ 218) × (c ≡ 72 → ⊥) × (183 ≤ c → 213 ≤ c)
+InValue c = (c ≤ c-field) × (c ≡ 72 → ⊥) × (c-argument ≤ c → c-size ≤ c)
 
 field-codes : (n : ℕ) → Every InValue (code-field n)
 field-codes n = (λ k. let h = type-low n k in (omega arith, λ e. omega arith, λ e. omega arith), (λ k. (omega arith, λ e. omega arith, λ e. omega arith), tt))
@@ -276,7 +277,7 @@ global-codes d = declaration-codes i-global (omega arith, λ e. omega arith, λ 
 
 -- ---- parameters and mtype names
 abbrev pub InGroup : ℕ → Type 0
-InGroup c = (c ≤ 222) × (c ≡ 72 → ⊥) × (176 ≤ c → 221 ≤ c)
+InGroup c = (c ≤ c-parameter) × (c ≡ 72 → ⊥) × (c-plain ≤ c → c-group ≤ c)
 
 group-codes : (g : Group) → Every InGroup (code-group g)
 group-codes (group n ws) =
@@ -289,7 +290,7 @@ pub groups-codes : (gs : List Group) → Every InGroup (each code-group gs)
 groups-codes gs = every-each InGroup code-group group-codes gs
 
 abbrev pub InMessages : ℕ → Type 0
-InMessages c = (c ≡ 70) ⊎ (c ≡ 220)
+InMessages c = (c ≡ 70) ⊎ (c ≡ c-message)
 
 pub messages-codes : (ws : List Name) → Every InMessages (each code-message ws)
 messages-codes ws = every-each InMessages code-message (λ w. (λ k. inl refl, (λ k. inr refl, tt))) ws

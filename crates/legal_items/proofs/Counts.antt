@@ -7,6 +7,7 @@ use mathlib.Core.List.{List, [], _∷_, _++_}
 use lib.ListN.{length, getD}
 use lib.Dec.{leb}
 use borrow.Author.Tests.{ne-eqb, lt-leb}
+use Rattle.base_codes.specs.Codes.{c-argument, c-assign, c-body, c-constant, c-do, c-end-body, c-express, c-if, c-local, c-message, c-od, c-parameter, c-proctype}
 use Rattle.base_bytes.proofs.Tests.{both-no}
 use Rattle.parse_machine_proof.proofs.Never.{lt-or-ge}
 use Rattle.spec_grammar.specs.Tree.{Name, Shape, Exp, Expr, Received, Sort, sequence, Tree, express, assign, increment, decrement, send, receive, assert, print, skip, goto, break, timeout, else, run, set-run, select, loop, bare, labelled, end, then, over, option, Declaration, Group, Body, body, Activity, idle, once, times, Part, mtypes, global, process, init, Model}
@@ -38,7 +39,7 @@ module _ (g : ℕ → ℕ) where
   mass-at cs vs [] i h = refl
   mass-at cs vs (x ∷ l) i h = ap₂ _+_ (ap g (h .2)) (mass-at cs vs l (suc i) (h .4))
 
-  mass-body : (ds : List Declaration) (q : Tree sequence) → mass (code-body (body ds q)) ≡ g 227 + mass (each (code-declaration i-local) ds) + mass (code-tree q) + g 228
+  mass-body : (ds : List Declaration) (q : Tree sequence) → mass (code-body (body ds q)) ≡ g c-body + mass (each (code-declaration i-local) ds) + mass (code-tree q) + g c-end-body
   mass-body ds q =
       let a = mass-append (i-body ∷ each (code-declaration i-local) ds ++ code-tree q) (i-end-body ∷ []) in
       let b = mass-append (i-body ∷ each (code-declaration i-local) ds) (code-tree q) in
@@ -63,18 +64,18 @@ module _ (ds : List Declaration) (q : Tree sequence) (k : AllKnown (code-body (b
   known-tree = known-back (i-body ∷ each (code-declaration i-local) ds) (code-tree q) (known-front (i-body ∷ each (code-declaration i-local) ds ++ code-tree q) (i-end-body ∷ []) k)
 
 -- ---- statements
-quiet-low : (c : ℕ) → c ≤ 186 → (c ≡ 72 → ⊥) → one 11 c ≡ 0
+quiet-low : (c : ℕ) → c ≤ c-constant → (c ≡ 72 → ⊥) → one 11 c ≡ 0
 unfolding one among
-quiet-low c h n = rw (ne-eqb c 72 n, ne-eqb c 189 (λ z. omega arith), lt-leb 191 c (omega arith), ne-eqb c 206 (λ z. omega arith))
+quiet-low c h n = rw (ne-eqb c 72 n, ne-eqb c c-express (λ z. omega arith), lt-leb c-assign c (omega arith), ne-eqb c c-do (λ z. omega arith))
 
-quiet-high : (c : ℕ) → 207 ≤ c → one 11 c ≡ 0
+quiet-high : (c : ℕ) → c-od ≤ c → one 11 c ≡ 0
 unfolding one among
-quiet-high c h = rw (ne-eqb c 72 (λ z. omega arith), ne-eqb c 189 (λ z. omega arith), both-no (leb 191 c) (lt-leb c 204 (omega arith)), ne-eqb c 206 (λ z. omega arith))
+quiet-high c h = rw (ne-eqb c 72 (λ z. omega arith), ne-eqb c c-express (λ z. omega arith), both-no (leb c-assign c) (lt-leb c c-if (omega arith)), ne-eqb c c-do (λ z. omega arith))
 
-quiet-both : (c : ℕ) → (c ≡ 72 → ⊥) → (183 ≤ c → 210 ≤ c) → one 11 c ≡ 0
-quiet-both c n h = go (lt-or-ge c 183)
+quiet-both : (c : ℕ) → (c ≡ 72 → ⊥) → (c-argument ≤ c → c-local ≤ c) → one 11 c ≡ 0
+quiet-both c n h = go (lt-or-ge c c-argument)
   where
-    go : (c < 183) ⊎ (183 ≤ c) → one 11 c ≡ 0
+    go : (c < c-argument) ⊎ (c-argument ≤ c) → one 11 c ≡ 0
     go (inl z) = quiet-low c (omega arith) n
     go (inr z) = quiet-high c (let y = h z in omega arith)
 
@@ -223,7 +224,7 @@ statements-model m k = mass-model (one 11) statementsOf statements-part m k
 
 -- ---- what is in no declaration, no parameter and no statement
 module _ (g : ℕ → ℕ) (declared : (c : ℕ) → InDeclaration c → g c ≡ 0) (grouped : (c : ℕ) → InGroup c → g c ≡ 0)
-    (stated : (c : ℕ) → InTree c → g c ≡ 0) (opened : g 227 ≡ 0) (closed : g 228 ≡ 0) where
+    (stated : (c : ℕ) → InTree c → g c ≡ 0) (opened : g c-body ≡ 0) (closed : g c-end-body ≡ 0) where
   bare-body : (b : Body) → AllKnown (code-body b) → mass g (code-body b) ≡ 0
   bare-body (body ds q) k =
       let a = mass-body g ds q in
@@ -241,9 +242,9 @@ module _ (g : ℕ → ℕ) (declared : (c : ℕ) → InDeclaration c → g c ≡
       omega arith
 
 -- ---- mtype names
-no-message : (c : ℕ) → (c ≡ 220 → ⊥) → one 12 c ≡ 0
+no-message : (c : ℕ) → (c ≡ c-message → ⊥) → one 12 c ≡ 0
 unfolding one among
-no-message c n = rw (ne-eqb c 220 n)
+no-message c n = rw (ne-eqb c c-message n)
 
 group-none : (c : ℕ) → InGroup c → one 12 c ≡ 0
 group-none c h = no-message c (λ z. let y = h .2 (omega arith) in omega arith)
@@ -273,9 +274,9 @@ pub messages-model : (m : Model) → AllKnown (code m) → mass (one 12) (code m
 messages-model m k = mass-model (one 12) messagesOf messages-part m k
 
 -- ---- proctypes
-no-proctype : (c : ℕ) → c ≤ 222 → one 13 c ≡ 0
+no-proctype : (c : ℕ) → c ≤ c-parameter → one 13 c ≡ 0
 unfolding one among
-no-proctype c h = rw (lt-leb 223 c (omega arith))
+no-proctype c h = rw (lt-leb c-proctype c (omega arith))
 
 message-none : (c : ℕ) → InMessages c → one 13 c ≡ 0
 message-none c (inl e) = no-proctype c (omega arith)

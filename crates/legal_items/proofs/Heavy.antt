@@ -8,6 +8,7 @@ use mathlib.Core.List.{List, [], _∷_, _++_}
 use lib.ListN.{length, getD, length-append}
 use lib.Dec.{eqb, ltb, leb}
 use borrow.Author.Tests.{lt-ltb, le-ltb, lt-leb, le-leb}
+use Rattle.base_codes.specs.Codes.{c-body, c-init, c-parameter, c-proctype}
 use Rattle.base_bytes.specs.Choice.{pick}
 use Rattle.base_bytes.proofs.Tests.{both-no}
 use Rattle.parse_machine_proof.proofs.Never.{lt-or-ge}
@@ -86,13 +87,13 @@ module _ (cs vs hs : List ℕ) (homed : (j : ℕ) → j < length cs → getD hs 
       off j x z (inl y) = omega arith
       off j x z (inr y) = omega arith
 
-  heavy-low : (j : ℕ) → getD cs j 0 ≤ 222 → heavyAt cs vs hs j ≡ 0
+  heavy-low : (j : ℕ) → getD cs j 0 ≤ c-parameter → heavyAt cs vs hs j ≡ 0
   unfolding heavyAt among
-  heavy-low j h = rw (lt-leb 223 (getD cs j 0) (omega arith))
+  heavy-low j h = rw (lt-leb c-proctype (getD cs j 0) (omega arith))
 
-  heavy-high : (j : ℕ) → 227 ≤ getD cs j 0 → heavyAt cs vs hs j ≡ 0
+  heavy-high : (j : ℕ) → c-body ≤ getD cs j 0 → heavyAt cs vs hs j ≡ 0
   unfolding heavyAt among
-  heavy-high j h = rw (both-no (leb 223 (getD cs j 0)) (lt-leb (getD cs j 0) 226 (omega arith)))
+  heavy-high j h = rw (both-no (leb c-proctype (getD cs j 0)) (lt-leb (getD cs j 0) c-init (omega arith)))
 
   heavy-is : (j : ℕ) → among 15 (getD cs j 0) ≡ true → heavyAt cs vs hs j ≡ pick (ltb 32 (numbers cs vs hs (j + 1))) 1 0
   unfolding heavyAt
@@ -104,7 +105,7 @@ module _ (cs vs hs : List ℕ) (homed : (j : ℕ) → j < length cs → getD hs 
   head-among once w i s = rw (s .4 .2)
   head-among (times n) w i s = rw (s .4 .4 .2)
 
-  init-among : (i : ℕ) → getD cs i 0 ≡ 226 → among 15 (getD cs i 0) ≡ true
+  init-among : (i : ℕ) → getD cs i 0 ≡ c-init → among 15 (getD cs i 0) ≡ true
   unfolding among
   init-among i e = rw e
 

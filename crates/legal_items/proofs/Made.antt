@@ -9,6 +9,7 @@ use mathlib.Core.List.{List, [], _∷_, _++_}
 use lib.ListN.{length, getD}
 use lib.Dec.{eqb}
 use borrow.Author.Tests.{ne-eqb}
+use Rattle.base_codes.specs.Codes.{c-active, c-active-many, c-body, c-channel, c-init, c-parameter}
 use Rattle.base_bytes.specs.Choice.{pick}
 use Rattle.spec_grammar.specs.Tree.{Name, sequence, Tree, Value, unset, set-number, set-minus, set-true, set-false, set-name, set-channel, Declaration, declare, Group, Body, body, Activity, idle, once, times, Part, mtypes, global, process, init}
 use Rattle.spec_grammar.specs.Tree as tree
@@ -25,7 +26,7 @@ use Rattle.legal_items.proofs.Parts.{headAt, head-last, unit-sum, proce
 
 module _ (cs vs hs : List ℕ) (homed : (j : ℕ) → j < length cs → getD hs j 0 ≡ homeOf cs j) where
   -- ---- what counts at the item that begins a unit alone
-  module _ (f : ℕ → ℕ) (low : (j : ℕ) → getD cs j 0 ≤ 222 → f j ≡ 0) (high : (j : ℕ) → 227 ≤ getD cs j 0 → f j ≡ 0) where
+  module _ (f : ℕ → ℕ) (low : (j : ℕ) → getD cs j 0 ≤ c-parameter → f j ≡ 0) (high : (j : ℕ) → c-body ≤ getD cs j 0 → f j ≡ 0) where
     unit-head : (A : List Item) (gs : List Group) (ds : List Declaration) (q : Tree sequence) (i u : ℕ) → suc u ≡ i + length A → Housed cs vs hs u gs ds q
         → weigh f i (A ++ each code-group gs ++ code-body (body ds q)) ≡ weigh f i A
     unit-head A gs ds q i u e H =
@@ -68,9 +69,9 @@ module _ (cs vs hs : List ℕ) (homed : (j : ℕ) → j < length cs → getD hs 
         omega arith
 
   -- ---- processes that start
-  no-start : (j : ℕ) → (getD cs j 0 ≡ 224 → ⊥) → (getD cs j 0 ≡ 225 → ⊥) → (getD cs j 0 ≡ 226 → ⊥) → startsAt cs vs j ≡ 0
+  no-start : (j : ℕ) → (getD cs j 0 ≡ c-active → ⊥) → (getD cs j 0 ≡ c-active-many → ⊥) → (getD cs j 0 ≡ c-init → ⊥) → startsAt cs vs j ≡ 0
   unfolding startsAt
-  no-start j a b c = rw (ne-eqb (getD cs j 0) 224 a, ne-eqb (getD cs j 0) 225 b, ne-eqb (getD cs j 0) 226 c)
+  no-start j a b c = rw (ne-eqb (getD cs j 0) c-active a, ne-eqb (getD cs j 0) c-active-many b, ne-eqb (getD cs j 0) c-init c)
 
   starts-head : (x : Activity) (w : Name) (i : ℕ) → Lain cs vs i (code-activity x w) → startsAt cs vs (headAt x i) ≡ startedBy x
   unfolding startsAt
@@ -78,14 +79,14 @@ module _ (cs vs hs : List ℕ) (homed : (j : ℕ) → j < length cs → getD hs 
   starts-head once w i s = rw (s .4 .2)
   starts-head (times n) w i s = rw (s .4 .4 .2) (ap (λ k. getD vs k 0) (let z : suc (suc i) - 2 ≡ i = omega arith in z) ∙ s .3 n refl)
 
-  starts-init : (i : ℕ) → getD cs i 0 ≡ 226 → startsAt cs vs i ≡ 1
+  starts-init : (i : ℕ) → getD cs i 0 ≡ c-init → startsAt cs vs i ≡ 1
   unfolding startsAt
   starts-init i e = rw e
 
-  start-low : (j : ℕ) → getD cs j 0 ≤ 222 → startsAt cs vs j ≡ 0
+  start-low : (j : ℕ) → getD cs j 0 ≤ c-parameter → startsAt cs vs j ≡ 0
   start-low j h = no-start j (λ z. omega arith) (λ z. omega arith) (λ z. omega arith)
 
-  start-high : (j : ℕ) → 227 ≤ getD cs j 0 → startsAt cs vs j ≡ 0
+  start-high : (j : ℕ) → c-body ≤ getD cs j 0 → startsAt cs vs j ≡ 0
   start-high j h = no-start j (λ z. omega arith) (λ z. omega arith) (λ z. omega arith)
 
   pub process-activity : (x : Activity) (w : Name) (gs : List Group) (b : Body) (i : ℕ) → Standing cs vs hs homed (process x w gs b) i → Lain cs vs i (code-activity x w)
@@ -101,15 +102,15 @@ module _ (cs vs hs : List ℕ) (homed : (j : ℕ) → j < length cs → getD hs 
   abbrev K : ℕ → ℕ
   K = makesAt cs vs hs
 
-  no-channel : (j : ℕ) → (getD cs j 0 ≡ 217 → ⊥) → K j ≡ 0
+  no-channel : (j : ℕ) → (getD cs j 0 ≡ c-channel → ⊥) → K j ≡ 0
   unfolding makesAt
-  no-channel j n = rw (ne-eqb (getD cs j 0) 217 n)
+  no-channel j n = rw (ne-eqb (getD cs j 0) c-channel n)
 
   -- what each channel of a body counts
   abbrev each-made : ℕ → ℕ
   each-made h = pick (eqb h 0) 1 (startsAt cs vs (h - 1))
 
-  a-channel : (j h : ℕ) → getD cs j 0 ≡ 217 → getD hs j 0 ≡ h → K j ≡ each-made h
+  a-channel : (j h : ℕ) → getD cs j 0 ≡ c-channel → getD hs j 0 ≡ h → K j ≡ each-made h
   unfolding makesAt
   a-channel j h e g = rw (e, g)
 
@@ -129,7 +130,7 @@ module _ (cs vs hs : List ℕ) (homed : (j : ℕ) → j < length cs → getD hs 
     channels-size none i s = refl
     channels-size (some n) i s = let a = no-channel i (λ z. let y = s .1 in omega arith) in let b = no-channel (suc i) (λ z. let y = s .4 .1 in omega arith) in omega arith
 
-    two-none : (x y : Item) (i : ℕ) → St i (x ∷ y ∷ []) → (codeOf x ≡ 217 → ⊥) → (codeOf y ≡ 217 → ⊥) → weigh K i (x ∷ y ∷ []) ≡ each-made h * 0
+    two-none : (x y : Item) (i : ℕ) → St i (x ∷ y ∷ []) → (codeOf x ≡ c-channel → ⊥) → (codeOf y ≡ c-channel → ⊥) → weigh K i (x ∷ y ∷ []) ≡ each-made h * 0
     two-none x y i s a b = let c = no-channel i (λ z. a (sym (s .1) ∙ z)) in let d = no-channel (suc i) (λ z. b (sym (s .4 .1) ∙ z)) in omega arith
 
     channels-value : (v : Value) (i : ℕ) → St i (code-value v) → weigh K i (code-value v) ≡ each-made h * madeBy v
@@ -167,7 +168,7 @@ module _ (cs vs hs : List ℕ) (homed : (j : ℕ) → j < length cs → getD hs 
           let e = mul-add (each-made h) (F a) (tally F l) in
           omega arith
 
-    channels-declaration : (i : Item) → (codeOf i ≡ 217 → ⊥) → (d : Declaration) (j : ℕ) → St j (code-declaration i d) → weigh K j (code-declaration i d) ≡ each-made h * madeByDeclaration d
+    channels-declaration : (i : Item) → (codeOf i ≡ c-channel → ⊥) → (d : Declaration) (j : ℕ) → St j (code-declaration i d) → weigh K j (code-declaration i d) ≡ each-made h * madeByDeclaration d
     channels-declaration i n (declare k xs) j s =
         let a = no-channel j (λ z. let y = s .1 in let x = type-low k (s .0) in omega arith) in
         let b = no-channel (suc j) (λ z. n (sym (s .4 .1) ∙ z)) in

@@ -10,6 +10,7 @@ use native.Mathlib.Decide.{ℕ-discrete}
 use lib.ListN.{length, getD, length-append}
 use lib.Dec.{eqb}
 use borrow.Author.Tests.{ne-eqb, eq-eqb}
+use Rattle.base_codes.specs.Codes.{c-declared, c-end-body, c-parameter, c-size}
 use Rattle.base_bytes.specs.Choice.{pick, both}
 use Rattle.spec_grammar.specs.Tree.{Name, sequence, Tree, Value, unset, set-number, set-minus, set-true, set-false, set-name, set-channel, Declaration, declare, Group, group, body, Activity, idle, once, times, Part, mtypes, global, process, init}
 use Rattle.spec_grammar.specs.Tree as tree
@@ -32,26 +33,26 @@ module _ (cs vs hs : List ℕ) where
   no-array : (d : ℕ) → Ahead cs vs hs (suc d) → isArray cs d ≡ false
   unfolding isArray
   no-array d n =
-      ap₂ (λ a b. both (eqb (getD cs a 0) 71) (eqb (getD cs b 0) 213)) (let z : d + 1 ≡ suc d = omega arith in z) (let z : d + 2 ≡ suc (suc d) = omega arith in z)
-      ∙ go (ℕ-discrete (getD cs (suc d) 0) 71) (ℕ-discrete (getD cs (suc (suc d)) 0) 213)
+      ap₂ (λ a b. both (eqb (getD cs a 0) 71) (eqb (getD cs b 0) c-size)) (let z : d + 1 ≡ suc d = omega arith in z) (let z : d + 2 ≡ suc (suc d) = omega arith in z)
+      ∙ go (ℕ-discrete (getD cs (suc d) 0) 71) (ℕ-discrete (getD cs (suc (suc d)) 0) c-size)
     where
-      go : Dec (getD cs (suc d) 0 ≡ 71) → Dec (getD cs (suc (suc d)) 0 ≡ 213) → both (eqb (getD cs (suc d) 0) 71) (eqb (getD cs (suc (suc d)) 0) 213) ≡ false
+      go : Dec (getD cs (suc d) 0 ≡ 71) → Dec (getD cs (suc (suc d)) 0 ≡ c-size) → both (eqb (getD cs (suc d) 0) 71) (eqb (getD cs (suc (suc d)) 0) c-size) ≡ false
       go (yes a) (yes b) = absurd (n a b)
-      go (yes a) (no b) = rw (a, ne-eqb (getD cs (suc (suc d)) 0) 213 b)
+      go (yes a) (no b) = rw (a, ne-eqb (getD cs (suc (suc d)) 0) c-size b)
       go (no a) b = rw (ne-eqb (getD cs (suc d) 0) 71 a)
 
-  an-array : (d : ℕ) → getD cs (suc d) 0 ≡ 71 → getD cs (suc (suc d)) 0 ≡ 213 → isArray cs d ≡ true
+  an-array : (d : ℕ) → getD cs (suc d) 0 ≡ 71 → getD cs (suc (suc d)) 0 ≡ c-size → isArray cs d ≡ true
   unfolding isArray
   an-array d a b =
-      ap₂ (λ i j. both (eqb (getD cs i 0) 71) (eqb (getD cs j 0) 213)) (let z : d + 1 ≡ suc d = omega arith in z) (let z : d + 2 ≡ suc (suc d) = omega arith in z) ∙ rw (a, b)
+      ap₂ (λ i j. both (eqb (getD cs i 0) 71) (eqb (getD cs j 0) c-size)) (let z : d + 1 ≡ suc d = omega arith in z) (let z : d + 2 ≡ suc (suc d) = omega arith in z) ∙ rw (a, b)
 
   module _ (h : ℕ) where
     abbrev pub N : ℕ → ℕ
     N = numbersAt cs vs hs h
 
-    pub no-variable : (j : ℕ) → (getD cs j 0 ≡ 212 → ⊥) → (getD cs j 0 ≡ 222 → ⊥) → N j ≡ 0
+    pub no-variable : (j : ℕ) → (getD cs j 0 ≡ c-declared → ⊥) → (getD cs j 0 ≡ c-parameter → ⊥) → N j ≡ 0
     unfolding numbersAt among
-    no-variable j a b = rw (ne-eqb (getD cs j 0) 212 a, ne-eqb (getD cs j 0) 222 b)
+    no-variable j a b = rw (ne-eqb (getD cs j 0) c-declared a, ne-eqb (getD cs j 0) c-parameter b)
 
     pub elsewhere : (j : ℕ) → (getD hs j 0 ≡ h → ⊥) → N j ≡ 0
     unfolding numbersAt
@@ -68,11 +69,11 @@ module _ (cs vs hs : List ℕ) where
     scalar-is : (j c : ℕ) → getD cs j 0 ≡ c → among 14 c ≡ true → getD hs j 0 ≡ h → Ahead cs vs hs (suc j) → N j ≡ 1
     scalar-is j c e g k a = a-variable j c e g k ∙ rw (no-array j a)
 
-    declares : among 14 212 ≡ true
+    declares : among 14 c-declared ≡ true
     unfolding among
     declares = refl
 
-    passes : among 14 222 ≡ true
+    passes : among 14 c-parameter ≡ true
     unfolding among
     passes = refl
 
@@ -83,7 +84,7 @@ module _ (cs vs hs : List ℕ) where
     ahead-other : (j : ℕ) → (getD cs j 0 ≡ 71 → ⊥) → Ahead cs vs hs j
     ahead-other j n a b = n a
 
-    ahead-next : (j : ℕ) → (getD cs (suc j) 0 ≡ 213 → ⊥) → Ahead cs vs hs j
+    ahead-next : (j : ℕ) → (getD cs (suc j) 0 ≡ c-size → ⊥) → Ahead cs vs hs j
     ahead-next j n a b = n b
 
     ahead-value : (v : Value) (j : ℕ) → St j (code-value v) → Ahead cs vs hs (j + length (code-value v)) → Ahead cs vs hs j
@@ -95,11 +96,11 @@ module _ (cs vs hs : List ℕ) where
     ahead-value (set-name w) j s a = ahead-other j (λ z. let y = s .1 in omega arith)
     ahead-value (set-channel n ks) j s a = ahead-next j (λ z. let y = s .4 .1 in omega arith)
 
-    numbers-declared : (o : Option ℕ) (v : Value) (j : ℕ) → getD cs j 0 ≡ 212 → getD hs j 0 ≡ h → St (suc j) (code-size o ++ code-value v)
+    numbers-declared : (o : Option ℕ) (v : Value) (j : ℕ) → getD cs j 0 ≡ c-declared → getD hs j 0 ≡ h → St (suc j) (code-size o ++ code-value v)
         → Ahead cs vs hs (suc j + length (code-size o ++ code-value v)) → N j ≡ sizeOf o
-    numbers-declared none v j e k s a = scalar-is j 212 e declares k (ahead-value v (suc j) s a)
+    numbers-declared none v j e k s a = scalar-is j c-declared e declares k (ahead-value v (suc j) s a)
     numbers-declared (some n) v j e k s a =
-        a-variable j 212 e declares k ∙ rw (an-array j (s .1) (s .4 .1)) (ap (λ i. getD vs i 0) (let z : j + 1 ≡ suc j = omega arith in z) ∙ s .2 n refl)
+        a-variable j c-declared e declares k ∙ rw (an-array j (s .1) (s .4 .1)) (ap (λ i. getD vs i 0) (let z : j + 1 ≡ suc j = omega arith in z) ∙ s .2 n refl)
 
     numbers-variable : (x : tree.Variable) (i : ℕ) → St i (code-variable x) → Ahead cs vs hs (i + length (code-variable x)) → weigh N i (code-variable x) ≡ ofVariable x
     numbers-variable (tree.variable w o v) i s a =
@@ -129,7 +130,7 @@ module _ (cs vs hs : List ℕ) where
     variable-begins : (x : tree.Variable) (l : List Item) (i : ℕ) → St i (code-variable x ++ l) → Ahead cs vs hs i
     variable-begins (tree.variable w o v) l i s = ahead-other i (λ z. let y = s .1 in omega arith)
 
-    numbers-declaration : (i : Item) → (codeOf i ≡ 212 → ⊥) → (codeOf i ≡ 222 → ⊥) → (d : Declaration) (j : ℕ) → St j (code-declaration i d) → Ahead cs vs hs (j + length (code-declaration i d))
+    numbers-declaration : (i : Item) → (codeOf i ≡ c-declared → ⊥) → (codeOf i ≡ c-parameter → ⊥) → (d : Declaration) (j : ℕ) → St j (code-declaration i d) → Ahead cs vs hs (j + length (code-declaration i d))
         → weigh N j (code-declaration i d) ≡ ofDeclaration d
     numbers-declaration i m n (declare k xs) j s a =
         let b = no-variable j (λ z. let y = s .1 in let x = type-low k (s .0) in omega arith) (λ z. let y = s .1 in let x = type-low k (s .0) in omega arith) in
@@ -153,7 +154,7 @@ module _ (cs vs hs : List ℕ) where
     numbers-parameter : (w : Name) (i : ℕ) → St i (code-parameter w) → Ahead cs vs hs (i + length (code-parameter w)) → weigh N i (code-parameter w) ≡ 1
     numbers-parameter w i s a =
         let b = no-variable i (λ z. let y = s .1 in omega arith) (λ z. let y = s .1 in omega arith) in
-        let c = scalar-is (suc i) 222 (s .4 .1) passes (s .4 .3) (subst (Ahead cs vs hs) (let z : i + 2 ≡ suc (suc i) = omega arith in z) a) in
+        let c = scalar-is (suc i) c-parameter (s .4 .1) passes (s .4 .3) (subst (Ahead cs vs hs) (let z : i + 2 ≡ suc (suc i) = omega arith in z) a) in
         omega arith
 
     all-ones : (ws : List Name) → tally (λ (w : Name). 1) ws ≡ length ws
@@ -176,9 +177,9 @@ module _ (cs vs hs : List ℕ) where
     numbers-groups gs j s a = numbers-each code-group ofGroup numbers-group group-begins gs j s a
 
     -- ---- statements do not begin as a size does, and declare nothing
-    ahead-tree : (l : List Item) (j : ℕ) → Every InTree l → St j l → getD cs (j + length l) 0 ≡ 228 → Ahead cs vs hs j
-    ahead-tree [] j e s a = ahead-other j (λ z. let y : getD cs j 0 ≡ 228 = ap (λ i. getD cs i 0) (let x : j ≡ j + 0 = omega arith in x) ∙ a in omega arith)
-    ahead-tree (x ∷ []) j e s a = ahead-next j (λ z. let y : getD cs (suc j) 0 ≡ 228 = ap (λ i. getD cs i 0) (let x : suc j ≡ j + 1 = omega arith in x) ∙ a in omega arith)
+    ahead-tree : (l : List Item) (j : ℕ) → Every InTree l → St j l → getD cs (j + length l) 0 ≡ c-end-body → Ahead cs vs hs j
+    ahead-tree [] j e s a = ahead-other j (λ z. let y : getD cs j 0 ≡ c-end-body = ap (λ i. getD cs i 0) (let x : j ≡ j + 0 = omega arith in x) ∙ a in omega arith)
+    ahead-tree (x ∷ []) j e s a = ahead-next j (λ z. let y : getD cs (suc j) 0 ≡ c-end-body = ap (λ i. getD cs i 0) (let x : suc j ≡ j + 1 = omega arith in x) ∙ a in omega arith)
     ahead-tree (x ∷ y ∷ l) j e s a = ahead-next j (λ z. let b = e .1 .0 (s .4 .0) in let c = s .4 .1 in omega arith)
 
     -- the numbers of a unit's body, where this is its body

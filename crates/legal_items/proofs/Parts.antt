@@ -8,6 +8,7 @@ use mathlib.Core.List.{List, [], _∷_, _++_}
 use lib.ListN.{length, getD, length-append}
 use lib.Dec.{eqb}
 use borrow.Author.Tests.{ne-eqb, le-ltb}
+use Rattle.base_codes.specs.Codes.{c-parameter, c-size}
 use Rattle.base_bytes.specs.Choice.{both}
 use Rattle.spec_grammar.specs.Tree.{Name, sequence, Tree, Declaration, declare, Group, body, Activity, idle, once, times, Part, mtypes, global, process, init, Model}
 use Rattle.spec_grammar.specs.Code.{Item, i-local, i-init, i-body, i-end-body, each, code-tree, code-declaration, code-group, code-body, code-activity, code-message, code-part, code}
@@ -38,7 +39,7 @@ none-sum (suc a) b = ne-eqb (suc a + b) 0 (λ z. omega arith) ∙ ap (λ c. both
 module _ (cs vs hs : List ℕ) where
   -- what stands there is no size of an array
   abbrev pub Ahead : ℕ → Type 0
-  Ahead e = getD cs e 0 ≡ 71 → getD cs (suc e) 0 ≡ 213 → ⊥
+  Ahead e = getD cs e 0 ≡ 71 → getD cs (suc e) 0 ≡ c-size → ⊥
 
   pub unit-sum : (f : ℕ → ℕ) (A : List Item) (gs : List Group) (ds : List Declaration) (q : Tree sequence) (i u : ℕ) → suc u ≡ i + length A
       → weigh f i (A ++ each code-group gs ++ code-body (body ds q))
@@ -103,7 +104,7 @@ module _ (cs vs hs : List ℕ) where
           → Stood cs vs hs 0 i (code-part (global d)) × (insideOf cs (i + length (code-part (global d))) ≡ 0)
       global-stood d s o =
           settled cs vs hs homed (code-part (global d)) 0 i
-          (every-lift InDeclaration (Inner cs vs hs) (λ c h. (rw (le-ltb 222 c (let z = h .0 in omega arith)), λ z. omega arith)) (code-part (global d)) (global-codes d)) s o
+          (every-lift InDeclaration (Inner cs vs hs) (λ c h. (rw (le-ltb c-parameter c (let z = h .0 in omega arith)), λ z. omega arith)) (code-part (global d)) (global-codes d)) s o
 
     -- no body is open behind a unit
     part-shut : (p : Part) (i : ℕ) → Lain cs vs i (code-part p) → insideOf cs i ≡ 0 → insideOf cs (i + length (code-part p)) ≡ 0

@@ -6,6 +6,7 @@ use mathlib.Core.Bool.{true, false}
 use mathlib.Core.List.{List, [], _∷_, _++_}
 use lib.ListN.{length, getD, length-map}
 use borrow.Author.Tests.{ne-eqb}
+use Rattle.base_codes.specs.Codes.{c-end-body}
 use Rattle.spec_grammar.specs.Tree.{Model}
 use Rattle.spec_grammar.specs.Code.{Item, i-number, i-plain, i-end-body, code}
 use Rattle.table_entries.specs.Items.{codeOf, Known, AllKnown}
@@ -90,17 +91,17 @@ module _ (cs vs hs : List ℕ) where
 
   -- what neither begins nor ends a body
   abbrev pub Inner : ℕ → Type 0
-  Inner c = (heads c ≡ false) × (c ≡ 228 → ⊥)
+  Inner c = (heads c ≡ false) × (c ≡ c-end-body → ⊥)
 
   inside-next : (j : ℕ) → Inner (getD cs j 0) → insideOf cs (suc j) ≡ insideOf cs j
   unfolding insideOf
-  inside-next j p = rw (p .0, ne-eqb (getD cs j 0) 228 (p .1))
+  inside-next j p = rw (p .0, ne-eqb (getD cs j 0) c-end-body (p .1))
 
   pub inside-head : (j : ℕ) → heads (getD cs j 0) ≡ true → insideOf cs (suc j) ≡ j + 1
   unfolding insideOf
   inside-head j p = rw p
 
-  inside-end : (j : ℕ) → getD cs j 0 ≡ 228 → insideOf cs (suc j) ≡ 0
+  inside-end : (j : ℕ) → getD cs j 0 ≡ c-end-body → insideOf cs (suc j) ≡ 0
   unfolding insideOf
   inside-end j p = rw p
 

@@ -9,6 +9,7 @@ use native.Mathlib.Decide.{ℕ-discrete}
 use lib.ListN.{length, getD, length-append}
 use lib.Dec.{eqb, ltb}
 use borrow.Author.Tests.{ne-eqb, eq-eqb, lt-leb}
+use Rattle.base_codes.specs.Codes.{c-argument, c-choice, c-end, c-receive, c-run, c-send, c-set-run}
 use Rattle.base_bytes.specs.Choice.{pick, both}
 use Rattle.spec_grammar.specs.Tree.{Name, Shape, Exp, Expr, Sort, sequence, Tree, express, assign, increment, decrement, send, receive, assert, print, skip, goto, break, timeout, else, run, set-run, select, loop, bare, labelled, end, then, over, option, Declaration, Group, body, Activity, idle, once, times, Part, mtypes, global, process, init}
 use Rattle.spec_grammar.specs.Code.{Item, i-name, i-text, i-argument, i-express, i-target, i-assign, i-increment, i-decrement, i-send, i-receive, i-assert, i-end, i-run, i-set-run, i-if, i-fi, i-do, i-od, i-end-option, i-local, i-init, each, code-exp, code-argument, code-received, code-tree, code-declaration, code-group, code-body, code-activity, code-message, code-part}
@@ -35,7 +36,7 @@ after-is p o (suc n) e q a b =
 
 -- not the end of arguments
 abbrev Calm : ℕ → Type 0
-Calm c = c ≡ 187 → ⊥
+Calm c = c ≡ c-end → ⊥
 
 calm-exp : {s : Shape} (e : Exp s) → Every Calm (code-exp e)
 calm-exp e = every-lift InExp Calm (λ c h z. omega arith) (code-exp e) (exp-codes e)
@@ -52,21 +53,21 @@ tight (init (body ds q)) = narrow q
 
 no-opener : (c : ℕ) → InArgs c → among 4 c ≡ false
 unfolding among
-no-opener c h = rw (ne-eqb c 72 (h .1), lt-leb 194 c (omega arith), lt-leb 202 c (omega arith))
+no-opener c h = rw (ne-eqb c 72 (h .1), lt-leb c-send c (omega arith), lt-leb c-run c (omega arith))
 
-opens-send : among 4 194 ≡ true
+opens-send : among 4 c-send ≡ true
 unfolding among
 opens-send = refl
 
-opens-receive : among 4 195 ≡ true
+opens-receive : among 4 c-receive ≡ true
 unfolding among
 opens-receive = refl
 
-opens-run : among 4 202 ≡ true
+opens-run : among 4 c-run ≡ true
 unfolding among
 opens-run = refl
 
-opens-set-run : among 4 203 ≡ true
+opens-set-run : among 4 c-set-run ≡ true
 unfolding among
 opens-set-run = refl
 
@@ -80,13 +81,13 @@ module _ (cs vs hs : List ℕ) where
 
   no-end : (j : ℕ) → Calm (getD cs j 0) → W j ≡ 0
   unfolding wideAt
-  no-end j n = rw (ne-eqb (getD cs j 0) 187 n)
+  no-end j n = rw (ne-eqb (getD cs j 0) c-end n)
 
-  other-end : (j o : ℕ) → getD cs j 0 ≡ 187 → opener cs j ≡ o → (getD cs o 0 ≡ 72 → ⊥) → W j ≡ 0
+  other-end : (j o : ℕ) → getD cs j 0 ≡ c-end → opener cs j ≡ o → (getD cs o 0 ≡ 72 → ⊥) → W j ≡ 0
   unfolding wideAt
   other-end j o e q n = rw (e, q, ne-eqb (getD cs o 0) 72 n)
 
-  print-end : (j o h n : ℕ) → getD cs j 0 ≡ 187 → opener cs j ≡ o → getD cs o 0 ≡ 72 → getD hs j 0 ≡ h → count cs hs 5 h o j ≡ n → W j ≡ pick (ltb 4 n) 1 0
+  print-end : (j o h n : ℕ) → getD cs j 0 ≡ c-end → opener cs j ≡ o → getD cs o 0 ≡ 72 → getD hs j 0 ≡ h → count cs hs 5 h o j ≡ n → W j ≡ pick (ltb 4 n) 1 0
   unfolding wideAt
   print-end j o h n e q g k c = rw (e, q, g, k, c)
 
@@ -113,11 +114,11 @@ module _ (cs vs hs : List ℕ) where
     abbrev B : ℕ → ℕ
     B = one cs hs 5 h
 
-    not-one : (j : ℕ) → getD cs j 0 ≤ 182 → B j ≡ 0
+    not-one : (j : ℕ) → getD cs j 0 ≤ c-choice → B j ≡ 0
     unfolding one among
-    not-one j z = rw (lt-leb 183 (getD cs j 0) (omega arith))
+    not-one j z = rw (lt-leb c-argument (getD cs j 0) (omega arith))
 
-    is-one : (j : ℕ) → getD cs j 0 ≡ 183 → getD hs j 0 ≡ h → B j ≡ 1
+    is-one : (j : ℕ) → getD cs j 0 ≡ c-argument → getD hs j 0 ≡ h → B j ≡ 1
     unfolding one among
     is-one j e g = rw (e, eq-eqb (getD hs j 0) h g)
 

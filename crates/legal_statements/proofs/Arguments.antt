@@ -8,6 +8,7 @@ use mathlib.Core.List.{List, [], _∷_, _++_}
 use lib.ListN.{length, getD}
 use lib.Dec.{eqb}
 use borrow.Author.Tests.{ne-eqb, eq-eqb, lt-leb}
+use Rattle.base_codes.specs.Codes.{c-argument, c-constant, c-end, c-equal, c-false, c-into, c-run, c-send, c-true}
 use Rattle.base_bytes.specs.Choice.{pick, both}
 use Rattle.base_bytes.proofs.Tests.{true-false}
 use Rattle.rule_sheets.specs.Walks.{after, sum}
@@ -45,20 +46,20 @@ marks-append [] y = omega arith
 marks-append (c ∷ x) y = let e = marks-append x y in omega arith
 
 -- ---- in expressions none
-pub inner-code : (c : ℕ) → inExpression c ≡ true → (c < 183) × (c ≡ 72 → ⊥)
-inner-code c e = (low (decLt c 183), λ z. true-false (sym e ∙ ap inExpression z ∙ text-outside))
+pub inner-code : (c : ℕ) → inExpression c ≡ true → (c < c-argument) × (c ≡ 72 → ⊥)
+inner-code c e = (low (decLt c c-argument), λ z. true-false (sym e ∙ ap inExpression z ∙ text-outside))
   where
-    low : Dec (c < 183) → c < 183
+    low : Dec (c < c-argument) → c < c-argument
     low (yes h) = h
     low (no h) = absurd (true-false (sym e ∙ mark-outside c (omega arith)))
 
-inner-unopened : (c : ℕ) → c < 183 → (c ≡ 72 → ⊥) → among 4 c ≡ false
+inner-unopened : (c : ℕ) → c < c-argument → (c ≡ 72 → ⊥) → among 4 c ≡ false
 unfolding among
-inner-unopened c h g = rw (ne-eqb c 72 g, lt-leb 194 c (omega arith), lt-leb 202 c (omega arith)) refl
+inner-unopened c h g = rw (ne-eqb c 72 g, lt-leb c-send c (omega arith), lt-leb c-run c (omega arith)) refl
 
-inner-unmarked : (c : ℕ) → c < 183 → among 5 c ≡ false
+inner-unmarked : (c : ℕ) → c < c-argument → among 5 c ≡ false
 unfolding among
-inner-unmarked c h = rw (lt-leb 183 c h) refl
+inner-unmarked c h = rw (lt-leb c-argument c h) refl
 
 parts-unopened : (l : List Item) → all-inside l → Unopened l
 parts-unopened [] p = tt
@@ -70,17 +71,17 @@ parts-unmarked [] p = refl
 parts-unmarked (x ∷ l) p = let z = inner-code (codeOf x) (p .0) in rw (inner-unmarked (codeOf x) (z .0)) (let e = parts-unmarked l (p .1) in omega arith)
 
 -- ---- the marks of arguments
-argument-marks : ((among 4 183 ≡ false) × (among 4 184 ≡ false) × (among 4 185 ≡ false) × (among 4 186 ≡ false))
-    × ((among 5 183 ≡ true) × (among 5 184 ≡ true) × (among 5 185 ≡ true) × (among 5 186 ≡ true))
-    × ((among 4 71 ≡ false) × (among 4 178 ≡ false) × (among 4 179 ≡ false)) × ((among 5 71 ≡ false) × (among 5 178 ≡ false) × (among 5 179 ≡ false))
+argument-marks : ((among 4 c-argument ≡ false) × (among 4 c-into ≡ false) × (among 4 c-equal ≡ false) × (among 4 c-constant ≡ false))
+    × ((among 5 c-argument ≡ true) × (among 5 c-into ≡ true) × (among 5 c-equal ≡ true) × (among 5 c-constant ≡ true))
+    × ((among 4 71 ≡ false) × (among 4 c-true ≡ false) × (among 4 c-false ≡ false)) × ((among 5 71 ≡ false) × (among 5 c-true ≡ false) × (among 5 c-false ≡ false))
 unfolding among
 argument-marks = ((refl, refl, refl, refl), (refl, refl, refl, refl), (refl, refl, refl), (refl, refl, refl))
 
-pub mark-rules : (ruleOf 183 ≡ 2) × (ruleOf 184 ≡ 2) × (ruleOf 185 ≡ 17) × (ruleOf 186 ≡ 0) × (ruleOf 187 ≡ 16)
+pub mark-rules : (ruleOf c-argument ≡ 2) × (ruleOf c-into ≡ 2) × (ruleOf c-equal ≡ 17) × (ruleOf c-constant ≡ 0) × (ruleOf c-end ≡ 16)
 unfolding ruleOf
 mark-rules = (refl, refl, refl, refl, refl)
 
-pub mark-roles : (roleOf 183 ≡ 0) × (roleOf 184 ≡ 3) × (roleOf 185 ≡ 0)
+pub mark-roles : (roleOf c-argument ≡ 0) × (roleOf c-into ≡ 3) × (roleOf c-equal ≡ 0)
 unfolding roleOf
 mark-roles = (refl, refl, refl)
 
@@ -142,14 +143,14 @@ module _ (S : Scene) where
   constant-fault x c i e r s =
       clean-one S x (i-constant ∷ []) i
       ∙ ap₂ both (fine-free S i c (code-at S x (i-constant ∷ []) i s ∙ e) r)
-      (clean-one S i-constant [] (suc i) ∙ ap₂ both (fine-free S (suc i) 186 (code-at S i-constant [] (suc i) (next S x (i-constant ∷ []) i s)) (mark-rules .3)) (clean-none S (suc (suc i))))
+      (clean-one S i-constant [] (suc i) ∙ ap₂ both (fine-free S (suc i) c-constant (code-at S i-constant [] (suc i) (next S x (i-constant ∷ []) i s)) (mark-rules .3)) (clean-none S (suc (suc i))))
 
   pub received-fault : (x : Received) (i : ℕ) → Stands S i (code-received x) → clean S i (code-received x) ≡ receives (S .at) x
   received-fault (into r) i s = marked-fault S r received i-into i 2 s tt (mark-roles .1) (mark-rules .1) height-rule
   received-fault (equal e) i s = marked-fault S e operand i-equal i 17 s refl (mark-roles .2) (mark-rules .2) height-rule-behind
   received-fault (exactly n) i s = constant-fault (i-number n) 71 i refl (rules-none .1) s
-  received-fault exactly-true i s = constant-fault i-true 178 i refl (rules-none .2) s
-  received-fault exactly-false i s = constant-fault i-false 179 i refl (rules-none .3) s
+  received-fault exactly-true i s = constant-fault i-true c-true i refl (rules-none .2) s
+  received-fault exactly-false i s = constant-fault i-false c-false i refl (rules-none .3) s
 
   received-one : (x : Received) (i : ℕ) → Stands S i (code-received x) → Unopened (code-received x) × (marks (code-received x) ≡ 1)
   received-one (into r) i s = marked-one r i-into (phrase-inside r (proper S r i (front S (code-exp r) (i-into ∷ []) i s))) (argument-marks .0 .1) (argument-marks .1 .1)
@@ -199,7 +200,7 @@ module _ (S : Scene) where
         clean-append S L (i-end ∷ []) (suc k) j refl
         ∙ ap₂ both (each-fault l (suc k) L-stands)
         (clean-one S i-end [] j
-        ∙ ap₂ both (fine-by S j 187 16 (code-at S i-end [] j ends) (mark-rules .4) ∙ judged-end) (clean-none S (suc j)) ∙ both-last (eqb (badCount (S .cs) (S .vs) (homes S) k (length l)) 0))
+        ∙ ap₂ both (fine-by S j c-end 16 (code-at S i-end [] j ends) (mark-rules .4) ∙ judged-end) (clean-none S (suc j)) ∙ both-last (eqb (badCount (S .cs) (S .vs) (homes S) k (length l)) 0))
 
   -- arguments, and received ones
   pub arguments-fault : (x : Item) (l : List Expr) (k : ℕ) → Stands S k (x ∷ (each code-argument l ++ i-end ∷ [])) → among 4 (codeOf x) ≡ true → among 5 (codeOf x) ≡ false

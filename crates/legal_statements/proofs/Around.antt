@@ -7,6 +7,7 @@ use mathlib.Core.List.{List, [], _∷_, _++_}
 use lib.ListN.{length, getD, length-append}
 use lib.Dec.{eqb, ltb, leb}
 use borrow.Author.Tests.{lt-ltb, le-ltb, ltb-true, ltb-false, le-leb, lt-leb, leb-true, leb-false, ne-eqb, eqb-true, eqb-false}
+use Rattle.base_codes.specs.Codes.{c-break, c-do, c-else, c-end-option, c-fi, c-goto, c-if, c-label, c-od, c-option, c-skip, c-timeout}
 use Rattle.base_bytes.specs.Choice.{pick, both, either}
 use Rattle.base_bytes.specs.Lists.{same}
 use Rattle.spec_text.specs.Names.{pid}
@@ -57,11 +58,11 @@ quota-two false x y = go (leb x 1) refl (eqb x 1) refl
         one false g = sym (lt-leb (x + y) 1 (let z = leb-false y 0 g in let q = eqb-true x 1 f in omega arith))
 
 -- ---- rules
-pub silent : (ruleOf 197 ≡ 0) × (ruleOf 200 ≡ 0) × (ruleOf 204 ≡ 0) × (ruleOf 205 ≡ 0) × (ruleOf 206 ≡ 0) × (ruleOf 207 ≡ 0) × (ruleOf 208 ≡ 0) × (ruleOf 209 ≡ 0)
+pub silent : (ruleOf c-skip ≡ 0) × (ruleOf c-timeout ≡ 0) × (ruleOf c-if ≡ 0) × (ruleOf c-fi ≡ 0) × (ruleOf c-do ≡ 0) × (ruleOf c-od ≡ 0) × (ruleOf c-option ≡ 0) × (ruleOf c-end-option ≡ 0)
 unfolding ruleOf
 silent = (refl, refl, refl, refl, refl, refl, refl, refl)
 
-judged : (ruleOf 188 ≡ 7) × (ruleOf 198 ≡ 9) × (ruleOf 199 ≡ 3) × (ruleOf 201 ≡ 4)
+judged : (ruleOf c-label ≡ 7) × (ruleOf c-goto ≡ 9) × (ruleOf c-break ≡ 3) × (ruleOf c-else ≡ 4)
 unfolding ruleOf
 judged = (refl, refl, refl, refl)
 
@@ -104,7 +105,7 @@ module _ (S : Scene) where
 
   -- whether it begins an option, and then, whether an earlier one of the selection begins with `else`
   abbrev pub Here : ℕ → Bool → Bool → Type 0
-  Here i first twinned = (eqb (getD (S .cs) (i - 1) 0) 208 ≡ first) × (first ≡ true → twin (S .cs) (i - 1) 1 ≡ twinned)
+  Here i first twinned = (eqb (getD (S .cs) (i - 1) 0) c-option ≡ first) × (first ≡ true → twin (S .cs) (i - 1) 1 ≡ twinned)
 
   abbrev pub Around : Sort → ℕ → Bool → Bool → Type 0
   Around action i first twinned = Here i first twinned
@@ -113,10 +114,10 @@ module _ (S : Scene) where
   Around options i first twinned = (first ≡ true) × (twin (S .cs) i 1 ≡ twinned)
 
   -- ---- behind one item
-  pub prior-next : (x : Item) (l : List Item) (i : ℕ) (ls : List Name) → Stands S i (x ∷ l) → eqb (codeOf x) 188 ≡ false → Prior i ls → Prior (suc i) ls
+  pub prior-next : (x : Item) (l : List Item) (i : ℕ) (ls : List Name) → Stands S i (x ∷ l) → eqb (codeOf x) c-label ≡ false → Prior i ls → Prior (suc i) ls
   prior-next x l i ls s e p = λ y w h g. label-no S y i (ap (among 2) (code-at S x l i s) ∙ codes-sets (codeOf x) .0 ∙ e) ∙ p y w h g
 
-  pub deep-next : (x : Item) (l : List Item) (i : ℕ) (loops : Bool) → Stands S i (x ∷ l) → eqb (codeOf x) 206 ≡ false → eqb (codeOf x) 207 ≡ false → Deep i loops → Deep (suc i) loops
+  pub deep-next : (x : Item) (l : List Item) (i : ℕ) (loops : Bool) → Stands S i (x ∷ l) → eqb (codeOf x) c-do ≡ false → eqb (codeOf x) c-od ≡ false → Deep i loops → Deep (suc i) loops
   deep-next x l i loops s e f p =
       let it = code-at S x l i s in
       record {
@@ -131,7 +132,7 @@ module _ (S : Scene) where
       let it = code-at S i-do l i s in
       record {
         depth = p .depth + 1;
-        opened = let a = one-yes S 7 i (ap (among 7) it ∙ codes-sets 206 .1) (home S i-do l i s) in let b = one-no S 8 i (ap (among 8) it ∙ codes-sets 206 .2) in let c = p .opened in omega arith;
+        opened = let a = one-yes S 7 i (ap (among 7) it ∙ codes-sets c-do .1) (home S i-do l i s) in let b = one-no S 8 i (ap (among 8) it ∙ codes-sets c-do .2) in let c = p .opened in omega arith;
         told = lt-ltb 0 (p .depth + 1) (omega arith);
       }
 
@@ -143,12 +144,12 @@ module _ (S : Scene) where
   deep-over i k ms n loops q p = record { depth = p .depth; opened = let a = q .even in let b = p .opened in omega arith; told = p .told }
 
   -- ---- the last item of a statement begins no option
-  ends-with : (l : List Item) (y : Item) (i k : ℕ) → k ≡ i + length (l ++ y ∷ []) → Stands S i (l ++ y ∷ []) → eqb (codeOf y) 208 ≡ false → eqb (getD (S .cs) (k - 1) 0) 208 ≡ false
+  ends-with : (l : List Item) (y : Item) (i k : ℕ) → k ≡ i + length (l ++ y ∷ []) → Stands S i (l ++ y ∷ []) → eqb (codeOf y) c-option ≡ false → eqb (getD (S .cs) (k - 1) 0) c-option ≡ false
   ends-with l y i k e s f =
       let n = length-append l (y ∷ []) in
-      ap (λ c. eqb c 208) (code-at S y [] (k - 1) (back S l (y ∷ []) i (k - 1) (omega arith) s)) ∙ f
+      ap (λ c. eqb c c-option) (code-at S y [] (k - 1) (back S l (y ∷ []) i (k - 1) (omega arith) s)) ∙ f
 
-  action-ends : (a : Tree action) (i k : ℕ) → k ≡ i + length (code-tree a) → Stands S i (code-tree a) → eqb (getD (S .cs) (k - 1) 0) 208 ≡ false
+  action-ends : (a : Tree action) (i k : ℕ) → k ≡ i + length (code-tree a) → Stands S i (code-tree a) → eqb (getD (S .cs) (k - 1) 0) c-option ≡ false
   action-ends (express e) i k q s = ends-with (code-exp e) i-express i k q s refl
   action-ends (assign r e) i k q s = ends-with (code-exp r ++ i-target ∷ code-exp e) i-assign i k q s refl
   action-ends (increment r) i k q s = ends-with (code-exp r) i-increment i k q s refl
@@ -167,25 +168,25 @@ module _ (S : Scene) where
   action-ends (select os) i k q s = ends-with (i-if ∷ code-tree os) i-fi i k q s refl
   action-ends (loop os) i k q s = ends-with (i-do ∷ code-tree os) i-od i k q s refl
 
-  pub statement-ends : (a : Tree statement) (i k : ℕ) → k ≡ i + length (code-tree a) → Stands S i (code-tree a) → eqb (getD (S .cs) (k - 1) 0) 208 ≡ false
+  pub statement-ends : (a : Tree statement) (i k : ℕ) → k ≡ i + length (code-tree a) → Stands S i (code-tree a) → eqb (getD (S .cs) (k - 1) 0) c-option ≡ false
   statement-ends (bare a) i k q s = action-ends a i k q s
   statement-ends (labelled w a) i k q s =
       action-ends a (suc (suc i)) k (omega arith) (next S i-label (code-tree a) (suc i) (next S (i-name w) (i-label ∷ code-tree a) i s))
 
   -- ---- the first item of an option's statements is `else` where they begin with one
-  begins-inside : (l m : List Item) (i : ℕ) → all-inside l → 1 ≤ length l → Stands S i (l ++ m) → eqb (getD (S .cs) i 0) 201 ≡ false
+  begins-inside : (l m : List Item) (i : ℕ) → all-inside l → 1 ≤ length l → Stands S i (l ++ m) → eqb (getD (S .cs) i 0) c-else ≡ false
   begins-inside [] m i p h s = absurd (omega arith)
   begins-inside (x ∷ l) m i p h s =
       let c = inner-code (codeOf x) (p .0) .0 in
-      ap (λ n. eqb n 201) (code-at S x (l ++ m) i s) ∙ ne-eqb (codeOf x) 201 (λ e. omega arith)
+      ap (λ n. eqb n c-else) (code-at S x (l ++ m) i s) ∙ ne-eqb (codeOf x) c-else (λ e. omega arith)
 
-  begins-exp : {s : Shape} (e : Exp s) (m : List Item) (i : ℕ) → Stands S i (code-exp e ++ m) → eqb (getD (S .cs) i 0) 201 ≡ false
+  begins-exp : {s : Shape} (e : Exp s) (m : List Item) (i : ℕ) → Stands S i (code-exp e ++ m) → eqb (getD (S .cs) i 0) c-else ≡ false
   begins-exp e m i s = begins-inside (code-exp e) m i (phrase-inside e (proper S e i (front S (code-exp e) m i s))) (some-items e) s
 
-  begins-with : (x : Item) (l : List Item) (i : ℕ) (b : Bool) → Stands S i (x ∷ l) → eqb (codeOf x) 201 ≡ b → eqb (getD (S .cs) i 0) 201 ≡ b
-  begins-with x l i b s e = ap (λ n. eqb n 201) (code-at S x l i s) ∙ e
+  begins-with : (x : Item) (l : List Item) (i : ℕ) (b : Bool) → Stands S i (x ∷ l) → eqb (codeOf x) c-else ≡ b → eqb (getD (S .cs) i 0) c-else ≡ b
+  begins-with x l i b s e = ap (λ n. eqb n c-else) (code-at S x l i s) ∙ e
 
-  action-begins : (a : Tree action) (i : ℕ) → Stands S i (code-tree a) → eqb (getD (S .cs) i 0) 201 ≡ eqb (isElse a) 1
+  action-begins : (a : Tree action) (i : ℕ) → Stands S i (code-tree a) → eqb (getD (S .cs) i 0) c-else ≡ eqb (isElse a) 1
   action-begins (express e) i s = begins-exp e (i-express ∷ []) i s
   action-begins (assign r e) i s = begins-exp r (i-target ∷ code-exp e) i (front S (code-exp r ++ i-target ∷ code-exp e) (i-assign ∷ []) i s)
   action-begins (increment r) i s = begins-exp r (i-increment ∷ []) i s
@@ -205,7 +206,7 @@ module _ (S : Scene) where
   action-begins (select os) i s = begins-with i-if (code-tree os ++ i-fi ∷ []) i false s refl
   action-begins (loop os) i s = begins-with i-do (code-tree os ++ i-od ∷ []) i false s refl
 
-  option-begins : (q : Tree sequence) (l : List Item) (i : ℕ) → Stands S i (code-tree q ++ (i-end-option ∷ l)) → eqb (getD (S .cs) i 0) 201 ≡ eqb (isElse q) 1
+  option-begins : (q : Tree sequence) (l : List Item) (i : ℕ) → Stands S i (code-tree q ++ (i-end-option ∷ l)) → eqb (getD (S .cs) i 0) c-else ≡ eqb (isElse q) 1
   option-begins end l i s = begins-with i-end-option l i false s refl
   option-begins (then (bare a) q) l i s = action-begins a i (front S (code-tree a) (code-tree q) i (front S (code-tree a ++ code-tree q) (i-end-option ∷ l) i s))
   option-begins (then (labelled w a) q) l i s = begins-with (i-name w) (i-label ∷ ((code-tree a ++ code-tree q) ++ (i-end-option ∷ l))) i false s refl
@@ -221,7 +222,7 @@ module _ (S : Scene) where
       pass-dull S i-end-option l k (back S Q (i-end-option ∷ l) (suc i) k e n) refl .walk 1 (omega arith)
       ∙ passing S q (suc i) k e (front S Q (i-end-option ∷ l) (suc i) n) .walk 1 (omega arith)
       ∙ twin-option (S .cs) i (code-at S i-option (Q ++ (i-end-option ∷ l)) i s)
-      ∙ ap₂ (λ (a b : Bool). pick a true b) (ap (λ m. eqb (getD (S .cs) m 0) 201) z ∙ option-begins q l (suc i) n) t ∙ turn (eqb (isElse q) 1) twinned
+      ∙ ap₂ (λ (a b : Bool). pick a true b) (ap (λ m. eqb (getD (S .cs) m 0) c-else) z ∙ option-begins q l (suc i) n) t ∙ turn (eqb (isElse q) 1) twinned
     where
       turn : (a b : Bool) → pick a true b ≡ either b a
       turn true true = refl
@@ -263,7 +264,7 @@ module _ (S : Scene) where
       ∙ ap₂ both (fine-free S i 70 (code-at S (i-name w) (i-goto ∷ []) i s) (rules-none .0))
       (clean-one S i-goto [] (suc i)
       ∙ ap₂ both
-      (fine-by S (suc i) 198 9 (code-at S i-goto [] (suc i) n) (judged .1) ∙ ap (λ k. eqb k 0) (goto-rule (suc i) ∙ goto-is i (home S i-goto [] (suc i) n))
+      (fine-by S (suc i) c-goto 9 (code-at S i-goto [] (suc i) n) (judged .1) ∙ ap (λ k. eqb k 0) (goto-rule (suc i) ∙ goto-is i (home S i-goto [] (suc i) n))
       ∙ goto-told (ltb (find (S .cs) (S .vs) (homes S) 2 (getD (S .vs) i 0) (S .h) (length (S .cs))) (length (S .cs))) ∙ goes i w (s .low) (inside S (i-name w) (i-goto ∷ []) i s) (s .items .0))
       (clean-none S (suc (suc i)))
       ∙ both-last (has ls w))
@@ -276,12 +277,12 @@ module _ (S : Scene) where
   break-fault i loops s p =
       clean-one S i-break [] i
       ∙ ap₂ both
-      (fine-by S i 199 3 (code-at S i-break [] i s) (judged .2) ∙ ap (λ k. eqb k 0) (break-rule i ∙ break-is i (home S i-break [] i s)) ∙ break-told (ltb (before S 8 i) (before S 7 i))
+      (fine-by S i c-break 3 (code-at S i-break [] i s) (judged .2) ∙ ap (λ k. eqb k 0) (break-rule i ∙ break-is i (home S i-break [] i s)) ∙ break-told (ltb (before S 8 i) (before S 7 i))
       ∙ ap (ltb (before S 8 i)) (p .opened) ∙ less-told (before S 8 i) (p .depth) loops (p .told))
       (clean-none S (suc i))
       ∙ both-last loops
 
-  else-is : (i : ℕ) (first : Bool) → eqb (getD (S .cs) (i - 1) 0) 208 ≡ first → badElse (S .cs) i ≡ pick first (pick (twin (S .cs) (i - 1) 1) 5 0) 5
+  else-is : (i : ℕ) (first : Bool) → eqb (getD (S .cs) (i - 1) 0) c-option ≡ first → badElse (S .cs) i ≡ pick first (pick (twin (S .cs) (i - 1) 1) 5 0) 5
   unfolding badElse
   else-is i first e = rw e refl
 
@@ -289,7 +290,7 @@ module _ (S : Scene) where
   else-fault i first twinned s p =
       clean-one S i-else [] i
       ∙ ap₂ both
-      (fine-by S i 201 4 (code-at S i-else [] i s) (judged .3) ∙ ap (λ k. eqb k 0) (else-rule i ∙ else-is i first (p .0)) ∙ else-told first twinned (twin (S .cs) (i - 1) 1) (p .1))
+      (fine-by S i c-else 4 (code-at S i-else [] i s) (judged .3) ∙ ap (λ k. eqb k 0) (else-rule i ∙ else-is i first (p .0)) ∙ else-told first twinned (twin (S .cs) (i - 1) 1) (p .1))
       (clean-none S (suc i))
       ∙ both-last (both (quota first twinned 1) first)
 
@@ -302,7 +303,7 @@ module _ (S : Scene) where
   pub label-fault : (w : Name) (l : List Item) (i : ℕ) (ls : List Name) → Stands S i (i-name w ∷ i-label ∷ l) → Prior i ls → fine S (suc i) ≡ not (either (same w pid) (has ls w))
   label-fault w l i ls s p =
       let n = next S (i-name w) (i-label ∷ l) i s in
-      fine-by S (suc i) 188 7 (code-at S i-label l (suc i) n) (judged .0) ∙ ap (λ k. eqb k 0) (label-rule (suc i) ∙ label-is i (home S i-label l (suc i) n))
+      fine-by S (suc i) c-label 7 (code-at S i-label l (suc i) n) (judged .0) ∙ ap (λ k. eqb k 0) (label-rule (suc i) ∙ label-is i (home S i-label l (suc i) n))
       ∙ label-told (either (eqb (getD (S .vs) i 0) 0) (ltb (find (S .cs) (S .vs) (homes S) 2 (getD (S .vs) i 0) (S .h) (suc i)) (suc i)))
       ∙ ap not (go (same w pid) (pid-told S i w (s .items .0) (s .low) (inside S (i-name w) (i-label ∷ l) i s)))
     where

@@ -9,6 +9,7 @@ use lib.ListN.{length, getD, length-append, length-map}
 use lib.Seq.{getD-append-seam}
 use lib.Dec.{eqb, ltb}
 use borrow.Author.Tests.{le-ltb, eqb-true, eq-eqb, ne-eqb}
+use Rattle.base_codes.specs.Codes.{c-argument, c-do, c-end-option, c-label, c-od, c-option}
 use Rattle.base_bytes.specs.Choice.{pick, both, either}
 use Rattle.base_bytes.specs.Lists.{same}
 use Rattle.base_bytes.proofs.Tests.{true-false, both-true}
@@ -61,7 +62,7 @@ module _ (S : Scene) where
 
   -- ---- what stands in statements alone stands nowhere else in the body
   module _ (j : ℕ) (inside : j < length (S .cs)) (apart-from : (S .from ≤ j) × (j < S .to) → ⊥) where
-    elsewhere : (c : ℕ) → 183 ≤ c → c ≤ 209 → getD (S .cs) j 0 ≡ c → eqb (getD (homes S) j 0) (S .h) ≡ false
+    elsewhere : (c : ℕ) → c-argument ≤ c → c ≤ c-end-option → getD (S .cs) j 0 ≡ c → eqb (getD (homes S) j 0) (S .h) ≡ false
     elsewhere c a b e = ne-eqb (getD (homes S) j 0) (S .h) (λ g. apart-from (S .setting .mark-inside j inside g (omega arith) (omega arith)))
 
     no-label : (x : ℕ) → declares (S .cs) (S .vs) (homes S) 2 (getD (S .vs) x 0) (S .h) j ≡ false
@@ -74,11 +75,11 @@ module _ (S : Scene) where
 
         go : (b : Bool) → among 2 (getD (S .cs) j 0) ≡ b → pick b (both (eqb (getD (S .vs) (j - 1) 0) (getD (S .vs) x 0)) (eqb (getD (homes S) j 0) (S .h))) false ≡ false
         go true e =
-            ap (both (eqb (getD (S .vs) (j - 1) 0) (getD (S .vs) x 0))) (elsewhere 188 (omega arith) (omega arith) (eqb-true (getD (S .cs) j 0) 188 (sym (codes-sets (getD (S .cs) j 0) .0) ∙ e)))
+            ap (both (eqb (getD (S .vs) (j - 1) 0) (getD (S .vs) x 0))) (elsewhere c-label (omega arith) (omega arith) (eqb-true (getD (S .cs) j 0) c-label (sym (codes-sets (getD (S .cs) j 0) .0) ∙ e)))
             ∙ off (eqb (getD (S .vs) (j - 1) 0) (getD (S .vs) x 0))
         go false e = refl
 
-    no-loop : (set c : ℕ) → 183 ≤ c → c ≤ 209 → among set (getD (S .cs) j 0) ≡ eqb (getD (S .cs) j 0) c → one (S .cs) (homes S) set (S .h) j ≡ 0
+    no-loop : (set c : ℕ) → c-argument ≤ c → c ≤ c-end-option → among set (getD (S .cs) j 0) ≡ eqb (getD (S .cs) j 0) c → one (S .cs) (homes S) set (S .h) j ≡ 0
     unfolding one
     no-loop set c a b f = go (among set (getD (S .cs) j 0)) refl
       where
@@ -93,7 +94,7 @@ module _ (S : Scene) where
         let p = declares (S .cs) (S .vs) (homes S) 2 (getD (S .vs) x 0) (S .h) in
         ap (any p) (sym z) ∙ any-none p (S .from) 0 (λ j a b. no-label j (let k = S .within in let o = ends in omega arith) (λ r. let o = r .0 in omega arith) x) ∙ any-zero p
 
-    no-loops : (set c : ℕ) → 183 ≤ c → c ≤ 209 → ((n : ℕ) → among set n ≡ eqb n c) → before S set (S .from) ≡ 0
+    no-loops : (set c : ℕ) → c-argument ≤ c → c ≤ c-end-option → ((n : ℕ) → among set n ≡ eqb n c) → before S set (S .from) ≡ 0
     no-loops set c a b f =
         count-none (S .cs) (homes S) set (S .h) (S .from) (λ j h. no-loop j (let k = S .within in let o = ends in omega arith) (λ r. let o = r .0 in omega arith) set c a b (f (getD (S .cs) j 0)))
 
@@ -101,7 +102,7 @@ module _ (S : Scene) where
     first-loops =
         record {
           depth = 0;
-          opened = let a = no-loops 7 206 (omega arith) (omega arith) (λ n. codes-sets n .1) in let b = no-loops 8 207 (omega arith) (omega arith) (λ n. codes-sets n .2) in omega arith;
+          opened = let a = no-loops 7 c-do (omega arith) (omega arith) (λ n. codes-sets n .1) in let b = no-loops 8 c-od (omega arith) (omega arith) (λ n. codes-sets n .2) in omega arith;
           told = refl;
         }
 
@@ -126,7 +127,7 @@ module _ (S : Scene) where
             find-any (S .cs) (S .vs) (homes S) 2 (getD (S .vs) x 0) (S .h) (length (S .cs)) (pid-told S x w e low high ∙ p) ∙ all-labels x w (let k = S .within in omega arith) e
             ∙ sym (has-plain (labelsOf q) w p)
 
-    body-fault : S .at .labels ≡ plain (labelsOf q) → eqb (getD (S .cs) (S .from - 1) 0) 208 ≡ false → clean S (S .from) (code-tree q) ≡ both (apart (labelsOf q)) (allowed (S .at) false false q)
+    body-fault : S .at .labels ≡ plain (labelsOf q) → eqb (getD (S .cs) (S .from - 1) 0) c-option ≡ false → clean S (S .from) (code-tree q) ≡ both (apart (labelsOf q)) (allowed (S .at) false false q)
     body-fault own free =
         tree-fault S (subst (Goes S) (sym own) goes) q (S .from) false false false [] s first-labels first-loops (free, λ e. absurd (true-false (sym e)))
         ∙ ap (λ (b : Bool). both b (allowed (S .at) false false q)) (fresh-apart (labelsOf q))
@@ -136,7 +137,7 @@ abbrev withLabels : Place → List Name → Place
 withLabels at ls = record { locals = at .locals; globals = at .globals; model = at .model; labels = ls }
 
 module _ (m : Model) (cs vs : List ℕ) (says : Says m cs vs) (q : Tree sequence) (h from to : ℕ) (at : Place) (lies : Lying (code m) 0 (code-tree q) from) (ends : to ≡ from + sizeIn q)
-    (own : at .labels ≡ labelsOf q) (no-option : getD cs (from - 1) 0 ≡ 208 → ⊥) (setting : Setting (code m) cs vs (homesOf cs blank) h from to at) where
+    (own : at .labels ≡ labelsOf q) (no-option : getD cs (from - 1) 0 ≡ c-option → ⊥) (setting : Setting (code m) cs vs (homesOf cs blank) h from to at) where
   abbrev scene : Scene
   scene =
       record {
@@ -171,7 +172,7 @@ module _ (m : Model) (cs vs : List ℕ) (says : Says m cs vs) (q : Tree sequence
   place-alike e = ap (withLabels at) (plain-apart (labelsOf q) e ∙ sym own)
 
   judged : clean scene from (code-tree q) ≡ both (apart (labelsOf q)) (allowed at false false q)
-  judged = body-fault scene q stands ends refl (ne-eqb (getD cs (from - 1) 0) 208 no-option) ∙ go (apart (labelsOf q)) refl
+  judged = body-fault scene q stands ends refl (ne-eqb (getD cs (from - 1) 0) c-option no-option) ∙ go (apart (labelsOf q)) refl
     where
       go : (b : Bool) → apart (labelsOf q) ≡ b → both b (allowed (withLabels at (plain (labelsOf q))) false false q) ≡ both b (allowed at false false q)
       go true e = ap (λ (p : Place). allowed p false false q) (place-alike e)

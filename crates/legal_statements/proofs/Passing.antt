@@ -7,6 +7,7 @@ use mathlib.Core.List.{List, [], _∷_, _++_}
 use lib.ListN.{length, getD, length-append}
 use lib.Dec.{eqb, ltb}
 use borrow.Author.Tests.{ne-eqb, eq-eqb, lt-ltb}
+use Rattle.base_codes.specs.Codes.{c-do, c-end-option, c-fi, c-if, c-label, c-od, c-option}
 use Rattle.base_bytes.specs.Choice.{pick, both, either}
 use Rattle.base_bytes.specs.Lists.{same}
 use Rattle.base_bytes.proofs.Tests.{true-false}
@@ -26,7 +27,7 @@ use Rattle.legal_statements.proofs.Walks.{any, any-next, count-next, tw
 
 -- ---- an item that is no label and opens or closes no selection, and opens no option
 abbrev pub dull : ℕ → Bool
-dull c = pick (eqb c 188) false (either (ltb c 204) (eqb c 209))
+dull c = pick (eqb c c-label) false (either (ltb c c-if) (eqb c c-end-option))
 
 off : (c k : ℕ) → dull k ≡ false → dull c ≡ true → eqb c k ≡ false
 off c k f d = ne-eqb c k (λ e. true-false (sym d ∙ ap (λ n. dull n) e ∙ f))
@@ -44,10 +45,10 @@ dull-inside [] p = tt
 dull-inside (x ∷ l) p =
     let c = codeOf x in
     let z = inner-code c (p .0) in
-    ((rw (ne-eqb c 188 (λ e. omega (arith, z .0)), lt-ltb c 204 (omega (arith, z .0))) refl), dull-inside l (p .1))
+    ((rw (ne-eqb c c-label (λ e. omega (arith, z .0)), lt-ltb c c-if (omega (arith, z .0))) refl), dull-inside l (p .1))
 
 -- what stands in a set of one code
-pub codes-sets : (c : ℕ) → (among 2 c ≡ eqb c 188) × (among 7 c ≡ eqb c 206) × (among 8 c ≡ eqb c 207)
+pub codes-sets : (c : ℕ) → (among 2 c ≡ eqb c c-label) × (among 7 c ≡ eqb c c-do) × (among 8 c ≡ eqb c c-od)
 unfolding among
 codes-sets c = (refl, refl, refl)
 
@@ -131,9 +132,9 @@ module _ (S : Scene) where
       let it = code-at S x l i s in
       let z = codes-sets c in
       record {
-        walk = λ n h. twin-over (S .cs) i n c it h (ap₂ either (off c 205 refl d) (off c 207 refl d)) (ap₂ either (off c 204 refl d) (off c 206 refl d)) (off c 208 refl d);
-        even = let a = one-no 7 i (ap (among 7) it ∙ z .1 ∙ off c 206 refl d) in let b = one-no 8 i (ap (among 8) it ∙ z .2 ∙ off c 207 refl d) in omega arith;
-        labels = λ y w h e. label-no y i (ap (among 2) it ∙ z .0 ∙ off c 188 refl d) ∙ sym (either-none (label y i));
+        walk = λ n h. twin-over (S .cs) i n c it h (ap₂ either (off c c-fi refl d) (off c c-od refl d)) (ap₂ either (off c c-if refl d) (off c c-do refl d)) (off c c-option refl d);
+        even = let a = one-no 7 i (ap (among 7) it ∙ z .1 ∙ off c c-do refl d) in let b = one-no 8 i (ap (among 8) it ∙ z .2 ∙ off c c-od refl d) in omega arith;
+        labels = λ y w h e. label-no y i (ap (among 2) it ∙ z .0 ∙ off c c-label refl d) ∙ sym (either-none (label y i));
       }
 
   pub pass-dulls : (l : List Item) (i j : ℕ) → j ≡ i + length l → Stands S i l → Dull l → Passing i j [] 1
@@ -177,9 +178,9 @@ module _ (S : Scene) where
 
   -- ---- what opens and closes a selection
   pass-select : (x y : Item) (o : List Item) (ls : List Name) (i j : ℕ) → j ≡ suc i + length o → Stands S i (x ∷ (o ++ y ∷ []))
-      → either (eqb (codeOf x) 204) (eqb (codeOf x) 206) ≡ true → either (eqb (codeOf x) 205) (eqb (codeOf x) 207) ≡ false → either (eqb (codeOf y) 205) (eqb (codeOf y) 207) ≡ true
-      → (eqb (codeOf x) 208 ≡ false) × (eqb (codeOf y) 208 ≡ false) × (eqb (codeOf x) 188 ≡ false) × (eqb (codeOf y) 188 ≡ false)
-      → (eqb (codeOf x) 207 ≡ false) × (eqb (codeOf y) 206 ≡ false) × (eqb (codeOf x) 206 ≡ eqb (codeOf y) 207) → Passing (suc i) j ls 2 → Passing i (suc j) ls 1
+      → either (eqb (codeOf x) c-if) (eqb (codeOf x) c-do) ≡ true → either (eqb (codeOf x) c-fi) (eqb (codeOf x) c-od) ≡ false → either (eqb (codeOf y) c-fi) (eqb (codeOf y) c-od) ≡ true
+      → (eqb (codeOf x) c-option ≡ false) × (eqb (codeOf y) c-option ≡ false) × (eqb (codeOf x) c-label ≡ false) × (eqb (codeOf y) c-label ≡ false)
+      → (eqb (codeOf x) c-od ≡ false) × (eqb (codeOf y) c-do ≡ false) × (eqb (codeOf x) c-do ≡ eqb (codeOf y) c-od) → Passing (suc i) j ls 2 → Passing i (suc j) ls 1
   pass-select x y o ls i j q s a b c f g p =
       let it = code-at S x (o ++ y ∷ []) i s in
       let ty = back S (x ∷ o) (y ∷ []) i j (omega arith) s in
@@ -190,12 +191,12 @@ module _ (S : Scene) where
         walk = λ d h.
             twin-in (S .cs) j d cy is h c (f .1) ∙ p .walk (d + 1) (omega arith) ∙ twin-out (S .cs) i (d + 1) cx it (omega arith) b a (f .0)
             ∙ ap (twin (S .cs) i) (let z : d + 1 - 1 ≡ d = omega arith in z);
-        even = both-even it is (home S x (o ++ y ∷ []) i s) (home S y [] j ty) (eqb cy 207) refl;
+        even = both-even it is (home S x (o ++ y ∷ []) i s) (home S y [] j ty) (eqb cy c-od) refl;
         labels = λ z w h e.
             label-no z j (ap (among 2) is ∙ codes-sets cy .0 ∙ f .3) ∙ p .labels z w h e ∙ ap (λ (t : Bool). either t (has ls w)) (label-no z i (ap (among 2) it ∙ codes-sets cx .0 ∙ f .2));
       }
     where
-      both-even : getD (S .cs) i 0 ≡ codeOf x → getD (S .cs) j 0 ≡ codeOf y → getD (homes S) i 0 ≡ S .h → getD (homes S) j 0 ≡ S .h → (t : Bool) → eqb (codeOf y) 207 ≡ t
+      both-even : getD (S .cs) i 0 ≡ codeOf x → getD (S .cs) j 0 ≡ codeOf y → getD (homes S) i 0 ≡ S .h → getD (homes S) j 0 ≡ S .h → (t : Bool) → eqb (codeOf y) c-od ≡ t
           → before 7 (suc j) + before 8 i ≡ before 8 (suc j) + before 7 i
       both-even it is hi hj true e =
           let m = p .even in
@@ -220,19 +221,19 @@ module _ (S : Scene) where
       let it = code-at S i-label l (suc i) n in
       pass-both i (suc i) (suc (suc i)) [] (w ∷ []) 1 (pass-dull (i-name w) (i-label ∷ l) i s refl)
       record {
-        walk = λ d h. twin-over (S .cs) (suc i) d 188 it h refl refl refl;
-        even = let a = one-no 7 (suc i) (ap (among 7) it ∙ codes-sets 188 .1) in let b = one-no 8 (suc i) (ap (among 8) it ∙ codes-sets 188 .2) in omega arith;
+        walk = λ d h. twin-over (S .cs) (suc i) d c-label it h refl refl refl;
+        even = let a = one-no 7 (suc i) (ap (among 7) it ∙ codes-sets c-label .1) in let b = one-no 8 (suc i) (ap (among 8) it ∙ codes-sets c-label .2) in omega arith;
         labels = λ x v h e.
             any-next (declares (S .cs) (S .vs) (homes S) 2 (getD (S .vs) x 0) (S .h)) (suc i)
             ∙ ap (either (label x (suc i)))
             (declared x v it (home S i-label l (suc i) n) (S .says .names i x w v (let a = s .high in let b = S .within in omega arith) h (s .items .0) e) ∙ sym (either-none (same w v)));
       }
     where
-      declared : (x : ℕ) (v : Name) → getD (S .cs) (suc i) 0 ≡ 188 → getD (homes S) (suc i) 0 ≡ S .h → eqb (getD (S .vs) i 0) (getD (S .vs) x 0) ≡ same w v
+      declared : (x : ℕ) (v : Name) → getD (S .cs) (suc i) 0 ≡ c-label → getD (homes S) (suc i) 0 ≡ S .h → eqb (getD (S .vs) i 0) (getD (S .vs) x 0) ≡ same w v
           → pick (among 2 (getD (S .cs) (suc i) 0)) (both (eqb (getD (S .vs) (suc i - 1) 0) (getD (S .vs) x 0)) (eqb (getD (homes S) (suc i) 0) (S .h))) false ≡ same w v
       declared x v it g e =
           let z : suc i - 1 ≡ i = omega arith in
-          rw (it, codes-sets 188 .0, z, eq-eqb (getD (homes S) (suc i) 0) (S .h) g, e) (last (same w v))
+          rw (it, codes-sets c-label .0, z, eq-eqb (getD (homes S) (suc i) 0) (S .h) g, e) (last (same w v))
         where
           last : (b : Bool) → both b true ≡ b
           last true = refl
@@ -244,8 +245,8 @@ module _ (S : Scene) where
       let it = code-at S i-option l i s in
       record {
         walk = λ d h. twin-deep (S .cs) i d it h;
-        even = let a = one-no 7 i (ap (among 7) it ∙ codes-sets 208 .1) in let b = one-no 8 i (ap (among 8) it ∙ codes-sets 208 .2) in omega arith;
-        labels = λ y w h e. label-no y i (ap (among 2) it ∙ codes-sets 208 .0) ∙ sym (either-none (label y i));
+        even = let a = one-no 7 i (ap (among 7) it ∙ codes-sets c-option .1) in let b = one-no 8 i (ap (among 8) it ∙ codes-sets c-option .2) in omega arith;
+        labels = λ y w h e. label-no y i (ap (among 2) it ∙ codes-sets c-option .0) ∙ sym (either-none (label y i));
       }
 
   pub passing : {k : Sort} (t : Tree k) (i j : ℕ) → j ≡ i + length (code-tree t) → Stands S i (code-tree t) → Passing i j (labelsOf t) (least k)

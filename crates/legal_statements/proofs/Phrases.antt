@@ -7,6 +7,7 @@ use mathlib.Core.List.{List, [], _∷_, _++_, append-nil}
 use lib.ListN.{length, getD, length-append, length-replicate}
 use lib.Dec.{eqb, ltb, leb}
 use borrow.Author.Tests.{lt-ltb, le-ltb, lt-leb, leb-true, leb-false, ne-eqb}
+use Rattle.base_codes.specs.Codes.{c-argument, c-assert, c-break, c-channel, c-choice, c-declared, c-else, c-end, c-equal, c-express, c-false, c-field, c-goto, c-increment, c-index, c-init, c-into, c-label, c-len, c-message, c-mtypes, c-named, c-negate, c-otherwise, c-parameter, c-plain, c-run, c-send, c-size, c-target, c-true}
 use Rattle.base_bytes.specs.Choice.{pick, both}
 use Rattle.rule_least.specs.Faults.{blank}
 use Rattle.rule_item.specs.Rules.{roleOf, ruleOf, badHeight, badBy}
@@ -30,11 +31,11 @@ Stood expression role = role ≡ operand
 Stood reference role = Unit {0}
 
 -- ---- items with no rule, and the roles that they give what stands before them
-pub rules-none : (ruleOf 70 ≡ 0) × (ruleOf 71 ≡ 0) × (ruleOf 178 ≡ 0) × (ruleOf 179 ≡ 0) × (ruleOf 180 ≡ 0) × (ruleOf 181 ≡ 0) × (ruleOf 182 ≡ 0)
+pub rules-none : (ruleOf 70 ≡ 0) × (ruleOf 71 ≡ 0) × (ruleOf c-true ≡ 0) × (ruleOf c-false ≡ 0) × (ruleOf c-len ≡ 0) × (ruleOf c-otherwise ≡ 0) × (ruleOf c-choice ≡ 0)
 unfolding ruleOf
 rules-none = (refl, refl, refl, refl, refl, refl, refl)
 
-rules-used : (ruleOf 176 ≡ 15) × (ruleOf 177 ≡ 15)
+rules-used : (ruleOf c-plain ≡ 15) × (ruleOf c-index ≡ 15)
 unfolding ruleOf
 rules-used = (refl, refl)
 
@@ -48,30 +49,30 @@ binary-rule : (o : ℕ) → 1 ≤ o → o ≤ 18 → ruleOf (codeOf (i-binary o)
 unfolding ruleOf
 binary-rule o a b =
     let c = 146 + o in
-    let off : (k : ℕ) → 165 ≤ k → eqb c k ≡ false = λ k h. ne-eqb c k (λ e. omega arith) in
-    let low : (k : ℕ) → 165 ≤ k → leb k c ≡ false = λ k h. lt-leb k c (omega arith) in
+    let off : (k : ℕ) → c-negate ≤ k → eqb c k ≡ false = λ k h. ne-eqb c k (λ e. omega arith) in
+    let low : (k : ℕ) → c-negate ≤ k → leb k c ≡ false = λ k h. lt-leb k c (omega arith) in
     rw (
       ne-eqb c 72 (λ e. omega arith),
-      low 183 (omega arith),
-      low 189 (omega arith),
-      off 199 (omega arith),
-      off 201 (omega arith),
-      off 219 (omega arith),
-      off 226 (omega arith),
-      off 188 (omega arith),
-      off 212 (omega arith),
-      off 220 (omega arith),
-      low 222 (omega arith),
-      off 198 (omega arith),
-      low 202 (omega arith),
-      off 213 (omega arith),
-      off 216 (omega arith),
-      off 217 (omega arith),
-      off 218 (omega arith),
-      low 176 (omega arith),
-      off 187 (omega arith),
-      off 185 (omega arith),
-      off 196 (omega arith),
+      low c-argument (omega arith),
+      low c-express (omega arith),
+      off c-break (omega arith),
+      off c-else (omega arith),
+      off c-mtypes (omega arith),
+      off c-init (omega arith),
+      off c-label (omega arith),
+      off c-declared (omega arith),
+      off c-message (omega arith),
+      low c-parameter (omega arith),
+      off c-goto (omega arith),
+      low c-run (omega arith),
+      off c-size (omega arith),
+      off c-named (omega arith),
+      off c-channel (omega arith),
+      off c-field (omega arith),
+      low c-plain (omega arith),
+      off c-end (omega arith),
+      off c-equal (omega arith),
+      off c-assert (omega arith),
     )
     refl
 
@@ -79,9 +80,9 @@ binary-role : (o : ℕ) → 1 ≤ o → o ≤ 18 → roleOf (codeOf (i-binary o)
 unfolding roleOf
 binary-role o a b =
     let c = 146 + o in
-    rw (ne-eqb c 180 (λ e. omega arith), lt-leb 194 c (omega arith), ne-eqb c 190 (λ e. omega arith), lt-leb 192 c (omega arith), ne-eqb c 184 (λ e. omega arith)) refl
+    rw (ne-eqb c c-len (λ e. omega arith), lt-leb c-send c (omega arith), ne-eqb c c-target (λ e. omega arith), lt-leb c-increment c (omega arith), ne-eqb c c-into (λ e. omega arith)) refl
 
-roles : (roleOf 70 ≡ 0) × (roleOf 71 ≡ 0) × (roleOf 178 ≡ 0) × (roleOf 179 ≡ 0) × (roleOf 177 ≡ 0) × (roleOf 180 ≡ 1) × (roleOf 181 ≡ 0) × (roleOf 182 ≡ 0)
+roles : (roleOf 70 ≡ 0) × (roleOf 71 ≡ 0) × (roleOf c-true ≡ 0) × (roleOf c-false ≡ 0) × (roleOf c-index ≡ 0) × (roleOf c-len ≡ 1) × (roleOf c-otherwise ≡ 0) × (roleOf c-choice ≡ 0)
 unfolding roleOf
 roles = (refl, refl, refl, refl, refl, refl, refl, refl)
 
@@ -142,7 +143,7 @@ module _ (S : Scene) where
       clean-one S (i-name w) (i-plain ∷ []) i
       ∙ ap₂ both (free (i-name w) (i-plain ∷ []) i 70 s refl (rules-none .0))
       (clean-one S i-plain [] (suc i) ∙ ap₂ both
-      (reference-fault S i w (s .items .0) (s .low) (inside S (i-name w) (i-plain ∷ []) i s) (suc i) 176 role false (code-at S i-plain [] (suc i) (next S (i-name w) (i-plain ∷ []) i s))
+      (reference-fault S i w (s .items .0) (s .low) (inside S (i-name w) (i-plain ∷ []) i s) (suc i) c-plain role false (code-at S i-plain [] (suc i) (next S (i-name w) (i-plain ∷ []) i s))
       (rules-used .0) refl
       (started (plain w) i (suc i) s (omega arith)) (home S i-plain [] (suc i) (next S (i-name w) (i-plain ∷ []) i s)) (ap (λ n. roleOf (getD (S .cs) n 0)) z ∙ r))
       (clean-none S (suc (suc i))) ∙ both-last (usable (sense (S .at)) role false w))
@@ -158,19 +159,19 @@ module _ (S : Scene) where
       ∙ ap₂ both (free (i-name w) (E ++ i-index ∷ []) i 70 s refl (rules-none .0))
       (last-item E i-index (suc i) j (named (sense (S .at)) operand e) (usable (sense (S .at)) role true w) refl
       (phrase-fault e operand (suc i) j (front S E (i-index ∷ []) (suc i) n) refl refl (ap roleOf c ∙ roles .4))
-      (reference-fault S i w (s .items .0) (s .low) (inside S (i-name w) (E ++ i-index ∷ []) i s) j 177 role true c (rules-used .1) refl
+      (reference-fault S i w (s .items .0) (s .low) (inside S (i-name w) (E ++ i-index ∷ []) i s) j c-index role true c (rules-used .1) refl
       (started (indexed w e) i j s (omega arith)) (home S i-index [] j b) (ap (λ n. roleOf (getD (S .cs) n 0)) z ∙ r)))
       ∙ both-turn (named (sense (S .at)) operand e) (usable (sense (S .at)) role true w)
   phrase-fault (num n) role i k s q o r = clean-one S (i-number n) [] i ∙ ap₂ both (free (i-number n) [] i 71 s refl (rules-none .1)) (clean-none S (suc i))
-  phrase-fault tru role i k s q o r = clean-one S i-true [] i ∙ ap₂ both (free i-true [] i 178 s refl (rules-none .2)) (clean-none S (suc i))
-  phrase-fault fls role i k s q o r = clean-one S i-false [] i ∙ ap₂ both (free i-false [] i 179 s refl (rules-none .3)) (clean-none S (suc i))
+  phrase-fault tru role i k s q o r = clean-one S i-true [] i ∙ ap₂ both (free i-true [] i c-true s refl (rules-none .2)) (clean-none S (suc i))
+  phrase-fault fls role i k s q o r = clean-one S i-false [] i ∙ ap₂ both (free i-false [] i c-false s refl (rules-none .3)) (clean-none S (suc i))
   phrase-fault (get v) role i k s q o r = phrase-fault v operand i k s q tt (r ∙ ap number o)
   phrase-fault (len v) role i k s q o r =
       let R = code-exp v in
       let b = back S R (i-len ∷ []) i (i + length R) refl s in
       last-item R i-len i (i + length R) (named (sense (S .at)) channel v) true refl
       (phrase-fault v channel i (i + length R) (front S R (i-len ∷ []) i s) refl tt (ap roleOf (code-at S i-len [] (i + length R) b) ∙ roles .5))
-      (free i-len [] (i + length R) 180 b refl (rules-none .4))
+      (free i-len [] (i + length R) c-len b refl (rules-none .4))
       ∙ both-last (named (sense (S .at)) channel v)
   phrase-fault (unary u e) role i k s q o r =
       let E = code-exp e in
@@ -221,8 +222,8 @@ module _ (S : Scene) where
       ∙ ap₂ both (phrase-fault a operand i j (front S A B i ab) refl refl (first-role-alone b j sb))
       (phrase-fault b operand j d sb e refl (ap roleOf (code-at S i-otherwise C d so) ∙ roles .6)))
       (clean-one S i-otherwise C d
-      ∙ ap₂ both (free i-otherwise C d 181 so refl (rules-none .5)) (phrase-fault c operand (suc d) m sc f refl (ap roleOf (code-at S i-choice [] m l) ∙ roles .7))))
-      (free i-choice [] m 182 l refl (rules-none .6))
+      ∙ ap₂ both (free i-otherwise C d c-otherwise so refl (rules-none .5)) (phrase-fault c operand (suc d) m sc f refl (ap roleOf (code-at S i-choice [] m l) ∙ roles .7))))
+      (free i-choice [] m c-choice l refl (rules-none .6))
       ∙ both-last (both (both na nb) nc) ∙ both-group na nb nc
 
   -- with the mark behind it, which judges the height

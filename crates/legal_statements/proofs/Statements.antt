@@ -9,6 +9,7 @@ use mathlib.Core.List.{List, [], _∷_, _++_, append-assoc}
 use lib.ListN.{length, getD, length-append, List·getD-eq-default}
 use lib.Dec.{eqb, ltb, leb}
 use borrow.Author.Tests.{lt-ltb, le-ltb, leb-true, leb-false, eqb-true, eqb-false, eq-eqb}
+use Rattle.base_codes.specs.Codes.{c-assert, c-assign, c-decrement, c-express, c-increment, c-receive, c-run, c-send, c-set-run, c-target}
 use Rattle.base_bytes.specs.Choice.{pick, both}
 use Rattle.base_bytes.specs.Lists.{same}
 use Rattle.base_bytes.proofs.Lists.{same-eq}
@@ -33,17 +34,17 @@ use Rattle.legal_statements.proofs.Arguments.{height-rule, height-rule-
 use Rattle.legal_statements.proofs.Walks.{find-pid}
 
 -- ---- rules, roles and sets
-rules : (ruleOf 189 ≡ 2) × (ruleOf 190 ≡ 2) × (ruleOf 191 ≡ 2) × (ruleOf 192 ≡ 2) × (ruleOf 193 ≡ 2) × (ruleOf 194 ≡ 2) × (ruleOf 195 ≡ 2) × (ruleOf 196 ≡ 17) × (ruleOf 72 ≡ 1)
-    × (ruleOf 202 ≡ 10) × (ruleOf 203 ≡ 10)
+rules : (ruleOf c-express ≡ 2) × (ruleOf c-target ≡ 2) × (ruleOf c-assign ≡ 2) × (ruleOf c-increment ≡ 2) × (ruleOf c-decrement ≡ 2) × (ruleOf c-send ≡ 2) × (ruleOf c-receive ≡ 2) × (ruleOf c-assert ≡ 17) × (ruleOf 72 ≡ 1)
+    × (ruleOf c-run ≡ 10) × (ruleOf c-set-run ≡ 10)
 unfolding ruleOf
 rules = (refl, refl, refl, refl, refl, refl, refl, refl, refl, refl, refl)
 
-roles : (roleOf 189 ≡ 0) × (roleOf 190 ≡ 2) × (roleOf 191 ≡ 0) × (roleOf 192 ≡ 2) × (roleOf 193 ≡ 2) × (roleOf 194 ≡ 1) × (roleOf 195 ≡ 1) × (roleOf 196 ≡ 0)
+roles : (roleOf c-express ≡ 0) × (roleOf c-target ≡ 2) × (roleOf c-assign ≡ 0) × (roleOf c-increment ≡ 2) × (roleOf c-decrement ≡ 2) × (roleOf c-send ≡ 1) × (roleOf c-receive ≡ 1) × (roleOf c-assert ≡ 0)
 unfolding roleOf
 roles = (refl, refl, refl, refl, refl, refl, refl, refl)
 
-openers : ((among 4 72 ≡ true) × (among 4 194 ≡ true) × (among 4 195 ≡ true) × (among 4 202 ≡ true) × (among 4 203 ≡ true))
-    × ((among 5 72 ≡ false) × (among 5 194 ≡ false) × (among 5 195 ≡ false) × (among 5 202 ≡ false) × (among 5 203 ≡ false)) × (among 13 0 ≡ false)
+openers : ((among 4 72 ≡ true) × (among 4 c-send ≡ true) × (among 4 c-receive ≡ true) × (among 4 c-run ≡ true) × (among 4 c-set-run ≡ true))
+    × ((among 5 72 ≡ false) × (among 5 c-send ≡ false) × (among 5 c-receive ≡ false) × (among 5 c-run ≡ false) × (among 5 c-set-run ≡ false)) × (among 13 0 ≡ false)
 unfolding among
 openers = ((refl, refl, refl, refl, refl), (refl, refl, refl, refl, refl), refl)
 
@@ -91,11 +92,11 @@ run-last f a c r e = format-last f a c ∙ ap (λ (b : Bool). both b a) e
 
 module _ (S : Scene) where
   -- ---- how many arguments
-  sent-many : (k n : ℕ) → getD (S .cs) k 0 ≡ 194 → eqb (badCount (S .cs) (S .vs) (homes S) k n) 0 ≡ leb n 4
+  sent-many : (k n : ℕ) → getD (S .cs) k 0 ≡ c-send → eqb (badCount (S .cs) (S .vs) (homes S) k n) 0 ≡ leb n 4
   unfolding badCount
   sent-many k n e = rw e (few-told n)
 
-  received-many : (k n : ℕ) → getD (S .cs) k 0 ≡ 195 → eqb (badCount (S .cs) (S .vs) (homes S) k n) 0 ≡ leb n 4
+  received-many : (k n : ℕ) → getD (S .cs) k 0 ≡ c-receive → eqb (badCount (S .cs) (S .vs) (homes S) k n) 0 ≡ leb n 4
   unfolding badCount
   received-many k n e = rw e (few-told n)
 
@@ -103,7 +104,7 @@ module _ (S : Scene) where
   unfolding badCount
   printed-many k n e = rw e (as-many-told (eqb n (getD (S .vs) k 0 / 2)))
 
-  run-many : (k n : ℕ) → (getD (S .cs) k 0 ≡ 202) ⊎ (getD (S .cs) k 0 ≡ 203) → badCount (S .cs) (S .vs) (homes S) k n ≡ badPassing (S .cs) (S .vs) (homes S) k n
+  run-many : (k n : ℕ) → (getD (S .cs) k 0 ≡ c-run) ⊎ (getD (S .cs) k 0 ≡ c-set-run) → badCount (S .cs) (S .vs) (homes S) k n ≡ badPassing (S .cs) (S .vs) (homes S) k n
   unfolding badCount
   run-many k n (inl e) = rw e refl
   run-many k n (inr e) = rw e refl
@@ -168,7 +169,7 @@ module _ (S : Scene) where
   run-rule j = refl
 
   -- name, run or set-run, arguments, end
-  run-fault : (w : Name) (x : Item) (es : List Expr) (i : ℕ) → (codeOf x ≡ 202) ⊎ (codeOf x ≡ 203) → ruleOf (codeOf x) ≡ 10 → among 4 (codeOf x) ≡ true → among 5 (codeOf x) ≡ false
+  run-fault : (w : Name) (x : Item) (es : List Expr) (i : ℕ) → (codeOf x ≡ c-run) ⊎ (codeOf x ≡ c-set-run) → ruleOf (codeOf x) ≡ 10 → among 4 (codeOf x) ≡ true → among 5 (codeOf x) ≡ false
       → Stands S i (i-name w ∷ x ∷ (each code-argument es ++ i-end ∷ [])) → clean S i (i-name w ∷ x ∷ (each code-argument es ++ i-end ∷ []))
       ≡ both (runs (S .at) w (length es)) (all (whole (sense (S .at))) es)
   run-fault w x es i c r o m s =
@@ -184,7 +185,7 @@ module _ (S : Scene) where
       (runs (S .at) w (length es))
       (run-told w x L i (length es) s))
     where
-      begun : getD (S .cs) (suc i) 0 ≡ codeOf x → (codeOf x ≡ 202) ⊎ (codeOf x ≡ 203) → (getD (S .cs) (suc i) 0 ≡ 202) ⊎ (getD (S .cs) (suc i) 0 ≡ 203)
+      begun : getD (S .cs) (suc i) 0 ≡ codeOf x → (codeOf x ≡ c-run) ⊎ (codeOf x ≡ c-set-run) → (getD (S .cs) (suc i) 0 ≡ c-run) ⊎ (getD (S .cs) (suc i) 0 ≡ c-set-run)
       begun e (inl f) = inl (e ∙ f)
       begun e (inr f) = inr (e ∙ f)
 

@@ -6,6 +6,7 @@ use mathlib.Core.Bool.{Bool, true, false, not}
 use mathlib.Core.List.{List, [], _∷_, _++_}
 use lib.ListN.{length, getD}
 use lib.Dec.{eqb, leb}
+use Rattle.base_codes.specs.Codes.{c-do, c-fi, c-if, c-od, c-option}
 use Rattle.base_bytes.specs.Choice.{pick, both, either}
 use Rattle.base_bytes.specs.Lists.{same}
 use Rattle.base_bytes.proofs.Tests.{true-false}
@@ -72,8 +73,8 @@ module _ (S : Scene) (goes : Goes S (S .at .labels)) where
   options-alike loops a b (option q os) = refl
 
   -- at the front of a selection no option is seen
-  none-seen : (x : Item) (l : List Item) (i : ℕ) → Stands S i (x ∷ l) → either (eqb (codeOf x) 205) (eqb (codeOf x) 207) ≡ false → either (eqb (codeOf x) 204) (eqb (codeOf x) 206) ≡ true
-      → eqb (codeOf x) 208 ≡ false → twin (S .cs) (suc i) 1 ≡ false
+  none-seen : (x : Item) (l : List Item) (i : ℕ) → Stands S i (x ∷ l) → either (eqb (codeOf x) c-fi) (eqb (codeOf x) c-od) ≡ false → either (eqb (codeOf x) c-if) (eqb (codeOf x) c-do) ≡ true
+      → eqb (codeOf x) c-option ≡ false → twin (S .cs) (suc i) 1 ≡ false
   none-seen x l i s a b c = twin-out (S .cs) i 1 (codeOf x) (code-at S x l i s) (omega arith) a b c ∙ twin-outside (S .cs) i
 
   pub tree-fault : {k : Sort} (t : Tree k) (i : ℕ) (loops first twinned : Bool) (ls : List Name) → Stands S i (code-tree t) → Prior S i ls → Deep S i loops → Around S k i first twinned
@@ -123,7 +124,7 @@ module _ (S : Scene) (goes : Goes S (S .at .labels)) where
       (clean-one S i-label A (suc i)
       ∙ ap₂ both (label-fault S w A i ls s p)
       (tree-fault a k loops false twinned (ls ++ w ∷ []) (next S i-label A (suc i) n) (prior-over S i k ls (w ∷ []) 1 q p) (deep-over S i k (w ∷ []) 1 loops q d)
-      (ap (λ m. eqb (getD (S .cs) m 0) 208) z ∙ ap (λ c. eqb c 208) (code-at S i-label A (suc i) n), λ e. absurd (true-false (sym e)))))
+      (ap (λ m. eqb (getD (S .cs) m 0) c-option) z ∙ ap (λ c. eqb c c-option) (code-at S i-label A (suc i) n), λ e. absurd (true-false (sym e)))))
       ∙ sym (both-group u (fresh (ls ++ w ∷ []) (labelsOf a)) (allowed (S .at) loops false a))
       ∙ ap₂ (λ (t v : Bool). both t (both v (allowed (S .at) loops false a))) (sym (fresh-one ls w (labelsOf a))) (sym (quota-zero first twinned))
   tree-fault end i loops first twinned ls s p d h = leaf ls first twinned _ _ (clean-none S i)
@@ -156,7 +157,7 @@ module _ (S : Scene) (goes : Goes S (S .at .labels)) where
       ∙ clean-append S A (i-end-option ∷ B) (suc i) k refl
       ∙ ap₂ both
       (tree-fault a (suc i) loops true twinned ls sa pi di
-      (ap (λ m. eqb (getD (S .cs) m 0) 208) z ∙ ap (λ c. eqb c 208) (code-at S i-option (A ++ (i-end-option ∷ B)) i s), λ e. ap (λ m. twin (S .cs) m 1) z ∙ h .1))
+      (ap (λ m. eqb (getD (S .cs) m 0) c-option) z ∙ ap (λ c. eqb c c-option) (code-at S i-option (A ++ (i-end-option ∷ B)) i s), λ e. ap (λ m. twin (S .cs) m 1) z ∙ h .1))
       (free i-end-option B k se (silent .7)
       ∙ tree-fault b (suc k) loops true t (ls ++ labelsOf a) (next S i-end-option B k se)
       (prior-next S i-end-option B k (ls ++ labelsOf a) se refl (prior-over S (suc i) k ls (labelsOf a) 1 q pi))

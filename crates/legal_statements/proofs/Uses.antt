@@ -7,6 +7,7 @@ use mathlib.Core.List.{List}
 use lib.ListN.{getD}
 use lib.Dec.{eqb, leb}
 use borrow.Author.Tests.{eqb-true, leb-true, ne-eqb}
+use Rattle.base_codes.specs.Codes.{c-active-many, c-declared, c-index, c-message, c-parameter, c-proctype}
 use Rattle.base_bytes.specs.Choice.{pick, both, either}
 use Rattle.base_bytes.specs.Lists.{same}
 use Rattle.base_bytes.proofs.Tests.{true-false, both-true}
@@ -62,33 +63,33 @@ variable-fault target index chan array = index-fault index array
 variable-fault received index chan array = index-fault index array
 
 -- ---- the kinds of declarations are apart
-no-message : (c : ℕ) → among 14 c ≡ true → eqb c 220 ≡ false
+no-message : (c : ℕ) → among 14 c ≡ true → eqb c c-message ≡ false
 unfolding among
-no-message c e = go (eqb c 220) refl
+no-message c e = go (eqb c c-message) refl
   where
-    go : (b : Bool) → eqb c 220 ≡ b → b ≡ false
+    go : (b : Bool) → eqb c c-message ≡ b → b ≡ false
     go false f = refl
-    go true f = absurd (true-false (sym e ∙ ap (λ n. either (eqb n 212) (eqb n 222)) (eqb-true c 220 f)))
+    go true f = absurd (true-false (sym e ∙ ap (λ n. either (eqb n c-declared) (eqb n c-parameter)) (eqb-true c c-message f)))
 
-proctype-is : (c : ℕ) → among 13 c ≡ true → (223 ≤ c) × (c ≤ 225)
+proctype-is : (c : ℕ) → among 13 c ≡ true → (c-proctype ≤ c) × (c ≤ c-active-many)
 unfolding among
-proctype-is c e = let z = both-true (leb 223 c) (leb c 225) e in (leb-true 223 c (z .0), leb-true c 225 (z .1))
+proctype-is c e = let z = both-true (leb c-proctype c) (leb c c-active-many) e in (leb-true c-proctype c (z .0), leb-true c c-active-many (z .1))
 
-no-variable : (c : ℕ) → 223 ≤ c → among 14 c ≡ false
+no-variable : (c : ℕ) → c-proctype ≤ c → among 14 c ≡ false
 unfolding among
-no-variable c h = rw (ne-eqb c 212 (λ e. omega arith), ne-eqb c 222 (λ e. omega arith))
+no-variable c h = rw (ne-eqb c c-declared (λ e. omega arith), ne-eqb c c-parameter (λ e. omega arith))
 
 -- what a name of a sense may be used as
 sense-fault : (cs : List ℕ) (d : ℕ) (role : Role) (index : Bool) (s : Sense) → Finds cs d s
-    → eqb (pick (eqb (getD cs d 0) 220) (badPlain (either (eqb (number role) 0) (eqb (number role) 3)) index) (pick (among 14 (getD cs d 0)) (badVariable cs d (number role) index) 4)) 0
+    → eqb (pick (eqb (getD cs d 0) c-message) (badPlain (either (eqb (number role) 0) (eqb (number role) 3)) index) (pick (among 14 (getD cs d 0)) (badVariable cs d (number role) index) 4)) 0
     ≡ suits role index s
 unfolding badVariable
 sense-fault cs d role index (variable chan array) f = rw (no-message (getD cs d 0) (f .0), f .0, f .1, f .2) (variable-fault role index chan array)
 sense-fault cs d role index constant f = rw f (constant-fault role index)
 sense-fault cs d role index (procedure n) f =
     let z = proctype-is (getD cs d 0) f in
-    rw (ne-eqb (getD cs d 0) 220 (λ e. omega (arith, z .0)), no-variable (getD cs d 0) (z .0)) refl
-sense-fault cs d role index unknown f = rw (ne-eqb (getD cs d 0) 220 (f .1), f .0) refl
+    rw (ne-eqb (getD cs d 0) c-message (λ e. omega (arith, z .0)), no-variable (getD cs d 0) (z .0)) refl
+sense-fault cs d role index unknown f = rw (ne-eqb (getD cs d 0) c-message (f .1), f .0) refl
 
 module _ (S : Scene) where
   module _ (i : ℕ) (w : Name) (it : itemAt (xs S) i ≡ i-name w) (low : S .from ≤ i) (high : i < S .to) where
@@ -102,14 +103,14 @@ module _ (S : Scene) where
       where
         go : (b : Bool) → same w pid ≡ b
             → eqb (pick (eqb (getD (S .vs) i 0) 0) (badPlain (eqb (number role) 0) index)
-            (pick (eqb (getD (S .cs) (lookup (S .cs) (S .vs) (homes S) (getD (S .vs) i 0) (S .h) i) 0) 220) (badPlain (either (eqb (number role) 0) (eqb (number role) 3)) index)
+            (pick (eqb (getD (S .cs) (lookup (S .cs) (S .vs) (homes S) (getD (S .vs) i 0) (S .h) i) 0) c-message) (badPlain (either (eqb (number role) 0) (eqb (number role) 3)) index)
             (pick (among 14 (getD (S .cs) (lookup (S .cs) (S .vs) (homes S) (getD (S .vs) i 0) (S .h) i) 0))
             (badVariable (S .cs) (lookup (S .cs) (S .vs) (homes S) (getD (S .vs) i 0) (S .h) i) (number role) index) 4))) 0
             ≡ pick b (both (forPid role) (not index)) (suits role index (sense (S .at) w))
         go true e = rw (pid-told ∙ e) (pid-fault role index)
         go false e = rw (pid-told ∙ e) (sense-fault (S .cs) (lookup (S .cs) (S .vs) (homes S) (getD (S .vs) i 0) (S .h) i) role index (sense (S .at) w) (S .setting .finds i w low high it e))
 
-    pub reference-fault : (j c : ℕ) (role : Role) (index : Bool) → getD (S .cs) j 0 ≡ c → ruleOf c ≡ 15 → eqb c 177 ≡ index → getD (starts S) j 0 ≡ i → getD (homes S) j 0 ≡ S .h
+    pub reference-fault : (j c : ℕ) (role : Role) (index : Bool) → getD (S .cs) j 0 ≡ c → ruleOf c ≡ 15 → eqb c c-index ≡ index → getD (starts S) j 0 ≡ i → getD (homes S) j 0 ≡ S .h
         → roleOf (getD (S .cs) (j + 1) 0) ≡ number role → fine S j ≡ usable (sense (S .at)) role index w
     unfolding badBy badRef
     reference-fault j c role index e r x s g n = fine-by S j c 15 e r ∙ rw (s, g, n, e, x) (use-fault role index)

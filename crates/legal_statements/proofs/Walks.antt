@@ -7,6 +7,7 @@ use mathlib.Core.List.{List}
 use lib.ListN.{getD}
 use lib.Dec.{eqb, ltb}
 use borrow.Author.Tests.{lt-ltb, le-ltb, ne-eqb}
+use Rattle.base_codes.specs.Codes.{c-do, c-else, c-fi, c-if, c-od, c-option}
 use Rattle.base_bytes.specs.Choice.{pick, either}
 use Rattle.base_bytes.proofs.Tests.{both-no}
 use Rattle.rule_sheets.specs.Walks.{first, sum}
@@ -92,23 +93,23 @@ count-none cs hs set h n f = ap (sum (one cs hs set h) 0) (let z : n - 0 ≡ n =
 
 -- ---- going back over one item, by its code
 module _ (cs : List ℕ) (k d c : ℕ) (it : getD cs k 0 ≡ c) where
-  pub twin-over : 1 ≤ d → either (eqb c 205) (eqb c 207) ≡ false → either (eqb c 204) (eqb c 206) ≡ false → eqb c 208 ≡ false → twin cs (suc k) d ≡ twin cs k d
+  pub twin-over : 1 ≤ d → either (eqb c c-fi) (eqb c c-od) ≡ false → either (eqb c c-if) (eqb c c-do) ≡ false → eqb c c-option ≡ false → twin cs (suc k) d ≡ twin cs k d
   unfolding twin twinAt depthOn
   twin-over h a b e = rw (it, ne-eqb d 0 (λ z. omega arith), a, b, e, both-no (eqb d 1) {b = false} refl) refl
 
-  pub twin-in : 1 ≤ d → either (eqb c 205) (eqb c 207) ≡ true → eqb c 208 ≡ false → twin cs (suc k) d ≡ twin cs k (d + 1)
+  pub twin-in : 1 ≤ d → either (eqb c c-fi) (eqb c c-od) ≡ true → eqb c c-option ≡ false → twin cs (suc k) d ≡ twin cs k (d + 1)
   unfolding twin twinAt depthOn
   twin-in h a e = rw (it, ne-eqb d 0 (λ z. omega arith), a, e, both-no (eqb d 1) {b = false} refl) refl
 
-  pub twin-out : 1 ≤ d → either (eqb c 205) (eqb c 207) ≡ false → either (eqb c 204) (eqb c 206) ≡ true → eqb c 208 ≡ false → twin cs (suc k) d ≡ twin cs k (d - 1)
+  pub twin-out : 1 ≤ d → either (eqb c c-fi) (eqb c c-od) ≡ false → either (eqb c c-if) (eqb c c-do) ≡ true → eqb c c-option ≡ false → twin cs (suc k) d ≡ twin cs k (d - 1)
   unfolding twin twinAt depthOn
   twin-out h a b e = rw (it, ne-eqb d 0 (λ z. omega arith), a, b, e, both-no (eqb d 1) {b = false} refl) refl
 
-pub twin-deep : (cs : List ℕ) (k d : ℕ) → getD cs k 0 ≡ 208 → 2 ≤ d → twin cs (suc k) d ≡ twin cs k d
+pub twin-deep : (cs : List ℕ) (k d : ℕ) → getD cs k 0 ≡ c-option → 2 ≤ d → twin cs (suc k) d ≡ twin cs k d
 unfolding twin twinAt depthOn
 twin-deep cs k d it h = rw (it, ne-eqb d 0 (λ z. omega arith), ne-eqb d 1 (λ z. omega arith)) refl
 
-pub twin-option : (cs : List ℕ) (k : ℕ) → getD cs k 0 ≡ 208 → twin cs (suc k) 1 ≡ pick (eqb (getD cs (k + 1) 0) 201) true (twin cs k 1)
+pub twin-option : (cs : List ℕ) (k : ℕ) → getD cs k 0 ≡ c-option → twin cs (suc k) 1 ≡ pick (eqb (getD cs (k + 1) 0) c-else) true (twin cs k 1)
 unfolding twin twinAt depthOn
 twin-option cs k it = rw it refl
 

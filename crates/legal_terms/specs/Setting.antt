@@ -6,6 +6,7 @@ use mathlib.Core.Bool.{true, false, not}
 use mathlib.Core.List.{List}
 use lib.ListN.{length, getD}
 use lib.Dec.{ltb}
+use Rattle.base_codes.specs.Codes.{c-argument, c-end-option, c-message}
 use Rattle.base_bytes.specs.Lists.{same}
 use Rattle.spec_text.specs.Names.{pid}
 use Rattle.rule_search.specs.Sets.{among}
@@ -20,9 +21,9 @@ use Rattle.legal_terms.specs.Says.{itemAt}
 -- item d is what a name of this sense finds; an unknown one finds no declaration of a variable or an mtype name
 abbrev pub Finds : List ℕ → ℕ → Sense → Type 0
 Finds cs d (variable chan array) = (among 14 (getD cs d 0) ≡ true) × (isChan cs d ≡ chan) × (isArray cs d ≡ array)
-Finds cs d constant = getD cs d 0 ≡ 220
+Finds cs d constant = getD cs d 0 ≡ c-message
 Finds cs d (procedure n) = among 13 (getD cs d 0) ≡ true
-Finds cs d unknown = (among 14 (getD cs d 0) ≡ false) × (getD cs d 0 ≡ 220 → ⊥)
+Finds cs d unknown = (among 14 (getD cs d 0) ≡ false) × (getD cs d 0 ≡ c-message → ⊥)
 
 -- the same for the proctype of a run, over the whole model, with how many parameters it has
 abbrev pub Runs : List ℕ → List ℕ → ℕ → Sense → Type 0
@@ -35,7 +36,7 @@ pub record Setting (xs : List Item) (cs vs hs : List ℕ) (h from to : ℕ) (at 
   -- the statements are in the body, and what stands in statements alone stands nowhere else in it: strings, marks of arguments and of statements, labels, selections
   pub home : (j : ℕ) → from ≤ j → j < to → getD hs j 0 ≡ h
   pub string-inside : (j : ℕ) → j < length cs → getD hs j 0 ≡ h → getD cs j 0 ≡ 72 → (from ≤ j) × (j < to)
-  pub mark-inside : (j : ℕ) → j < length cs → getD hs j 0 ≡ h → 183 ≤ getD cs j 0 → getD cs j 0 ≤ 209 → (from ≤ j) × (j < to)
+  pub mark-inside : (j : ℕ) → j < length cs → getD hs j 0 ≡ h → c-argument ≤ getD cs j 0 → getD cs j 0 ≤ c-end-option → (from ≤ j) × (j < to)
   -- a name among the statements: the declaration before it that it means
   pub finds : (j : ℕ) (w : Name) → from ≤ j → j < to → itemAt xs j ≡ i-name w → same w pid ≡ false → Finds cs (lookup cs vs hs (getD vs j 0) h j) (senseOf (at .locals) (at .globals) w)
   -- a local hides a proctype

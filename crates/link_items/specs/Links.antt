@@ -6,6 +6,7 @@ use mathlib.Core.Bool.{Bool}
 use mathlib.Core.List.{List}
 use lib.ListN.{length, getD, set, replicate}
 use lib.Dec.{eqb, ltb}
+use Rattle.base_codes.specs.Codes.{c-assert, c-assign, c-bit, c-body, c-break, c-choice, c-declared, c-decrement, c-do, c-else, c-end, c-express, c-false, c-fi, c-goto, c-if, c-index, c-init, c-message, c-named, c-od, c-option, c-or-else, c-otherwise, c-parameter, c-plain, c-proctype, c-receive, c-remainder, c-run, c-send, c-set-run, c-skip, c-target, c-timeout, c-true}
 use Rattle.base_bytes.specs.Choice.{pick, either}
 use Rattle.rule_sheets.specs.Walks.{sum}
 use Rattle.rule_sheets.specs.Homes.{homesOf}
@@ -19,7 +20,7 @@ use Rattle.link_places.specs.Places.{markOf, placeFrom, closeOf, nextFrom, past
 -- ## variables
 -- the type of a variable, which stands before the last local, global or group: bit 0, bool 1, byte 2, mtype 3, pid 4, chan 5, short 6, int 7
 unfoldable pub typeAt : List ℕ → ℕ → ℕ
-typeAt cs d = min 7 (getD cs (last cs 3 d - 2) 0 - 168)
+typeAt cs d = min 7 (getD cs (last cs 3 d - 2) 0 - c-bit)
 
 -- how many numbers it has: "one per scalar or chan, the size per array"
 unfoldable pub sizeAt : List ℕ → List ℕ → ℕ → ℕ
@@ -41,35 +42,35 @@ slotAt cs vs hs d = typeAt cs d + 8 * localAt hs d + 16 * sizeAt cs vs d + 1024 
 unfoldable pub classOf : ℕ → ℕ
 classOf c =
     -- 1 plain, index: the declaration that its name means, `_pid`: its own name
-    pick (within 176 177 c) 1
+    pick (within c-plain c-index c) 1
     -- 2 named: the mtype name that is meant
-    (pick (eqb c 216) 2
+    (pick (eqb c c-named) 2
     -- 3 run, set-run: the item that begins the proctype
-    (pick (within 202 203 c) 3
+    (pick (within c-run c-set-run c) 3
     -- 4 binary, otherwise, choice: where the phrase before it starts
-    (pick (either (within 147 164 c) (within 181 182 c)) 4
+    (pick (either (within c-or-else c-remainder c) (within c-otherwise c-choice c)) 4
     -- 5 name, number, true, false, target: the mark of the phrase that it is in, or that follows
-    (pick (either (within 70 71 c) (either (within 178 179 c) (eqb c 190))) 5
+    (pick (either (within 70 71 c) (either (within c-true c-false c) (eqb c c-target))) 5
     -- 6 printf's string, send, receive: the end of its arguments
-    (pick (either (eqb c 72) (within 194 195 c)) 6
+    (pick (either (eqb c 72) (within c-send c-receive c)) 6
     -- 7 the last item of a statement (end, express, assign, increment, decrement, assert, skip, timeout, else, fi, od): the place that follows
-    (pick (either (either (eqb c 187) (eqb c 189)) (either (either (within 191 193 c) (within 196 197 c)) (either (within 200 201 c) (either (eqb c 205) (eqb c 207))))) 7
+    (pick (either (either (eqb c c-end) (eqb c c-express)) (either (either (within c-assign c-decrement c) (within c-assert c-skip c)) (either (within c-timeout c-else c) (either (eqb c c-fi) (eqb c c-od))))) 7
     -- 8 goto: the place of the statement that has the label
-    (pick (eqb c 198) 8
+    (pick (eqb c c-goto) 8
     -- 9 break: the place behind its loop
-    (pick (eqb c 199) 9
+    (pick (eqb c c-break) 9
     -- 10 if, do: what closes it
-    (pick (either (eqb c 204) (eqb c 206)) 10
+    (pick (either (eqb c c-if) (eqb c c-do)) 10
     -- 11 option: its end
-    (pick (eqb c 208) 11
+    (pick (eqb c c-option) 11
     -- 12 proctype, active, active-many, init: the end of its body
-    (pick (within 223 226 c) 12
+    (pick (within c-proctype c-init c) 12
     -- 13 body: its first place
-    (pick (eqb c 227) 13
+    (pick (eqb c c-body) 13
     -- 14 declared, parameter: the variable, in one number
-    (pick (either (eqb c 212) (eqb c 222)) 14
+    (pick (either (eqb c c-declared) (eqb c c-parameter)) 14
     -- 15 message: its number: "mtype names count from 1 in list order"
-    (pick (eqb c 220) 15 0))))))))))))))
+    (pick (eqb c c-message) 15 0))))))))))))))
 
 module _ (cs vs hs ss : List ℕ) where
   -- the link of item j by its class, where `l` has the links behind item j

@@ -13,12 +13,15 @@ use rule_sheets::word_at;
 // The most items.
 const ITEMS_MOST: usize = 8192;
 
+// The code of the first type.
+const FIRST_TYPE: usize = base_codes::BIT as usize;
+
 fn type_at(codes: &[u8], d: usize) -> usize
     ensures { λ r. ⌜ r ≡ spec.typeAt (now (codes .entry)) d ⌝ }
     ensures { λ r. ⌜ r ≤ 7 ⌝ }
 {
     let c = base_bytes::byte_at(codes, minus(rule_search::after(codes, 3, d), 2)) as usize;
-    base_bytes::least(7, minus(c, 168))
+    base_bytes::least(7, minus(c, FIRST_TYPE))
 }
 
 fn size_at(codes: &[u8], args: &[u32], d: usize) -> usize

@@ -7,6 +7,7 @@ use mathlib.Core.List.{List, [], _∷_, _++_}
 use lib.ListN.{length, getD, length-append}
 use lib.Dec.{leb}
 use borrow.Author.Tests.{le-ltb, leb-true, leb-false}
+use Rattle.base_codes.specs.Codes.{c-choice, c-false, c-index, c-len, c-plain, c-true}
 use Rattle.base_bytes.specs.Choice.{pick}
 use Rattle.spec_grammar.specs.Tree.{Shape, Exp, plain, indexed, num, tru, fls, get, len, unary, binary, choice}
 use Rattle.spec_grammar.specs.Code.{i-index, i-len, i-unary, i-binary, i-otherwise, i-choice, code-exp}
@@ -85,16 +86,16 @@ module _ (cs ss : List ℕ) (right : (s : Shape) (e : Exp s) → Proper e → (i
       → getD (filled F i n l) j 0 ≡ min 33 (height e)
   height-at (plain w) p i n j l q r h g s =
       let z : j ≡ suc i = omega arith in
-      filled-last F 1 i n j l q (omega arith) (omega arith) ∙ height-plain cs ss (filled F i 1 l) j 176 (rw z (h .1 .0)) (shapes .4)
+      filled-last F 1 i n j l q (omega arith) (omega arith) ∙ height-plain cs ss (filled F i 1 l) j c-plain (rw z (h .1 .0)) (shapes .4)
   height-at (num v) p i n j l q r h g s =
       let z : j ≡ i = omega arith in
       filled-last F 0 i n j l q (omega arith) (omega arith) ∙ height-leaf cs ss (filled F i 0 l) j 71 (rw z (h .0)) (shapes .1)
   height-at tru p i n j l q r h g s =
       let z : j ≡ i = omega arith in
-      filled-last F 0 i n j l q (omega arith) (omega arith) ∙ height-leaf cs ss (filled F i 0 l) j 178 (rw z (h .0)) (shapes .2)
+      filled-last F 0 i n j l q (omega arith) (omega arith) ∙ height-leaf cs ss (filled F i 0 l) j c-true (rw z (h .0)) (shapes .2)
   height-at fls p i n j l q r h g s =
       let z : j ≡ i = omega arith in
-      filled-last F 0 i n j l q (omega arith) (omega arith) ∙ height-leaf cs ss (filled F i 0 l) j 179 (rw z (h .0)) (shapes .3)
+      filled-last F 0 i n j l q (omega arith) (omega arith) ∙ height-leaf cs ss (filled F i 0 l) j c-false (rw z (h .0)) (shapes .3)
   height-at (get v) p i n j l q r h g s = height-at v p i n j l q r h g s
   height-at (indexed w e) p i n j l q r h g s =
       let m = length (code-exp e) in
@@ -103,13 +104,13 @@ module _ (cs ss : List ℕ) (right : (s : Shape) (e : Exp s) → Proper e → (i
       let x = at-back cs (code-exp e) (i-index ∷ []) (suc i) j (omega (arith, some-items e)) (h .1) .0 in
       let z : i + 1 ≡ suc i = omega arith in
       let y = height-at e p (i + 1) m (j - 1) (filled F i 1 l) refl (omega (arith, some-items e)) (rw z one) (omega arith) (omega (arith, filled-length F i 1 l)) in
-      filled-last F (1 + m) i n j l (omega arith) (omega arith) (omega arith) ∙ height-index cs ss (filled F i (1 + m) l) j 177 x (shapes .5)
+      filled-last F (1 + m) i n j l (omega arith) (omega arith) (omega arith) ∙ height-index cs ss (filled F i (1 + m) l) j c-index x (shapes .5)
       ∙ ap above (second i 1 m (1 + m) (i + 1) l (j - 1) (min 33 (height e)) refl refl y) ∙ above-min (height e)
   height-at (len v) p i n j l q r h g s =
       let m = length (code-exp v) in
       let t : length (code-exp v ++ i-len ∷ []) ≡ m + 1 = length-append (code-exp v) (i-len ∷ []) in
       let x = at-back cs (code-exp v) (i-len ∷ []) i j (omega arith) h .0 in
-      filled-last F m i n j l (omega arith) (omega arith) (omega (arith, some-items v)) ∙ height-over cs ss (filled F i m l) j 180 x (shapes .6)
+      filled-last F m i n j l (omega arith) (omega arith) (omega (arith, some-items v)) ∙ height-over cs ss (filled F i m l) j c-len x (shapes .6)
       ∙ ap above (height-at v p i m (j - 1) l refl (omega arith) (at-front cs i (code-exp v) (i-len ∷ []) h) (omega arith) (omega arith)) ∙ above-min (height v)
   height-at (unary o e) p i n j l q r h g s =
       let m = length (code-exp e) in
@@ -165,7 +166,7 @@ module _ (cs ss : List ℕ) (right : (s : Shape) (e : Exp s) → Proper e → (i
       let y : i + m + k + 1 - 2 ≡ i + m + k - 1 = omega arith in
       let v′ : getD (filled F i (m + k + 1 + d) l) (getD ss (j - 1) 0 - 2) 0 ≡ min 33 (height b) = rw (sc, y) v in
       let w′ : getD (filled F i (m + k + 1 + d) l) (getD ss (getD ss (j - 1) 0 - 2) 0 - 1) 0 ≡ min 33 (height a) = rw (sc, y, sb) w in
-      filled-last F (m + k + 1 + d) i n j l (omega arith) (omega arith) (omega arith) ∙ height-choice cs ss (filled F i (m + k + 1 + d) l) j 182 x (shapes .7)
+      filled-last F (m + k + 1 + d) i n j l (omega arith) (omega arith) (omega arith) ∙ height-choice cs ss (filled F i (m + k + 1 + d) l) j c-choice x (shapes .7)
       ∙ of-three _ _ _ (height a) (height b) (height c) u v′ w′
 
 -- AT ITS LAST ITEM every expression that stands in the items has its height, up to 33

@@ -7,6 +7,7 @@ use mathlib.Core.List.{List, [], _∷_, _++_, map}
 use lib.ListN.{length, getD, length-append}
 use lib.Seq.{getD-append-seam}
 use borrow.Author.Tests.{lt-ltb, le-ltb, ne-eqb}
+use Rattle.base_codes.specs.Codes.{c-argument, c-bit, c-int}
 use Rattle.base_bytes.specs.Choice.{both}
 use Rattle.spec_grammar.specs.Tree.{Shape, Exp, plain, indexed, num, tru, fls, get, len, unary, binary, choice}
 use Rattle.spec_grammar.specs.Grammar.{Is-unary, is-minus, is-not, is-flip}
@@ -30,7 +31,7 @@ unary-inside is-flip = refl
 
 binary-inside : (o : ℕ) → 1 ≤ o → o ≤ 18 → inExpression (codeOf (i-binary o)) ≡ true
 unfolding inExpression
-binary-inside o a b = rw (ne-eqb (146 + o) 70 (λ e. omega arith), ne-eqb (146 + o) 71 (λ e. omega arith), lt-ltb 146 (146 + o) (omega arith), lt-ltb (146 + o) 168 (omega arith))
+binary-inside o a b = rw (ne-eqb (146 + o) 70 (λ e. omega arith), ne-eqb (146 + o) 71 (λ e. omega arith), lt-ltb 146 (146 + o) (omega arith), lt-ltb (146 + o) c-bit (omega arith))
 
 pub phrase-inside : {s : Shape} (e : Exp s) → Proper e → all-inside (code-exp e)
 unfolding inExpression
@@ -50,9 +51,9 @@ phrase-inside (choice a b c) p =
     (refl, tt)
 
 -- 183 argument to 228 end-body: every other mark
-pub mark-outside : (c : ℕ) → 183 ≤ c → inExpression c ≡ false
+pub mark-outside : (c : ℕ) → c-argument ≤ c → inExpression c ≡ false
 unfolding inExpression
-mark-outside c h = rw (ne-eqb c 70 (λ e. omega arith), ne-eqb c 71 (λ e. omega arith), lt-ltb 146 c (omega arith), le-ltb c 168 (omega arith), lt-ltb 175 c (omega arith), le-ltb c 183 (omega arith))
+mark-outside c h = rw (ne-eqb c 70 (λ e. omega arith), ne-eqb c 71 (λ e. omega arith), lt-ltb 146 c (omega arith), le-ltb c c-bit (omega arith), lt-ltb c-int c (omega arith), le-ltb c c-argument (omega arith))
 
 -- strings and types
 pub text-outside : inExpression 72 ≡ false
@@ -62,7 +63,7 @@ text-outside = refl
 pub type-outside : (k : ℕ) → 38 ≤ k → k ≤ 45 → inExpression (codeOf (i-type k)) ≡ false
 unfolding inExpression
 type-outside k a b =
-    rw (ne-eqb (130 + k) 70 (λ e. omega arith), ne-eqb (130 + k) 71 (λ e. omega arith), lt-ltb 146 (130 + k) (omega arith), le-ltb (130 + k) 168 (omega arith), le-ltb 175 (130 + k) (omega arith))
+    rw (ne-eqb (130 + k) 70 (λ e. omega arith), ne-eqb (130 + k) 71 (λ e. omega arith), lt-ltb 146 (130 + k) (omega arith), le-ltb (130 + k) c-bit (omega arith), le-ltb c-int (130 + k) (omega arith))
 
 -- ---- the place of items in the codes of a list of items
 regroup : (p : List ℕ) (b : ℕ) (q : List ℕ) → (p ++ b ∷ []) ++ q ≡ p ++ b ∷ q

@@ -5,6 +5,7 @@ use mathlib.Core.Path.{_≡_, refl, sym as inv, _∙_, ap}
 use mathlib.Core.List.{List, [], _∷_, _++_}
 use lib.ListN.{length, getD, length-append}
 use borrow.Author.Tests.{lt-ltb, le-ltb, ne-eqb, eq-eqb}
+use Rattle.base_codes.specs.Codes.{c-choice, c-false, c-index, c-len, c-negate, c-plain, c-remainder, c-true}
 use Rattle.spec_grammar.specs.Tree.{Shape, Exp, plain, indexed, num, tru, fls, get, len, unary, binary, choice}
 use Rattle.spec_grammar.specs.Grammar.{Is-unary, is-minus, is-not, is-flip}
 use Rattle.spec_grammar.specs.Code.{Item, i-name, i-plain, i-index, i-len, i-unary, i-binary, i-otherwise, i-choice, code-exp}
@@ -45,10 +46,10 @@ unary-shape is-flip = refl
 pub binary-shape : (o : ℕ) → 1 ≤ o → o ≤ 18 → shapeOf (codeOf (i-binary o)) ≡ 4
 unfolding shapeOf
 binary-shape o a b =
-    rw (ne-eqb (146 + o) 176 (λ e. omega arith), ne-eqb (146 + o) 177 (λ e. omega arith), ne-eqb (146 + o) 180 (λ e. omega arith), le-ltb 164 (146 + o) (omega arith), lt-ltb 146 (146 + o) (omega arith), lt-ltb (146 + o) 165 (omega arith))
+    rw (ne-eqb (146 + o) c-plain (λ e. omega arith), ne-eqb (146 + o) c-index (λ e. omega arith), ne-eqb (146 + o) c-len (λ e. omega arith), le-ltb c-remainder (146 + o) (omega arith), lt-ltb 146 (146 + o) (omega arith), lt-ltb (146 + o) c-negate (omega arith))
 
 -- the others, by their codes
-pub shapes : (shapeOf 70 ≡ 0) × (shapeOf 71 ≡ 0) × (shapeOf 178 ≡ 0) × (shapeOf 179 ≡ 0) × (shapeOf 176 ≡ 1) × (shapeOf 177 ≡ 2) × (shapeOf 180 ≡ 3) × (shapeOf 182 ≡ 5)
+pub shapes : (shapeOf 70 ≡ 0) × (shapeOf 71 ≡ 0) × (shapeOf c-true ≡ 0) × (shapeOf c-false ≡ 0) × (shapeOf c-plain ≡ 1) × (shapeOf c-index ≡ 2) × (shapeOf c-len ≡ 3) × (shapeOf c-choice ≡ 5)
 unfolding shapeOf
 shapes = (refl, refl, refl, refl, refl, refl, refl, refl)
 
@@ -93,16 +94,16 @@ module _ (cs : List ℕ) where
   start-at : {s : Shape} (e : Exp s) → Proper e → (i n j : ℕ) (l : List ℕ) → n ≡ length (code-exp e) → j ≡ i + n - 1 → At cs i (code-exp e) → i + n ≤ length l → getD (filled F i n l) j 0 ≡ i
   start-at (plain w) p i n j l q r h s =
       let z : j ≡ suc i = omega arith in
-      filled-last F 1 i n j l q (omega arith) (omega arith) ∙ start-plain cs (filled F i 1 l) j 176 (rw z (h .1 .0)) (shapes .4) ∙ omega arith
+      filled-last F 1 i n j l q (omega arith) (omega arith) ∙ start-plain cs (filled F i 1 l) j c-plain (rw z (h .1 .0)) (shapes .4) ∙ omega arith
   start-at (num v) p i n j l q r h s =
       let z : j ≡ i = omega arith in
       filled-last F 0 i n j l q (omega arith) (omega arith) ∙ start-leaf cs (filled F i 0 l) j 71 (rw z (h .0)) (shapes .1) ∙ z
   start-at tru p i n j l q r h s =
       let z : j ≡ i = omega arith in
-      filled-last F 0 i n j l q (omega arith) (omega arith) ∙ start-leaf cs (filled F i 0 l) j 178 (rw z (h .0)) (shapes .2) ∙ z
+      filled-last F 0 i n j l q (omega arith) (omega arith) ∙ start-leaf cs (filled F i 0 l) j c-true (rw z (h .0)) (shapes .2) ∙ z
   start-at fls p i n j l q r h s =
       let z : j ≡ i = omega arith in
-      filled-last F 0 i n j l q (omega arith) (omega arith) ∙ start-leaf cs (filled F i 0 l) j 179 (rw z (h .0)) (shapes .3) ∙ z
+      filled-last F 0 i n j l q (omega arith) (omega arith) ∙ start-leaf cs (filled F i 0 l) j c-false (rw z (h .0)) (shapes .3) ∙ z
   start-at (get v) p i n j l q r h s = start-at v p i n j l q r h s
   start-at (indexed w e) p i n j l q r h s =
       let m = length (code-exp e) in
@@ -111,12 +112,12 @@ module _ (cs : List ℕ) where
       let x = at-back cs (code-exp e) (i-index ∷ []) (suc i) j (omega (arith, some-items e)) (h .1) .0 in
       let g = start-at e p (i + 1) m (j - 1) (filled F i 1 l) refl (omega (arith, some-items e)) (let z : i + 1 ≡ suc i = omega arith in rw z one) (omega (arith, filled-length F i 1 l)) in
       let u : getD (filled F i (1 + m) l) (j - 1) 0 ≡ i + 1 = second i 1 m (1 + m) (i + 1) l (j - 1) (i + 1) refl refl g in
-      filled-last F (1 + m) i n j l (omega arith) (omega arith) (omega arith) ∙ start-index cs (filled F i (1 + m) l) j 177 x (shapes .5) ∙ omega (arith, u)
+      filled-last F (1 + m) i n j l (omega arith) (omega arith) (omega arith) ∙ start-index cs (filled F i (1 + m) l) j c-index x (shapes .5) ∙ omega (arith, u)
   start-at (len v) p i n j l q r h s =
       let m = length (code-exp v) in
       let t : length (code-exp v ++ i-len ∷ []) ≡ m + 1 = length-append (code-exp v) (i-len ∷ []) in
       let x = at-back cs (code-exp v) (i-len ∷ []) i j (omega arith) h .0 in
-      filled-last F m i n j l (omega arith) (omega arith) (omega (arith, some-items v)) ∙ start-over cs (filled F i m l) j 180 x (shapes .6)
+      filled-last F m i n j l (omega arith) (omega arith) (omega (arith, some-items v)) ∙ start-over cs (filled F i m l) j c-len x (shapes .6)
       ∙ start-at v p i m (j - 1) l refl (omega arith) (at-front cs i (code-exp v) (i-len ∷ []) h) (omega arith)
   start-at (unary o e) p i n j l q r h s =
       let m = length (code-exp e) in
@@ -162,7 +163,7 @@ module _ (cs : List ℕ) where
       let w : getD (filled F i (m + k + 1 + d) l) (i + m - 1) 0 ≡ i =
       kept i m (k + 1 + d) (m + k + 1 + d) (i + m) l (i + m - 1) (omega arith) refl (omega (arith, some-items a)) ∙ start-at a (p .0) i m (i + m - 1) l refl refl (at-front cs i A B ab) (omega arith) in
       let y : i + m + k + 1 - 2 ≡ i + m + k - 1 = omega arith in
-      filled-last F (m + k + 1 + d) i n j l (omega arith) (omega arith) (omega arith) ∙ start-choice cs (filled F i (m + k + 1 + d) l) j 182 x (shapes .7) ∙ rw (u, y, v) w
+      filled-last F (m + k + 1 + d) i n j l (omega arith) (omega arith) (omega arith) ∙ start-choice cs (filled F i (m + k + 1 + d) l) j c-choice x (shapes .7) ∙ rw (u, y, v) w
 
 -- AT ITS LAST ITEM every expression that stands in the items has its first place
 pub phrase-starts : (cs z : List ℕ) {s : Shape} (e : Exp s) → Proper e → (i j : ℕ) → At cs i (code-exp e) → length cs ≤ 8192 → length cs ≤ length z → i + length (code-exp e) ≤ length cs

@@ -5,6 +5,7 @@ use mathlib.Core.List.{List, [], _∷_}
 use Prim.Native.Nat.{ℕ, suc, _≤_}
 use lib.ListN.{getD}
 use lib.Dec.{eqb, ltb}
+use Rattle.base_codes.specs.Codes.{c-argument, c-bit, c-int}
 use Rattle.base_bytes.specs.Choice.{both, either}
 use Rattle.spec_grammar.specs.Tree.{Shape, Exp, plain, indexed, num, tru, fls, get, len, unary, binary, choice}
 use Rattle.spec_grammar.specs.Grammar.{Is-unary}
@@ -31,4 +32,4 @@ At cs i (x ∷ l) = (getD cs i 0 ≡ codeOf x) × At cs (suc i) l
 
 -- the codes of items that expressions are made of: names and numbers, operators, and `plain` to `choice`
 unfoldable pub inExpression : ℕ → Bool
-inExpression c = either (eqb c 70) (either (eqb c 71) (either (both (ltb 146 c) (ltb c 168)) (both (ltb 175 c) (ltb c 183))))
+inExpression c = either (eqb c 70) (either (eqb c 71) (either (both (ltb 146 c) (ltb c c-bit)) (both (ltb c-int c) (ltb c c-argument))))

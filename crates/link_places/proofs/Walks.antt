@@ -6,6 +6,7 @@ use mathlib.Core.List.{List, [], _∷_}
 use native.Mathlib.Omega.{arith}
 use lib.ListN.{length, getD}
 use lib.Dec.{eqb, leb}
+use Rattle.base_codes.specs.Codes.{c-do}
 use Rattle.base_bytes.specs.Choice.{pick, both, either}
 use Rattle.rule_sheets.specs.Walks.{first}
 use Rattle.rule_sheets.proofs.Walks.{first-end}
@@ -73,10 +74,10 @@ open-end cs k d e = rw e
 
 -- ## what follows
 module _ (cs l : List ℕ) (k : ℕ) {o c : ℕ} (eo : o ≡ openOf cs k 1) (ec : c ≡ getD cs o 0) where
-  pub option-again : c ≡ 206 → o ≡ pastOption cs l k
+  pub option-again : c ≡ c-do → o ≡ pastOption cs l k
   unfolding pastOption
   option-again h = rw (← eo, ← ec, h)
 
-  pub option-out : {m r : ℕ} → eqb c 206 ≡ false → m ≡ closeOf cs 0 k → r ≡ getD l m 0 → r ≡ pastOption cs l k
+  pub option-out : {m r : ℕ} → eqb c c-do ≡ false → m ≡ closeOf cs 0 k → r ≡ getD l m 0 → r ≡ pastOption cs l k
   unfolding pastOption
   option-out h em er = rw (← eo, ← ec, h, ← em) er

@@ -4,11 +4,12 @@ use Prim.Native.Nat.{ℕ}
 use mathlib.Core.Path.{_≡_, refl}
 use mathlib.Core.Bool.{true, false}
 use mathlib.Core.List.{List, [], _∷_}
+use Rattle.base_codes.specs.Codes.{c-body, c-break, c-do, c-else, c-end-body, c-end-option, c-express, c-init, c-label, c-od, c-option, c-skip}
 use Rattle.rule_sheets.specs.Walks.{first}
 use Rattle.link_places.specs.Places.{isPart, markFrom, markOf, isAlone, isLead, isPlace, isStop, placeFrom, isOpening, isClosing, deeper, closeFrom, closeOf, shallower, openOf, pastOption, nextFrom, pastLoop}
 
 abbrev model : List ℕ
-model = 226 ∷ 227 ∷ 206 ∷ 208 ∷ 71 ∷ 189 ∷ 199 ∷ 209 ∷ 208 ∷ 201 ∷ 209 ∷ 207 ∷ 70 ∷ 188 ∷ 197 ∷ 228 ∷ []
+model = c-init ∷ c-body ∷ c-do ∷ c-option ∷ 71 ∷ c-express ∷ c-break ∷ c-end-option ∷ c-option ∷ c-else ∷ c-end-option ∷ c-od ∷ 70 ∷ c-label ∷ c-skip ∷ c-end-body ∷ []
 
 -- the place behind `od`, at item 11
 abbrev links : List ℕ

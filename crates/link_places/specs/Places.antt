@@ -5,6 +5,7 @@ use mathlib.Core.Bool.{Bool, true, false}
 use mathlib.Core.List.{List}
 use lib.ListN.{length, getD}
 use lib.Dec.{eqb}
+use Rattle.base_codes.specs.Codes.{c-assert, c-break, c-choice, c-complement, c-do, c-else, c-end, c-end-body, c-end-option, c-express, c-fi, c-goto, c-if, c-increment, c-od, c-option, c-or-else, c-plain, c-run, c-skip, c-target}
 use Rattle.base_bytes.specs.Choice.{pick, both, either}
 use Rattle.rule_sheets.specs.Walks.{first}
 use Rattle.rule_search.specs.Sets.{within}
@@ -12,7 +13,7 @@ use Rattle.rule_search.specs.Sets.{within}
 -- ## phrases
 -- part of an expression: name, number, binary and unary operators, plain, index, true, false, len, otherwise, choice
 unfoldable pub isPart : ℕ → Bool
-isPart c = either (within 70 71 c) (either (within 147 167 c) (within 176 182 c))
+isPart c = either (within 70 71 c) (either (within c-or-else c-complement c) (within c-plain c-choice c))
 
 abbrev pub isMark : ℕ → Bool
 isMark c = pick (isPart c) false true
@@ -28,11 +29,11 @@ markOf cs j = markFrom cs (j + 1)
 -- ## the places of statements
 -- a statement that begins with its own mark: printf (its string), skip, break, timeout, else, if, do
 unfoldable pub isAlone : ℕ → Bool
-isAlone c = either (either (eqb c 72) (eqb c 197)) (either (within 199 201 c) (either (eqb c 204) (eqb c 206)))
+isAlone c = either (either (eqb c 72) (eqb c c-skip)) (either (within c-break c-else c) (either (eqb c c-if) (eqb c c-do)))
 
 -- the mark of a statement that begins with a phrase: express, target, increment, decrement, send, receive, assert, goto, run
 unfoldable pub isLead : ℕ → Bool
-isLead c = either (within 189 190 c) (either (within 192 196 c) (either (eqb c 198) (eqb c 202)))
+isLead c = either (within c-express c-target c) (either (within c-increment c-assert c) (either (eqb c c-goto) (eqb c c-run)))
 
 -- the place of a statement is its first item behind a label: one that is its own mark, or the first of a phrase with such a mark
 unfoldable pub isPlace : List ℕ → ℕ → Bool
@@ -40,7 +41,7 @@ isPlace cs p = pick (isAlone (getD cs p 0)) true (pick (isPart (getD cs p 0)) (b
 
 -- a place, or the end of a body
 unfoldable pub isStop : List ℕ → ℕ → Bool
-isStop cs p = either (eqb (getD cs p 0) 228) (isPlace cs p)
+isStop cs p = either (eqb (getD cs p 0) c-end-body) (isPlace cs p)
 
 -- the first of them from item k on
 unfoldable pub placeFrom : List ℕ → ℕ → ℕ
@@ -51,17 +52,17 @@ placeFrom cs k = first (isStop cs) k (length cs - k)
 -- 3 bodies (end-body), 4 arguments (end)
 unfoldable pub isOpening : ℕ → ℕ → Bool
 isOpening pair c =
-    pick (eqb pair 0) (either (eqb c 204) (eqb c 206))
-    (pick (eqb pair 1) (eqb c 206)
-    (pick (eqb pair 2) (eqb c 208) false))
+    pick (eqb pair 0) (either (eqb c c-if) (eqb c c-do))
+    (pick (eqb pair 1) (eqb c c-do)
+    (pick (eqb pair 2) (eqb c c-option) false))
 
 unfoldable pub isClosing : ℕ → ℕ → Bool
 isClosing pair c =
-    pick (eqb pair 0) (either (eqb c 205) (eqb c 207))
-    (pick (eqb pair 1) (eqb c 207)
-    (pick (eqb pair 2) (eqb c 209)
-    (pick (eqb pair 3) (eqb c 228)
-    (pick (eqb pair 4) (eqb c 187) false))))
+    pick (eqb pair 0) (either (eqb c c-fi) (eqb c c-od))
+    (pick (eqb pair 1) (eqb c c-od)
+    (pick (eqb pair 2) (eqb c c-end-option)
+    (pick (eqb pair 3) (eqb c c-end-body)
+    (pick (eqb pair 4) (eqb c c-end) false))))
 
 -- behind an item of code c, where d are open before it
 unfoldable pub deeper : ℕ → ℕ → ℕ → ℕ
@@ -88,11 +89,11 @@ openOf cs (suc k) d = pick (both (isOpening 0 (getD cs k 0)) (eqb d 1)) k (openO
 -- ## the place that follows, where `l` has at each fi and od the place behind that selection
 -- "an ended option leads past `fi`, or back to `do`": item k is the end of an option
 unfoldable pub pastOption : List ℕ → List ℕ → ℕ → ℕ
-pastOption cs l k = pick (eqb (getD cs (openOf cs k 1) 0) 206) (openOf cs k 1) (getD l (closeOf cs 0 k) 0)
+pastOption cs l k = pick (eqb (getD cs (openOf cs k 1) 0) c-do) (openOf cs k 1) (getD l (closeOf cs 0 k) 0)
 
 -- behind a statement, where item k stands behind its last
 unfoldable pub nextFrom : List ℕ → List ℕ → ℕ → ℕ
-nextFrom cs l k = pick (eqb (getD cs k 0) 209) (pastOption cs l k) (placeFrom cs k)
+nextFrom cs l k = pick (eqb (getD cs k 0) c-end-option) (pastOption cs l k) (placeFrom cs k)
 
 -- behind the loop that item j is in: "`break`"
 unfoldable pub pastLoop : List ℕ → List ℕ → ℕ → ℕ

@@ -15,7 +15,10 @@ pub fn is_part(c: u8) -> bool
 {
     either(
         within(70, 71, c),
-        either(within(147, 167, c), within(176, 182, c)),
+        either(
+            within(base_codes::OR_ELSE, base_codes::COMPLEMENT, c),
+            within(base_codes::PLAIN, base_codes::CHOICE, c),
+        ),
     )
 }
 
@@ -45,8 +48,11 @@ pub fn is_alone(c: u8) -> bool
     ensures { λ r. ⌜ r ≡ places.isAlone c ⌝ }
 {
     either(
-        either(c == 72, c == 197),
-        either(within(199, 201, c), either(c == 204, c == 206)),
+        either(c == 72, c == base_codes::SKIP),
+        either(
+            within(base_codes::BREAK, base_codes::ELSE, c),
+            either(c == base_codes::IF, c == base_codes::DO),
+        ),
     )
 }
 
@@ -55,8 +61,11 @@ pub fn is_lead(c: u8) -> bool
     ensures { λ r. ⌜ r ≡ places.isLead c ⌝ }
 {
     either(
-        within(189, 190, c),
-        either(within(192, 196, c), either(c == 198, c == 202)),
+        within(base_codes::EXPRESS, base_codes::TARGET, c),
+        either(
+            within(base_codes::INCREMENT, base_codes::ASSERT, c),
+            either(c == base_codes::GOTO, c == base_codes::RUN),
+        ),
     )
 }
 
@@ -83,7 +92,10 @@ pub fn is_place(codes: &[u8], p: usize) -> bool
 fn is_stop(codes: &[u8], p: usize) -> bool
     ensures { λ r. ⌜ r ≡ places.isStop (now (codes .entry)) p ⌝ }
 {
-    either(base_bytes::byte_at(codes, p) == 228, is_place(codes, p))
+    either(
+        base_bytes::byte_at(codes, p) == base_codes::END_BODY,
+        is_place(codes, p),
+    )
 }
 
 // The first place, or end of a body, from item k on.
@@ -104,9 +116,9 @@ fn is_opening(pair: u8, c: u8) -> bool
     ensures { λ r. ⌜ r ≡ places.isOpening pair c ⌝ }
 {
     match pair {
-        0 => either(c == 204, c == 206),
-        1 => c == 206,
-        2 => c == 208,
+        0 => either(c == base_codes::IF, c == base_codes::DO),
+        1 => c == base_codes::DO,
+        2 => c == base_codes::OPTION,
         _ => false,
     }
 }
@@ -115,11 +127,11 @@ fn is_closing(pair: u8, c: u8) -> bool
     ensures { λ r. ⌜ r ≡ places.isClosing pair c ⌝ }
 {
     match pair {
-        0 => either(c == 205, c == 207),
-        1 => c == 207,
-        2 => c == 209,
-        3 => c == 228,
-        4 => c == 187,
+        0 => either(c == base_codes::FI, c == base_codes::OD),
+        1 => c == base_codes::OD,
+        2 => c == base_codes::END_OPTION,
+        3 => c == base_codes::END_BODY,
+        4 => c == base_codes::END,
         _ => false,
     }
 }
@@ -185,7 +197,7 @@ fn past_option(codes: &[u8], links: &[u32], k: usize) -> usize
     ensures { λ r. ⌜ r ≡ places.pastOption (now (codes .entry)) (now (links .entry)) k ⌝ }
 {
     let o = open_of(codes, k);
-    if base_bytes::byte_at(codes, o) == 206 {
+    if base_bytes::byte_at(codes, o) == base_codes::DO {
         return o;
     }
     word_at(links, close_of(codes, 0, k))
@@ -198,7 +210,7 @@ pub fn next_from(codes: &[u8], links: &[u32], k: usize) -> usize
     if codes.len() <= k {
         return k;
     }
-    if codes[k] == 209 {
+    if codes[k] == base_codes::END_OPTION {
         return past_option(codes, links, k);
     }
     place_from(codes, k)

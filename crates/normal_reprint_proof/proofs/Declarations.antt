@@ -10,6 +10,7 @@ use lib.ListN.{length, getD, length-append}
 use lib.Dec.{eqb, ltb, leb}
 use native.Mathlib.Decide.{ℕ-discrete}
 use borrow.Author.Tests.{ne-eqb, leb-true}
+use Rattle.base_codes.specs.Codes.{c-bit, c-bool, c-byte, c-chan, c-channel, c-declared, c-field, c-int, c-minus, c-mtype, c-named, c-pid, c-short, c-size, c-value}
 use Rattle.base_bytes.specs.Choice.{pick, both}
 use Rattle.base_bytes.proofs.Tests.{both-true}
 use Rattle.base_kinds.specs.Kinds.{Token, sym, name, number, text}
@@ -69,8 +70,8 @@ eight k a b = one (ℕ-discrete k 38) (ℕ-discrete k 39) (ℕ-discrete k 40) (�
     one (no z) (no y) (no x) (no w) (no v) (no u) (no t) = inr (inr (inr (inr (inr (inr (inr (top k (up 44 k (up 43 k (up 42 k (up 41 k (up 40 k (up 39 k (up 38 k a z) y) x) w) v) u) t) b)))))))
 
 module _ (i : ℕ) (st : List ℕ) where
-  type-rows : (turned 122 168 i st ≡ 38 ∷ st) × (turned 122 169 i st ≡ 39 ∷ st) × (turned 122 170 i st ≡ 40 ∷ st) × (turned 122 171 i st ≡ 41 ∷ st)
-      × (turned 122 172 i st ≡ 42 ∷ st) × (turned 122 173 i st ≡ 43 ∷ st) × (turned 122 174 i st ≡ 44 ∷ st) × (turned 122 175 i st ≡ 45 ∷ st)
+  type-rows : (turned 122 c-bit i st ≡ 38 ∷ st) × (turned 122 c-bool i st ≡ 39 ∷ st) × (turned 122 c-byte i st ≡ 40 ∷ st) × (turned 122 c-mtype i st ≡ 41 ∷ st)
+      × (turned 122 c-pid i st ≡ 42 ∷ st) × (turned 122 c-chan i st ≡ 43 ∷ st) × (turned 122 c-short i st ≡ 44 ∷ st) × (turned 122 c-int i st ≡ 45 ∷ st)
   unfolding turned rowOf rowFrom cell rows laid
   type-rows = (refl, refl, refl, refl, refl, refl, refl, refl)
 
@@ -96,13 +97,13 @@ pub record Declares (s : ℕ) (f : Bool) (v : ℕ) (aft : List ℕ) : Type 0 whe
   pub symbol : isToken s ≡ false
   pub mark : isToken v ≡ true
   pub fixed : ltb v 70 ≡ true
-  pub value-row : (i : ℕ) (st : List ℕ) → turned s 214 i st ≡ pick f (v ∷ []) [] ++ (101 ∷ 32 ∷ 135 ∷ (aft ++ st))
-  pub minus-row : (i : ℕ) (st : List ℕ) → turned s 215 i st ≡ pick f (v ∷ []) [] ++ (120 ∷ 15 ∷ 32 ∷ 135 ∷ (aft ++ st))
-  pub named-row : (i : ℕ) (st : List ℕ) → turned s 216 i st ≡ pick f (v ∷ []) [] ++ (120 ∷ 32 ∷ 135 ∷ (aft ++ st))
-  pub channel-row : (i : ℕ) (st : List ℕ) → turned s 217 i st ≡ pick f (v ∷ []) [] ++ (26 ∷ 25 ∷ 59 ∷ 24 ∷ 124 ∷ (aft ++ st))
-  pub field-row : (i : ℕ) (st : List ℕ) → turned s 218 i st ≡ pick f (v ∷ []) [] ++ (26 ∷ 122 ∷ 134 ∷ (aft ++ st))
-  pub size-row : (i : ℕ) (st : List ℕ) → turned s 213 i st ≡ pick f (v ∷ []) [] ++ (24 ∷ 120 ∷ 23 ∷ 136 ∷ (aft ++ st))
-  pub declared-row : (i : ℕ) (st : List ℕ) → turned s 212 i st ≡ pick f (v ∷ []) [] ++ (120 ∷ (aft ++ st))
+  pub value-row : (i : ℕ) (st : List ℕ) → turned s c-value i st ≡ pick f (v ∷ []) [] ++ (101 ∷ 32 ∷ 135 ∷ (aft ++ st))
+  pub minus-row : (i : ℕ) (st : List ℕ) → turned s c-minus i st ≡ pick f (v ∷ []) [] ++ (120 ∷ 15 ∷ 32 ∷ 135 ∷ (aft ++ st))
+  pub named-row : (i : ℕ) (st : List ℕ) → turned s c-named i st ≡ pick f (v ∷ []) [] ++ (120 ∷ 32 ∷ 135 ∷ (aft ++ st))
+  pub channel-row : (i : ℕ) (st : List ℕ) → turned s c-channel i st ≡ pick f (v ∷ []) [] ++ (26 ∷ 25 ∷ 59 ∷ 24 ∷ 124 ∷ (aft ++ st))
+  pub field-row : (i : ℕ) (st : List ℕ) → turned s c-field i st ≡ pick f (v ∷ []) [] ++ (26 ∷ 122 ∷ 134 ∷ (aft ++ st))
+  pub size-row : (i : ℕ) (st : List ℕ) → turned s c-size i st ≡ pick f (v ∷ []) [] ++ (24 ∷ 120 ∷ 23 ∷ 136 ∷ (aft ++ st))
+  pub declared-row : (i : ℕ) (st : List ℕ) → turned s c-declared i st ≡ pick f (v ∷ []) [] ++ (120 ∷ (aft ++ st))
 
 pub in-body : (g : Bool) → Declares (pick g 131 130) true 28 (137 ∷ 131 ∷ [])
 unfolding turned rowOf rowFrom cell rows laid
@@ -118,23 +119,23 @@ unfolding turned rowOf rowFrom cell rows laid
 in-units = record { symbol = refl; mark = refl; fixed = refl; value-row = λ i st. refl; minus-row = λ i st. refl; named-row = λ i st. refl; channel-row = λ i st. refl; field-row = λ i st. refl; size-row = λ i st. refl; declared-row = λ i st. refl }
 
 module _ (i : ℕ) (st : List ℕ) where
-  more-fields-row : turned 134 218 i st ≡ 27 ∷ 122 ∷ 134 ∷ st
+  more-fields-row : turned 134 c-field i st ≡ 27 ∷ 122 ∷ 134 ∷ st
   unfolding turned rowOf rowFrom cell rows laid
   more-fields-row = refl
 
-  fields-row : turned 134 217 i st ≡ 25 ∷ 59 ∷ 24 ∷ 124 ∷ st
+  fields-row : turned 134 c-channel i st ≡ 25 ∷ 59 ∷ 24 ∷ 124 ∷ st
   unfolding turned rowOf rowFrom cell rows laid
   fields-row = refl
 
-  sized-row : turned 135 213 i st ≡ 24 ∷ 120 ∷ 23 ∷ 136 ∷ st
+  sized-row : turned 135 c-size i st ≡ 24 ∷ 120 ∷ 23 ∷ 136 ∷ st
   unfolding turned rowOf rowFrom cell rows laid
   sized-row = refl
 
-  unsized-row : turned 135 212 i st ≡ 120 ∷ st
+  unsized-row : turned 135 c-declared i st ≡ 120 ∷ st
   unfolding turned rowOf rowFrom cell rows laid
   unsized-row = refl
 
-  then-declared-row : turned 136 212 i st ≡ 120 ∷ st
+  then-declared-row : turned 136 c-declared i st ≡ 120 ∷ st
   unfolding turned rowOf rowFrom cell rows laid
   then-declared-row = refl
 
@@ -142,11 +143,11 @@ module _ (h : ℕ → Token) (ms : List ℕ) where
   -- behind a value: a size or none, and the name
   sized : (w : List ℕ) (z : Option ℕ) (b : Bool) (i m : ℕ) → m ≡ i + length (i-name w ∷ i-declared ∷ code-size z) → Here h ms b i (i-name w ∷ i-declared ∷ code-size z) → (st : List ℕ) (out : List Token)
       → W h ms m (135 ∷ st) out ≡ W h ms i st (name w ∷ (print-size z ++ out))
-  sized w none b i m n p st out = go h ms m (suc i) 135 212 st (120 ∷ st) out (omega arith) refl (p .3 .0) (unsized-row (suc i) st) ∙ name-here h ms (suc i) i w refl (p .0) (p .1 (omega arith)) st out
+  sized w none b i m n p st out = go h ms m (suc i) 135 c-declared st (120 ∷ st) out (omega arith) refl (p .3 .0) (unsized-row (suc i) st) ∙ name-here h ms (suc i) i w refl (p .0) (p .1 (omega arith)) st out
   sized w (given v) b i m n p st out =
-      go h ms m (suc (suc (suc i))) 135 213 st (24 ∷ 120 ∷ 23 ∷ 136 ∷ st) out (omega arith) refl (p .3 .3 .3 .0) (sized-row (suc (suc (suc i))) st) ∙ emit h ms 24 refl _ _ _
+      go h ms m (suc (suc (suc i))) 135 c-size st (24 ∷ 120 ∷ 23 ∷ 136 ∷ st) out (omega arith) refl (p .3 .3 .3 .0) (sized-row (suc (suc (suc i))) st) ∙ emit h ms 24 refl _ _ _
       ∙ number-here h ms (suc (suc (suc i))) (suc (suc i)) v refl (p .3 .3 .0) (p .3 .3 .1 (omega arith)) _ _ ∙ emit h ms 23 refl _ _ _
-      ∙ go h ms (suc (suc i)) (suc i) 136 212 st (120 ∷ st) _ refl refl (p .3 .0) (then-declared-row (suc i) st) ∙ name-here h ms (suc i) i w refl (p .0) (p .1 (omega arith)) st _
+      ∙ go h ms (suc (suc i)) (suc i) 136 c-declared st (120 ∷ st) _ refl refl (p .3 .0) (then-declared-row (suc i) st) ∙ name-here h ms (suc i) i w refl (p .0) (p .1 (omega arith)) st _
 
   module _ (s : ℕ) (f : Bool) (v : ℕ) (aft : List ℕ) (D : Declares s f v aft) (st : List ℕ) where
     lead : (g : Bool) (i : ℕ) (xs : List ℕ) (out : List Token) → W h ms i (pick g (v ∷ []) [] ++ xs) out ≡ W h ms i xs (sep g (sym v) ++ out)
@@ -160,11 +161,11 @@ module _ (h : ℕ → Token) (ms : List ℕ) where
     first-field : (k : ℕ) (b : Bool) (i j : ℕ) → j ≡ i + length (code-field k) → Here h ms b i (code-field k) → (out : List Token)
         → W h ms j (s ∷ st) out ≡ W h ms i (134 ∷ (aft ++ st)) (print-type k ++ (('rbrace ∷ sep f (sym v)) ++ out))
     first-field k b i j n p out =
-        opened j (suc i) 218 (26 ∷ 122 ∷ 134 ∷ (aft ++ st)) out (omega arith) (p .3 .0) (D .field-row (suc i) st) ∙ emit h ms 26 refl _ _ _ ∙ type-here h ms k i b (p .2) (p .0) _ _
+        opened j (suc i) c-field (26 ∷ 122 ∷ 134 ∷ (aft ++ st)) out (omega arith) (p .3 .0) (D .field-row (suc i) st) ∙ emit h ms 26 refl _ _ _ ∙ type-here h ms k i b (p .2) (p .0) _ _
 
     next-field : (k : ℕ) (b : Bool) (i j : ℕ) → j ≡ i + length (code-field k) → Here h ms b i (code-field k) → (out : List Token) → W h ms j (134 ∷ (aft ++ st)) out ≡ W h ms i (134 ∷ (aft ++ st)) (print-type k ++ ('comma ∷ out))
     next-field k b i j n p out =
-        go h ms j (suc i) 134 218 (aft ++ st) (27 ∷ 122 ∷ 134 ∷ (aft ++ st)) out (omega arith) refl (p .3 .0) (more-fields-row (suc i) (aft ++ st)) ∙ emit h ms 27 refl _ _ _ ∙ type-here h ms k i b (p .2) (p .0) _ _
+        go h ms j (suc i) 134 c-field (aft ++ st) (27 ∷ 122 ∷ 134 ∷ (aft ++ st)) out (omega arith) refl (p .3 .0) (more-fields-row (suc i) (aft ++ st)) ∙ emit h ms 27 refl _ _ _ ∙ type-here h ms k i b (p .2) (p .0) _ _
 
     -- `=` and the capacity, before the types
     capacity : (n i : ℕ) (out : List Token) → getD ms i 0 ≡ 71 → h i ≡ number n → W h ms (suc i) (124 ∷ (aft ++ st)) out ≡ W h ms i (135 ∷ (aft ++ st)) (sym 32 ∷ sym 23 ∷ number n ∷ out)
@@ -178,10 +179,10 @@ module _ (h : ℕ → Token) (ms : List ℕ) where
         by : (ks : List ℕ) → W h ms (suc (suc i)) (pick (some ks) (134 ∷ (aft ++ st)) (s ∷ st)) (listed 'comma print-type ('rbrace ∷ sep f (sym v)) ks out)
             ≡ W h ms i (135 ∷ (aft ++ st)) (print-value (set-channel n ks) ++ (sep f (sym v) ++ out))
         by [] =
-            opened (suc (suc i)) (suc i) 217 (26 ∷ 25 ∷ 59 ∷ 24 ∷ 124 ∷ (aft ++ st)) out refl (p .3 .0) (D .channel-row (suc i) st) ∙ emit h ms 26 refl _ _ _ ∙ emit h ms 25 refl _ _ _
+            opened (suc (suc i)) (suc i) c-channel (26 ∷ 25 ∷ 59 ∷ 24 ∷ 124 ∷ (aft ++ st)) out refl (p .3 .0) (D .channel-row (suc i) st) ∙ emit h ms 26 refl _ _ _ ∙ emit h ms 25 refl _ _ _
             ∙ emit h ms 59 refl _ _ _ ∙ emit h ms 24 refl _ _ _ ∙ capacity n i _ (p .0) (p .1 (omega arith))
         by (k ∷ ks) =
-            go h ms (suc (suc i)) (suc i) 134 217 (aft ++ st) (25 ∷ 59 ∷ 24 ∷ 124 ∷ (aft ++ st)) _ refl refl (p .3 .0) (fields-row (suc i) (aft ++ st)) ∙ emit h ms 25 refl _ _ _
+            go h ms (suc (suc i)) (suc i) 134 c-channel (aft ++ st) (25 ∷ 59 ∷ 24 ∷ 124 ∷ (aft ++ st)) _ refl refl (p .3 .0) (fields-row (suc i) (aft ++ st)) ∙ emit h ms 25 refl _ _ _
             ∙ emit h ms 59 refl _ _ _ ∙ emit h ms 24 refl _ _ _ ∙ capacity n i _ (p .0) (p .1 (omega arith)) ∙ simp append-assoc
 
     -- a value, by the claim that it is walked over to where the size or the name is asked for
@@ -190,27 +191,27 @@ module _ (h : ℕ → Token) (ms : List ℕ) where
 
     number-value : (k : ℕ) → Valued (set-number k)
     number-value k b m j n p out =
-        opened j (suc m) 214 (101 ∷ 32 ∷ 135 ∷ (aft ++ st)) out (omega arith) (p .3 .0) (D .value-row (suc m) st)
+        opened j (suc m) c-value (101 ∷ 32 ∷ 135 ∷ (aft ++ st)) out (omega arith) (p .3 .0) (D .value-row (suc m) st)
         ∙ walk-exp h ms (num k) b m (suc m) 1 (omega arith) (p .0, p .1, p .2, tt) (omega arith) (omega arith) _ _ ∙ emit h ms 32 refl _ _ _
 
     minus-value : (k : ℕ) → Valued (set-minus k)
     minus-value k b m j n p out =
-        opened j (suc m) 215 (120 ∷ 15 ∷ 32 ∷ 135 ∷ (aft ++ st)) out (omega arith) (p .3 .0) (D .minus-row (suc m) st)
+        opened j (suc m) c-minus (120 ∷ 15 ∷ 32 ∷ 135 ∷ (aft ++ st)) out (omega arith) (p .3 .0) (D .minus-row (suc m) st)
         ∙ number-here h ms (suc m) m k refl (p .0) (p .1 (omega arith)) _ _ ∙ emit h ms 15 refl _ _ _ ∙ emit h ms 32 refl _ _ _
 
     true-value : Valued set-true
     true-value b m j n p out =
-        opened j (suc m) 214 (101 ∷ 32 ∷ 135 ∷ (aft ++ st)) out (omega arith) (p .3 .0) (D .value-row (suc m) st)
+        opened j (suc m) c-value (101 ∷ 32 ∷ 135 ∷ (aft ++ st)) out (omega arith) (p .3 .0) (D .value-row (suc m) st)
         ∙ walk-exp h ms tru b m (suc m) 1 (omega arith) (p .0, p .1, p .2, tt) (omega arith) (omega arith) _ _ ∙ emit h ms 32 refl _ _ _
 
     false-value : Valued set-false
     false-value b m j n p out =
-        opened j (suc m) 214 (101 ∷ 32 ∷ 135 ∷ (aft ++ st)) out (omega arith) (p .3 .0) (D .value-row (suc m) st)
+        opened j (suc m) c-value (101 ∷ 32 ∷ 135 ∷ (aft ++ st)) out (omega arith) (p .3 .0) (D .value-row (suc m) st)
         ∙ walk-exp h ms fls b m (suc m) 1 (omega arith) (p .0, p .1, p .2, tt) (omega arith) (omega arith) _ _ ∙ emit h ms 32 refl _ _ _
 
     name-value : (u : List ℕ) → Valued (set-name u)
     name-value u b m j n p out =
-        opened j (suc m) 216 (120 ∷ 32 ∷ 135 ∷ (aft ++ st)) out (omega arith) (p .3 .0) (D .named-row (suc m) st)
+        opened j (suc m) c-named (120 ∷ 32 ∷ 135 ∷ (aft ++ st)) out (omega arith) (p .3 .0) (D .named-row (suc m) st)
         ∙ name-here h ms (suc m) m u refl (p .0) (p .1 (omega arith)) _ _ ∙ emit h ms 32 refl _ _ _
 
     valued : (w : List ℕ) (z : Option ℕ) (u : Value) → Valued u → (b : Bool) (i j : ℕ) → j ≡ i + length (code-variable (variable w z u)) → Here h ms b i (code-variable (variable w z u)) → (out : List Token)
@@ -225,11 +226,11 @@ module _ (h : ℕ → Token) (ms : List ℕ) where
     -- a name with its size and value
     pub walk-variable : (x : Variable) (b : Bool) (i j : ℕ) → j ≡ i + length (code-variable x) → Here h ms b i (code-variable x) → (out : List Token)
         → W h ms j (s ∷ st) out ≡ W h ms i (aft ++ st) (print-variable x ++ (sep f (sym v) ++ out))
-    walk-variable (variable w none unset) b i j n p out = opened j (suc i) 212 (120 ∷ (aft ++ st)) out (omega arith) (p .3 .0) (D .declared-row (suc i) st) ∙ name-here h ms (suc i) i w refl (p .0) (p .1 (omega arith)) _ _
+    walk-variable (variable w none unset) b i j n p out = opened j (suc i) c-declared (120 ∷ (aft ++ st)) out (omega arith) (p .3 .0) (D .declared-row (suc i) st) ∙ name-here h ms (suc i) i w refl (p .0) (p .1 (omega arith)) _ _
     walk-variable (variable w (given k) unset) b i j n p out =
-        opened j (suc (suc (suc i))) 213 (24 ∷ 120 ∷ 23 ∷ 136 ∷ (aft ++ st)) out (omega arith) (p .3 .3 .3 .0) (D .size-row (suc (suc (suc i))) st) ∙ emit h ms 24 refl _ _ _
+        opened j (suc (suc (suc i))) c-size (24 ∷ 120 ∷ 23 ∷ 136 ∷ (aft ++ st)) out (omega arith) (p .3 .3 .3 .0) (D .size-row (suc (suc (suc i))) st) ∙ emit h ms 24 refl _ _ _
         ∙ number-here h ms (suc (suc (suc i))) (suc (suc i)) k refl (p .3 .3 .0) (p .3 .3 .1 (omega arith)) _ _ ∙ emit h ms 23 refl _ _ _
-        ∙ go h ms (suc (suc i)) (suc i) 136 212 (aft ++ st) (120 ∷ (aft ++ st)) _ refl refl (p .3 .0) (then-declared-row (suc i) (aft ++ st)) ∙ name-here h ms (suc i) i w refl (p .0) (p .1 (omega arith)) _ _
+        ∙ go h ms (suc (suc i)) (suc i) 136 c-declared (aft ++ st) (120 ∷ (aft ++ st)) _ refl refl (p .3 .0) (then-declared-row (suc i) (aft ++ st)) ∙ name-here h ms (suc i) i w refl (p .0) (p .1 (omega arith)) _ _
     walk-variable (variable w z (set-number k)) b i j n p out = valued w z (set-number k) (number-value k) b i j n p out
     walk-variable (variable w z (set-minus k)) b i j n p out = valued w z (set-minus k) (minus-value k) b i j n p out
     walk-variable (variable w z set-true) b i j n p out = valued w z set-true true-value b i j n p out

@@ -9,6 +9,7 @@ use mathlib.Core.List.{List, [], _∷_, _++_, append-assoc}
 use lib.ListN.{length, getD, length-append}
 use lib.Dec.{eqb, ltb, leb}
 use borrow.Author.Tests.{lt-ltb, le-ltb, eq-eqb, ne-eqb, leb-true, leb-false, eqb-true}
+use Rattle.base_codes.specs.Codes.{c-choice, c-complement, c-end, c-false, c-index, c-len, c-negate, c-not, c-or-else, c-otherwise, c-plain, c-true}
 use Rattle.base_bytes.specs.Choice.{pick, both, either}
 use Rattle.base_bytes.proofs.Tests.{both-true, either-true, true-false}
 use Rattle.base_kinds.specs.Kinds.{Token, sym, name, number, text}
@@ -40,7 +41,7 @@ sane-unary o (inl e) = by (either-true (eqb o 15) (either (eqb o 19) (eqb o 20))
     by (inr z) = last (either-true (eqb o 19) (eqb o 20) z)
 sane-unary o (inr e) = absurd (big (eqb o 15) e)
   where
-    big : (b : Bool) → pick b 165 (147 + o) ≤ 72 → ⊥
+    big : (b : Bool) → pick b c-negate (c-or-else + o) ≤ 72 → ⊥
     big true l = omega arith
     big false l = omega arith
 
@@ -51,7 +52,7 @@ symbol-of l h = rw (le-ltb (100 + l) 70 (omega arith), le-ltb 255 (100 + l) (ome
 level-shared : (l : ℕ) → 1 ≤ l → l ≤ 12 → shared (100 + l) ≡ 101
 level-shared l a b = rw (lt-ltb 100 (100 + l) (omega arith), lt-ltb (100 + l) 113 (omega arith))
 
-level-row : (l c i : ℕ) (st : List ℕ) → 1 ≤ l → l ≤ 12 → both (ltb 146 c) (ltb c 165) ≡ false → turned (100 + l) c i st ≡ turned 101 c i st
+level-row : (l c i : ℕ) (st : List ℕ) → 1 ≤ l → l ≤ 12 → both (ltb 146 c) (ltb c c-negate) ≡ false → turned (100 + l) c i st ≡ turned 101 c i st
 unfolding turned rowOf
 level-row l c i st a b e = rw (level-shared l a b, e) refl
 
@@ -62,7 +63,7 @@ some-number n h = ne-eqb n 0 (λ e. omega arith)
 module _ (l o i : ℕ) (st : List ℕ) (a : 1 ≤ l) (b : l ≤ 12) (c : 1 ≤ o) (d : o ≤ 18) where
   binary-row : turned (100 + l) (146 + o) i st ≡ operated (100 + l) o st
   unfolding turned
-  binary-row = let z : 146 + o - 146 ≡ o = omega arith in rw (level-shared l a b, lt-ltb 146 (146 + o) (omega arith), lt-ltb (146 + o) 165 (omega arith), z) refl
+  binary-row = let z : 146 + o - 146 ≡ o = omega arith in rw (level-shared l a b, lt-ltb 146 (146 + o) (omega arith), lt-ltb (146 + o) c-negate (omega arith), z) refl
 
   tight-row : l ≤ level o → turned (100 + l) (146 + o) i st ≡ (101 + level o) ∷ o ∷ (100 + level o) ∷ st
   unfolding operated levelOf
@@ -74,43 +75,43 @@ module _ (l o i : ℕ) (st : List ℕ) (a : 1 ≤ l) (b : l ≤ 12) (c : 1 ≤ o
 
 -- ---- the rows of expressions
 module _ (i : ℕ) (st : List ℕ) where
-  plain-row : turned 101 176 i st ≡ 120 ∷ st
+  plain-row : turned 101 c-plain i st ≡ 120 ∷ st
   unfolding turned rowOf rowFrom cell rows laid
   plain-row = refl
 
-  index-row : turned 101 177 i st ≡ 24 ∷ 101 ∷ 23 ∷ 120 ∷ st
+  index-row : turned 101 c-index i st ≡ 24 ∷ 101 ∷ 23 ∷ 120 ∷ st
   unfolding turned rowOf rowFrom cell rows laid
   index-row = refl
 
-  true-row : turned 101 178 i st ≡ 65 ∷ st
+  true-row : turned 101 c-true i st ≡ 65 ∷ st
   unfolding turned rowOf rowFrom cell rows laid
   true-row = refl
 
-  false-row : turned 101 179 i st ≡ 52 ∷ st
+  false-row : turned 101 c-false i st ≡ 52 ∷ st
   unfolding turned rowOf rowFrom cell rows laid
   false-row = refl
 
-  len-row : turned 101 180 i st ≡ 22 ∷ 112 ∷ 21 ∷ 57 ∷ st
+  len-row : turned 101 c-len i st ≡ 22 ∷ 112 ∷ 21 ∷ 57 ∷ st
   unfolding turned rowOf rowFrom cell rows laid
   len-row = refl
 
-  minus-row : turned 101 165 i st ≡ 111 ∷ 15 ∷ st
+  minus-row : turned 101 c-negate i st ≡ 111 ∷ 15 ∷ st
   unfolding turned rowOf rowFrom cell rows laid
   minus-row = refl
 
-  not-row : turned 101 166 i st ≡ 111 ∷ 19 ∷ st
+  not-row : turned 101 c-not i st ≡ 111 ∷ 19 ∷ st
   unfolding turned rowOf rowFrom cell rows laid
   not-row = refl
 
-  flip-row : turned 101 167 i st ≡ 111 ∷ 20 ∷ st
+  flip-row : turned 101 c-complement i st ≡ 111 ∷ 20 ∷ st
   unfolding turned rowOf rowFrom cell rows laid
   flip-row = refl
 
-  choice-row : turned 101 182 i st ≡ 22 ∷ 101 ∷ 123 ∷ 101 ∷ 31 ∷ 101 ∷ 21 ∷ st
+  choice-row : turned 101 c-choice i st ≡ 22 ∷ 101 ∷ 123 ∷ 101 ∷ 31 ∷ 101 ∷ 21 ∷ st
   unfolding turned rowOf rowFrom cell rows laid
   choice-row = refl
 
-  otherwise-row : turned 123 181 i st ≡ 29 ∷ st
+  otherwise-row : turned 123 c-otherwise i st ≡ 29 ∷ st
   unfolding turned rowOf rowFrom cell rows laid
   otherwise-row = refl
 
@@ -142,30 +143,30 @@ ref-level (indexed w e) l m = refl
 
 module _ (h : ℕ → Token) (ms : List ℕ) where
   -- an operand's mark at any level
-  at-level : (j i l c : ℕ) (st xs : List ℕ) (out : List Token) → j ≡ suc i → 1 ≤ l → l ≤ 12 → getD ms i 0 ≡ c → both (ltb 146 c) (ltb c 165) ≡ false → turned 101 c i st ≡ xs → W h ms j ((100 + l) ∷ st) out ≡ W h ms i xs out
+  at-level : (j i l c : ℕ) (st xs : List ℕ) (out : List Token) → j ≡ suc i → 1 ≤ l → l ≤ 12 → getD ms i 0 ≡ c → both (ltb 146 c) (ltb c c-negate) ≡ false → turned 101 c i st ≡ xs → W h ms j ((100 + l) ∷ st) out ≡ W h ms i xs out
   at-level j i l c st xs out n a b g e r = go h ms j i (100 + l) c st xs out n (symbol-of l b) g (level-row l c i st a b e ∙ r)
 
   pub walk-exp : {s : Shape} (e : Exp s) (f : Bool) (i j l : ℕ) → j ≡ i + length (code-exp e) → Here h ms f i (code-exp e) → 1 ≤ l → l ≤ 12 → (st : List ℕ) (out : List Token)
       → W h ms j ((100 + l) ∷ st) out ≡ W h ms i st (print-exp e l ++ out)
   walk-exp (plain w) f i j l n p a b st out =
-      at-level j (suc i) l 176 st (120 ∷ st) out (omega arith) a b (p .3 .0) refl (plain-row (suc i) st) ∙ name-here h ms (suc i) i w refl (p .0) (p .1 (omega arith)) st out
+      at-level j (suc i) l c-plain st (120 ∷ st) out (omega arith) a b (p .3 .0) refl (plain-row (suc i) st) ∙ name-here h ms (suc i) i w refl (p .0) (p .1 (omega arith)) st out
   walk-exp (num v) f i j l n p a b st out =
       at-level j i l 71 st ((256 + i) ∷ st) out (omega arith) a b (p .0) refl (operand-row i st) ∙ tell h ms i (number v) (p .1 (omega arith)) i st out
-  walk-exp tru f i j l n p a b st out = at-level j i l 178 st (65 ∷ st) out (omega arith) a b (p .0) refl (true-row i st) ∙ emit h ms 65 refl i st out
-  walk-exp fls f i j l n p a b st out = at-level j i l 179 st (52 ∷ st) out (omega arith) a b (p .0) refl (false-row i st) ∙ emit h ms 52 refl i st out
+  walk-exp tru f i j l n p a b st out = at-level j i l c-true st (65 ∷ st) out (omega arith) a b (p .0) refl (true-row i st) ∙ emit h ms 65 refl i st out
+  walk-exp fls f i j l n p a b st out = at-level j i l c-false st (52 ∷ st) out (omega arith) a b (p .0) refl (false-row i st) ∙ emit h ms 52 refl i st out
   walk-exp (get r) f i j l n p a b st out = walk-exp r f i j l n p a b st out ∙ ap (λ (z : List Token). W h ms i st (z ++ out)) (ref-level r l 12)
   walk-exp (indexed w e) f i j l n p a b st out =
       let k = suc i + length (code-exp e) in
       let t : length (code-exp e ++ i-index ∷ []) ≡ length (code-exp e) + 1 = length-append (code-exp e) (i-index ∷ []) in
       let x = here-back h ms (code-exp e) (i-index ∷ []) f (suc i) k refl (p .3) in
-      at-level j k l 177 st (24 ∷ 101 ∷ 23 ∷ 120 ∷ st) out (omega arith) a b (x .0) refl (index-row k st) ∙ emit h ms 24 refl _ _ _
+      at-level j k l c-index st (24 ∷ 101 ∷ 23 ∷ 120 ∷ st) out (omega arith) a b (x .0) refl (index-row k st) ∙ emit h ms 24 refl _ _ _
       ∙ walk-exp e f (suc i) k 1 refl (here-front h ms (code-exp e) (i-index ∷ []) f (suc i) (p .3)) (omega arith) (omega arith) _ _
       ∙ emit h ms 23 refl _ _ _ ∙ name-here h ms (suc i) i w refl (p .0) (p .1 (omega arith)) st _ ∙ simp append-assoc
   walk-exp (len r) f i j l n p a b st out =
       let k = i + length (code-exp r) in
       let t : length (code-exp r ++ i-len ∷ []) ≡ length (code-exp r) + 1 = length-append (code-exp r) (i-len ∷ []) in
       let x = here-back h ms (code-exp r) (i-len ∷ []) f i k refl p in
-      at-level j k l 180 st (22 ∷ 112 ∷ 21 ∷ 57 ∷ st) out (omega arith) a b (x .0) refl (len-row k st) ∙ emit h ms 22 refl _ _ _
+      at-level j k l c-len st (22 ∷ 112 ∷ 21 ∷ 57 ∷ st) out (omega arith) a b (x .0) refl (len-row k st) ∙ emit h ms 22 refl _ _ _
       ∙ walk-exp r f i k 12 refl (here-front h ms (code-exp r) (i-len ∷ []) f i p) (omega arith) (omega arith) _ _
       ∙ emit h ms 21 refl _ _ _ ∙ emit h ms 57 refl _ _ _ ∙ simp append-assoc
   walk-exp (unary o e) f i j l n p a b st out =
@@ -174,15 +175,15 @@ module _ (h : ℕ → Token) (ms : List ℕ) where
       let x = here-back h ms (code-exp e) (i-unary o ∷ []) f i k refl p in
       by k (omega arith) (sane-unary o (x .2)) (x .0) (λ st out. walk-exp e f i k 11 refl (here-front h ms (code-exp e) (i-unary o ∷ []) f i p) (omega arith) (omega arith) st out)
     where
-      done : (k u c : ℕ) → o ≡ u → j ≡ suc k → getD ms k 0 ≡ c → both (ltb 146 c) (ltb c 165) ≡ false → turned 101 c k st ≡ 111 ∷ u ∷ st → isToken u ≡ true → ltb u 70 ≡ true
+      done : (k u c : ℕ) → o ≡ u → j ≡ suc k → getD ms k 0 ≡ c → both (ltb 146 c) (ltb c c-negate) ≡ false → turned 101 c k st ≡ 111 ∷ u ∷ st → isToken u ≡ true → ltb u 70 ≡ true
           → ((st : List ℕ) (out : List Token) → W h ms k (111 ∷ st) out ≡ W h ms i st (print-exp e 11 ++ out)) → W h ms j ((100 + l) ∷ st) out ≡ W h ms i st (sym o ∷ (print-exp e 11 ++ out))
       done k u c q m g z r y v s = at-level j k l c st (111 ∷ u ∷ st) out m a b g z r ∙ s (u ∷ st) out ∙ emit h ms u y _ _ _ ∙ rw (v, q) refl
 
       by : (k : ℕ) → j ≡ suc k → (o ≡ 15) ⊎ ((o ≡ 19) ⊎ (o ≡ 20)) → getD ms k 0 ≡ marked (flagged f (code-exp e)) (codeOf (i-unary o))
           → ((st : List ℕ) (out : List Token) → W h ms k (111 ∷ st) out ≡ W h ms i st (print-exp e 11 ++ out)) → W h ms j ((100 + l) ∷ st) out ≡ W h ms i st (sym o ∷ (print-exp e 11 ++ out))
-      by k m (inl q) g s = done k 15 165 q m (rw q at g) refl (minus-row k st) refl refl s
-      by k m (inr (inl q)) g s = done k 19 166 q m (rw q at g) refl (not-row k st) refl refl s
-      by k m (inr (inr q)) g s = done k 20 167 q m (rw q at g) refl (flip-row k st) refl refl s
+      by k m (inl q) g s = done k 15 c-negate q m (rw q at g) refl (minus-row k st) refl refl s
+      by k m (inr (inl q)) g s = done k 19 c-not q m (rw q at g) refl (not-row k st) refl refl s
+      by k m (inr (inr q)) g s = done k 20 c-complement q m (rw q at g) refl (flip-row k st) refl refl s
   walk-exp (binary o c d) f i j l n p a b st out =
       let A = code-exp c in
       let B = code-exp d in
@@ -194,7 +195,7 @@ module _ (h : ℕ → Token) (ms : List ℕ) where
       let x = here-back h ms (A ++ B) (i-binary o ∷ []) f i k (omega arith) p in
       let y = sane-binary o (x .2) in
       let z = level-range o (y .0) (y .1) in
-      let g : getD ms k 0 ≡ 146 + o = x .0 ∙ rw (ne-eqb (146 + o) 187 (λ e. omega (arith, y .1))) refl in
+      let g : getD ms k 0 ≡ 146 + o = x .0 ∙ rw (ne-eqb (146 + o) c-end (λ e. omega (arith, y .1))) refl in
       by m k (omega arith) y g (leb l (level o)) refl
       (λ st out. walk-exp d (flagged f A) m k (suc (level o)) refl (here-back h ms A B f i m refl ab) (omega arith) (omega (arith, z .1)) st out)
       (λ st out. walk-exp c f i m (level o) refl (here-front h ms A B f i ab) (z .0) (omega (arith, z .1)) st out)
@@ -229,9 +230,9 @@ module _ (h : ℕ → Token) (ms : List ℕ) where
       let x = here-back h ms (A ++ B ++ i-otherwise ∷ C) (i-choice ∷ []) f i q (omega arith) p in
       let ab = here-front h ms (A ++ B) (i-otherwise ∷ C) f i abc in
       let oc = here-back h ms (A ++ B) (i-otherwise ∷ C) f i k (omega arith) abc in
-      at-level j q l 182 st (22 ∷ 101 ∷ 123 ∷ 101 ∷ 31 ∷ 101 ∷ 21 ∷ st) out (omega arith) a b (x .0) refl (choice-row q st) ∙ emit h ms 22 refl _ _ _
+      at-level j q l c-choice st (22 ∷ 101 ∷ 123 ∷ 101 ∷ 31 ∷ 101 ∷ 21 ∷ st) out (omega arith) a b (x .0) refl (choice-row q st) ∙ emit h ms 22 refl _ _ _
       ∙ walk-exp e (flagged f (A ++ B)) (suc k) q 1 refl (oc .3) (omega arith) (omega arith) _ _
-      ∙ go h ms (suc k) k 123 181 _ _ _ refl refl (oc .0) (otherwise-row k _) ∙ emit h ms 29 refl _ _ _
+      ∙ go h ms (suc k) k 123 c-otherwise _ _ _ refl refl (oc .0) (otherwise-row k _) ∙ emit h ms 29 refl _ _ _
       ∙ walk-exp d (flagged f A) m k 1 refl (here-back h ms A B f i m refl ab) (omega arith) (omega arith) _ _
       ∙ emit h ms 31 refl _ _ _
       ∙ walk-exp c f i m 1 refl (here-front h ms A B f i ab) (omega arith) (omega arith) _ _

@@ -8,6 +8,7 @@ use mathlib.Core.List.{List, [], _∷_, _++_, append-assoc}
 use lib.ListN.{length, getD, length-append}
 use lib.Dec.{eqb, ltb}
 use borrow.Author.Tests.{ne-eqb}
+use Rattle.base_codes.specs.Codes.{c-argument, c-constant, c-equal, c-into, c-receive, c-run, c-send, c-set-run}
 use Rattle.base_bytes.specs.Choice.{pick, both, either}
 use Rattle.base_kinds.specs.Kinds.{Token, sym, name, number, text}
 use Rattle.spec_grammar.specs.Marks.{'comma}
@@ -38,8 +39,8 @@ pub flagged-append : (x y : List Item) (b : Bool) → flagged b (x ++ y) ≡ fla
 flagged-append [] y b = refl
 flagged-append (a ∷ x) y b = flagged-append x y (after b (entryOf a .code))
 
-unflagged : (c : ℕ) (b : Bool) → (c ≡ 194 → ⊥) → (c ≡ 195 → ⊥) → (c ≡ 72 → ⊥) → (c ≡ 202 → ⊥) → (c ≡ 203 → ⊥) → after b c ≡ b
-unflagged c b p q r s t = rw (ne-eqb c 194 p, ne-eqb c 195 q, ne-eqb c 72 r, ne-eqb c 202 s, ne-eqb c 203 t)
+unflagged : (c : ℕ) (b : Bool) → (c ≡ c-send → ⊥) → (c ≡ c-receive → ⊥) → (c ≡ 72 → ⊥) → (c ≡ c-run → ⊥) → (c ≡ c-set-run → ⊥) → after b c ≡ b
+unflagged c b p q r s t = rw (ne-eqb c c-send p, ne-eqb c c-receive q, ne-eqb c 72 r, ne-eqb c c-run s, ne-eqb c c-set-run t)
 
 module _ (h : ℕ → Token) (ms : List ℕ) where
   pub flag-exp : {s : Shape} (e : Exp s) (f : Bool) (i : ℕ) → Here h ms f i (code-exp e) → (b : Bool) → flagged b (code-exp e) ≡ b
@@ -106,19 +107,19 @@ module _ (h : ℕ → Token) (ms : List ℕ) (A : Type 0) (code-x : A → List I
 
 -- ---- rows
 module _ (i : ℕ) (st : List ℕ) where
-  argument-rows : (turned 132 183 i st ≡ 101 ∷ 133 ∷ st) × (turned 133 183 i st ≡ 27 ∷ 101 ∷ 133 ∷ st)
+  argument-rows : (turned 132 c-argument i st ≡ 101 ∷ 133 ∷ st) × (turned 133 c-argument i st ≡ 27 ∷ 101 ∷ 133 ∷ st)
   unfolding turned rowOf rowFrom cell rows laid
   argument-rows = (refl, refl)
 
-  into-rows : (turned 132 184 i st ≡ 112 ∷ 133 ∷ st) × (turned 133 184 i st ≡ 27 ∷ 112 ∷ 133 ∷ st)
+  into-rows : (turned 132 c-into i st ≡ 112 ∷ 133 ∷ st) × (turned 133 c-into i st ≡ 27 ∷ 112 ∷ 133 ∷ st)
   unfolding turned rowOf rowFrom cell rows laid
   into-rows = (refl, refl)
 
-  equal-rows : (turned 132 185 i st ≡ 22 ∷ 101 ∷ 21 ∷ 51 ∷ 133 ∷ st) × (turned 133 185 i st ≡ 27 ∷ 22 ∷ 101 ∷ 21 ∷ 51 ∷ 133 ∷ st)
+  equal-rows : (turned 132 c-equal i st ≡ 22 ∷ 101 ∷ 21 ∷ 51 ∷ 133 ∷ st) × (turned 133 c-equal i st ≡ 27 ∷ 22 ∷ 101 ∷ 21 ∷ 51 ∷ 133 ∷ st)
   unfolding turned rowOf rowFrom cell rows laid
   equal-rows = (refl, refl)
 
-  constant-rows : (turned 132 186 i st ≡ 101 ∷ 133 ∷ st) × (turned 133 186 i st ≡ 27 ∷ 101 ∷ 133 ∷ st)
+  constant-rows : (turned 132 c-constant i st ≡ 101 ∷ 133 ∷ st) × (turned 133 c-constant i st ≡ 27 ∷ 101 ∷ 133 ∷ st)
   unfolding turned rowOf rowFrom cell rows laid
   constant-rows = (refl, refl)
 
@@ -133,7 +134,7 @@ module _ (h : ℕ → Token) (ms : List ℕ) where
   argument e b i j n p f st out =
       let k = i + length (code-exp e) in
       let t : length (code-exp e ++ i-argument ∷ []) ≡ length (code-exp e) + 1 = length-append (code-exp e) (i-argument ∷ []) in
-      comma f j k 183 st (101 ∷ 133 ∷ st) out (omega arith) (here-back h ms (code-exp e) (i-argument ∷ []) b i k refl p .0) (argument-rows k st)
+      comma f j k c-argument st (101 ∷ 133 ∷ st) out (omega arith) (here-back h ms (code-exp e) (i-argument ∷ []) b i k refl p .0) (argument-rows k st)
       ∙ walk-exp h ms e b i k 1 refl (here-front h ms (code-exp e) (i-argument ∷ []) b i p) (omega arith) (omega arith) _ _
 
   argument-flag : (e : Expr) (b : Bool) (i : ℕ) → Here h ms b i (code-argument e) → (d : Bool) → flagged d (code-argument e) ≡ d
@@ -144,20 +145,20 @@ module _ (h : ℕ → Token) (ms : List ℕ) where
   received (into r) b i j n p f st out =
       let k = i + length (code-exp r) in
       let t : length (code-exp r ++ i-into ∷ []) ≡ length (code-exp r) + 1 = length-append (code-exp r) (i-into ∷ []) in
-      comma f j k 184 st (112 ∷ 133 ∷ st) out (omega arith) (here-back h ms (code-exp r) (i-into ∷ []) b i k refl p .0) (into-rows k st)
+      comma f j k c-into st (112 ∷ 133 ∷ st) out (omega arith) (here-back h ms (code-exp r) (i-into ∷ []) b i k refl p .0) (into-rows k st)
       ∙ walk-exp h ms r b i k 12 refl (here-front h ms (code-exp r) (i-into ∷ []) b i p) (omega arith) (omega arith) _ _
   received (equal e) b i j n p f st out =
       let k = i + length (code-exp e) in
       let t : length (code-exp e ++ i-equal ∷ []) ≡ length (code-exp e) + 1 = length-append (code-exp e) (i-equal ∷ []) in
-      comma f j k 185 st (22 ∷ 101 ∷ 21 ∷ 51 ∷ 133 ∷ st) out (omega arith) (here-back h ms (code-exp e) (i-equal ∷ []) b i k refl p .0) (equal-rows k st)
+      comma f j k c-equal st (22 ∷ 101 ∷ 21 ∷ 51 ∷ 133 ∷ st) out (omega arith) (here-back h ms (code-exp e) (i-equal ∷ []) b i k refl p .0) (equal-rows k st)
       ∙ emit h ms 22 refl _ _ _ ∙ walk-exp h ms e b i k 1 refl (here-front h ms (code-exp e) (i-equal ∷ []) b i p) (omega arith) (omega arith) _ _
       ∙ emit h ms 21 refl _ _ _ ∙ emit h ms 51 refl _ _ _ ∙ simp append-assoc
   received (exactly v) b i j n p f st out =
-      comma f j (suc i) 186 st (101 ∷ 133 ∷ st) out (omega arith) (p .3 .0) (constant-rows (suc i) st) ∙ walk-exp h ms (num v) b i (suc i) 1 (omega arith) (p .0, p .1, p .2, tt) (omega arith) (omega arith) _ _
+      comma f j (suc i) c-constant st (101 ∷ 133 ∷ st) out (omega arith) (p .3 .0) (constant-rows (suc i) st) ∙ walk-exp h ms (num v) b i (suc i) 1 (omega arith) (p .0, p .1, p .2, tt) (omega arith) (omega arith) _ _
   received exactly-true b i j n p f st out =
-      comma f j (suc i) 186 st (101 ∷ 133 ∷ st) out (omega arith) (p .3 .0) (constant-rows (suc i) st) ∙ walk-exp h ms tru b i (suc i) 1 (omega arith) (p .0, p .1, p .2, tt) (omega arith) (omega arith) _ _
+      comma f j (suc i) c-constant st (101 ∷ 133 ∷ st) out (omega arith) (p .3 .0) (constant-rows (suc i) st) ∙ walk-exp h ms tru b i (suc i) 1 (omega arith) (p .0, p .1, p .2, tt) (omega arith) (omega arith) _ _
   received exactly-false b i j n p f st out =
-      comma f j (suc i) 186 st (101 ∷ 133 ∷ st) out (omega arith) (p .3 .0) (constant-rows (suc i) st) ∙ walk-exp h ms fls b i (suc i) 1 (omega arith) (p .0, p .1, p .2, tt) (omega arith) (omega arith) _ _
+      comma f j (suc i) c-constant st (101 ∷ 133 ∷ st) out (omega arith) (p .3 .0) (constant-rows (suc i) st) ∙ walk-exp h ms fls b i (suc i) 1 (omega arith) (p .0, p .1, p .2, tt) (omega arith) (omega arith) _ _
 
   received-flag : (x : Received) (b : Bool) (i : ℕ) → Here h ms b i (code-received x) → (d : Bool) → flagged d (code-received x) ≡ d
   received-flag (into r) b i p d = flagged-append (code-exp r) (i-into ∷ []) d ∙ flag-exp h ms r b i (here-front h ms (code-exp r) (i-into ∷ []) b i p) d

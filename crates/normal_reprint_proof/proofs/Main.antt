@@ -8,6 +8,7 @@ use mathlib.Core.Logic.{_⊎_, inl, inr}
 use mathlib.Core.List.{List, [], _∷_, _++_, append-nil, map}
 use lib.ListN.{length, getD, length-append, length-map}
 use lib.Seq.{getD-at}
+use Rattle.base_codes.specs.Codes.{c-or-else}
 use Rattle.base_bytes.specs.Choice.{pick, both}
 use Rattle.base_bytes.proofs.Tests.{both-true}
 use Rattle.base_kinds.specs.Kinds.{Token, sym, name, number, text}
@@ -47,7 +48,7 @@ known-sane : {x : Item} → Known x → Sane x
 known-sane (is-name a b) = inr (omega arith)
 known-sane (is-text a b) = inr (omega arith)
 known-sane is-number = inr (omega arith)
-known-sane (is-mark x a b) = inl (marks-at items refl (x - 147) (omega arith))
+known-sane (is-mark x a b) = inl (marks-at items refl (x - c-or-else) (omega arith))
 
 -- ---- what the tables say an item holds
 module _ (t : List ℕ) (j : ℕ) where

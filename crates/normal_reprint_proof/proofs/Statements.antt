@@ -5,6 +5,7 @@ use mathlib.Core.Path.{_≡_, refl, sym as inv, _∙_, ap}
 use mathlib.Core.Bool.{Bool, true, false}
 use mathlib.Core.List.{List, [], _∷_, _++_, append-assoc}
 use lib.ListN.{length, getD, length-append}
+use Rattle.base_codes.specs.Codes.{c-assert, c-assign, c-break, c-decrement, c-do, c-else, c-end, c-end-closed, c-end-option, c-express, c-fi, c-goto, c-if, c-increment, c-label, c-od, c-option, c-receive, c-run, c-send, c-set-run, c-skip, c-target, c-timeout}
 use Rattle.base_bytes.specs.Choice.{pick, both}
 use Rattle.base_kinds.specs.Kinds.{Token, sym, name, number, text}
 use Rattle.spec_grammar.specs.Marks.{'semi, 'comma}
@@ -29,103 +30,103 @@ any (then s q) = true
 
 -- ---- rows
 module _ (i : ℕ) (st : List ℕ) where
-  express-rows : (turned 130 189 i st ≡ 101 ∷ 131 ∷ st) × (turned 131 189 i st ≡ 28 ∷ 101 ∷ 131 ∷ st)
+  express-rows : (turned 130 c-express i st ≡ 101 ∷ 131 ∷ st) × (turned 131 c-express i st ≡ 28 ∷ 101 ∷ 131 ∷ st)
   unfolding turned rowOf rowFrom cell rows laid
   express-rows = (refl, refl)
 
-  assign-rows : (turned 130 191 i st ≡ 101 ∷ 32 ∷ 121 ∷ 131 ∷ st) × (turned 131 191 i st ≡ 28 ∷ 101 ∷ 32 ∷ 121 ∷ 131 ∷ st)
+  assign-rows : (turned 130 c-assign i st ≡ 101 ∷ 32 ∷ 121 ∷ 131 ∷ st) × (turned 131 c-assign i st ≡ 28 ∷ 101 ∷ 32 ∷ 121 ∷ 131 ∷ st)
   unfolding turned rowOf rowFrom cell rows laid
   assign-rows = (refl, refl)
 
-  increment-rows : (turned 130 192 i st ≡ 33 ∷ 112 ∷ 131 ∷ st) × (turned 131 192 i st ≡ 28 ∷ 33 ∷ 112 ∷ 131 ∷ st)
+  increment-rows : (turned 130 c-increment i st ≡ 33 ∷ 112 ∷ 131 ∷ st) × (turned 131 c-increment i st ≡ 28 ∷ 33 ∷ 112 ∷ 131 ∷ st)
   unfolding turned rowOf rowFrom cell rows laid
   increment-rows = (refl, refl)
 
-  decrement-rows : (turned 130 193 i st ≡ 34 ∷ 112 ∷ 131 ∷ st) × (turned 131 193 i st ≡ 28 ∷ 34 ∷ 112 ∷ 131 ∷ st)
+  decrement-rows : (turned 130 c-decrement i st ≡ 34 ∷ 112 ∷ 131 ∷ st) × (turned 131 c-decrement i st ≡ 28 ∷ 34 ∷ 112 ∷ 131 ∷ st)
   unfolding turned rowOf rowFrom cell rows laid
   decrement-rows = (refl, refl)
 
-  end-rows : (turned 130 187 i st ≡ 132 ∷ 131 ∷ st) × (turned 131 187 i st ≡ 28 ∷ 132 ∷ 131 ∷ st)
+  end-rows : (turned 130 c-end i st ≡ 132 ∷ 131 ∷ st) × (turned 131 c-end i st ≡ 28 ∷ 132 ∷ 131 ∷ st)
   unfolding turned rowOf rowFrom cell rows laid
   end-rows = (refl, refl)
 
-  closed-rows : (turned 130 229 i st ≡ 22 ∷ 132 ∷ 131 ∷ st) × (turned 131 229 i st ≡ 28 ∷ 22 ∷ 132 ∷ 131 ∷ st)
+  closed-rows : (turned 130 c-end-closed i st ≡ 22 ∷ 132 ∷ 131 ∷ st) × (turned 131 c-end-closed i st ≡ 28 ∷ 22 ∷ 132 ∷ 131 ∷ st)
   unfolding turned rowOf rowFrom cell rows laid
   closed-rows = (refl, refl)
 
-  assert-rows : (turned 130 196 i st ≡ 22 ∷ 101 ∷ 21 ∷ 47 ∷ 131 ∷ st) × (turned 131 196 i st ≡ 28 ∷ 22 ∷ 101 ∷ 21 ∷ 47 ∷ 131 ∷ st)
+  assert-rows : (turned 130 c-assert i st ≡ 22 ∷ 101 ∷ 21 ∷ 47 ∷ 131 ∷ st) × (turned 131 c-assert i st ≡ 28 ∷ 22 ∷ 101 ∷ 21 ∷ 47 ∷ 131 ∷ st)
   unfolding turned rowOf rowFrom cell rows laid
   assert-rows = (refl, refl)
 
-  skip-rows : (turned 130 197 i st ≡ 63 ∷ 131 ∷ st) × (turned 131 197 i st ≡ 28 ∷ 63 ∷ 131 ∷ st)
+  skip-rows : (turned 130 c-skip i st ≡ 63 ∷ 131 ∷ st) × (turned 131 c-skip i st ≡ 28 ∷ 63 ∷ 131 ∷ st)
   unfolding turned rowOf rowFrom cell rows laid
   skip-rows = (refl, refl)
 
-  goto-rows : (turned 130 198 i st ≡ 120 ∷ 54 ∷ 131 ∷ st) × (turned 131 198 i st ≡ 28 ∷ 120 ∷ 54 ∷ 131 ∷ st)
+  goto-rows : (turned 130 c-goto i st ≡ 120 ∷ 54 ∷ 131 ∷ st) × (turned 131 c-goto i st ≡ 28 ∷ 120 ∷ 54 ∷ 131 ∷ st)
   unfolding turned rowOf rowFrom cell rows laid
   goto-rows = (refl, refl)
 
-  break-rows : (turned 130 199 i st ≡ 48 ∷ 131 ∷ st) × (turned 131 199 i st ≡ 28 ∷ 48 ∷ 131 ∷ st)
+  break-rows : (turned 130 c-break i st ≡ 48 ∷ 131 ∷ st) × (turned 131 c-break i st ≡ 28 ∷ 48 ∷ 131 ∷ st)
   unfolding turned rowOf rowFrom cell rows laid
   break-rows = (refl, refl)
 
-  timeout-rows : (turned 130 200 i st ≡ 64 ∷ 131 ∷ st) × (turned 131 200 i st ≡ 28 ∷ 64 ∷ 131 ∷ st)
+  timeout-rows : (turned 130 c-timeout i st ≡ 64 ∷ 131 ∷ st) × (turned 131 c-timeout i st ≡ 28 ∷ 64 ∷ 131 ∷ st)
   unfolding turned rowOf rowFrom cell rows laid
   timeout-rows = (refl, refl)
 
-  else-rows : (turned 130 201 i st ≡ 50 ∷ 131 ∷ st) × (turned 131 201 i st ≡ 28 ∷ 50 ∷ 131 ∷ st)
+  else-rows : (turned 130 c-else i st ≡ 50 ∷ 131 ∷ st) × (turned 131 c-else i st ≡ 28 ∷ 50 ∷ 131 ∷ st)
   unfolding turned rowOf rowFrom cell rows laid
   else-rows = (refl, refl)
 
-  fi-rows : (turned 130 205 i st ≡ 53 ∷ 138 ∷ 131 ∷ st) × (turned 131 205 i st ≡ 28 ∷ 53 ∷ 138 ∷ 131 ∷ st)
+  fi-rows : (turned 130 c-fi i st ≡ 53 ∷ 138 ∷ 131 ∷ st) × (turned 131 c-fi i st ≡ 28 ∷ 53 ∷ 138 ∷ 131 ∷ st)
   unfolding turned rowOf rowFrom cell rows laid
   fi-rows = (refl, refl)
 
-  od-rows : (turned 130 207 i st ≡ 58 ∷ 138 ∷ 131 ∷ st) × (turned 131 207 i st ≡ 28 ∷ 58 ∷ 138 ∷ 131 ∷ st)
+  od-rows : (turned 130 c-od i st ≡ 58 ∷ 138 ∷ 131 ∷ st) × (turned 131 c-od i st ≡ 28 ∷ 58 ∷ 138 ∷ 131 ∷ st)
   unfolding turned rowOf rowFrom cell rows laid
   od-rows = (refl, refl)
 
-  label-row : turned 131 188 i st ≡ 29 ∷ 120 ∷ 131 ∷ st
+  label-row : turned 131 c-label i st ≡ 29 ∷ 120 ∷ 131 ∷ st
   unfolding turned rowOf rowFrom cell rows laid
   label-row = refl
 
-  target-row : turned 121 190 i st ≡ 112 ∷ st
+  target-row : turned 121 c-target i st ≡ 112 ∷ st
   unfolding turned rowOf rowFrom cell rows laid
   target-row = refl
 
-  end-option-row : turned 138 209 i st ≡ 130 ∷ 138 ∷ st
+  end-option-row : turned 138 c-end-option i st ≡ 130 ∷ 138 ∷ st
   unfolding turned rowOf rowFrom cell rows laid
   end-option-row = refl
 
-  if-row : turned 138 204 i st ≡ 55 ∷ st
+  if-row : turned 138 c-if i st ≡ 55 ∷ st
   unfolding turned rowOf rowFrom cell rows laid
   if-row = refl
 
-  do-row : turned 138 206 i st ≡ 49 ∷ st
+  do-row : turned 138 c-do i st ≡ 49 ∷ st
   unfolding turned rowOf rowFrom cell rows laid
   do-row = refl
 
-  send-row : (f : Bool) → turned (args f) 194 i st ≡ 19 ∷ 112 ∷ st
+  send-row : (f : Bool) → turned (args f) c-send i st ≡ 19 ∷ 112 ∷ st
   unfolding turned rowOf rowFrom cell rows laid
   send-row false = refl
   send-row true = refl
 
-  receive-row : (f : Bool) → turned (args f) 195 i st ≡ 35 ∷ 112 ∷ st
+  receive-row : (f : Bool) → turned (args f) c-receive i st ≡ 35 ∷ 112 ∷ st
   unfolding turned rowOf rowFrom cell rows laid
   receive-row false = refl
   receive-row true = refl
 
-  run-row : (f : Bool) → turned (args f) 202 i st ≡ 21 ∷ 120 ∷ 62 ∷ st
+  run-row : (f : Bool) → turned (args f) c-run i st ≡ 21 ∷ 120 ∷ 62 ∷ st
   unfolding turned rowOf rowFrom cell rows laid
   run-row false = refl
   run-row true = refl
 
-  set-run-row : (f : Bool) → turned (args f) 203 i st ≡ 21 ∷ 120 ∷ 62 ∷ 32 ∷ 121 ∷ st
+  set-run-row : (f : Bool) → turned (args f) c-set-run i st ≡ 21 ∷ 120 ∷ 62 ∷ 32 ∷ 121 ∷ st
   unfolding turned rowOf rowFrom cell rows laid
   set-run-row false = refl
   set-run-row true = refl
 
-  option-row : (f : Bool) → turned (body-of f) 208 i st ≡ 30 ∷ st
+  option-row : (f : Bool) → turned (body-of f) c-option i st ≡ 30 ∷ st
   unfolding turned rowOf rowFrom cell rows laid
   option-row false = refl
   option-row true = refl
@@ -169,7 +170,7 @@ module _ (h : ℕ → Token) (ms : List ℕ) where
   walk-tree (express e) b i j n p = λ f st out.
       let k = i + length (code-exp e) in
       let t : length (code-exp e ++ i-express ∷ []) ≡ length (code-exp e) + 1 = length-append (code-exp e) (i-express ∷ []) in
-      begin f j k 189 st (101 ∷ 131 ∷ st) out (omega arith) (here-back h ms (code-exp e) (i-express ∷ []) b i k refl p .0) (express-rows k st)
+      begin f j k c-express st (101 ∷ 131 ∷ st) out (omega arith) (here-back h ms (code-exp e) (i-express ∷ []) b i k refl p .0) (express-rows k st)
       ∙ walk-exp h ms e b i k 1 refl (here-front h ms (code-exp e) (i-express ∷ []) b i p) (omega arith) (omega arith) _ _
   walk-tree (assign r e) b i j n p = λ f st out.
       let R = code-exp r in
@@ -181,19 +182,19 @@ module _ (h : ℕ → Token) (ms : List ℕ) where
       let re = here-front h ms (R ++ i-target ∷ E) (i-assign ∷ []) b i p in
       let x = here-back h ms (R ++ i-target ∷ E) (i-assign ∷ []) b i k (omega arith) p in
       let te = here-back h ms R (i-target ∷ E) b i m refl re in
-      begin f j k 191 st (101 ∷ 32 ∷ 121 ∷ 131 ∷ st) out (omega arith) (x .0) (assign-rows k st)
+      begin f j k c-assign st (101 ∷ 32 ∷ 121 ∷ 131 ∷ st) out (omega arith) (x .0) (assign-rows k st)
       ∙ walk-exp h ms e (flagged b R) (suc m) k 1 refl (te .3) (omega arith) (omega arith) _ _
-      ∙ emit h ms 32 refl _ _ _ ∙ go h ms (suc m) m 121 190 _ _ _ refl refl (te .0) (target-row m _)
+      ∙ emit h ms 32 refl _ _ _ ∙ go h ms (suc m) m 121 c-target _ _ _ refl refl (te .0) (target-row m _)
       ∙ walk-exp h ms r b i m 12 refl (here-front h ms R (i-target ∷ E) b i re) (omega arith) (omega arith) _ _ ∙ simp append-assoc
   walk-tree (increment r) b i j n p = λ f st out.
       let k = i + length (code-exp r) in
       let t : length (code-exp r ++ i-increment ∷ []) ≡ length (code-exp r) + 1 = length-append (code-exp r) (i-increment ∷ []) in
-      begin f j k 192 st (33 ∷ 112 ∷ 131 ∷ st) out (omega arith) (here-back h ms (code-exp r) (i-increment ∷ []) b i k refl p .0) (increment-rows k st) ∙ emit h ms 33 refl _ _ _
+      begin f j k c-increment st (33 ∷ 112 ∷ 131 ∷ st) out (omega arith) (here-back h ms (code-exp r) (i-increment ∷ []) b i k refl p .0) (increment-rows k st) ∙ emit h ms 33 refl _ _ _
       ∙ walk-exp h ms r b i k 12 refl (here-front h ms (code-exp r) (i-increment ∷ []) b i p) (omega arith) (omega arith) _ _ ∙ simp append-assoc
   walk-tree (decrement r) b i j n p = λ f st out.
       let k = i + length (code-exp r) in
       let t : length (code-exp r ++ i-decrement ∷ []) ≡ length (code-exp r) + 1 = length-append (code-exp r) (i-decrement ∷ []) in
-      begin f j k 193 st (34 ∷ 112 ∷ 131 ∷ st) out (omega arith) (here-back h ms (code-exp r) (i-decrement ∷ []) b i k refl p .0) (decrement-rows k st) ∙ emit h ms 34 refl _ _ _
+      begin f j k c-decrement st (34 ∷ 112 ∷ 131 ∷ st) out (omega arith) (here-back h ms (code-exp r) (i-decrement ∷ []) b i k refl p .0) (decrement-rows k st) ∙ emit h ms 34 refl _ _ _
       ∙ walk-exp h ms r b i k 12 refl (here-front h ms (code-exp r) (i-decrement ∷ []) b i p) (omega arith) (omega arith) _ _ ∙ simp append-assoc
   walk-tree (send r es) b i j n p = λ f st out.
       let R = code-exp r in
@@ -206,9 +207,9 @@ module _ (h : ℕ → Token) (ms : List ℕ) where
       let x = here-back h ms (R ++ i-send ∷ A) (i-end ∷ []) b i k (omega arith) p in
       let sa = here-back h ms R (i-send ∷ A) b i m refl ra in
       let u : flagged b (R ++ i-send ∷ A) ≡ false = flagged-append R (i-send ∷ A) b ∙ flag-arguments h ms es false (suc m) (sa .3) false in
-      let g : getD ms k 0 ≡ 187 = x .0 ∙ rw u refl in
-      begin f j k 187 st (132 ∷ 131 ∷ st) out (omega arith) g (end-rows k st) ∙ walk-arguments h ms es false (suc m) k refl (sa .3) _ _
-      ∙ go h ms (suc m) m (args (some es)) 194 _ _ _ refl (symbol-of-args (some es)) (sa .0) (send-row m _ (some es)) ∙ emit h ms 19 refl _ _ _
+      let g : getD ms k 0 ≡ c-end = x .0 ∙ rw u refl in
+      begin f j k c-end st (132 ∷ 131 ∷ st) out (omega arith) g (end-rows k st) ∙ walk-arguments h ms es false (suc m) k refl (sa .3) _ _
+      ∙ go h ms (suc m) m (args (some es)) c-send _ _ _ refl (symbol-of-args (some es)) (sa .0) (send-row m _ (some es)) ∙ emit h ms 19 refl _ _ _
       ∙ walk-exp h ms r b i m 12 refl (here-front h ms R (i-send ∷ A) b i ra) (omega arith) (omega arith) _ _ ∙ simp append-assoc
   walk-tree (receive r es) b i j n p = λ f st out.
       let R = code-exp r in
@@ -221,14 +222,14 @@ module _ (h : ℕ → Token) (ms : List ℕ) where
       let x = here-back h ms (R ++ i-receive ∷ A) (i-end ∷ []) b i k (omega arith) p in
       let sa = here-back h ms R (i-receive ∷ A) b i m refl ra in
       let u : flagged b (R ++ i-receive ∷ A) ≡ false = flagged-append R (i-receive ∷ A) b ∙ flag-received h ms es false (suc m) (sa .3) false in
-      let g : getD ms k 0 ≡ 187 = x .0 ∙ rw u refl in
-      begin f j k 187 st (132 ∷ 131 ∷ st) out (omega arith) g (end-rows k st) ∙ walk-received h ms es false (suc m) k refl (sa .3) _ _
-      ∙ go h ms (suc m) m (args (some es)) 195 _ _ _ refl (symbol-of-args (some es)) (sa .0) (receive-row m _ (some es)) ∙ emit h ms 35 refl _ _ _
+      let g : getD ms k 0 ≡ c-end = x .0 ∙ rw u refl in
+      begin f j k c-end st (132 ∷ 131 ∷ st) out (omega arith) g (end-rows k st) ∙ walk-received h ms es false (suc m) k refl (sa .3) _ _
+      ∙ go h ms (suc m) m (args (some es)) c-receive _ _ _ refl (symbol-of-args (some es)) (sa .0) (receive-row m _ (some es)) ∙ emit h ms 35 refl _ _ _
       ∙ walk-exp h ms r b i m 12 refl (here-front h ms R (i-receive ∷ A) b i ra) (omega arith) (omega arith) _ _ ∙ simp append-assoc
   walk-tree (assert e) b i j n p = λ f st out.
       let k = i + length (code-exp e) in
       let t : length (code-exp e ++ i-assert ∷ []) ≡ length (code-exp e) + 1 = length-append (code-exp e) (i-assert ∷ []) in
-      begin f j k 196 st (22 ∷ 101 ∷ 21 ∷ 47 ∷ 131 ∷ st) out (omega arith) (here-back h ms (code-exp e) (i-assert ∷ []) b i k refl p .0) (assert-rows k st) ∙ emit h ms 22 refl _ _ _
+      begin f j k c-assert st (22 ∷ 101 ∷ 21 ∷ 47 ∷ 131 ∷ st) out (omega arith) (here-back h ms (code-exp e) (i-assert ∷ []) b i k refl p .0) (assert-rows k st) ∙ emit h ms 22 refl _ _ _
       ∙ walk-exp h ms e b i k 1 refl (here-front h ms (code-exp e) (i-assert ∷ []) b i p) (omega arith) (omega arith) _ _ ∙ emit h ms 21 refl _ _ _ ∙ emit h ms 47 refl _ _ _ ∙ simp append-assoc
   walk-tree (print w es) b i j n p = λ f st out.
       let A = each code-argument es in
@@ -236,26 +237,26 @@ module _ (h : ℕ → Token) (ms : List ℕ) where
       let t : length (A ++ i-end ∷ []) ≡ length A + 1 = length-append A (i-end ∷ []) in
       let a = here-front h ms A (i-end ∷ []) true (suc i) (p .3) in
       let x = here-back h ms A (i-end ∷ []) true (suc i) k refl (p .3) in
-      let g : getD ms k 0 ≡ 229 = x .0 ∙ rw (flag-arguments h ms es true (suc i) a true) refl in
-      begin f j k 229 st (22 ∷ 132 ∷ 131 ∷ st) out (omega arith) g (closed-rows k st) ∙ emit h ms 22 refl _ _ _ ∙ walk-arguments h ms es true (suc i) k refl a _ _
+      let g : getD ms k 0 ≡ c-end-closed = x .0 ∙ rw (flag-arguments h ms es true (suc i) a true) refl in
+      begin f j k c-end-closed st (22 ∷ 132 ∷ 131 ∷ st) out (omega arith) g (closed-rows k st) ∙ emit h ms 22 refl _ _ _ ∙ walk-arguments h ms es true (suc i) k refl a _ _
       ∙ format w (some es) i _ _ (p .0) (p .1 (omega arith)) ∙ emit h ms 21 refl _ _ _ ∙ emit h ms 60 refl _ _ _
       ∙ ap (λ (z : List Token). W h ms i (131 ∷ st) (sym 60 ∷ sym 21 ∷ text w ∷ z)) (inv (append-assoc (sep (some es) 'comma) (join 'comma print-whole es) (sym 22 ∷ (sep f 'semi ++ out))) ∙ ap (_++ sym 22 ∷ (sep f 'semi ++ out)) (sep-join 'comma print-whole es))
       ∙ simp append-assoc
-  walk-tree skip b i j n p = λ f st out. alone 197 63 i j f st out n (p .0) refl (skip-rows i st)
+  walk-tree skip b i j n p = λ f st out. alone c-skip 63 i j f st out n (p .0) refl (skip-rows i st)
   walk-tree (goto w) b i j n p = λ f st out.
-      begin f j (suc i) 198 st (120 ∷ 54 ∷ 131 ∷ st) out (omega arith) (p .3 .0) (goto-rows (suc i) st) ∙ name-here h ms (suc i) i w refl (p .0) (p .1 (omega arith)) _ _ ∙ emit h ms 54 refl _ _ _
-  walk-tree break b i j n p = λ f st out. alone 199 48 i j f st out n (p .0) refl (break-rows i st)
-  walk-tree timeout b i j n p = λ f st out. alone 200 64 i j f st out n (p .0) refl (timeout-rows i st)
-  walk-tree else b i j n p = λ f st out. alone 201 50 i j f st out n (p .0) refl (else-rows i st)
+      begin f j (suc i) c-goto st (120 ∷ 54 ∷ 131 ∷ st) out (omega arith) (p .3 .0) (goto-rows (suc i) st) ∙ name-here h ms (suc i) i w refl (p .0) (p .1 (omega arith)) _ _ ∙ emit h ms 54 refl _ _ _
+  walk-tree break b i j n p = λ f st out. alone c-break 48 i j f st out n (p .0) refl (break-rows i st)
+  walk-tree timeout b i j n p = λ f st out. alone c-timeout 64 i j f st out n (p .0) refl (timeout-rows i st)
+  walk-tree else b i j n p = λ f st out. alone c-else 50 i j f st out n (p .0) refl (else-rows i st)
   walk-tree (run w es) b i j n p = λ f st out.
       let A = each code-argument es in
       let k = suc (suc i) + length A in
       let t : length (A ++ i-end ∷ []) ≡ length A + 1 = length-append A (i-end ∷ []) in
       let a = here-front h ms A (i-end ∷ []) true (suc (suc i)) (p .3 .3) in
       let x = here-back h ms A (i-end ∷ []) true (suc (suc i)) k refl (p .3 .3) in
-      let g : getD ms k 0 ≡ 229 = x .0 ∙ rw (flag-arguments h ms es true (suc (suc i)) a true) refl in
-      begin f j k 229 st (22 ∷ 132 ∷ 131 ∷ st) out (omega arith) g (closed-rows k st) ∙ emit h ms 22 refl _ _ _ ∙ walk-arguments h ms es true (suc (suc i)) k refl a _ _
-      ∙ go h ms (suc (suc i)) (suc i) (args (some es)) 202 _ _ _ refl (symbol-of-args (some es)) (p .3 .0) (run-row (suc i) _ (some es)) ∙ emit h ms 21 refl _ _ _
+      let g : getD ms k 0 ≡ c-end-closed = x .0 ∙ rw (flag-arguments h ms es true (suc (suc i)) a true) refl in
+      begin f j k c-end-closed st (22 ∷ 132 ∷ 131 ∷ st) out (omega arith) g (closed-rows k st) ∙ emit h ms 22 refl _ _ _ ∙ walk-arguments h ms es true (suc (suc i)) k refl a _ _
+      ∙ go h ms (suc (suc i)) (suc i) (args (some es)) c-run _ _ _ refl (symbol-of-args (some es)) (p .3 .0) (run-row (suc i) _ (some es)) ∙ emit h ms 21 refl _ _ _
       ∙ name-here h ms (suc i) i w refl (p .0) (p .1 (omega arith)) _ _ ∙ emit h ms 62 refl _ _ _ ∙ simp append-assoc
   walk-tree (set-run r w es) b i j n p = λ f st out.
       let R = code-exp r in
@@ -269,27 +270,27 @@ module _ (h : ℕ → Token) (ms : List ℕ) where
       let sa = here-back h ms R (i-target ∷ i-name w ∷ i-set-run ∷ A) b i m refl ra in
       let a = sa .3 .3 .3 in
       let u : flagged b (R ++ i-target ∷ i-name w ∷ i-set-run ∷ A) ≡ true = flagged-append R (i-target ∷ i-name w ∷ i-set-run ∷ A) b ∙ flag-arguments h ms es true (suc (suc (suc m))) a true in
-      let g : getD ms k 0 ≡ 229 = x .0 ∙ rw u refl in
-      begin f j k 229 st (22 ∷ 132 ∷ 131 ∷ st) out (omega arith) g (closed-rows k st) ∙ emit h ms 22 refl _ _ _ ∙ walk-arguments h ms es true (suc (suc (suc m))) k refl a _ _
-      ∙ go h ms (suc (suc (suc m))) (suc (suc m)) (args (some es)) 203 _ _ _ refl (symbol-of-args (some es)) (sa .3 .3 .0) (set-run-row (suc (suc m)) _ (some es)) ∙ emit h ms 21 refl _ _ _
+      let g : getD ms k 0 ≡ c-end-closed = x .0 ∙ rw u refl in
+      begin f j k c-end-closed st (22 ∷ 132 ∷ 131 ∷ st) out (omega arith) g (closed-rows k st) ∙ emit h ms 22 refl _ _ _ ∙ walk-arguments h ms es true (suc (suc (suc m))) k refl a _ _
+      ∙ go h ms (suc (suc (suc m))) (suc (suc m)) (args (some es)) c-set-run _ _ _ refl (symbol-of-args (some es)) (sa .3 .3 .0) (set-run-row (suc (suc m)) _ (some es)) ∙ emit h ms 21 refl _ _ _
       ∙ name-here h ms (suc (suc m)) (suc m) w refl (sa .3 .0) (sa .3 .1 (omega arith)) _ _ ∙ emit h ms 62 refl _ _ _ ∙ emit h ms 32 refl _ _ _
-      ∙ go h ms (suc m) m 121 190 _ _ _ refl refl (sa .0) (target-row m _)
+      ∙ go h ms (suc m) m 121 c-target _ _ _ refl refl (sa .0) (target-row m _)
       ∙ walk-exp h ms r b i m 12 refl (here-front h ms R (i-target ∷ i-name w ∷ i-set-run ∷ A) b i ra) (omega arith) (omega arith) _ _ ∙ simp append-assoc
   walk-tree (select os) b i j n p = λ f st out.
       let k = suc i + length (code-tree os) in
       let t : length (code-tree os ++ i-fi ∷ []) ≡ length (code-tree os) + 1 = length-append (code-tree os) (i-fi ∷ []) in
-      begin f j k 205 st (53 ∷ 138 ∷ 131 ∷ st) out (omega arith) (here-back h ms (code-tree os) (i-fi ∷ []) b (suc i) k refl (p .3) .0) (fi-rows k st) ∙ emit h ms 53 refl _ _ _
+      begin f j k c-fi st (53 ∷ 138 ∷ 131 ∷ st) out (omega arith) (here-back h ms (code-tree os) (i-fi ∷ []) b (suc i) k refl (p .3) .0) (fi-rows k st) ∙ emit h ms 53 refl _ _ _
       ∙ walk-tree os b (suc i) k refl (here-front h ms (code-tree os) (i-fi ∷ []) b (suc i) (p .3)) _ _
-      ∙ go h ms (suc i) i 138 204 _ _ _ refl refl (p .0) (if-row i _) ∙ emit h ms 55 refl _ _ _ ∙ simp append-assoc
+      ∙ go h ms (suc i) i 138 c-if _ _ _ refl refl (p .0) (if-row i _) ∙ emit h ms 55 refl _ _ _ ∙ simp append-assoc
   walk-tree (loop os) b i j n p = λ f st out.
       let k = suc i + length (code-tree os) in
       let t : length (code-tree os ++ i-od ∷ []) ≡ length (code-tree os) + 1 = length-append (code-tree os) (i-od ∷ []) in
-      begin f j k 207 st (58 ∷ 138 ∷ 131 ∷ st) out (omega arith) (here-back h ms (code-tree os) (i-od ∷ []) b (suc i) k refl (p .3) .0) (od-rows k st) ∙ emit h ms 58 refl _ _ _
+      begin f j k c-od st (58 ∷ 138 ∷ 131 ∷ st) out (omega arith) (here-back h ms (code-tree os) (i-od ∷ []) b (suc i) k refl (p .3) .0) (od-rows k st) ∙ emit h ms 58 refl _ _ _
       ∙ walk-tree os b (suc i) k refl (here-front h ms (code-tree os) (i-od ∷ []) b (suc i) (p .3)) _ _
-      ∙ go h ms (suc i) i 138 206 _ _ _ refl refl (p .0) (do-row i _) ∙ emit h ms 49 refl _ _ _ ∙ simp append-assoc
+      ∙ go h ms (suc i) i 138 c-do _ _ _ refl refl (p .0) (do-row i _) ∙ emit h ms 49 refl _ _ _ ∙ simp append-assoc
   walk-tree (bare a) b i j n p = λ f st out. walk-tree a b i j n p f st out
   walk-tree (labelled w a) b i j n p = λ f st out.
-      walk-tree a b (suc (suc i)) j (omega arith) (p .3 .3) f st out ∙ go h ms (suc (suc i)) (suc i) 131 188 st (29 ∷ 120 ∷ 131 ∷ st) _ refl refl (p .3 .0) (label-row (suc i) st) ∙ emit h ms 29 refl _ _ _
+      walk-tree a b (suc (suc i)) j (omega arith) (p .3 .3) f st out ∙ go h ms (suc (suc i)) (suc i) 131 c-label st (29 ∷ 120 ∷ 131 ∷ st) _ refl refl (p .3 .0) (label-row (suc i) st) ∙ emit h ms 29 refl _ _ _
       ∙ name-here h ms (suc i) i w refl (p .0) (p .1 (omega arith)) _ _
   walk-tree end b i j n p = λ st out. let q : j ≡ i = omega arith in rw q refl
   walk-tree (then s q) b i j n p = λ st out.
@@ -307,6 +308,6 @@ module _ (h : ℕ → Token) (ms : List ℕ) where
       let t : length (Q ++ i-end-option ∷ O) ≡ length Q + suc (length O) = length-append Q (i-end-option ∷ O) in
       let x = here-back h ms Q (i-end-option ∷ O) b (suc i) k refl (p .3) in
       walk-tree os (flagged b Q) (suc k) j (omega arith) (x .3) st out
-      ∙ go h ms (suc k) k 138 209 st (130 ∷ 138 ∷ st) _ refl refl (x .0) (end-option-row k st)
+      ∙ go h ms (suc k) k 138 c-end-option st (130 ∷ 138 ∷ st) _ refl refl (x .0) (end-option-row k st)
       ∙ walk-tree q b (suc i) k refl (here-front h ms Q (i-end-option ∷ O) b (suc i) (p .3)) _ _
-      ∙ go h ms (suc i) i (body-of (any q)) 208 _ _ _ refl (symbol-of-body (any q)) (p .0) (option-row i _ (any q)) ∙ emit h ms 30 refl _ _ _ ∙ simp append-assoc
+      ∙ go h ms (suc i) i (body-of (any q)) c-option _ _ _ refl (symbol-of-body (any q)) (p .0) (option-row i _ (any q)) ∙ emit h ms 30 refl _ _ _ ∙ simp append-assoc

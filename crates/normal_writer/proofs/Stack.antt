@@ -11,6 +11,7 @@ use lib.Seq.{drop-cons, drop-set-lt, drop-drop, getD-drop, getD-set-same}
 use lib.Dec.{eqb, ltb}
 use native.Mathlib.Decide.{decLt}
 use borrow.Author.Tests.{lt-ltb, le-ltb, eq-eqb, ne-eqb}
+use Rattle.base_codes.specs.Codes.{c-negate}
 use Rattle.base_bytes.specs.Choice.{pick, both, either}
 use Rattle.base_values.specs.Operators.{levelOf}
 use Rattle.normal_writer.specs.Turning.{cell, rowOf, said, unless-none, laid, operated, shared, turned, isToken, kept, told, walk}
@@ -122,12 +123,12 @@ operate-is a0 a1 a2 a3 a4 a5 p0 p1 p2 p3 p4 p5 s o l v1 v3 v5 x b e l′ d e1 e3
     }
 
 -- ---- one item
-pub step-binary : (old new : List ℕ) (sp r s c i o : ℕ) (b : Bool) → b ≡ both (eqb (shared s) 101) (both (ltb 146 c) (ltb c 165)) → b ≡ true → o ≡ c - 146 → Pushed old sp new r (operated s o (drop sp old)) 8
+pub step-binary : (old new : List ℕ) (sp r s c i o : ℕ) (b : Bool) → b ≡ both (eqb (shared s) 101) (both (ltb 146 c) (ltb c c-negate)) → b ≡ true → o ≡ c - 146 → Pushed old sp new r (operated s o (drop sp old)) 8
     → Pushed old sp new r (turned s c i (drop sp old)) 8
 unfolding turned
 step-binary old new sp r s c i o b e h q y = record { holds = y .holds ∙ rw (← e, h, q) refl; low = y .low; high = y .high; size = y .size }
 
-pub step-row : (old new : List ℕ) (sp r s c i x : ℕ) (b : Bool) → b ≡ both (eqb (shared s) 101) (both (ltb 146 c) (ltb c 165)) → b ≡ false → x ≡ rowOf s c → Pushed old sp new r (laid x i 8 (drop sp old)) 8
+pub step-row : (old new : List ℕ) (sp r s c i x : ℕ) (b : Bool) → b ≡ both (eqb (shared s) 101) (both (ltb 146 c) (ltb c c-negate)) → b ≡ false → x ≡ rowOf s c → Pushed old sp new r (laid x i 8 (drop sp old)) 8
     → Pushed old sp new r (turned s c i (drop sp old)) 8
 unfolding turned
 step-row old new sp r s c i x b e h q y = record { holds = y .holds ∙ rw (← e, h, q) refl; low = y .low; high = y .high; size = y .size }

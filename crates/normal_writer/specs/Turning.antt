@@ -5,6 +5,7 @@ use mathlib.Core.List.{List, [], _∷_, _++_}
 use Prim.Native.Nat.{ℕ, zero, suc, _+_, _-_}
 use lib.ListN.{length, getD, drop}
 use lib.Dec.{eqb, ltb}
+use Rattle.base_codes.specs.Codes.{c-end, c-end-closed, c-negate, c-receive, c-run, c-send, c-set-run}
 use Rattle.base_bytes.specs.Choice.{pick, both, either}
 use Rattle.base_values.specs.Operators.{levelOf}
 use Rattle.normal_rows.specs.Rules.{rows}
@@ -46,7 +47,7 @@ operated s o st =
     (unless-none (101 + levelOf o) (unless-none o (unless-none (100 + levelOf o) (unless-none (pick (ltb (100 + levelOf o) s) 21 0) st))))
 
 abbrev pub isBinary : ℕ → ℕ → Bool
-isBinary s c = both (eqb (shared s) 101) (both (ltb 146 c) (ltb c 165))
+isBinary s c = both (eqb (shared s) 101) (both (ltb 146 c) (ltb c c-negate))
 
 -- what the symbol s becomes at item i of code c
 unfoldable pub turned : ℕ → ℕ → ℕ → List ℕ → List ℕ
@@ -74,10 +75,10 @@ whole f cs = walk f cs (length cs) (143 ∷ []) []
 
 -- which `end` closes arguments in parentheses: those of a format, `run` and `v = run`, not those of a send or a receive. The last of these items decides
 abbrev pub after : Bool → ℕ → Bool
-after b c = pick (either (eqb c 194) (eqb c 195)) false (pick (either (eqb c 72) (either (eqb c 202) (eqb c 203))) true b)
+after b c = pick (either (eqb c c-send) (eqb c c-receive)) false (pick (either (eqb c 72) (either (eqb c c-run) (eqb c c-set-run))) true b)
 
 abbrev pub marked : Bool → ℕ → ℕ
-marked b c = pick (both (eqb c 187) b) 229 c
+marked b c = pick (both (eqb c c-end) b) c-end-closed c
 
 unfoldable pub marks : Bool → (ℕ → ℕ) → ℕ → ℕ → List ℕ
 marks b f i zero = []

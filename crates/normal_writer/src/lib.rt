@@ -143,7 +143,11 @@ fn is_binary(s: u32, c: u8) -> bool
     if shared(s) != 101 {
         return false;
     }
-    if c <= 146 { false } else { c < 165 }
+    if c <= 146 {
+        false
+    } else {
+        c < base_codes::NEGATE
+    }
 }
 
 fn operator(c: u8) -> u8
@@ -233,9 +237,9 @@ fn turn(rows: &[u8], codes: &[u8], stack: &mut [u32], toks: &mut [u32]) -> usize
 fn marked(b: bool, c: u8) -> u8
     ensures { λ r. ⌜ r ≡ turning.marked b c ⌝ }
 {
-    if c == 187 {
+    if c == base_codes::END {
         if b {
-            return 229;
+            return base_codes::END_CLOSED;
         }
     }
     c
@@ -244,19 +248,19 @@ fn marked(b: bool, c: u8) -> u8
 fn after(b: bool, c: u8) -> bool
     ensures { λ r. ⌜ r ≡ turning.after b c ⌝ }
 {
-    if c == 194 {
+    if c == base_codes::SEND {
         return false;
     }
-    if c == 195 {
+    if c == base_codes::RECEIVE {
         return false;
     }
     if c == 72 {
         return true;
     }
-    if c == 202 {
+    if c == base_codes::RUN {
         return true;
     }
-    if c == 203 { true } else { b }
+    if c == base_codes::SET_RUN { true } else { b }
 }
 
 // The codes of the first n items, with the `end`s marked whose arguments stand in parentheses.

@@ -7,6 +7,7 @@ use mathlib.Core.List.{List, [], _∷_, _++_}
 use lib.ListN.{length, getD, take, drop, set, length-drop, drop-of-length-le}
 use lib.Seq.{drop-cons, length-take-le, take-suc-set}
 use borrow.Author.Tests.{eq-eqb, ne-eqb, lt-ltb, le-ltb, le-leb, lt-leb}
+use Rattle.base_codes.specs.Codes.{c-or-else}
 use Rattle.parse_tables.specs.Tables.{production, right, span, rights}
 use Rattle.parse_machine_proof.specs.Machine.{Next, go, stop, done, refused, spent, packed, symbol-of, place-of, count-of, column, write, eat, mark, marked, expand, step, step-on}
 use Rattle.parse_items.specs.Views.{conf, Stepped}
@@ -89,10 +90,10 @@ module _ (ks stk out : List ℕ) (s : State) where
       unfolding eat
       eat-write-law e l = is-eaten h ∙ simp (← ek, lt-ltb (s .pos) (length ks) g, ← ex, eq-eqb x k e, le-ltb x 70 l)
 
-    pub nonterminal-law : 73 ≤ x → x < 147 → (p : ℕ) → p ≡ production x k → step ks (conf stk out s) ≡ expand (getD stk (s .sp) 0) (drop (s .sp + 1) stk) (s .pos) (take (s .n) out) p
+    pub nonterminal-law : 73 ≤ x → x < c-or-else → (p : ℕ) → p ≡ production x k → step ks (conf stk out s) ≡ expand (getD stk (s .sp) 0) (drop (s .sp + 1) stk) (s .pos) (take (s .n) out) p
     unfolding step-on
-    nonterminal-law h g p ep = on-top ∙ simp (← ex, ← ek, le-ltb x 73 h, lt-ltb x 147 g, ← ep)
+    nonterminal-law h g p ep = on-top ∙ simp (← ex, ← ek, le-ltb x 73 h, lt-ltb x c-or-else g, ← ep)
 
-    pub act-law : 147 ≤ x → step ks (conf stk out s) ≡ write (getD stk (s .sp) 0) (place-of (getD stk (s .sp) 0)) (drop (s .sp + 1) stk) (s .pos) (take (s .n) out)
+    pub act-law : c-or-else ≤ x → step ks (conf stk out s) ≡ write (getD stk (s .sp) 0) (place-of (getD stk (s .sp) 0)) (drop (s .sp + 1) stk) (s .pos) (take (s .n) out)
     unfolding step-on
-    act-law h = on-top ∙ simp (← ex, ← ek, le-ltb x 73 (omega arith), le-ltb x 147 h)
+    act-law h = on-top ∙ simp (← ex, ← ek, le-ltb x 73 (omega arith), le-ltb x c-or-else h)

@@ -27,7 +27,7 @@ const NONTERMINALS: u8 = 73;
 
 const LATE: usize = 143;
 
-const WRITTEN: u8 = 147;
+const WRITTEN: u8 = base_codes::OR_ELSE;
 
 const MODEL: usize = 141;
 

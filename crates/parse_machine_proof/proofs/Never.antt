@@ -12,6 +12,7 @@ use native.Mathlib.Decide.{decLt}
 use lib.ListN.{length, getD, length-append}
 use lib.Dec.{T, eqb, ltb, leb, leb→le, lit≤}
 use borrow.Author.Tests.{eq-eqb, ne-eqb, lt-ltb, le-ltb, eqb-false, ltb-true, ltb-false, leb-false}
+use Rattle.base_codes.specs.Codes.{c-or-else}
 use Rattle.base_bytes.specs.Choice.{pick, either}
 use Rattle.parse_proof.proofs.Tests.{below-out}
 use Rattle.parse_tables.specs.Tables.{choices, bases, rights, production, productionBy, span, right}
@@ -138,7 +139,7 @@ fee-one : (b : Bool) → T (eqb (fee 1 b) 0) → b ≡ false
 fee-one true t = absurd t
 fee-one false t = refl
 
-end-leads : (x : ℕ) → 73 ≤ x → x < 147 → leads (right (production x 0)) ≡ false
+end-leads : (x : ℕ) → 73 ≤ x → x < c-or-else → leads (right (production x 0)) ≡ false
 unfolding ends
 end-leads x lo hi =
     let e : 73 + (x - 73) ≡ x = omega arith in
@@ -148,7 +149,7 @@ lead-low : (x : ℕ) → x < 73 → lead x ≡ true
 unfolding lead
 lead-low x h = simp (lt-ltb x 73 h)
 
-lead-high : (x : ℕ) → 147 ≤ x → lead x ≡ false
+lead-high : (x : ℕ) → c-or-else ≤ x → lead x ≡ false
 unfolding lead
 lead-high x h =
     simp (le-ltb x 73 (omega arith), ne-eqb x 112 (λ e. omega arith), ne-eqb x 114 (λ e. omega arith), ne-eqb x 137 (λ e. omega arith))
@@ -157,14 +158,14 @@ module _ (w : ℕ → ℕ) (K c : ℕ) (all : T (each-right (pays w K c))) where
   eat-pays : (v : ℕ) (st : List ℕ) (n : ℕ) → v % 256 < 73 → potential w K st n + w (v % 256) ≤ potential w K (v ∷ st) (suc n)
   eat-pays v st n h = rw (lead-low (v % 256) h) (omega (arith, due-next K n (leads st)))
 
-  act-pays : (v : ℕ) (st : List ℕ) (n : ℕ) → 147 ≤ v % 256 → potential w K st n + w (v % 256) ≤ potential w K (v ∷ st) n
+  act-pays : (v : ℕ) (st : List ℕ) (n : ℕ) → c-or-else ≤ v % 256 → potential w K st n + w (v % 256) ≤ potential w K (v ∷ st) n
   act-pays v st n h = rw (lead-high (v % 256) h) (omega (arith, due-top K n (leads st)))
 
-  paid : (x k : ℕ) → 73 ≤ x → x < 147 → k < 74 → (production x k ≡ 0 → ⊥) → c + sum w (right (production x k)) + fee K (lead x) ≤ w x + fee K (leads (right (production x k)))
+  paid : (x k : ℕ) → 73 ≤ x → x < c-or-else → k < 74 → (production x k ≡ 0 → ⊥) → c + sum w (right (production x k)) + fee K (lead x) ≤ w x + fee K (leads (right (production x k)))
   unfolding pays
   paid x k lo hi hk ne = leb→le _ _ (at-right (pays w K c) all x k lo hi hk ne)
 
-  within : (v b : ℕ) (st : List ℕ) (n k p : ℕ) → b % 256 ≡ 0 → 73 ≤ v % 256 → v % 256 < 147 → k < 74 → p ≡ production (v % 256) k → (p ≡ 0 → ⊥) → 0 < n →
+  within : (v b : ℕ) (st : List ℕ) (n k p : ℕ) → b % 256 ≡ 0 → 73 ≤ v % 256 → v % 256 < c-or-else → k < 74 → p ≡ production (v % 256) k → (p ≡ 0 → ⊥) → 0 < n →
       potential w K (marked b (right p) ++ st) n + c ≤ potential w K (v ∷ st) n
   within v b st n k p eb lo hi hk ep ne h =
       let q : c + sum w (right p) + fee K (lead (v % 256)) ≤ w (v % 256) + fee K (leads (right p)) = rw ep (paid (v % 256) k lo hi hk (rw ep at ne)) in
@@ -172,7 +173,7 @@ module _ (w : ℕ → ℕ) (K c : ℕ) (all : T (each-right (pays w K c))) where
       let d : due K n (leads (marked b (right p) ++ st)) + fee K (leads (right p)) ≤ price K n = rw (leads-marked b (right p) eb) at (due-app K n (marked b (right p)) st h) in
       omega (arith, due-fee K n (lead (v % 256)) h)
 
-  at-end : (v b : ℕ) (st : List ℕ) (p : ℕ) → b % 256 ≡ 0 → 73 ≤ v % 256 → v % 256 < 147 → p ≡ production (v % 256) 0 → (p ≡ 0 → ⊥) →
+  at-end : (v b : ℕ) (st : List ℕ) (p : ℕ) → b % 256 ≡ 0 → 73 ≤ v % 256 → v % 256 < c-or-else → p ≡ production (v % 256) 0 → (p ≡ 0 → ⊥) →
       potential w K (marked b (right p) ++ st) 0 + c ≤ potential w K (v ∷ st) 0
   at-end v b st p eb lo hi ep ne =
       let q : c + sum w (right p) + fee K (lead (v % 256)) ≤ w (v % 256) + fee K (leads (right p)) = rw ep (paid (v % 256) 0 lo hi (lit≤ tt) (rw ep at ne)) in
@@ -181,7 +182,7 @@ module _ (w : ℕ → ℕ) (K c : ℕ) (all : T (each-right (pays w K c))) where
       let a : sum w (marked b (right p) ++ st) ≡ sum w (right p) + sum w st = sum-append w (marked b (right p)) st ∙ ap (λ (z : ℕ). z + sum w st) (sum-marked w b (right p) eb) in
       omega arith
 
-  expand-pays : (ks : List ℕ) (v b : ℕ) (st : List ℕ) (pos p : ℕ) → b % 256 ≡ 0 → 73 ≤ v % 256 → v % 256 < 147 → p ≡ production (v % 256) (column ks pos) → (p ≡ 0 → ⊥) →
+  expand-pays : (ks : List ℕ) (v b : ℕ) (st : List ℕ) (pos p : ℕ) → b % 256 ≡ 0 → 73 ≤ v % 256 → v % 256 < c-or-else → p ≡ production (v % 256) (column ks pos) → (p ≡ 0 → ⊥) →
       potential w K (marked b (right p) ++ st) (length ks - pos) + c ≤ potential w K (v ∷ st) (length ks - pos)
   expand-pays ks v b st pos p eb lo hi ep ne =
       ⊎-elim (λ h. within v b st (length ks - pos) (column ks pos) p eb lo hi (column-low ks pos) ep ne (omega arith))
@@ -189,7 +190,7 @@ module _ (w : ℕ → ℕ) (K c : ℕ) (all : T (each-right (pays w K c))) where
 
 -- ---- the three
 by-list : ℕ → List ℕ → ℕ → ℕ
-by-list t l x = pick (ltb x 73) t (pick (ltb x 147) (getD l (x - 73) 0) 1)
+by-list t l x = pick (ltb x 73) t (pick (ltb x c-or-else) (getD l (x - 73) 0) 1)
 
 -- steps: 37 a token
 steps-list : List ℕ
@@ -241,15 +242,15 @@ low-weight : (t x : ℕ) (l : List ℕ) → x < 73 → by-list t l x ≡ t
 unfolding by-list
 low-weight t x l h = simp (lt-ltb x 73 h)
 
-high-weight : (t x : ℕ) (l : List ℕ) → 147 ≤ x → by-list t l x ≡ 1
+high-weight : (t x : ℕ) (l : List ℕ) → c-or-else ≤ x → by-list t l x ≡ 1
 unfolding by-list
-high-weight t x l h = simp (le-ltb x 73 (omega arith), le-ltb x 147 h)
+high-weight t x l h = simp (le-ltb x 73 (omega arith), le-ltb x c-or-else h)
 
-steps-one : (x : ℕ) → (x < 73) ⊎ (147 ≤ x) → w-steps x ≡ 1
+steps-one : (x : ℕ) → (x < 73) ⊎ (c-or-else ≤ x) → w-steps x ≡ 1
 unfolding w-steps
 steps-one x h = ⊎-elim (low-weight 1 x steps-list) (high-weight 1 x steps-list) h
 
-items-one : (x : ℕ) → ((70 ≤ x) × (x < 73)) ⊎ (147 ≤ x) → w-items x ≡ 1
+items-one : (x : ℕ) → ((70 ≤ x) × (x < 73)) ⊎ (c-or-else ≤ x) → w-items x ≡ 1
 unfolding w-items
 items-one x h = ⊎-elim (λ g. low-weight (pick (ltb x 70) 0 1) x items-list (g .1) ∙ simp (le-ltb x 70 (g .0))) (high-weight (pick (ltb x 70) 0 1) x items-list) h
 
@@ -290,7 +291,7 @@ length-written v at out = length-append out _
 module _ (ks : List ℕ) (f : Config → Outcome) (v : ℕ) (st : List ℕ) (pos : ℕ) (out : List ℕ)
     (ih : (c : Config) → Lower ks (v ∷ st) pos out c → Fine (f c))
     (room : potential w-stack 19 (v ∷ st) (length ks - pos) ≤ most-stack) (space : length out + potential w-items 4 (v ∷ st) (length ks - pos) ≤ most-items) where
-  act-lower : (at : ℕ) → 147 ≤ v % 256 → Lower ks (v ∷ st) pos out (record { st = st; pos = pos; out = written v at out })
+  act-lower : (at : ℕ) → c-or-else ≤ v % 256 → Lower ks (v ∷ st) pos out (record { st = st; pos = pos; out = written v at out })
   act-lower at h =
       record {
         steps = omega (arith, act-pays w-steps 37 1 steps-paid v st (length ks - pos) h, steps-one (v % 256) (inr h));
@@ -298,7 +299,7 @@ module _ (ks : List ℕ) (f : Config → Outcome) (v : ℕ) (st : List ℕ) (pos
         items = omega (arith, act-pays w-items 4 0 items-paid v st (length ks - pos) h, items-one (v % 256) (inr h), length-written v at out);
       }
 
-  act-fine : (at : ℕ) → 147 ≤ v % 256 → Fine (next f (write v at st pos out))
+  act-fine : (at : ℕ) → c-or-else ≤ v % 256 → Fine (next f (write v at st pos out))
   unfolding write
   act-fine at h =
       fine-pick (ltb (length out) most-items) (go (record { st = st; pos = pos; out = written v at out })) _ f (λ e. ih _ (act-lower at h))
@@ -335,7 +336,7 @@ module _ (ks : List ℕ) (f : Config → Outcome) (v : ℕ) (st : List ℕ) (pos
       fine-pick (ltb pos (length ks)) _ _ f
       (λ h. fine-pick (eqb (symbol-of v) (column ks pos)) _ _ f (λ e. eat-fine low (ltb-true pos (length ks) h)) (λ e. tt)) (λ h. tt)
 
-  module _ (lo : 73 ≤ v % 256) (hi : v % 256 < 147) (p : ℕ) (ep : p ≡ production (v % 256) (column ks pos)) (ne : p ≡ 0 → ⊥) where
+  module _ (lo : 73 ≤ v % 256) (hi : v % 256 < c-or-else) (p : ℕ) (ep : p ≡ production (v % 256) (column ks pos)) (ne : p ≡ 0 → ⊥) where
     stack-pays : potential w-stack 19 (marked (mark v pos out) (right p) ++ st) (length ks - pos) + 0 ≤ potential w-stack 19 (v ∷ st) (length ks - pos)
     stack-pays = expand-pays w-stack 19 0 stack-paid ks v (mark v pos out) st pos p (mark-plain v pos out) lo hi ep ne
 
@@ -352,7 +353,7 @@ module _ (ks : List ℕ) (f : Config → Outcome) (v : ℕ) (st : List ℕ) (pos
         let l : length (marked (mark v pos out) (right p) ++ st) ≡ length (right p) + length st = length-append (marked (mark v pos out) (right p)) st ∙ ap (λ (n : ℕ). n + length st) (length-marked (mark v pos out) (right p)) in
         omega (arith, stack-length (marked (mark v pos out) (right p) ++ st), stack-pays)
 
-  nonterminal-fine : 73 ≤ v % 256 → v % 256 < 147 → (p : ℕ) → p ≡ production (v % 256) (column ks pos) → Fine (next f (expand v st pos out p))
+  nonterminal-fine : 73 ≤ v % 256 → v % 256 < c-or-else → (p : ℕ) → p ≡ production (v % 256) (column ks pos) → Fine (next f (expand v st pos out p))
   unfolding expand
   nonterminal-fine lo hi p ep =
       fine-pick (eqb p 0) _ _ f (λ e. tt)
@@ -366,9 +367,9 @@ unfolding step-on
 turn-fine ks f [] pos out ih room space = fine-end (ltb pos (length ks)) pos out
 turn-fine ks f (v ∷ st) pos out ih room space =
     fine-pick (ltb (symbol-of v) 73) (eat ks v st pos out) _ f (λ e. terminal-fine ks f v st pos out ih room space (ltb-true (symbol-of v) 73 e))
-    (λ e. fine-pick (ltb (symbol-of v) 147) (expand v st pos out (production (symbol-of v) (column ks pos))) _ f
-    (λ g. nonterminal-fine ks f v st pos out ih room space (ltb-false (symbol-of v) 73 e) (ltb-true (symbol-of v) 147 g) _ refl)
-    (λ g. act-fine ks f v st pos out ih room space _ (ltb-false (symbol-of v) 147 g)))
+    (λ e. fine-pick (ltb (symbol-of v) c-or-else) (expand v st pos out (production (symbol-of v) (column ks pos))) _ f
+    (λ g. nonterminal-fine ks f v st pos out ih room space (ltb-false (symbol-of v) 73 e) (ltb-true (symbol-of v) c-or-else g) _ refl)
+    (λ g. act-fine ks f v st pos out ih room space _ (ltb-false (symbol-of v) c-or-else g)))
 
 safe : (ks : List ℕ) (f : ℕ) (c : Config) → potential w-steps 37 (c .st) (length ks - c .pos) < f → potential w-stack 19 (c .st) (length ks - c .pos) ≤ most-stack →
     length (c .out) + potential w-items 4 (c .st) (length ks - c .pos) ≤ most-items → Fine (run ks f c)

@@ -7,6 +7,7 @@ use mathlib.Core.List.{List, [], _∷_, _++_}
 use lib.ListN.{length, length-append}
 use lib.Dec.{T, eqb, ltb, leb, ltb→lt, lit≤}
 use borrow.Author.Tests.{ltb-true, ltb-false, eqb-false}
+use Rattle.base_codes.specs.Codes.{c-or-else}
 use Rattle.base_bytes.specs.Choice.{pick}
 use Rattle.parse_proof.specs.Engine.{both}
 use Rattle.parse_proof.proofs.Tests.{both-left, both-right}
@@ -129,7 +130,7 @@ module _ (ks : List ℕ) (short : length ks ≤ most-tokens) (f : Config → Out
       (λ e. tt))
       (λ h. tt)
 
-  expand-ranged : 73 ≤ v % 256 → v % 256 < 147 → Ranged ks (next f (expand v st pos out (production (v % 256) (column ks pos))))
+  expand-ranged : 73 ≤ v % 256 → v % 256 < c-or-else → Ranged ks (next f (expand v st pos out (production (v % 256) (column ks pos))))
   unfolding expand solid-rights
   expand-ranged lo hi =
       let p : ℕ = production (v % 256) (column ks pos) in
@@ -152,7 +153,7 @@ unfolding step-on
 turn-ranged ks short f ih [] pos out w = ranged-end ks (ltb pos (length ks)) pos out (w .fine)
 turn-ranged ks short f ih (v ∷ st) pos out w =
     ranged-pick ks (ltb (symbol-of v) 73) _ _ f (λ e. eat-ranged ks short f ih v st pos out w)
-    (λ e. ranged-pick ks (ltb (symbol-of v) 147) _ _ f (λ g. expand-ranged ks short f ih v st pos out w (ltb-false (symbol-of v) 73 e) (ltb-true (symbol-of v) 147 g))
+    (λ e. ranged-pick ks (ltb (symbol-of v) c-or-else) _ _ f (λ g. expand-ranged ks short f ih v st pos out w (ltb-false (symbol-of v) 73 e) (ltb-true (symbol-of v) c-or-else g))
     (λ g. write-ranged ks short f ih v st pos out w (place-of v) pos (omega (arith, w .entries .0 .place, w .inside)) (λ z. absurd (omega (arith, ltb-false (symbol-of v) 73 e))) (omega arith) (w .inside)))
 
 run-ranged : (ks : List ℕ) → length ks ≤ most-tokens → (f : ℕ) (c : Config) → Within ks (c .st) (c .pos) (c .out) → Ranged ks (run ks f c)

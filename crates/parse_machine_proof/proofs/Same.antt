@@ -11,6 +11,7 @@ use lib.ListN.{length, getD, drop, length-map, List·getD-map, drop-of-length-le
 use lib.Seq.{drop-cons}
 use lib.Dec.{T, eqb, ltb, leb, ltb→lt, lit≤}
 use borrow.Author.Tests.{eq-eqb, ne-eqb, lt-ltb, le-ltb, eqb-false, eqb-true, ltb-true, ltb-false}
+use Rattle.base_codes.specs.Codes.{c-or-else}
 use Rattle.base_kinds.specs.Kinds.{Token, sym, kindOf}
 use Rattle.base_bytes.specs.Choice.{pick}
 use Rattle.spec_grammar.specs.Code.{Item}
@@ -69,11 +70,11 @@ solid-marked b (y ∷ r) st e t s =
 is-terminal : (x : ℕ) → x < 73 → symbol x ≡ tm (terminal x)
 is-terminal x h = simp (lt-ltb x 73 h)
 
-is-nonterminal : (x : ℕ) → 73 ≤ x → x < 147 → symbol x ≡ nt (nonterminal x)
-is-nonterminal x l h = simp (le-ltb x 73 l, lt-ltb x 147 h)
+is-nonterminal : (x : ℕ) → 73 ≤ x → x < c-or-else → symbol x ≡ nt (nonterminal x)
+is-nonterminal x l h = simp (le-ltb x 73 l, lt-ltb x c-or-else h)
 
-is-act : (x : ℕ) → 147 ≤ x → symbol x ≡ act (item x)
-is-act x h = simp (le-ltb x 73 (omega arith), le-ltb x 147 h)
+is-act : (x : ℕ) → c-or-else ≤ x → symbol x ≡ act (item x)
+is-act x h = simp (le-ltb x 73 (omega arith), le-ltb x c-or-else h)
 
 -- ---- the equations of `parse_proof`, where it refuses and at the end
 on-none : (n : NT) (k : Right) (c : Token) (w : List Token) → choose G U n (U .kind c) ≡ none → parse G U (nt n ∷ k) (c ∷ w) ≡ bad 0
@@ -115,11 +116,11 @@ symbol-packed x at n h = omega arith
 place-packed : (x at n : ℕ) → x < 256 → at < 4096 → place-of (packed x at n) ≡ at
 place-packed x at n h g = omega arith
 
-read-held : (ts : List Token) (x at n : ℕ) → x < 147 → at < 4096 → read ts (packed x at n) ≡ held (getD ts at (sym 0))
-read-held ts x at n h g = simp (symbol-packed x at n (omega arith), place-packed x at n (omega arith) g, lt-ltb x 147 h)
+read-held : (ts : List Token) (x at n : ℕ) → x < c-or-else → at < 4096 → read ts (packed x at n) ≡ held (getD ts at (sym 0))
+read-held ts x at n h g = simp (symbol-packed x at n (omega arith), place-packed x at n (omega arith) g, lt-ltb x c-or-else h)
 
-read-act : (ts : List Token) (x at n : ℕ) → 147 ≤ x → x < 256 → read ts (packed x at n) ≡ item x
-read-act ts x at n l h = simp (symbol-packed x at n h, le-ltb x 147 l)
+read-act : (ts : List Token) (x at n : ℕ) → c-or-else ≤ x → x < 256 → read ts (packed x at n) ≡ item x
+read-act ts x at n l h = simp (symbol-packed x at n h, le-ltb x c-or-else l)
 
 kind-cases : (k : ℕ) → (k ≡ 0) ⊎ (0 < k)
 kind-cases zero = inl refl
@@ -132,7 +133,7 @@ clipped-more : (k : ℕ) → 0 < k → clipped k ≡ min k 73
 clipped-more k h = let ne : k ≡ 0 → ⊥ = (λ e. omega arith) in simp (ne-eqb k 0 ne)
 
 -- what `parse_proof` chooses is what the tables choose, at any token
-module _ (x : ℕ) (lo : 73 ≤ x) (hi : x < 147) (c : Token) where
+module _ (x : ℕ) (lo : 73 ≤ x) (hi : x < c-or-else) (c : Token) where
   chooses-none : production x (clipped (kindOf c)) ≡ 0 → choose G U (nonterminal x) (U .kind c) ≡ none
   chooses-none e =
       ⊎-elim (λ z. let k : U .kind c ≡ 0 = omega arith in rw k (no-kind-guide x lo hi))
@@ -174,7 +175,7 @@ module _ (ts : List Token) where
   module _ (proper : All-proper ts) (short : length ts ≤ most-tokens) (f : Config → Outcome) (ih : (c : Config) → Solid (c .st) → Says (f c) (rest (c .st) (c .pos) (c .out)))
       (v : ℕ) (st : List ℕ) (pos : ℕ) (out : List ℕ) (solid : Solid (v ∷ st)) where
     -- an item to write
-    act-is : 147 ≤ v % 256 → rest st pos (written v (place-of v) out) ≡ rest (v ∷ st) pos out
+    act-is : c-or-else ≤ v % 256 → rest st pos (written v (place-of v) out) ≡ rest (v ∷ st) pos out
     act-is h =
         let a : Answer Item = parse G U (symbols st) (drop pos ts) in
         ap (λ (o : List Item). moved pos o a) (map-snoc (read ts) out _ ∙ ap (λ (i : Item). map (read ts) out ++ i ∷ []) (read-act ts (v % 256) (place-of v) _ h (omega arith)))
@@ -182,7 +183,7 @@ module _ (ts : List Token) where
         ∙ ap (moved pos (map (read ts) out)) (inv (on-act G U K good (item (v % 256)) (symbols st) (drop pos ts)))
         ∙ ap (λ (s : Sym NT Ter Item). moved pos (map (read ts) out) (parse G U (s ∷ symbols st) (drop pos ts))) (inv (is-act (v % 256) h))
 
-    act-says : 147 ≤ v % 256 → Says (next f (write v (place-of v) st pos out)) (rest (v ∷ st) pos out)
+    act-says : c-or-else ≤ v % 256 → Says (next f (write v (place-of v) st pos out)) (rest (v ∷ st) pos out)
     unfolding write
     act-says h =
         says-pick (ltb (length out) most-items) _ _ f (rest (v ∷ st) pos out)
@@ -249,7 +250,7 @@ module _ (ts : List Token) where
           (λ h fine. stop-at-end (rw many at (ltb-false pos (length (map kindOf ts)) h)))
 
     -- a nonterminal
-    module _ (lo : 73 ≤ v % 256) (hi : v % 256 < 147) (p : ℕ) (ep : p ≡ production (v % 256) (column (map kindOf ts) pos)) where
+    module _ (lo : 73 ≤ v % 256) (hi : v % 256 < c-or-else) (p : ℕ) (ep : p ≡ production (v % 256) (column (map kindOf ts) pos)) where
       abbrev after-all : Answer Item → Answer Item
       after-all a = moved pos (map (read ts) out) a
 
@@ -319,9 +320,9 @@ module _ (ts : List Token) where
     turn-says f ih (v ∷ st) pos out solid =
         says-pick (ltb (symbol-of v) 73) (eat (map kindOf ts) v st pos out) _ f (rest (v ∷ st) pos out)
         (λ e. terminal-says proper short f ih v st pos out solid (ltb-true (symbol-of v) 73 e))
-        (λ e. says-pick (ltb (symbol-of v) 147) (expand v st pos out (production (symbol-of v) (column (map kindOf ts) pos))) _ f (rest (v ∷ st) pos out)
-        (λ g. nonterminal-says proper short f ih v st pos out solid (ltb-false (symbol-of v) 73 e) (ltb-true (symbol-of v) 147 g) _ refl)
-        (λ g. act-says proper short f ih v st pos out solid (ltb-false (symbol-of v) 147 g)))
+        (λ e. says-pick (ltb (symbol-of v) c-or-else) (expand v st pos out (production (symbol-of v) (column (map kindOf ts) pos))) _ f (rest (v ∷ st) pos out)
+        (λ g. nonterminal-says proper short f ih v st pos out solid (ltb-false (symbol-of v) 73 e) (ltb-true (symbol-of v) c-or-else g) _ refl)
+        (λ g. act-says proper short f ih v st pos out solid (ltb-false (symbol-of v) c-or-else g)))
 
     run-says : (f : ℕ) (c : Config) → Solid (c .st) → Says (run (map kindOf ts) f c) (rest (c .st) (c .pos) (c .out))
     unfolding run

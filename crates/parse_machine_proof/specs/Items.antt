@@ -15,6 +15,7 @@ use mathlib.Core.List.{List, [], _∷_, map}
 use mathlib.Core.Logic.{_⊎_}
 use lib.ListN.{getD}
 use lib.Dec.{eqb, ltb}
+use Rattle.base_codes.specs.Codes.{c-or-else}
 use Rattle.base_kinds.specs.Kinds.{Token, sym, name, number, text}
 use Rattle.spec_grammar.specs.Code.{Item, i-name, i-number, i-text, i-plain}
 use Rattle.parse_proof.specs.Engine.{Answer as Parse, ok, bad}
@@ -32,7 +33,7 @@ held (text w) = i-text w
 
 -- the item of a number: up to 146 the symbol is a terminal, and its token has what it holds
 abbrev pub read : List Token → ℕ → Item
-read ts v = cond (ltb (symbol-of v) 147) (held (getD ts (place-of v) (sym 0))) (item (symbol-of v))
+read ts v = cond (ltb (symbol-of v) c-or-else) (held (getD ts (place-of v) (sym 0))) (item (symbol-of v))
 
 abbrev pub answer-of : List Token → Outcome → Parse Item
 answer-of ts (done o) = ok (map (read ts) o)

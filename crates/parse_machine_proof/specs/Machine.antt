@@ -6,6 +6,7 @@ use Prim.Native.Nat.{ℕ, zero, suc, _+_, _-_, _*_, _/_, _%_, min}
 use mathlib.Core.List.{List, [], _∷_, _++_}
 use lib.ListN.{length, getD}
 use lib.Dec.{ltb, leb, eqb}
+use Rattle.base_codes.specs.Codes.{c-or-else}
 use Rattle.base_bytes.specs.Choice.{pick}
 use Rattle.parse_tables.specs.Tables.{production, right}
 
@@ -88,7 +89,7 @@ unfoldable pub step-on : List ℕ → List ℕ → ℕ → List ℕ → Next
 step-on ks [] pos out = stop (pick (ltb pos (length ks)) (refused pos) (done out))
 step-on ks (v ∷ st) pos out =
     pick (ltb (symbol-of v) 73) (eat ks v st pos out)
-    (pick (ltb (symbol-of v) 147) (expand v st pos out (production (symbol-of v) (column ks pos)))
+    (pick (ltb (symbol-of v) c-or-else) (expand v st pos out (production (symbol-of v) (column ks pos)))
     (write v (place-of v) st pos out))
 
 abbrev pub step : List ℕ → Config → Next

@@ -10,6 +10,7 @@ use mathlib.Core.List.{List, [], _∷_, map}
 use lib.ListN.{length, getD}
 use lib.Dec.{T, eqb, ltb, eqb→eq}
 use borrow.Author.Tests.{ne-eqb}
+use Rattle.base_codes.specs.Codes.{c-or-else}
 use Rattle.spec_grammar.specs.Code.{Item}
 use Rattle.parse_proof.specs.Engine.{In, here, there, isSome, pick, first, choose, finish}
 use Rattle.parse_proof.specs.Productions.{NT, e1, Right, prods, G}
@@ -142,7 +143,7 @@ inside : (i : ℕ) → i < 5476 → i < length choices
 unfolding choices
 inside i h = h
 
-module _ (x : ℕ) (lo : 73 ≤ x) (hi : x < 147) where
+module _ (x : ℕ) (lo : 73 ≤ x) (hi : x < c-or-else) where
   entry : (k : ℕ) → k < 74 → getD choices ((x - 73) * 74 + k) 0 - 48 ≡ chosen (nonterminal x) k
   unfolding test
   entry k hk =
@@ -229,7 +230,7 @@ module _ (x : ℕ) (lo : 73 ≤ x) (hi : x < 147) where
 abbrev pub each-right : (ℕ → ℕ → Bool) → Bool
 each-right f = below 74 (λ j. below (length (prods (nth nonterminals j e1))) (λ m. f (73 + j) (getD bases j 0 + suc m)))
 
-pub at-right : (f : ℕ → ℕ → Bool) → T (each-right f) → (x k : ℕ) → 73 ≤ x → x < 147 → k < 74 → (production x k ≡ 0 → ⊥) → T (f x (production x k))
+pub at-right : (f : ℕ → ℕ → Bool) → T (each-right f) → (x k : ℕ) → 73 ≤ x → x < c-or-else → k < 74 → (production x k ≡ 0 → ⊥) → T (f x (production x k))
 at-right f t x k lo hi hk ne =
     let (m, h, p) = numbers k hk ne in
     let e : 73 + (x - 73) ≡ x = omega arith in

@@ -7,6 +7,7 @@ use mathlib.Core.Bool.{cond}
 use mathlib.Core.List.{List, [], _∷_}
 use Prim.Native.Nat.{ℕ, zero, suc, _-_}
 use lib.Dec.{eqb, ltb}
+use Rattle.base_codes.specs.Codes.{c-or-else}
 use Rattle.spec_grammar.specs.Code.{Item, i-active, i-active-many, i-argument, i-assert, i-assign, i-binary, i-body, i-break, i-channel, i-choice, i-constant, i-declared, i-decrement, i-do, i-else, i-end, i-end-body, i-end-option, i-equal, i-express, i-false, i-fi, i-field, i-global, i-goto, i-group, i-if, i-increment, i-index, i-init, i-into, i-label, i-len, i-local, i-message, i-minus, i-mtypes, i-named, i-od, i-option, i-otherwise, i-parameter, i-plain, i-proctype, i-receive, i-run, i-send, i-set-run, i-size, i-skip, i-target, i-timeout, i-true, i-type, i-unary, i-value}
 use Rattle.parse_proof.specs.Engine.{Sym, nt, tm, act}
 use Rattle.parse_proof.specs.Productions.{NT, e1, e2, e3, e4, e5, e6, e7, e8, e9, e10, t1, t2, t3, t4, t5, t6, t7, t8, t9, t10, n-operand, n-ref, n-ix, n-opened, n-closing, n-argument, n-arguments, n-more-arguments, n-sent, n-received, n-more-received, n-got, n-statement, n-after-name, n-action, n-after-ref, n-right-side, n-other, n-sequence, n-more-statements, n-after-separator, n-option, n-more-options, n-plain-type, n-type, n-value, n-set, n-variable, n-size, n-more-variables, n-chan-variable, n-chan-rest, n-chan-value, n-field, n-more-fields, n-more-chan-variables, n-declaration, n-body, n-items, n-parted, n-more-parted, n-parameters, n-group, n-more-groups, n-parameter, n-more-parameters, n-unit, n-after-mtype, n-message, n-more-messages, n-activity, n-process, n-model, n-more-units, Ter, sy, any-name, any-number, any-text}
@@ -49,8 +50,8 @@ abbrev pub nonterminal : ℕ → NT
 nonterminal x = nth nonterminals (x - 73) e1
 
 abbrev pub item : ℕ → Item
-item x = nth items (x - 147) i-plain
+item x = nth items (x - c-or-else) i-plain
 
 -- the symbol of a number
 abbrev pub symbol : ℕ → Sym NT Ter Item
-symbol x = cond (ltb x 73) (tm (terminal x)) (cond (ltb x 147) (nt (nonterminal x)) (act (item x)))
+symbol x = cond (ltb x 73) (tm (terminal x)) (cond (ltb x c-or-else) (nt (nonterminal x)) (act (item x)))

@@ -11,6 +11,7 @@ use lib.ListN.{length, getD, take, drop, replicate, length-map, length-append}
 use lib.Seq.{take-at}
 use lib.Dec.{ltb, leb}
 use borrow.Author.Tests.{lt-ltb, le-ltb}
+use Rattle.base_codes.specs.Codes.{c-or-else}
 use Rattle.base_bytes.specs.Choice.{pick}
 use Rattle.base_kinds.specs.Kinds.{sym, number}
 use Rattle.text_pieces.specs.Bytes.{quote}
@@ -95,7 +96,7 @@ module _ (t : List ℕ) (ps : List Placed) (e : reading t ≡ tokens ps) where
   module _ (v : ℕ) where
     token-at : symbol-of v ≤ 72 → place-of v < length ps → getD ps (place-of v) nowhere .kind ≡ symbol-of v → read (tokensIn t ps) v ≡ held (tokenOf (symbol-of v) (partOf t (getD ps (place-of v) nowhere)))
     token-at b l q =
-        rw (lt-ltb (symbol-of v) 147 (omega arith), get-only (tokenIn t) ps (place-of v) nowhere (sym 0) l) (ap (λ (z : ℕ). held (tokenOf z (partOf t (getD ps (place-of v) nowhere)))) q)
+        rw (lt-ltb (symbol-of v) c-or-else (omega arith), get-only (tokenIn t) ps (place-of v) nowhere (sym 0) l) (ap (λ (z : ℕ). held (tokenOf z (partOf t (getD ps (place-of v) nowhere)))) q)
 
     holds : (c : ℕ) → c ≤ 72 → symbol-of v ≡ c → Right ps (symbol-of v) (place-of v)
         → (place-of v < length ps) × (getD ps (place-of v) nowhere .kind ≡ c) × (read (tokensIn t ps) v ≡ held (tokenOf c (partOf t (getD ps (place-of v) nowhere))))
@@ -114,7 +115,7 @@ module _ (t : List ℕ) (ps : List Placed) (e : reading t ≡ tokens ps) where
         spelling (place-of v) l ∙ inv (text-spells (tokens-spelled t ps e (place-of v) l) q) ∙ inv (ap (λ (z : Item). quote ∷ (entryOf z .bytes ++ quote ∷ [])) i)
 
     code-says : Right ps (symbol-of v) (place-of v) → symbol-of v ≡ entryOf (read (tokensIn t ps) v) .code
-    code-says (inr r) = rw (le-ltb (symbol-of v) 147 (r .0)) (inv (ap Entry.code (mark-entry (symbol-of v) (r .0) (r .1))))
+    code-says (inr r) = rw (le-ltb (symbol-of v) c-or-else (r .0)) (inv (ap Entry.code (mark-entry (symbol-of v) (r .0) (r .1))))
     code-says (inl r) = go (ℕ-discrete (symbol-of v) 70) (ℕ-discrete (symbol-of v) 71)
       where
         there : (c : ℕ) → c ≤ 72 → symbol-of v ≡ c → c ≡ entryOf (held (tokenOf c (partOf t (getD ps (place-of v) nowhere)))) .code → symbol-of v ≡ entryOf (read (tokensIn t ps) v) .code

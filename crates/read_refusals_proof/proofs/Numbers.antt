@@ -8,6 +8,7 @@ use native.Mathlib.Omega.{arith}
 use borrow.Author.Tests.{le-ltb}
 use lib.Dec.{eqb, ltb, leb}
 use lib.ListN.{length, getD, take, drop}
+use Rattle.base_codes.specs.Codes.{c-index, c-message, c-option, c-receive, c-run, c-send, c-set-run}
 use Rattle.base_bytes.specs.Choice.{pick, both, either}
 use Rattle.base_kinds.specs.Kinds.{marks, number-kind, string-kind}
 use Rattle.text_spellings.specs.Find as spelled
@@ -180,10 +181,10 @@ module _ (cs vs hs ss ts : List ℕ) where
       let m = getD ss j 0 in
       let h = getD hs j 0 in
       let role = roleOf (getD cs (j + 1) 0) in
-      let indexed = eqb (getD cs j 0) 177 in
+      let indexed = eqb (getD cs j 0) c-index in
       let d = lookup cs vs hs (getD vs m 0) h m in
       known (eqb (getD vs m 0) 0) (known-plain (eqb role 0) indexed)
-      (known (eqb (getD cs d 0) 220) (known-plain (either (eqb role 0) (eqb role 3)) indexed) (known (among 14 (getD cs d 0)) (known-variable cs d role indexed) four))
+      (known (eqb (getD cs d 0) c-message) (known-plain (either (eqb role 0) (eqb role 3)) indexed) (known (among 14 (getD cs d 0)) (known-variable cs d role indexed) four))
 
   known-run : (j : ℕ) → Known (badRun cs vs hs j)
   unfolding badRun
@@ -199,9 +200,9 @@ module _ (cs vs hs ss ts : List ℕ) where
       let o = opener cs j in
       let k = count cs hs 5 (getD hs j 0) o j in
       known (eqb (getD cs o 0) 72) (known (eqb k (getD vs o 0 / 2)) none five)
-      (known (eqb (getD cs o 0) 194) (known (ltb 4 k) five none)
-      (known (eqb (getD cs o 0) 195) (known (ltb 4 k) five none)
-      (known (eqb (getD cs o 0) 202) (known-passing o k) (known (eqb (getD cs o 0) 203) (known-passing o k) none))))
+      (known (eqb (getD cs o 0) c-send) (known (ltb 4 k) five none)
+      (known (eqb (getD cs o 0) c-receive) (known (ltb 4 k) five none)
+      (known (eqb (getD cs o 0) c-run) (known-passing o k) (known (eqb (getD cs o 0) c-set-run) (known-passing o k) none))))
 
   known-second : (set j : ℕ) → Known (badSecond cs hs set j)
   unfolding badSecond
@@ -217,7 +218,7 @@ module _ (cs vs hs ss ts : List ℕ) where
 
   known-else : (j : ℕ) → Known (badElse cs j)
   unfolding badElse
-  known-else j = known (eqb (getD cs (j - 1) 0) 208) (known (twin cs (j - 1) 1) five none) five
+  known-else j = known (eqb (getD cs (j - 1) 0) c-option) (known (twin cs (j - 1) 1) five none) five
 
   known-height : (j : ℕ) → Known (badHeight ts j)
   unfolding badHeight
@@ -237,7 +238,7 @@ module _ (cs vs hs ss ts : List ℕ) where
       (known (eqb rule 9) (known (ltb (find cs vs hs 2 (getD vs (j - 1) 0) (getD hs j 0) (length cs)) (length cs)) none four)
       (known (eqb rule 10) (known-run j)
       (known (eqb rule 11) (known-size 32 j)
-      (known (eqb rule 12) (known (eqb (getD cs (lookup cs vs hs (getD vs (j - 1) 0) (getD hs j 0) (j - 1)) 0) 220) none four)
+      (known (eqb rule 12) (known (eqb (getD cs (lookup cs vs hs (getD vs (j - 1) 0) (getD hs j 0) (j - 1)) 0) c-message) none four)
       (known (eqb rule 13) (known-size 8 j)
       (known (eqb rule 14) (known (eqb (j - last cs 16 j) 9) five none)
       (known (eqb rule 15) (known-ref j)

@@ -48,9 +48,9 @@ fn starts_at(codes: &[u8], args: &[u32], j: usize) -> usize
     ensures { λ r. ⌜ r < 4294967296 ⌝ }
 {
     match base_bytes::byte_at(codes, j) {
-        224 => 1,
-        225 => word_at(args, minus(j, 2)),
-        226 => 1,
+        base_codes::ACTIVE => 1,
+        base_codes::ACTIVE_MANY => word_at(args, minus(j, 2)),
+        base_codes::INIT => 1,
         _ => 0,
     }
 }
@@ -60,7 +60,7 @@ fn makes_at(codes: &[u8], args: &[u32], homes: &[u32], j: usize) -> usize
     ensures { λ r. ⌜ r ≡ tops.makesAt (now (codes .entry)) (now (args .entry)) (now (homes .entry)) j ⌝ }
     ensures { λ r. ⌜ r < 4294967296 ⌝ }
 {
-    if base_bytes::byte_at(codes, j) == 217 {
+    if base_bytes::byte_at(codes, j) == base_codes::CHANNEL {
         let h = word_at(homes, j);
         if h == 0 {
             return 1;
@@ -75,7 +75,7 @@ fn wide_at(codes: &[u8], homes: &[u32], j: usize) -> usize
     ensures { λ r. ⌜ r ≡ tops.wideAt (now (codes .entry)) (now (homes .entry)) j ⌝ }
     ensures { λ r. ⌜ r < 4294967296 ⌝ }
 {
-    if base_bytes::byte_at(codes, j) == 187 {
+    if base_bytes::byte_at(codes, j) == base_codes::END {
         let o = rule_search::opener(codes, j);
         if base_bytes::byte_at(codes, o) == 72 {
             if 4 < rule_search::count(codes, homes, 5, word_at(homes, j), o, j) {

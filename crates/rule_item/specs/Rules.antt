@@ -5,6 +5,7 @@ use mathlib.Core.Bool.{Bool, true, false}
 use mathlib.Core.List.{List}
 use lib.ListN.{length, getD}
 use lib.Dec.{eqb, ltb, leb}
+use Rattle.base_codes.specs.Codes.{c-active-many, c-argument, c-assert, c-break, c-chan, c-channel, c-declared, c-decrement, c-do, c-else, c-end, c-equal, c-express, c-fi, c-field, c-goto, c-if, c-increment, c-index, c-init, c-into, c-label, c-len, c-message, c-mtypes, c-named, c-od, c-option, c-parameter, c-plain, c-receive, c-run, c-send, c-set-run, c-size, c-target}
 use Rattle.base_bytes.specs.Choice.{pick, both, either}
 use Rattle.rule_search.specs.Sets.{within, among}
 use Rattle.rule_search.specs.Search.{find, lookup, last, opener, count}
@@ -12,17 +13,17 @@ use Rattle.rule_search.specs.Search.{find, lookup, last, opener, count}
 -- ## variables
 -- `[size]`: a number and `size` follow
 unfoldable pub isArray : List ℕ → ℕ → Bool
-isArray cs d = both (eqb (getD cs (d + 1) 0) 71) (eqb (getD cs (d + 2) 0) 213)
+isArray cs d = both (eqb (getD cs (d + 1) 0) 71) (eqb (getD cs (d + 2) 0) c-size)
 
 -- the type, which stands before the last local, global or group, is `chan` (173)
 unfoldable pub isChan : List ℕ → ℕ → Bool
-isChan cs d = eqb (getD cs (last cs 3 d - 2) 0) 173
+isChan cs d = eqb (getD cs (last cs 3 d - 2) 0) c-chan
 
 -- ## references
 -- what a reference is for, by the item behind it: 1 a channel operand (len, send, receive), 2 a target (target, increment, decrement), 3 received (into),
 -- 0 an operand
 unfoldable pub roleOf : ℕ → ℕ
-roleOf c = pick (either (eqb c 180) (within 194 195 c)) 1 (pick (either (eqb c 190) (within 192 193 c)) 2 (pick (eqb c 184) 3 0))
+roleOf c = pick (either (eqb c c-len) (within c-send c-receive c)) 1 (pick (either (eqb c c-target) (within c-increment c-decrement c)) 2 (pick (eqb c c-into) 3 0))
 
 -- `_pid` and mtype names: 4 where they may not stand, 5 with an index
 abbrev pub badPlain : Bool → Bool → ℕ
@@ -42,12 +43,12 @@ module _ (cs vs hs : List ℕ) where
   unfoldable pub badUse : ℕ → ℕ → ℕ → Bool → ℕ
   badUse m h role indexed =
       pick (eqb (getD vs m 0) 0) (badPlain (eqb role 0) indexed)
-      (pick (eqb (getD cs (lookup cs vs hs (getD vs m 0) h m) 0) 220) (badPlain (either (eqb role 0) (eqb role 3)) indexed)
+      (pick (eqb (getD cs (lookup cs vs hs (getD vs m 0) h m) 0) c-message) (badPlain (either (eqb role 0) (eqb role 3)) indexed)
       (pick (among 14 (getD cs (lookup cs vs hs (getD vs m 0) h m) 0)) (badVariable cs (lookup cs vs hs (getD vs m 0) h m) role indexed) 4))
 
   -- plain, index (177)
   unfoldable pub badRef : List ℕ → ℕ → ℕ
-  badRef ss j = badUse (getD ss j 0) (getD hs j 0) (roleOf (getD cs (j + 1) 0)) (eqb (getD cs j 0) 177)
+  badRef ss j = badUse (getD ss j 0) (getD hs j 0) (roleOf (getD cs (j + 1) 0)) (eqb (getD cs j 0) c-index)
 
   -- ## declarations
   -- "each declared once": a name that is `_pid`, or declared before in the same space (set 1: names; 2: labels): 4
@@ -56,7 +57,7 @@ module _ (cs vs hs : List ℕ) where
 
   -- a declared value that is a name: an mtype name declared before (a local hides it): else 4
   unfoldable pub badNamed : ℕ → ℕ
-  badNamed j = pick (eqb (getD cs (lookup cs vs hs (getD vs (j - 1) 0) (getD hs j 0) (j - 1)) 0) 220) 0 4
+  badNamed j = pick (eqb (getD cs (lookup cs vs hs (getD vs (j - 1) 0) (getD hs j 0) (j - 1)) 0) c-message) 0 4
 
   -- ## goto and run
   -- a label of the same body, anywhere in it: else 4
@@ -87,10 +88,10 @@ module _ (cs vs hs : List ℕ) where
   unfoldable pub badCount : ℕ → ℕ → ℕ
   badCount o k =
       pick (eqb (getD cs o 0) 72) (pick (eqb k (getD vs o 0 / 2)) 0 5)
-      (pick (eqb (getD cs o 0) 194) (pick (ltb 4 k) 5 0)
-      (pick (eqb (getD cs o 0) 195) (pick (ltb 4 k) 5 0)
-      (pick (eqb (getD cs o 0) 202) (badPassing o k)
-      (pick (eqb (getD cs o 0) 203) (badPassing o k) 0))))
+      (pick (eqb (getD cs o 0) c-send) (pick (ltb 4 k) 5 0)
+      (pick (eqb (getD cs o 0) c-receive) (pick (ltb 4 k) 5 0)
+      (pick (eqb (getD cs o 0) c-run) (badPassing o k)
+      (pick (eqb (getD cs o 0) c-set-run) (badPassing o k) 0))))
 
   unfoldable pub badEnd : ℕ → ℕ
   badEnd j = badCount (opener cs j) (count cs hs 5 (getD hs j 0) (opener cs j) j)
@@ -105,12 +106,12 @@ module _ (cs : List ℕ) where
   unfoldable pub depthOn : ℕ → ℕ → ℕ
   depthOn k d =
       pick (eqb d 0) 0
-      (pick (either (eqb (getD cs k 0) 205) (eqb (getD cs k 0) 207)) (d + 1)
-      (pick (either (eqb (getD cs k 0) 204) (eqb (getD cs k 0) 206)) (d - 1) d))
+      (pick (either (eqb (getD cs k 0) c-fi) (eqb (getD cs k 0) c-od)) (d + 1)
+      (pick (either (eqb (getD cs k 0) c-if) (eqb (getD cs k 0) c-do)) (d - 1) d))
 
   -- an option of that selection that begins with `else`
   unfoldable pub twinAt : ℕ → ℕ → Bool
-  twinAt k d = both (eqb d 1) (both (eqb (getD cs k 0) 208) (eqb (getD cs (k + 1) 0) 201))
+  twinAt k d = both (eqb d 1) (both (eqb (getD cs k 0) c-option) (eqb (getD cs (k + 1) 0) c-else))
 
   unfoldable pub twin : ℕ → ℕ → Bool
   twin zero d = false
@@ -119,7 +120,7 @@ module _ (cs : List ℕ) where
   -- "`else` is only the first statement of an option, unlabelled, once per selection": the item before it is option (208), and no earlier option of the
   -- selection begins with one; else 5
   unfoldable pub badElse : ℕ → ℕ
-  badElse j = pick (eqb (getD cs (j - 1) 0) 208) (pick (twin (j - 1) 1) 5 0) 5
+  badElse j = pick (eqb (getD cs (j - 1) 0) c-option) (pick (twin (j - 1) 1) 5 0) 5
 
 -- a second `mtype` list (set 9) or `init` (set 10): 5
 unfoldable pub badSecond : List ℕ → List ℕ → ℕ → ℕ → ℕ
@@ -148,29 +149,29 @@ ruleOf c =
     -- 1 a string's format
     pick (eqb c 72) 1
     -- 2 height: argument, into, express, target, assign, increment, decrement, send, receive
-    (pick (either (within 183 184 c) (within 189 195 c)) 2
+    (pick (either (within c-argument c-into c) (within c-express c-receive c)) 2
     -- 3 break, 4 else, 5 mtypes, 6 init
-    (pick (eqb c 199) 3
-    (pick (eqb c 201) 4
-    (pick (eqb c 219) 5
-    (pick (eqb c 226) 6
+    (pick (eqb c c-break) 3
+    (pick (eqb c c-else) 4
+    (pick (eqb c c-mtypes) 5
+    (pick (eqb c c-init) 6
     -- 7 label
-    (pick (eqb c 188) 7
+    (pick (eqb c c-label) 7
     -- 8 declared, message, parameter, proctype, active, active-many
-    (pick (either (eqb c 212) (either (eqb c 220) (within 222 225 c))) 8
+    (pick (either (eqb c c-declared) (either (eqb c c-message) (within c-parameter c-active-many c))) 8
     -- 9 goto, 10 run and set-run, 11 size, 12 named, 13 channel, 14 field
-    (pick (eqb c 198) 9
-    (pick (within 202 203 c) 10
-    (pick (eqb c 213) 11
-    (pick (eqb c 216) 12
-    (pick (eqb c 217) 13
-    (pick (eqb c 218) 14
+    (pick (eqb c c-goto) 9
+    (pick (within c-run c-set-run c) 10
+    (pick (eqb c c-size) 11
+    (pick (eqb c c-named) 12
+    (pick (eqb c c-channel) 13
+    (pick (eqb c c-field) 14
     -- 15 plain, index
-    (pick (within 176 177 c) 15
+    (pick (within c-plain c-index c) 15
     -- 16 end
-    (pick (eqb c 187) 16
+    (pick (eqb c c-end) 16
     -- 17 height, behind a keyword and its parenthesis: equal, assert
-    (pick (either (eqb c 185) (eqb c 196)) 17 0))))))))))))))))
+    (pick (either (eqb c c-equal) (eqb c c-assert)) 17 0))))))))))))))))
 
 module _ (cs vs hs ss ts : List ℕ) where
   -- the number of the fault of item j by a rule

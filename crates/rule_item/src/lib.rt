@@ -20,13 +20,16 @@ use rule_sheets::word_at;
 pub fn is_array(codes: &[u8], d: usize) -> bool
     ensures { λ r. ⌜ r ≡ rules.isArray (now (codes .entry)) d ⌝ }
 {
-    both(byte_on(codes, d, 1) == 71, byte_on(codes, d, 2) == 213)
+    both(
+        byte_on(codes, d, 1) == 71,
+        byte_on(codes, d, 2) == base_codes::SIZE,
+    )
 }
 
 fn is_chan(codes: &[u8], d: usize) -> bool
     ensures { λ r. ⌜ r ≡ rules.isChan (now (codes .entry)) d ⌝ }
 {
-    base_bytes::byte_at(codes, minus(after(codes, 3, d), 2)) == 173
+    base_bytes::byte_at(codes, minus(after(codes, 3, d), 2)) == base_codes::CHAN
 }
 
 // What a reference is for, by the item behind it.
@@ -34,12 +37,18 @@ fn role_of(c: u8) -> u8
     ensures { λ r. ⌜ r ≡ rules.roleOf c ⌝ }
 {
     choose(
-        either(c == 180, within(194, 195, c)),
+        either(
+            c == base_codes::LEN,
+            within(base_codes::SEND, base_codes::RECEIVE, c),
+        ),
         1,
         choose(
-            either(c == 190, within(192, 193, c)),
+            either(
+                c == base_codes::TARGET,
+                within(base_codes::INCREMENT, base_codes::DECREMENT, c),
+            ),
             2,
-            choose(c == 184, 3, 0),
+            choose(c == base_codes::INTO, 3, 0),
         ),
     )
 }
@@ -77,7 +86,7 @@ fn bad_use(
     }
     let d = lookup(codes, args, homes, w, h, m);
     let c = base_bytes::byte_at(codes, d);
-    if c == 220 {
+    if c == base_codes::MESSAGE {
         return bad_plain(either(role == 0, role == 3), indexed);
     }
     if among(14, c) {
@@ -96,7 +105,7 @@ fn bad_ref(codes: &[u8], args: &[u32], homes: &[u32], starts: &[u32], j: usize) 
         word_at(starts, j),
         word_at(homes, j),
         role_of(byte_on(codes, j, 1)),
-        base_bytes::byte_at(codes, j) == 177,
+        base_bytes::byte_at(codes, j) == base_codes::INDEX,
     )
 }
 
@@ -113,7 +122,7 @@ fn bad_named(codes: &[u8], args: &[u32], homes: &[u32], j: usize) -> u8
 {
     let m = minus(j, 1);
     let d = lookup(codes, args, homes, word_at(args, m), word_at(homes, j), m);
-    choose(base_bytes::byte_at(codes, d) == 220, 0, 4)
+    choose(base_bytes::byte_at(codes, d) == base_codes::MESSAGE, 0, 4)
 }
 
 fn bad_goto(codes: &[u8], args: &[u32], homes: &[u32], j: usize) -> u8
@@ -177,10 +186,10 @@ fn bad_count(codes: &[u8], args: &[u32], homes: &[u32], o: usize, k: usize) -> u
 {
     match base_bytes::byte_at(codes, o) {
         72 => choose(k == word_at(args, o) / 2, 0, 5),
-        194 => choose(4 < k, 5, 0),
-        195 => choose(4 < k, 5, 0),
-        202 => bad_passing(codes, args, homes, o, k),
-        203 => bad_passing(codes, args, homes, o, k),
+        base_codes::SEND => choose(4 < k, 5, 0),
+        base_codes::RECEIVE => choose(4 < k, 5, 0),
+        base_codes::RUN => bad_passing(codes, args, homes, o, k),
+        base_codes::SET_RUN => bad_passing(codes, args, homes, o, k),
         _ => 0,
     }
 }
@@ -214,10 +223,10 @@ fn depth_on(codes: &[u8], k: usize, d: usize) -> usize
     if d == 0 {
         return 0;
     }
-    if either(c == 205, c == 207) {
+    if either(c == base_codes::FI, c == base_codes::OD) {
         return d + 1;
     }
-    if either(c == 204, c == 206) {
+    if either(c == base_codes::IF, c == base_codes::DO) {
         return d - 1;
     }
     d
@@ -229,8 +238,8 @@ fn twin_at(codes: &[u8], k: usize, d: usize) -> bool
     both(
         d == 1,
         both(
-            base_bytes::byte_at(codes, k) == 208,
-            byte_on(codes, k, 1) == 201,
+            base_bytes::byte_at(codes, k) == base_codes::OPTION,
+            byte_on(codes, k, 1) == base_codes::ELSE,
         ),
     )
 }
@@ -257,7 +266,7 @@ fn bad_else(codes: &[u8], j: usize) -> u8
 {
     let i = minus(j, 1);
     choose(
-        base_bytes::byte_at(codes, i) == 208,
+        base_bytes::byte_at(codes, i) == base_codes::OPTION,
         choose(twin(codes, i), 5, 0),
         5,
     )

@@ -5,6 +5,7 @@ use mathlib.Core.Bool.{Bool}
 use mathlib.Core.List.{List, [], _∷_}
 use lib.ListN.{length, getD, replicate}
 use lib.Dec.{eqb, ltb}
+use Rattle.base_codes.specs.Codes.{c-set-run}
 use Rattle.base_bytes.specs.Choice.{pick}
 use Rattle.rule_sheets.specs.Homes.{homesOf}
 use Rattle.rule_sheets.specs.Spans.{startsOf, heightsOf}
@@ -22,7 +23,7 @@ placeBy cs ss toks rule j =
     (pick (ltb rule 15) (getD toks (j - 1) 0)
     (pick (eqb rule 15) (getD toks (getD ss j 0) 0)
     (pick (eqb rule 17) (getD toks j 0 + 2)
-    (pick (eqb (getD cs (opener cs j) 0) 203) (getD toks (opener cs j - 2) 0) (getD toks j 0)))))
+    (pick (eqb (getD cs (opener cs j) 0) c-set-run) (getD toks (opener cs j - 2) 0) (getD toks j 0)))))
 
 -- the sooner of a fault numbered m at p and another: the smaller place, then the smaller number
 unfoldable pub sooner : ℕ → ℕ → Fault → Fault

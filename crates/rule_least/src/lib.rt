@@ -28,7 +28,7 @@ fn place_by(codes: &[u8], starts: &[u32], toks: &[u32], rule: u8, j: usize) -> u
         return word_at(toks, j) + 2;
     }
     let o = rule_search::opener(codes, j);
-    if base_bytes::byte_at(codes, o) == 203 {
+    if base_bytes::byte_at(codes, o) == base_codes::SET_RUN {
         return word_at(toks, minus(o, 2));
     }
     word_at(toks, j)

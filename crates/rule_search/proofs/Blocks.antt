@@ -9,6 +9,7 @@ use lib.ListN.{length, getD, take, drop, List·getD-eq-default}
 use lib.Seq.{getD-take, getD-drop}
 use lib.Dec.{ltb}
 use borrow.Author.Tests.{ltb-true, ltb-false, lt-leb, ne-eqb}
+use Rattle.base_codes.specs.Codes.{c-declared, c-message, c-parameter}
 use Rattle.base_bytes.specs.Choice.{pick}
 use Rattle.base_bytes.proofs.Tests.{true-false}
 use Rattle.rule_sheets.specs.Walks.{first}
@@ -35,15 +36,15 @@ highest-end l k top h inv i = go (ltb i k) refl
 pub not-clear : (cs : List ℕ) (set from to : ℕ) → Clear cs set from to false
 not-clear cs set from to = record { ordered = λ e. absurd (true-false (sym e)); none = λ e i a b. absurd (true-false (sym e)) }
 
-no-name : (c : ℕ) → c < 212 → among 1 c ≡ false
+no-name : (c : ℕ) → c < c-declared → among 1 c ≡ false
 unfolding among
-no-name c h = simp (ne-eqb c 212 (λ e. omega arith), ne-eqb c 220 (λ e. omega arith), lt-leb 222 c (omega arith))
+no-name c h = simp (ne-eqb c c-declared (λ e. omega arith), ne-eqb c c-message (λ e. omega arith), lt-leb c-parameter c (omega arith))
 
-pub seen-clear : (cs : List ℕ) (set from to top : ℕ) {b : Bool} → set ≡ 1 → from ≤ to → ((i : ℕ) → getD (take (to - from) (drop from cs)) i 0 ≤ top) → b ≡ ltb top 212 → Clear cs set from to b
+pub seen-clear : (cs : List ℕ) (set from to top : ℕ) {b : Bool} → set ≡ 1 → from ≤ to → ((i : ℕ) → getD (take (to - from) (drop from cs)) i 0 ≤ top) → b ≡ ltb top c-declared → Clear cs set from to b
 seen-clear cs set from to top {b} es o most eb =
-    record { ordered = λ e. o; none = λ e i l u. rw es (no-name (getD cs i 0) (below i l u (ltb-true top 212 (sym eb ∙ e)))) }
+    record { ordered = λ e. o; none = λ e i l u. rw es (no-name (getD cs i 0) (below i l u (ltb-true top c-declared (sym eb ∙ e)))) }
   where
-    below : (i : ℕ) → from ≤ i → i < to → top < 212 → getD cs i 0 < 212
+    below : (i : ℕ) → from ≤ i → i < to → top < c-declared → getD cs i 0 < c-declared
     below i l u t =
         let q : from + (i - from) ≡ i = omega arith in
         let s : getD (take (to - from) (drop from cs)) (i - from) 0 ≡ getD cs i 0 = getD-take (to - from) (drop from cs) (i - from) 0 (omega arith) ∙ getD-drop from cs (i - from) 0 ∙ ap (λ (k : ℕ). getD cs k 0) q in

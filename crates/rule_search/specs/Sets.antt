@@ -2,6 +2,7 @@
 use Prim.Native.Nat.{ℕ}
 use mathlib.Core.Bool.{Bool, false}
 use lib.Dec.{eqb, leb}
+use Rattle.base_codes.specs.Codes.{c-active-many, c-argument, c-assign, c-channel, c-constant, c-declared, c-do, c-express, c-global, c-group, c-if, c-init, c-label, c-local, c-message, c-mtypes, c-od, c-parameter, c-proctype, c-receive, c-run, c-send, c-set-run}
 use Rattle.base_bytes.specs.Choice.{pick, both, either}
 
 abbrev pub within : ℕ → ℕ → ℕ → Bool
@@ -9,43 +10,43 @@ within lo hi c = both (leb lo c) (leb c hi)
 
 -- every statement once: printf (its string), express, assign to set-run (with send, receive, assert, skip, goto, break, timeout, else, run), if, do
 abbrev pub isStatement : ℕ → Bool
-isStatement c = either (either (eqb c 72) (eqb c 189)) (either (within 191 204 c) (eqb c 206))
+isStatement c = either (either (eqb c 72) (eqb c c-express)) (either (within c-assign c-if c) (eqb c c-do))
 
 -- what begins a list of arguments: printf (its string), send, receive, run, set-run
 abbrev pub isOpener : ℕ → Bool
-isOpener c = either (eqb c 72) (either (within 194 195 c) (within 202 203 c))
+isOpener c = either (eqb c 72) (either (within c-send c-receive c) (within c-run c-set-run c))
 
 unfoldable pub among : ℕ → ℕ → Bool
 among set c =
     -- 1 a name is declared: declared (a variable), message (an mtype name), parameter, proctype, active, active-many
-    pick (eqb set 1) (either (eqb c 212) (either (eqb c 220) (within 222 225 c)))
+    pick (eqb set 1) (either (eqb c c-declared) (either (eqb c c-message) (within c-parameter c-active-many c)))
     -- 2 label
-    (pick (eqb set 2) (eqb c 188)
+    (pick (eqb set 2) (eqb c c-label)
     -- 3 what follows a type before the names of that type: local, global, group
-    (pick (eqb set 3) (either (within 210 211 c) (eqb c 221))
+    (pick (eqb set 3) (either (within c-local c-global c) (eqb c c-group))
     -- 4 what begins a list of arguments
     (pick (eqb set 4) (isOpener c)
     -- 5 argument, into, equal, constant
-    (pick (eqb set 5) (within 183 186 c)
+    (pick (eqb set 5) (within c-argument c-constant c)
     -- 6 parameter
-    (pick (eqb set 6) (eqb c 222)
+    (pick (eqb set 6) (eqb c c-parameter)
     -- 7 do
-    (pick (eqb set 7) (eqb c 206)
+    (pick (eqb set 7) (eqb c c-do)
     -- 8 od
-    (pick (eqb set 8) (eqb c 207)
+    (pick (eqb set 8) (eqb c c-od)
     -- 9 mtypes
-    (pick (eqb set 9) (eqb c 219)
+    (pick (eqb set 9) (eqb c c-mtypes)
     -- 10 init
-    (pick (eqb set 10) (eqb c 226)
+    (pick (eqb set 10) (eqb c c-init)
     -- 11 a statement
     (pick (eqb set 11) (isStatement c)
     -- 12 message
-    (pick (eqb set 12) (eqb c 220)
+    (pick (eqb set 12) (eqb c c-message)
     -- 13 proctype, active, active-many
-    (pick (eqb set 13) (within 223 225 c)
+    (pick (eqb set 13) (within c-proctype c-active-many c)
     -- 14 a variable: declared, parameter
-    (pick (eqb set 14) (either (eqb c 212) (eqb c 222))
+    (pick (eqb set 14) (either (eqb c c-declared) (eqb c c-parameter))
     -- 15 a unit with a body: proctype, active, active-many, init
-    (pick (eqb set 15) (within 223 226 c)
+    (pick (eqb set 15) (within c-proctype c-init c)
     -- 16 channel
-    (pick (eqb set 16) (eqb c 217) false)))))))))))))))
+    (pick (eqb set 16) (eqb c c-channel) false)))))))))))))))

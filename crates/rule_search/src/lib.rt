@@ -24,15 +24,24 @@ fn is_statement(c: u8) -> bool
     ensures { λ r. ⌜ r ≡ sets.isStatement c ⌝ }
 {
     either(
-        either(c == 72, c == 189),
-        either(within(191, 204, c), c == 206),
+        either(c == 72, c == base_codes::EXPRESS),
+        either(
+            within(base_codes::ASSIGN, base_codes::IF, c),
+            c == base_codes::DO,
+        ),
     )
 }
 
 fn is_opener(c: u8) -> bool
     ensures { λ r. ⌜ r ≡ sets.isOpener c ⌝ }
 {
-    either(c == 72, either(within(194, 195, c), within(202, 203, c)))
+    either(
+        c == 72,
+        either(
+            within(base_codes::SEND, base_codes::RECEIVE, c),
+            within(base_codes::RUN, base_codes::SET_RUN, c),
+        ),
+    )
 }
 
 // Does an item belong to a set?
@@ -40,22 +49,31 @@ pub fn among(set: u8, c: u8) -> bool
     ensures { λ r. ⌜ r ≡ sets.among set c ⌝ }
 {
     match set {
-        1 => either(c == 212, either(c == 220, within(222, 225, c))),
-        2 => c == 188,
-        3 => either(within(210, 211, c), c == 221),
+        1 => either(
+            c == base_codes::DECLARED,
+            either(
+                c == base_codes::MESSAGE,
+                within(base_codes::PARAMETER, base_codes::ACTIVE_MANY, c),
+            ),
+        ),
+        2 => c == base_codes::LABEL,
+        3 => either(
+            within(base_codes::LOCAL, base_codes::GLOBAL, c),
+            c == base_codes::GROUP,
+        ),
         4 => is_opener(c),
-        5 => within(183, 186, c),
-        6 => c == 222,
-        7 => c == 206,
-        8 => c == 207,
-        9 => c == 219,
-        10 => c == 226,
+        5 => within(base_codes::ARGUMENT, base_codes::CONSTANT, c),
+        6 => c == base_codes::PARAMETER,
+        7 => c == base_codes::DO,
+        8 => c == base_codes::OD,
+        9 => c == base_codes::MTYPES,
+        10 => c == base_codes::INIT,
         11 => is_statement(c),
-        12 => c == 220,
-        13 => within(223, 225, c),
-        14 => either(c == 212, c == 222),
-        15 => within(223, 226, c),
-        16 => c == 217,
+        12 => c == base_codes::MESSAGE,
+        13 => within(base_codes::PROCTYPE, base_codes::ACTIVE_MANY, c),
+        14 => either(c == base_codes::DECLARED, c == base_codes::PARAMETER),
+        15 => within(base_codes::PROCTYPE, base_codes::INIT, c),
+        16 => c == base_codes::CHANNEL,
         _ => false,
     }
 }
@@ -112,7 +130,7 @@ fn is_clear(codes: &[u8], set: u8, from: usize, to: usize) -> bool
     if codes.len() < to {
         return false;
     }
-    highest(&codes[from..to]) < 212
+    highest(&codes[from..to]) < base_codes::DECLARED
 }
 
 // The first item from a place on, below `to`, that declares the name; `to` where there is none.

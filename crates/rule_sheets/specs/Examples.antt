@@ -2,6 +2,7 @@
 use Prim.Native.Nat.{ℕ}
 use mathlib.Core.Path.{_≡_, refl}
 use mathlib.Core.List.{List, [], _∷_}
+use Rattle.base_codes.specs.Codes.{c-add, c-body, c-end-body, c-index, c-init, c-skip}
 use Rattle.rule_sheets.specs.Walks.{filled}
 use Rattle.spec_text.specs.Formats.{formatFrom, formatOf}
 use Rattle.rule_sheets.specs.Homes.{insideOf, homeOf}
@@ -18,20 +19,20 @@ unfolding formatFrom
 ending = refl
 
 -- `init{skip}`: init is in no body, the statement in the body of item 0
-inner : homeOf (226 ∷ 227 ∷ 197 ∷ 228 ∷ []) 2 ≡ 1
+inner : homeOf (c-init ∷ c-body ∷ c-skip ∷ c-end-body ∷ []) 2 ≡ 1
 unfolding homeOf insideOf
 inner = refl
 
-outer : homeOf (226 ∷ 227 ∷ 197 ∷ 228 ∷ []) 0 ≡ 0
+outer : homeOf (c-init ∷ c-body ∷ c-skip ∷ c-end-body ∷ []) 0 ≡ 0
 unfolding homeOf insideOf
 outer = refl
 
 -- `a[1]+2`, as a 1 index 2 +: the sum starts at 0, its first operand too
-starts : filled (startOf (70 ∷ 71 ∷ 177 ∷ 71 ∷ 160 ∷ [])) 0 5 (0 ∷ 0 ∷ 0 ∷ 0 ∷ 0 ∷ []) ≡ 0 ∷ 1 ∷ 0 ∷ 3 ∷ 0 ∷ []
+starts : filled (startOf (70 ∷ 71 ∷ c-index ∷ 71 ∷ c-add ∷ [])) 0 5 (0 ∷ 0 ∷ 0 ∷ 0 ∷ 0 ∷ []) ≡ 0 ∷ 1 ∷ 0 ∷ 3 ∷ 0 ∷ []
 unfolding filled startOf shapeOf
 starts = refl
 
 -- and is 3 high
-heights : filled (heightOf (70 ∷ 71 ∷ 177 ∷ 71 ∷ 160 ∷ []) (0 ∷ 1 ∷ 0 ∷ 3 ∷ 0 ∷ [])) 0 5 (0 ∷ 0 ∷ 0 ∷ 0 ∷ 0 ∷ []) ≡ 1 ∷ 1 ∷ 2 ∷ 1 ∷ 3 ∷ []
+heights : filled (heightOf (70 ∷ 71 ∷ c-index ∷ 71 ∷ c-add ∷ []) (0 ∷ 1 ∷ 0 ∷ 3 ∷ 0 ∷ [])) 0 5 (0 ∷ 0 ∷ 0 ∷ 0 ∷ 0 ∷ []) ≡ 1 ∷ 1 ∷ 2 ∷ 1 ∷ 3 ∷ []
 unfolding filled heightOf shapeOf
 heights = refl

@@ -6,16 +6,17 @@ use mathlib.Core.Bool.{Bool}
 use mathlib.Core.List.{List}
 use lib.ListN.{length, getD}
 use lib.Dec.{eqb, ltb}
+use Rattle.base_codes.specs.Codes.{c-body, c-end-body, c-parameter}
 use Rattle.base_bytes.specs.Choice.{pick, both}
 use Rattle.rule_sheets.specs.Walks.{filled}
 
 -- a unit with a body begins
 abbrev pub heads : ℕ → Bool
-heads c = both (ltb 222 c) (ltb c 227)
+heads c = both (ltb c-parameter c) (ltb c c-body)
 
 -- the body behind item j, where it is in h
 abbrev pub inside : ℕ → ℕ → ℕ → ℕ
-inside c j h = pick (heads c) (j + 1) (pick (eqb c 228) 0 h)
+inside c j h = pick (heads c) (j + 1) (pick (eqb c c-end-body) 0 h)
 
 -- the body that is open before item j
 unfoldable pub insideOf : List ℕ → ℕ → ℕ

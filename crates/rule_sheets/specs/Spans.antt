@@ -5,6 +5,7 @@ use mathlib.Core.Bool.{Bool}
 use mathlib.Core.List.{List}
 use lib.ListN.{length, getD}
 use lib.Dec.{eqb, ltb, leb}
+use Rattle.base_codes.specs.Codes.{c-bit, c-choice, c-index, c-len, c-negate, c-plain, c-remainder}
 use Rattle.base_bytes.specs.Choice.{pick, both, either}
 use Rattle.rule_sheets.specs.Walks.{filled}
 
@@ -12,11 +13,11 @@ use Rattle.rule_sheets.specs.Walks.{filled}
 -- 1 name plain (176) | 2 name A index (177) | 3 A len, A unary (180, 165 to 167) | 4 A B binary (147 to 164) | 5 A B otherwise C choice (182) | 0 any other
 unfoldable pub shapeOf : ℕ → ℕ
 shapeOf c =
-    pick (eqb c 176) 1
-    (pick (eqb c 177) 2
-    (pick (either (eqb c 180) (both (ltb 164 c) (ltb c 168))) 3
-    (pick (both (ltb 146 c) (ltb c 165)) 4
-    (pick (eqb c 182) 5 0))))
+    pick (eqb c c-plain) 1
+    (pick (eqb c c-index) 2
+    (pick (either (eqb c c-len) (both (ltb c-remainder c) (ltb c c-bit))) 3
+    (pick (both (ltb 146 c) (ltb c c-negate)) 4
+    (pick (eqb c c-choice) 5 0))))
 
 -- the last operand of item j ends at j - 1. Where it starts at s, the one before it ends at s - 1, and the middle one of a conditional at s - 2.
 unfoldable pub startOf : List ℕ → List ℕ → ℕ → ℕ

@@ -252,7 +252,7 @@ pub fn fill_args(
 fn is_head(c: u8) -> bool
     ensures { λ r. ⌜ r ≡ heads c ⌝ }
 {
-    both(222 < c, c < 227)
+    both(base_codes::PARAMETER < c, c < base_codes::BODY)
 }
 
 // The body that the items behind item j are in, where item j is in h.
@@ -264,7 +264,7 @@ fn inside(c: u8, j: usize, h: usize) -> usize
     if is_head(c) {
         return j + 1;
     }
-    if c == 228 { 0 } else { h }
+    if c == base_codes::END_BODY { 0 } else { h }
 }
 
 // For each item the body that it is in.
@@ -288,15 +288,22 @@ fn shape_of(c: u8) -> u8
     ensures { λ r. ⌜ r ≡ shapeOf c ⌝ }
 {
     choose(
-        c == 176,
+        c == base_codes::PLAIN,
         1,
         choose(
-            c == 177,
+            c == base_codes::INDEX,
             2,
             choose(
-                either(c == 180, both(164 < c, c < 168)),
+                either(
+                    c == base_codes::LEN,
+                    both(base_codes::REMAINDER < c, c < base_codes::BIT),
+                ),
                 3,
-                choose(both(146 < c, c < 165), 4, choose(c == 182, 5, 0)),
+                choose(
+                    both(146 < c, c < base_codes::NEGATE),
+                    4,
+                    choose(c == base_codes::CHOICE, 5, 0),
+                ),
             ),
         ),
     )

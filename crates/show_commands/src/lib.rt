@@ -242,7 +242,7 @@ fn put_processes(
         put(b" ");
         show_state::put_proctype(t, state_layout::unit_of(s, p as u8) as usize);
         let q = state_layout::place_of(s, p as u8) as usize;
-        if table_layout::code(t, q) == 228 {
+        if table_layout::code(t, q) == base_codes::END_BODY {
             put(b" ended\n");
         } else {
             put(b" at ");

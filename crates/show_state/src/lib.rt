@@ -34,7 +34,7 @@ fn put_name(t: &[u32], j: usize) {
 
 // The name of the unit that item u begins: what stands before it, or `init`.
 pub fn put_proctype(t: &[u32], u: usize) {
-    if table_layout::code(t, u) == 226 {
+    if table_layout::code(t, u) == base_codes::INIT {
         put(b"init");
     } else {
         put_name(t, step_eval::minus_one(u));
@@ -56,7 +56,7 @@ fn put_variable(t: &[u32], s: &[i32], p: u8, j: usize) {
 }
 
 fn is_global(t: &[u32], j: usize) -> bool {
-    if table_layout::code(t, j) == 212 {
+    if table_layout::code(t, j) == base_codes::DECLARED {
         table_layout::link(t, j) / 8 % 2 == 0
     } else {
         false
@@ -65,8 +65,8 @@ fn is_global(t: &[u32], j: usize) -> bool {
 
 fn is_local(t: &[u32], j: usize) -> bool {
     match table_layout::code(t, j) {
-        212 => true,
-        222 => true,
+        base_codes::DECLARED => true,
+        base_codes::PARAMETER => true,
         _ => false,
     }
 }
@@ -144,7 +144,7 @@ fn put_stored(t: &[u32], before: &[i32], after: &[i32], p: u8, from: usize, m: u
             let d = table_layout::link(t, r);
             put(b"\tstored ");
             put_name(t, step_eval::minus_one(d));
-            if table_layout::code(t, r) == 177 {
+            if table_layout::code(t, r) == base_codes::INDEX {
                 let l = table_layout::link(t, d) as u32;
                 put(b"[");
                 put_number(rule_sheets::minus(i, step_eval::slot(l, p, 0)));
@@ -163,7 +163,7 @@ fn put_received(t: &[u32], before: &[i32], after: &[i32], p: u8, a: usize) {
     let mut from = a;
     let mut n: usize = 0;
     while n < FIELDS_MOST {
-        if table_layout::code(t, from) == 187 {
+        if table_layout::code(t, from) == base_codes::END {
             return;
         }
         let m = table_layout::link(t, from);
@@ -226,7 +226,7 @@ fn put_started(t: &[u32], before: &[i32], u: u32) {
 fn put_assigned(t: &[u32], before: &[i32], after: &[i32], p: u8, q: u32, m: usize) {
     put_stored(t, before, after, p, q as usize, m);
     let e = table_layout::link(t, m);
-    if table_layout::code(t, e) == 203 {
+    if table_layout::code(t, e) == base_codes::SET_RUN {
         put_started(t, before, table_layout::link(t, e) as u32);
     }
 }
@@ -235,12 +235,12 @@ fn put_assigned(t: &[u32], before: &[i32], after: &[i32], p: u8, q: u32, m: usiz
 pub fn put_effects(t: &[u32], before: &[i32], after: &[i32], p: u8, q: u32) {
     let m = step_ready::mark(t, q);
     match table_layout::code(t, m) {
-        190 => put_assigned(t, before, after, p, q, m),
-        192 => put_stored(t, before, after, p, q as usize, m),
-        193 => put_stored(t, before, after, p, q as usize, m),
-        194 => put_sent(t, before, after, p, q, m),
-        195 => put_taken(t, before, after, p, q, m as u32),
-        202 => put_started(t, before, table_layout::link(t, m) as u32),
+        base_codes::TARGET => put_assigned(t, before, after, p, q, m),
+        base_codes::INCREMENT => put_stored(t, before, after, p, q as usize, m),
+        base_codes::DECREMENT => put_stored(t, before, after, p, q as usize, m),
+        base_codes::SEND => put_sent(t, before, after, p, q, m),
+        base_codes::RECEIVE => put_taken(t, before, after, p, q, m as u32),
+        base_codes::RUN => put_started(t, before, table_layout::link(t, m) as u32),
         _ => {}
     }
 }

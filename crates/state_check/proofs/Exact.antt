@@ -9,6 +9,7 @@ use lib.ListN.{length}
 use lib.IntN.{ℤ, pos, negsuc}
 use lib.Dec.{eqb, ltb, leb}
 use borrow.Author.Tests.{eq-eqb, lt-ltb, le-leb}
+use Rattle.base_codes.specs.Codes.{c-channel, c-init, c-proctype}
 use Rattle.base_bytes.specs.Choice.{pick, both, either}
 use Rattle.rule_search.specs.Sets.{within}
 use Rattle.table_layout.specs.Access.{codeOf, linkOf}
@@ -101,16 +102,16 @@ module _ (t : List ℕ) (s : List ℤ) (st : Stands t s) where
   unfolding processSound isProcess
   process-holds p h =
       both-hold (countsFrom s (itemsLast t) (itemsLast t) (processAt p)) (isProcess t s p) (counts-hold s (itemsLast t) (itemsLast t) (processAt p) (omega arith) (omega arith) (st .heads p h .0) (st .heads p h .1))
-      (both-hold (within 223 226 (codeOf t (unitOf s p))) _
-      (both-hold (leb 223 (codeOf t (unitOf s p))) (leb (codeOf t (unitOf s p)) 226) (le-leb 223 (codeOf t (unitOf s p)) (st .units p h .0)) (le-leb (codeOf t (unitOf s p)) 226 (st .units p h .1)))
+      (both-hold (within c-proctype c-init (codeOf t (unitOf s p))) _
+      (both-hold (leb c-proctype (codeOf t (unitOf s p))) (leb (codeOf t (unitOf s p)) c-init) (le-leb c-proctype (codeOf t (unitOf s p)) (st .units p h .0)) (le-leb (codeOf t (unitOf s p)) c-init (st .units p h .1)))
       (both-hold (belongs t (unitOf s p) (placeOf s p)) (localsFit t s p (unitOf s p)) (belongs-holds (unitOf s p) (placeOf s p) (st .places p h)) (locals-hold p h)))
 
   channel-holds : (c : ℕ) → c < channelsOf s → channelSound t s c ≡ true
   unfolding channelSound isChannel
   channel-holds c h =
       both-hold (countsFrom s (itemsLast t) messagesMost (channelAt c)) (isChannel t s c) (counts-hold s (itemsLast t) messagesMost (channelAt c) (omega arith) (omega arith) (st .records c h .0) (st .records c h .1))
-      (both-hold (both (eqb (codeOf t (declaredOf s c)) 217) (leb (waitingOf s c) (capacityOf t (declaredOf s c)))) _
-      (both-hold (eqb (codeOf t (declaredOf s c)) 217) _ (eq-eqb (codeOf t (declaredOf s c)) 217 (st .declarations c h)) (le-leb (waitingOf s c) (capacityOf t (declaredOf s c)) (st .room c h)))
+      (both-hold (both (eqb (codeOf t (declaredOf s c)) c-channel) (leb (waitingOf s c) (capacityOf t (declaredOf s c)))) _
+      (both-hold (eqb (codeOf t (declaredOf s c)) c-channel) _ (eq-eqb (codeOf t (declaredOf s c)) c-channel (st .declarations c h)) (le-leb (waitingOf s c) (capacityOf t (declaredOf s c)) (st .room c h)))
       (messages-hold c h))
 
   sound-holds : sound t s ≡ true

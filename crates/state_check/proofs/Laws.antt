@@ -10,6 +10,7 @@ use lib.Dec.{eqb, ltb, leb}
 use borrow.Author.Tests.{le-leb, lt-leb}
 use mir.Syntax.{w32}
 use mir.Val.{ofZ}
+use Rattle.base_codes.specs.Codes.{c-channel, c-init, c-proctype}
 use Rattle.base_bytes.specs.Choice.{both, either}
 use Rattle.rule_search.specs.Sets.{within}
 use Rattle.link_places.specs.Places.{isPart, isMark, isAlone, isLead}
@@ -51,17 +52,17 @@ counts-both s a b i ex ey er = er ∙ (λ j. both (ex j) (ey j))
 
 -- ---- processes and channels that are some of the model's
 module _ (t : List ℕ) (s : List ℤ) where
-  pub process-is : (p : ℕ) {u c q : ℕ} {w b l z r : Bool} → u ≡ unitOf s p → c ≡ codeOf t u → w ≡ within 223 226 c → q ≡ placeOf s p → b ≡ belongs t u q → l ≡ localsFit t s p u → z ≡ both b l
+  pub process-is : (p : ℕ) {u c q : ℕ} {w b l z r : Bool} → u ≡ unitOf s p → c ≡ codeOf t u → w ≡ within c-proctype c-init c → q ≡ placeOf s p → b ≡ belongs t u q → l ≡ localsFit t s p u → z ≡ both b l
       → r ≡ both w z → r ≡ isProcess t s p
   unfolding isProcess
   process-is p eu ec ew eq eb el ez er =
-      er ∙ (λ i. both ((ew ∙ ap (within 223 226) (ec ∙ ap (codeOf t) eu)) i) ((ez ∙ (λ j. both ((eb ∙ (λ k. belongs t (eu k) (eq k))) j) ((el ∙ ap (localsFit t s p) eu) j))) i))
+      er ∙ (λ i. both ((ew ∙ ap (within c-proctype c-init) (ec ∙ ap (codeOf t) eu)) i) ((ez ∙ (λ j. both ((eb ∙ (λ k. belongs t (eu k) (eq k))) j) ((el ∙ ap (localsFit t s p) eu) j))) i))
 
-  pub channel-is : (c : ℕ) {d k w m n : ℕ} {a b r : Bool} → d ≡ declaredOf s c → w ≡ waitingOf s c → k ≡ codeOf t d → m ≡ capacityOf t d → a ≡ both (eqb k 217) (leb w m) → n ≡ min 8 w
+  pub channel-is : (c : ℕ) {d k w m n : ℕ} {a b r : Bool} → d ≡ declaredOf s c → w ≡ waitingOf s c → k ≡ codeOf t d → m ≡ capacityOf t d → a ≡ both (eqb k c-channel) (leb w m) → n ≡ min 8 w
       → b ≡ every (messageFits t s c d) 0 n → r ≡ both a b → r ≡ isChannel t s c
   unfolding isChannel
   channel-is c ed ew ek em ea en eb er =
-      er ∙ (λ i. both ((ea ∙ (λ j. both (eqb ((ek ∙ ap (codeOf t) ed) j) 217) (leb (ew j) ((em ∙ ap (capacityOf t) ed) j)))) i) ((eb ∙ (λ j. every (messageFits t s c (ed j)) 0 ((en ∙ ap (min 8) ew) j))) i))
+      er ∙ (λ i. both ((ea ∙ (λ j. both (eqb ((ek ∙ ap (codeOf t) ed) j) c-channel) (leb (ew j) ((em ∙ ap (capacityOf t) ed) j)))) i) ((eb ∙ (λ j. every (messageFits t s c (ed j)) 0 ((en ∙ ap (min 8) ew) j))) i))
 
   pub process-sound : (p : ℕ) {e i : ℕ} {a b r : Bool} → e ≡ itemsLast t → i ≡ processAt p → a ≡ countsFrom s e e i → b ≡ isProcess t s p → r ≡ both a b → r ≡ processSound t s p
   unfolding processSound

@@ -11,6 +11,7 @@ use lib.Seq.{getD-set-other}
 use lib.IntN.{ℤ, pos, negsuc}
 use lib.Dec.{eqb, ltb, leb}
 use borrow.Author.Tests.{eqb-true, ltb-true, leb-true}
+use Rattle.base_codes.specs.Codes.{c-channel, c-init, c-proctype}
 use Rattle.base_bytes.specs.Choice.{pick, both}
 use Rattle.base_bytes.proofs.Tests.{both-true, either-true, true-false}
 use Rattle.table_layout.specs.Access.{codeOf, linkOf}
@@ -102,21 +103,21 @@ module _ (t : List ℕ) (s : List ℤ) where
           inr (ltb-true u q (c .0), ltb-true q (linkOf t u) (c .1), b .1)
 
   process-parts : (p : ℕ) → isProcess t s p ≡ true
-      → (223 ≤ codeOf t (unitOf s p)) × (codeOf t (unitOf s p) ≤ 226) × (belongs t (unitOf s p) (placeOf s p) ≡ true) × (localsFit t s p (unitOf s p) ≡ true)
+      → (c-proctype ≤ codeOf t (unitOf s p)) × (codeOf t (unitOf s p) ≤ c-init) × (belongs t (unitOf s p) (placeOf s p) ≡ true) × (localsFit t s p (unitOf s p) ≡ true)
   unfolding isProcess
   process-parts p e =
       let a = both-true _ (both (belongs t (unitOf s p) (placeOf s p)) (localsFit t s p (unitOf s p))) e in
-      let b = both-true (leb 223 (codeOf t (unitOf s p))) (leb (codeOf t (unitOf s p)) 226) (a .0) in
+      let b = both-true (leb c-proctype (codeOf t (unitOf s p))) (leb (codeOf t (unitOf s p)) c-init) (a .0) in
       let c = both-true (belongs t (unitOf s p) (placeOf s p)) (localsFit t s p (unitOf s p)) (a .1) in
-      (leb-true 223 (codeOf t (unitOf s p)) (b .0), leb-true (codeOf t (unitOf s p)) 226 (b .1), c .0, c .1)
+      (leb-true c-proctype (codeOf t (unitOf s p)) (b .0), leb-true (codeOf t (unitOf s p)) c-init (b .1), c .0, c .1)
 
   channel-parts : (c : ℕ) → isChannel t s c ≡ true
-      → (codeOf t (declaredOf s c) ≡ 217) × (waitingOf s c ≤ capacityOf t (declaredOf s c)) × (every (messageFits t s c (declaredOf s c)) 0 (messagesIn s c) ≡ true)
+      → (codeOf t (declaredOf s c) ≡ c-channel) × (waitingOf s c ≤ capacityOf t (declaredOf s c)) × (every (messageFits t s c (declaredOf s c)) 0 (messagesIn s c) ≡ true)
   unfolding isChannel
   channel-parts c e =
-      let a = both-true (both (eqb (codeOf t (declaredOf s c)) 217) (leb (waitingOf s c) (capacityOf t (declaredOf s c)))) (every (messageFits t s c (declaredOf s c)) 0 (messagesIn s c)) e in
-      let b = both-true (eqb (codeOf t (declaredOf s c)) 217) (leb (waitingOf s c) (capacityOf t (declaredOf s c))) (a .0) in
-      (eqb-true (codeOf t (declaredOf s c)) 217 (b .0), leb-true (waitingOf s c) (capacityOf t (declaredOf s c)) (b .1), a .1)
+      let a = both-true (both (eqb (codeOf t (declaredOf s c)) c-channel) (leb (waitingOf s c) (capacityOf t (declaredOf s c)))) (every (messageFits t s c (declaredOf s c)) 0 (messagesIn s c)) e in
+      let b = both-true (eqb (codeOf t (declaredOf s c)) c-channel) (leb (waitingOf s c) (capacityOf t (declaredOf s c))) (a .0) in
+      (eqb-true (codeOf t (declaredOf s c)) c-channel (b .0), leb-true (waitingOf s c) (capacityOf t (declaredOf s c)) (b .1), a .1)
 
   process-both : (p : ℕ) → processSound t s p ≡ true → (countsFrom s (itemsLast t) (itemsLast t) (processAt p) ≡ true) × (isProcess t s p ≡ true)
   unfolding processSound

@@ -9,6 +9,7 @@ use mathlib.Core.List.{List}
 use mathlib.Core.Logic.{_⊎_}
 use lib.ListN.{length}
 use lib.IntN.{ℤ, pos}
+use Rattle.base_codes.specs.Codes.{c-channel, c-init, c-proctype}
 use Rattle.table_layout.specs.Access.{codeOf, linkOf}
 use Rattle.base_values.specs.Types.{castOf}
 use Rattle.state_layout.specs.Layout.{stateSize, cellOf, countOf, processAt, channelAt, fieldAt, processesOf, channelsOf, unitOf, placeOf, declaredOf, waitingOf}
@@ -50,11 +51,11 @@ pub record Stands (t : List ℕ) (s : List ℤ) : Type 0 where
   pub locals : (p j k : ℕ) → p < processesOf s → j < unitLength t (unitOf s p) → isLocal t (unitOf s p + j) ≡ true → k < sizeOf (linkOf t (unitOf s p + j))
       → InType s (typeOf (linkOf t (unitOf s p + j))) (slotOf (linkOf t (unitOf s p + j)) p k)
   -- "places that belong to the process's proctype or its end"
-  pub units : (p : ℕ) → p < processesOf s → (223 ≤ codeOf t (unitOf s p)) × (codeOf t (unitOf s p) ≤ 226)
+  pub units : (p : ℕ) → p < processesOf s → (c-proctype ≤ codeOf t (unitOf s p)) × (codeOf t (unitOf s p) ≤ c-init)
   pub places : (p : ℕ) → p < processesOf s
       → (placeOf s p ≡ linkOf t (unitOf s p)) ⊎ ((unitOf s p < placeOf s p) × (placeOf s p < linkOf t (unitOf s p)) × (placeAt t (placeOf s p) ≡ true))
   -- "channels with the capacity and fields of some declaration"
-  pub declarations : (c : ℕ) → c < channelsOf s → codeOf t (declaredOf s c) ≡ 217
+  pub declarations : (c : ℕ) → c < channelsOf s → codeOf t (declaredOf s c) ≡ c-channel
   pub room : (c : ℕ) → c < channelsOf s → waitingOf s c ≤ capacityOf t (declaredOf s c)
   -- "messages in their field types"
   pub messages : (c m f : ℕ) → c < channelsOf s → m < waitingOf s c → f < fieldsOf t (declaredOf s c) → InType s (fieldType t (declaredOf s c) f) (fieldAt c m f)

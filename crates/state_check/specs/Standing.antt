@@ -8,6 +8,7 @@ use mathlib.Core.List.{List}
 use lib.ListN.{length}
 use lib.IntN.{ℤ}
 use lib.Dec.{eqb, ltb, leb}
+use Rattle.base_codes.specs.Codes.{c-channel, c-init, c-proctype}
 use Rattle.base_bytes.specs.Choice.{pick, both, either}
 use Rattle.rule_search.specs.Sets.{within}
 use Rattle.link_places.specs.Places.{isPart, isMark, isAlone, isLead}
@@ -36,12 +37,12 @@ module _ (t : List ℕ) where
   module _ (s : List ℤ) where
     -- what begins a unit with a body: 223 to 226
     unfoldable pub isProcess : ℕ → Bool
-    isProcess p = both (within 223 226 (codeOf t (unitOf s p))) (both (belongs (unitOf s p) (placeOf s p)) (localsFit t s p (unitOf s p)))
+    isProcess p = both (within c-proctype c-init (codeOf t (unitOf s p))) (both (belongs (unitOf s p) (placeOf s p)) (localsFit t s p (unitOf s p)))
 
     -- "channels with the capacity and fields of some declaration": a `channel` item (217)
     unfoldable pub isChannel : ℕ → Bool
     isChannel c =
-        both (both (eqb (codeOf t (declaredOf s c)) 217) (leb (waitingOf s c) (capacityOf t (declaredOf s c))))
+        both (both (eqb (codeOf t (declaredOf s c)) c-channel) (leb (waitingOf s c) (capacityOf t (declaredOf s c))))
         (every (messageFits t s c (declaredOf s c)) 0 (messagesIn s c))
 
     -- the two numbers before those of variables and messages

@@ -65,7 +65,11 @@ fn is_process(t: &[u32], s: &[i32], p: u8) -> bool
 {
     let u = state_layout::unit_of(s, p);
     both(
-        within(223, 226, table_layout::code(t, u as usize)),
+        within(
+            base_codes::PROCTYPE,
+            base_codes::INIT,
+            table_layout::code(t, u as usize),
+        ),
         both(
             belongs(t, u, state_layout::place_of(s, p)),
             state_types::locals_fit(t, s, p, u),
@@ -103,7 +107,7 @@ fn is_channel(t: &[u32], s: &[i32], c: u32) -> bool
     let n = state_layout::waiting_of(s, c) as usize;
     both(
         both(
-            table_layout::code(t, d as usize) == 217,
+            table_layout::code(t, d as usize) == base_codes::CHANNEL,
             n <= step_ready::capacity(t, d),
         ),
         state_types::messages_fit(t, s, c, d, base_bytes::least(8, n) as u32),

@@ -7,6 +7,7 @@ use mathlib.Core.List.{List, [], _∷_, _++_}
 use lib.ListN.{length, getD}
 use lib.IntN.{ℤ}
 use lib.Dec.{eqb}
+use Rattle.base_codes.specs.Codes.{c-message}
 use Rattle.base_bytes.specs.Lists.{same}
 use Rattle.spec_text.specs.Names.{pid}
 use Rattle.table_layout.specs.Access.{codeOf, linkOf}
@@ -47,17 +48,17 @@ pub record Linked (l : ℕ) (x : Var) (at : ℕ → ℕ → ℕ) (i : ℕ) : Typ
 
 -- what item d is, for a name of this meaning
 pub data Item (T : List ℕ) (m : Model) (u d : ℕ) : Meaning → Type 0 where
-  of-local : {i : ℕ} {x : Var} → i < length (variablesOf (unitAt m u)) → getD (variablesOf (unitAt m u)) i noVar ≡ x → 1 ≤ x .size → eqb (codeOf T d) 220 ≡ false → eqb (codeOf T d) 70 ≡ false
+  of-local : {i : ℕ} {x : Var} → i < length (variablesOf (unitAt m u)) → getD (variablesOf (unitAt m u)) i noVar ≡ x → 1 ≤ x .size → eqb (codeOf T d) c-message ≡ false → eqb (codeOf T d) 70 ≡ false
       → Linked (linkOf T d) x localAt (offsetOf (variablesOf (unitAt m u)) i) → Item T m u d (local i x)
-  of-global : {i : ℕ} {x : Var} → i < length (globalsOf m) → getD (globalsOf m) i noVar ≡ x → 1 ≤ x .size → eqb (codeOf T d) 220 ≡ false → eqb (codeOf T d) 70 ≡ false
+  of-global : {i : ℕ} {x : Var} → i < length (globalsOf m) → getD (globalsOf m) i noVar ≡ x → 1 ≤ x .size → eqb (codeOf T d) c-message ≡ false → eqb (codeOf T d) 70 ≡ false
       → Linked (linkOf T d) x (λ p k. globalAt k) (offsetOf (globalsOf m) i) → Item T m u d (global i x)
-  of-message : {n : ℕ} → codeOf T d ≡ 220 → linkOf T d ≡ n → n ≤ 64 → Item T m u d (message n)
+  of-message : {n : ℕ} → codeOf T d ≡ c-message → linkOf T d ≡ n → n ≤ 64 → Item T m u d (message n)
 
 pub record Tabled (P : ℕ → ℕ → Type 0) (m : Model) (u : ℕ) (at : Place) (T : List ℕ) (decl head : Name → ℕ) : Type 0 where
   -- ## names
   pub names : (w : Name) → same w pid ≡ false → usable (sense at) operand false w ≡ true → Item T m u (decl w) (meant m (unitAt m u) w)
   pub stores : (w : Name) → storable (sense at) w ≡ true → (Item T m u (decl w) (meant m (unitAt m u) w)) × (isVariable m 0 (meant m (unitAt m u) w) ≡ true)
-  pub constants : (w : Name) (i : Bool) → usable (sense at) received i w ≡ true → (isMessage m 0 (meant m (unitAt m u) w) ≡ isConstant (sense at w)) × (eqb (codeOf T (decl w)) 220 ≡ isConstant (sense at w))
+  pub constants : (w : Name) (i : Bool) → usable (sense at) received i w ≡ true → (isMessage m 0 (meant m (unitAt m u) w) ≡ isConstant (sense at w)) × (eqb (codeOf T (decl w)) c-message ≡ isConstant (sense at w))
   -- ## ceilings
   pub globals : totalOf (globalsOf m) ≤ 64
   pub locals : totalOf (variablesOf (unitAt m u)) ≤ 32

@@ -12,6 +12,7 @@ use borrow.Author.Tests.{ne-eqb, eq-eqb, lt-ltb, le-ltb}
 use mir.Syntax.{w32}
 use mir.Val.{toZ, ofZ, SFits}
 use mir.ValLaws.{toZ-ofZ}
+use Rattle.base_codes.specs.Codes.{c-active, c-active-many, c-body, c-channel, c-declared, c-init, c-minus, c-named, c-true, c-value}
 use Rattle.table_layout.specs.Access.{itemsOf, codeOf, linkOf, numberOf}
 use Rattle.base_values.specs.Operators.{unaryOf}
 use Rattle.base_values.specs.Types.{castOf}
@@ -29,30 +30,30 @@ module _ (t : List ℕ) (k : ℕ) {c : ℕ} (ec : c ≡ codeOf t k) where
   unfolding literalOf
   literal-number e en h er = rw (← ec, e) (back h ∙ er ∙ ap kept en)
 
-  pub literal-true : c ≡ 178 → pos 1 ≡ literalOf t k
+  pub literal-true : c ≡ c-true → pos 1 ≡ literalOf t k
   unfolding literalOf
   literal-true e = rw (← ec, e)
 
-  pub literal-none : (c ≡ 71 → ⊥) → (c ≡ 178 → ⊥) → pos 0 ≡ literalOf t k
+  pub literal-none : (c ≡ 71 → ⊥) → (c ≡ c-true → ⊥) → pos 0 ≡ literalOf t k
   unfolding literalOf
-  literal-none a b = rw (← ec, ne-eqb c 71 a, ne-eqb c 178 b)
+  literal-none a b = rw (← ec, ne-eqb c 71 a, ne-eqb c c-true b)
 
 module _ (t : List ℕ) (k : ℕ) {c : ℕ} (ec : c ≡ codeOf t (k + 1)) where
-  pub value-plain : c ≡ 214 → {r : ℤ} → mag r < 2 ^ 31 → r ≡ literalOf t k → toZ w32 (ofZ w32 r) ≡ valueOf t k
+  pub value-plain : c ≡ c-value → {r : ℤ} → mag r < 2 ^ 31 → r ≡ literalOf t k → toZ w32 (ofZ w32 r) ≡ valueOf t k
   unfolding valueOf
   value-plain e h er = rw (← ec, e) (back h ∙ er)
 
-  pub value-minus : c ≡ 215 → {x r : ℤ} → mag x < 2 ^ 31 → x ≡ literalOf t k → mag r < 2 ^ 31 → r ≡ unaryOf 15 (toZ w32 (ofZ w32 x)) → toZ w32 (ofZ w32 r) ≡ valueOf t k
+  pub value-minus : c ≡ c-minus → {x r : ℤ} → mag x < 2 ^ 31 → x ≡ literalOf t k → mag r < 2 ^ 31 → r ≡ unaryOf 15 (toZ w32 (ofZ w32 x)) → toZ w32 (ofZ w32 r) ≡ valueOf t k
   unfolding valueOf
   value-minus e g ex h er = rw (← ec, e) (back h ∙ er ∙ ap (unaryOf 15) (back g ∙ ex))
 
-  pub value-named : c ≡ 216 → {l m : ℕ} {r : ℤ} → l ≡ linkOf t (k + 1) → m ≡ linkOf t l → mag r < 2 ^ 31 → r ≡ kept m → toZ w32 (ofZ w32 r) ≡ valueOf t k
+  pub value-named : c ≡ c-named → {l m : ℕ} {r : ℤ} → l ≡ linkOf t (k + 1) → m ≡ linkOf t l → mag r < 2 ^ 31 → r ≡ kept m → toZ w32 (ofZ w32 r) ≡ valueOf t k
   unfolding valueOf
   value-named e el em h er = rw (← ec, e) (back h ∙ er ∙ ap kept (em ∙ ap (linkOf t) el))
 
-  pub value-none : (c ≡ 214 → ⊥) → (c ≡ 215 → ⊥) → (c ≡ 216 → ⊥) → pos 0 ≡ valueOf t k
+  pub value-none : (c ≡ c-value → ⊥) → (c ≡ c-minus → ⊥) → (c ≡ c-named → ⊥) → pos 0 ≡ valueOf t k
   unfolding valueOf
-  value-none x y z = rw (← ec, ne-eqb c 214 x, ne-eqb c 215 y, ne-eqb c 216 z)
+  value-none x y z = rw (← ec, ne-eqb c c-value x, ne-eqb c c-minus y, ne-eqb c c-named z)
 
 -- ---- stores
 pub stored-as : (s s′ : List ℤ) (l p : ℕ) (v : ℤ) {i ty : ℕ} {z : ℤ} → SFits w32 v → i ≡ slotOf l p 0 → ty ≡ typeOf l → z ≡ castOf ty (toZ w32 (ofZ w32 v)) → mag z < 2 ^ 31
@@ -64,36 +65,36 @@ unfolding channelMade
 channel-more s s₁ s₂ m ec ei e₁ e₂ = e₂ ∙ (λ i. set ((e₁ ∙ (λ j. set s ((ei ∙ ap channelAt ec) j) (kept m))) i) 1 (kept (ec i + 1)))
 
 module _ (t : List ℕ) (s : List ℤ) (l p k : ℕ) {c : ℕ} (ec : c ≡ codeOf t (k + 1)) where
-  pub variable-channel : c ≡ 217 → {s₁ s₂ : List ℤ} {n : ℕ} {z : ℤ} → n ≡ channelsOf s → s₁ ≡ channelMade (k + 1) s → mag z < 2 ^ 31 → z ≡ kept (n + 1)
+  pub variable-channel : c ≡ c-channel → {s₁ s₂ : List ℤ} {n : ℕ} {z : ℤ} → n ≡ channelsOf s → s₁ ≡ channelMade (k + 1) s → mag z < 2 ^ 31 → z ≡ kept (n + 1)
       → s₂ ≡ stored l p (toZ w32 (ofZ w32 z)) s₁ → s₂ ≡ variableMade t l p k s
   unfolding variableMade
   variable-channel e en e₁ h ez e₂ = rw (← ec, e) (e₂ ∙ (λ i. stored l p ((back h ∙ ez ∙ ap (λ n. kept (n + 1)) en) i) (e₁ i)))
 
-  pub variable-filled : (c ≡ 217 → ⊥) → {s₁ : List ℤ} {ty : ℕ} {v z : ℤ} → ty ≡ typeOf l → mag v < 2 ^ 31 → v ≡ valueOf t k → mag z < 2 ^ 31 → z ≡ castOf ty (toZ w32 (ofZ w32 v))
+  pub variable-filled : (c ≡ c-channel → ⊥) → {s₁ : List ℤ} {ty : ℕ} {v z : ℤ} → ty ≡ typeOf l → mag v < 2 ^ 31 → v ≡ valueOf t k → mag z < 2 ^ 31 → z ≡ castOf ty (toZ w32 (ofZ w32 v))
       → s₁ ≡ filled l p (toZ w32 (ofZ w32 z)) s → s₁ ≡ variableMade t l p k s
   unfolding variableMade
-  variable-filled e et g ev h ez e₁ = rw (← ec, ne-eqb c 217 e) (e₁ ∙ ap (λ z. filled l p z s) (back h ∙ ez ∙ (λ i. castOf (et i) ((back g ∙ ev) i))))
+  variable-filled e et g ev h ez e₁ = rw (← ec, ne-eqb c c-channel e) (e₁ ∙ ap (λ z. filled l p z s) (back h ∙ ez ∙ (λ i. castOf (et i) ((back g ∙ ev) i))))
 
 -- ---- items
 module _ (t : List ℕ) (s : List ℤ) (p j : ℕ) {c : ℕ} (ec : c ≡ codeOf t j) where
-  pub entered-body : c ≡ 227 → {s₁ : List ℤ} {i l : ℕ} → i ≡ processAt p → l ≡ linkOf t j → s₁ ≡ set s (i + 1) (kept l) → s₁ ≡ entered t p j s
+  pub entered-body : c ≡ c-body → {s₁ : List ℤ} {i l : ℕ} → i ≡ processAt p → l ≡ linkOf t j → s₁ ≡ set s (i + 1) (kept l) → s₁ ≡ entered t p j s
   unfolding entered
   entered-body e ei el e₁ = rw (← ec, e) (e₁ ∙ (λ k. set s (ei k + 1) (kept (el k))))
 
-  pub entered-variable : c ≡ 212 → {s₁ : List ℤ} → s₁ ≡ declared t p j s → s₁ ≡ entered t p j s
+  pub entered-variable : c ≡ c-declared → {s₁ : List ℤ} → s₁ ≡ declared t p j s → s₁ ≡ entered t p j s
   unfolding entered
   entered-variable e e₁ = rw (← ec, e) e₁
 
-  pub entered-other : (c ≡ 227 → ⊥) → (c ≡ 212 → ⊥) → s ≡ entered t p j s
+  pub entered-other : (c ≡ c-body → ⊥) → (c ≡ c-declared → ⊥) → s ≡ entered t p j s
   unfolding entered
-  entered-other a b = rw (← ec, ne-eqb c 227 a, ne-eqb c 212 b)
+  entered-other a b = rw (← ec, ne-eqb c c-body a, ne-eqb c c-declared b)
 
 module _ (t : List ℕ) (s : List ℤ) (j : ℕ) {c : ℕ} (ec : c ≡ codeOf t j) where
-  pub global-other : (c ≡ 212 → ⊥) → s ≡ globalMade t j s
+  pub global-other : (c ≡ c-declared → ⊥) → s ≡ globalMade t j s
   unfolding globalMade
-  global-other a = rw (← ec, ne-eqb c 212 a)
+  global-other a = rw (← ec, ne-eqb c c-declared a)
 
-  module _ (e : c ≡ 212) {l : ℕ} (el : l ≡ linkOf t j) where
+  module _ (e : c ≡ c-declared) {l : ℕ} (el : l ≡ linkOf t j) where
     pub global-here : l / 8 % 2 ≡ 0 → {s₁ : List ℤ} → s₁ ≡ declared t 0 j s → s₁ ≡ globalMade t j s
     unfolding globalMade
     global-here z e₁ = rw (← ec, e, eq-eqb (linkOf t j / 8 % 2) 0 (ap (λ a. a / 8 % 2) (sym el) ∙ z)) e₁
@@ -102,21 +103,21 @@ module _ (t : List ℕ) (s : List ℤ) (j : ℕ) {c : ℕ} (ec : c ≡ codeOf t 
     unfolding globalMade
     global-local z = rw (← ec, e, ne-eqb (linkOf t j / 8 % 2) 0 (λ q. z (ap (λ a. a / 8 % 2) el ∙ q)))
 
-  pub starts-one : c ≡ 224 → 1 ≡ startsOf t j
+  pub starts-one : c ≡ c-active → 1 ≡ startsOf t j
   unfolding startsOf
   starts-one e = rw (← ec, e)
 
-  pub starts-many : c ≡ 225 → {i r : ℕ} → i ≡ j - 2 → r ≡ numberOf t i → r ≡ startsOf t j
+  pub starts-many : c ≡ c-active-many → {i r : ℕ} → i ≡ j - 2 → r ≡ numberOf t i → r ≡ startsOf t j
   unfolding startsOf
   starts-many e ei er = rw (← ec, e) (er ∙ ap (numberOf t) ei)
 
-  pub starts-init : c ≡ 226 → 1 ≡ startsOf t j
+  pub starts-init : c ≡ c-init → 1 ≡ startsOf t j
   unfolding startsOf
   starts-init e = rw (← ec, e)
 
-  pub starts-none : (c ≡ 224 → ⊥) → (c ≡ 225 → ⊥) → (c ≡ 226 → ⊥) → 0 ≡ startsOf t j
+  pub starts-none : (c ≡ c-active → ⊥) → (c ≡ c-active-many → ⊥) → (c ≡ c-init → ⊥) → 0 ≡ startsOf t j
   unfolding startsOf
-  starts-none x y z = rw (← ec, ne-eqb c 224 x, ne-eqb c 225 y, ne-eqb c 226 z)
+  starts-none x y z = rw (← ec, ne-eqb c c-active x, ne-eqb c c-active-many y, ne-eqb c c-init z)
 
 -- ---- units
 pub filled-all : (l p : ℕ) (v : ℤ) (s s′ : List ℤ) {n : ℕ} → n ≡ sizeOf l → s′ ≡ walk (λ k x. set x (slotOf l p k) v) 0 n s → s′ ≡ filled l p v s

@@ -6,6 +6,7 @@ use mathlib.Core.List.{List}
 use lib.ListN.{set}
 use lib.IntN.{ℤ, pos}
 use lib.Dec.{eqb, ltb}
+use Rattle.base_codes.specs.Codes.{c-active, c-active-many, c-body, c-channel, c-declared, c-init}
 use Rattle.base_bytes.specs.Choice.{pick}
 use Rattle.table_layout.specs.Access.{itemsOf, codeOf, linkOf, numberOf}
 use Rattle.base_values.specs.Types.{castOf}
@@ -32,7 +33,7 @@ module _ (t : List ℕ) where
   -- the variable l, whose value's item is k: a new channel, or its value in every element
   unfoldable pub variableMade : ℕ → ℕ → ℕ → List ℤ → List ℤ
   variableMade l p k s =
-      pick (eqb (codeOf t (k + 1)) 217) (stored l p (kept (channelsOf s + 1)) (channelMade (k + 1) s))
+      pick (eqb (codeOf t (k + 1)) c-channel) (stored l p (kept (channelsOf s + 1)) (channelMade (k + 1) s))
       (filled l p (castOf (typeOf l) (valueOf t k)) s)
 
   -- the variable that item d declares
@@ -42,7 +43,7 @@ module _ (t : List ℕ) where
   -- ## processes
   -- item j of a proctype, or of init: `body` (227) has the first place, `declared` (212) makes a variable
   unfoldable pub entered : ℕ → ℕ → List ℤ → List ℤ
-  entered p j s = pick (eqb (codeOf t j) 227) (set s (processAt p + 1) (kept (linkOf t j))) (pick (eqb (codeOf t j) 212) (declared p j s) s)
+  entered p j s = pick (eqb (codeOf t j) c-body) (set s (processAt p + 1) (kept (linkOf t j))) (pick (eqb (codeOf t j) c-declared) (declared p j s) s)
 
   -- how many items the unit that item u begins has from there on
   unfoldable pub unitLength : ℕ → ℕ
@@ -57,11 +58,11 @@ module _ (t : List ℕ) where
   -- ## the whole
   -- item j, if it declares a global variable
   unfoldable pub globalMade : ℕ → List ℤ → List ℤ
-  globalMade j s = pick (eqb (codeOf t j) 212) (pick (eqb (linkOf t j / 8 % 2) 0) (declared 0 j s) s) s
+  globalMade j s = pick (eqb (codeOf t j) c-declared) (pick (eqb (linkOf t j / 8 % 2) 0) (declared 0 j s) s) s
 
   -- how many processes the unit that item j begins starts: active (224) 1, active-many (225) the number two items before, init (226) 1
   unfoldable pub startsOf : ℕ → ℕ
-  startsOf j = pick (eqb (codeOf t j) 224) 1 (pick (eqb (codeOf t j) 225) (numberOf t (j - 2)) (pick (eqb (codeOf t j) 226) 1 0))
+  startsOf j = pick (eqb (codeOf t j) c-active) 1 (pick (eqb (codeOf t j) c-active-many) (numberOf t (j - 2)) (pick (eqb (codeOf t j) c-init) 1 0))
 
   unfoldable pub unitStarted : ℕ → List ℤ → List ℤ
   unitStarted j s = walk (λ k x. processMade j x) 0 (min processesMost (startsOf j)) s

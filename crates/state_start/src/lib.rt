@@ -13,7 +13,7 @@ fn value_at(t: &[u32], d: u32) -> usize
     ensures { λ r. ⌜ r ≡ values.valueAt (now (t .entry)) d ⌝ }
     ensures { λ r. ⌜ r < 4294967299 ⌝ }
 {
-    if table_layout::code(t, d as usize + 2) == 213 {
+    if table_layout::code(t, d as usize + 2) == base_codes::SIZE {
         d as usize + 3
     } else {
         d as usize + 1
@@ -26,7 +26,7 @@ fn literal(t: &[u32], k: usize) -> i32
 {
     match table_layout::code(t, k) {
         71 => state_layout::kept(table_layout::number(t, k)),
-        178 => 1,
+        base_codes::TRUE => 1,
         _ => 0,
     }
 }
@@ -36,9 +36,12 @@ fn value_of(t: &[u32], k: usize) -> i32
     ensures { λ r. ⌜ r ≡ values.valueOf (now (t .entry)) k ⌝ }
 {
     match table_layout::code(t, k + 1) {
-        214 => literal(t, k),
-        215 => base_values::apply_unary(15, literal(t, k)),
-        216 => state_layout::kept(table_layout::link(t, table_layout::link(t, k + 1))),
+        base_codes::VALUE => literal(t, k),
+        base_codes::MINUS => base_values::apply_unary(15, literal(t, k)),
+        base_codes::NAMED => state_layout::kept(table_layout::link(
+            t,
+            table_layout::link(t, k + 1),
+        )),
         _ => 0,
     }
 }
@@ -80,7 +83,7 @@ fn make_variable(t: &[u32], s: &mut [i32], l: u32, p: u8, k: usize)
     requires { ⌜ k < 4294967299 ⌝ }
     ensures { λ _. ⌜ now (s .exit) ≡ starting.variableMade (now (t .entry)) l p k (now (s .entry)) ⌝ }
 {
-    if table_layout::code(t, k + 1) == 217 {
+    if table_layout::code(t, k + 1) == base_codes::CHANNEL {
         let n = state_layout::channels(s);
         make_channel(s, k + 1);
         store(s, l, p, state_layout::kept(n as usize + 1));
@@ -111,14 +114,14 @@ fn enter(t: &[u32], s: &mut [i32], p: u8, j: u32)
     ensures { λ _. ⌜ now (s .exit) ≡ starting.entered (now (t .entry)) p j (now (s .entry)) ⌝ }
 {
     match table_layout::code(t, j as usize) {
-        227 => {
+        base_codes::BODY => {
             state_layout::put_count(
                 s,
                 state_layout::process_at(p) + 1,
                 table_layout::link(t, j as usize),
             );
         }
-        212 => {
+        base_codes::DECLARED => {
             declare(t, s, p, j);
         }
         _ => {}
@@ -158,7 +161,7 @@ pub fn make_process(t: &[u32], s: &mut [i32], u: u32)
 fn make_global(t: &[u32], s: &mut [i32], j: u32)
     ensures { λ _. ⌜ now (s .exit) ≡ starting.globalMade (now (t .entry)) j (now (s .entry)) ⌝ }
 {
-    if table_layout::code(t, j as usize) == 212 {
+    if table_layout::code(t, j as usize) == base_codes::DECLARED {
         if table_layout::link(t, j as usize) / 8 % 2 == 0 {
             declare(t, s, 0, j);
         }
@@ -177,9 +180,9 @@ fn starts_of(t: &[u32], j: u32) -> usize
     ensures { λ r. ⌜ r ≡ starting.startsOf (now (t .entry)) j ⌝ }
 {
     match table_layout::code(t, j as usize) {
-        224 => 1,
-        225 => table_layout::number(t, minus_two(j)),
-        226 => 1,
+        base_codes::ACTIVE => 1,
+        base_codes::ACTIVE_MANY => table_layout::number(t, minus_two(j)),
+        base_codes::INIT => 1,
         _ => 0,
     }
 }

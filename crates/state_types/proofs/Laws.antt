@@ -9,6 +9,7 @@ use lib.Signed.{mag}
 use lib.Dec.{eqb}
 use mir.Syntax.{w32}
 use mir.Val.{toZ, ofZ}
+use Rattle.base_codes.specs.Codes.{c-declared, c-parameter}
 use Rattle.base_bytes.specs.Choice.{pick, both, either}
 use Rattle.table_layout.specs.Access.{codeOf, linkOf}
 use Rattle.base_values.specs.Types.{castOf}
@@ -22,11 +23,11 @@ use Rattle.step_ready.specs.Channels.{fieldsOf}
 use Rattle.state_types.specs.Fits.{every, countsAt, fitsAt, elementFits, variableFits, isGlobal, isLocal, fieldType, globalFits, localFits, localsFit, fieldFits, messageFits}
 
 -- ---- items
-pub global-of : (t : List ℕ) (j : ℕ) {c l : ℕ} {b : Bool} → c ≡ codeOf t j → l ≡ linkOf t j → b ≡ both (eqb c 212) (eqb (l / 8 % 2) 0) → b ≡ isGlobal t j
-global-of t j ec el e = e ∙ (λ i. both (eqb (ec i) 212) (eqb (el i / 8 % 2) 0))
+pub global-of : (t : List ℕ) (j : ℕ) {c l : ℕ} {b : Bool} → c ≡ codeOf t j → l ≡ linkOf t j → b ≡ both (eqb c c-declared) (eqb (l / 8 % 2) 0) → b ≡ isGlobal t j
+global-of t j ec el e = e ∙ (λ i. both (eqb (ec i) c-declared) (eqb (el i / 8 % 2) 0))
 
-pub local-of : (t : List ℕ) (j : ℕ) {c : ℕ} {b : Bool} → c ≡ codeOf t j → b ≡ either (eqb c 212) (eqb c 222) → b ≡ isLocal t j
-local-of t j ec e = e ∙ ap (λ c. either (eqb c 212) (eqb c 222)) ec
+pub local-of : (t : List ℕ) (j : ℕ) {c : ℕ} {b : Bool} → c ≡ codeOf t j → b ≡ either (eqb c c-declared) (eqb c c-parameter) → b ≡ isLocal t j
+local-of t j ec e = e ∙ ap (λ c. either (eqb c c-declared) (eqb c c-parameter)) ec
 
 -- ---- walks that judge
 module _ (f : ℕ → Bool) where

@@ -5,6 +5,7 @@ use mathlib.Core.Bool.{Bool, true}
 use mathlib.Core.List.{List}
 use lib.IntN.{ℤ}
 use lib.Dec.{eqb}
+use Rattle.base_codes.specs.Codes.{c-declared, c-parameter}
 use Rattle.base_bytes.specs.Choice.{pick, both, either}
 use Rattle.table_layout.specs.Access.{codeOf, linkOf}
 use Rattle.base_values.specs.Types.{castOf}
@@ -42,11 +43,11 @@ module _ (s : List ℤ) where
 module _ (t : List ℕ) where
   -- item j is a `declared` (212) that makes a global variable
   abbrev pub isGlobal : ℕ → Bool
-  isGlobal j = both (eqb (codeOf t j) 212) (eqb (linkOf t j / 8 % 2) 0)
+  isGlobal j = both (eqb (codeOf t j) c-declared) (eqb (linkOf t j / 8 % 2) 0)
 
   -- item j of a unit makes a variable of its processes: `declared` or `parameter` (222)
   abbrev pub isLocal : ℕ → Bool
-  isLocal j = either (eqb (codeOf t j) 212) (eqb (codeOf t j) 222)
+  isLocal j = either (eqb (codeOf t j) c-declared) (eqb (codeOf t j) c-parameter)
 
   -- the type of field f of the messages that the `channel` item d declares; the item of type k has the code 130 + k
   abbrev pub fieldType : ℕ → ℕ → ℕ

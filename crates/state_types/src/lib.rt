@@ -9,7 +9,7 @@ pub fn is_global(t: &[u32], j: usize) -> bool
     ensures { λ r. ⌜ r ≡ fits.isGlobal (now (t .entry)) j ⌝ }
 {
     both(
-        table_layout::code(t, j) == 212,
+        table_layout::code(t, j) == base_codes::DECLARED,
         table_layout::link(t, j) / 8 % 2 == 0,
     )
 }
@@ -19,7 +19,7 @@ pub fn is_local(t: &[u32], j: usize) -> bool
     ensures { λ r. ⌜ r ≡ fits.isLocal (now (t .entry)) j ⌝ }
 {
     let c = table_layout::code(t, j);
-    either(c == 212, c == 222)
+    either(c == base_codes::DECLARED, c == base_codes::PARAMETER)
 }
 
 // Is the number at i one from 0 to most?

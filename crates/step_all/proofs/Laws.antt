@@ -8,6 +8,7 @@ use borrow.Author.Tests.{lt-ltb, le-ltb, eq-eqb, ne-eqb}
 use lib.ListN.{length}
 use lib.IntN.{ℤ}
 use lib.Dec.{eqb, ltb}
+use Rattle.base_codes.specs.Codes.{c-end-body}
 use Rattle.table_layout.specs.Access.{codeOf}
 use Rattle.state_layout.specs.Layout.{placeOf}
 use Rattle.step_offers.specs.Offers.{isSome, pickAt}
@@ -69,11 +70,11 @@ module _ (t : List ℕ) (s : List ℤ) where
   from-start f n m e = ap (f 0) (omega arith)
 
   module _ (p n : ℕ) {c : ℕ} (h : p < n) (e : c ≡ codeOf t (placeOf s p)) where
-    pub ended-not : (c ≡ 228 → ⊥) → false ≡ endedFrom t s p (n - p)
+    pub ended-not : (c ≡ c-end-body → ⊥) → false ≡ endedFrom t s p (n - p)
     unfolding endedFrom
-    ended-not q = let z : n - p ≡ suc (n - (p + 1)) = omega arith in rw (z, ← e, ne-eqb c 228 q)
+    ended-not q = let z : n - p ≡ suc (n - (p + 1)) = omega arith in rw (z, ← e, ne-eqb c c-end-body q)
 
-    pub ended-more : c ≡ 228 → endedFrom t s (p + 1) (n - (p + 1)) ≡ endedFrom t s p (n - p)
+    pub ended-more : c ≡ c-end-body → endedFrom t s (p + 1) (n - (p + 1)) ≡ endedFrom t s p (n - p)
     unfolding endedFrom
     ended-more q = let z : n - p ≡ suc (n - (p + 1)) = omega arith in rw (z, ← e, q)
 

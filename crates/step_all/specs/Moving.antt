@@ -6,6 +6,7 @@ use mathlib.Core.Bool.{Bool, true, false}
 use mathlib.Core.List.{List, [], _∷_, _++_}
 use lib.IntN.{ℤ}
 use lib.Dec.{eqb, ltb}
+use Rattle.base_codes.specs.Codes.{c-end-body}
 use Rattle.base_bytes.specs.Choice.{pick}
 use Rattle.table_layout.specs.Access.{codeOf}
 use Rattle.state_layout.specs.Layout.{processesOf, placeOf}
@@ -73,7 +74,7 @@ module _ (t : List ℕ) (s : List ℤ) where
   -- each of n processes from p on has ended: its place is the end of its body (228)
   unfoldable pub endedFrom : ℕ → ℕ → Bool
   endedFrom p zero = true
-  endedFrom p (suc n) = pick (eqb (codeOf t (placeOf s p)) 228) (endedFrom (p + 1) n) false
+  endedFrom p (suc n) = pick (eqb (codeOf t (placeOf s p)) c-end-body) (endedFrom (p + 1) n) false
 
   unfoldable pub verdictOf : Verdict
   verdictOf = pick (endedFrom 0 (processes s)) Finished (pick (anyFrom lateOf 0 (processes s)) Open Blocked)

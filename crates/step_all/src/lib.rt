@@ -89,7 +89,9 @@ fn is_ended(t: &[u32], s: &[i32]) -> bool
     let n = processes(s);
     let mut p: u32 = 0;
     while p < n {
-        if table_layout::code(t, state_layout::place_of(s, p as u8) as usize) != 228 {
+        if table_layout::code(t, state_layout::place_of(s, p as u8) as usize)
+            != base_codes::END_BODY
+        {
             return false;
         }
         p += 1;

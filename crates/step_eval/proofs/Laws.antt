@@ -11,6 +11,7 @@ use borrow.Author.Tests.{ne-eqb, lt-ltb, le-ltb, lt-leb, le-leb, ltb-true}
 use mir.Syntax.{w32}
 use mir.Val.{toZ, ofZ, SFits, boolByte}
 use mir.ValLaws.{toZ-ofZ, toZ-pos}
+use Rattle.base_codes.specs.Codes.{c-index, c-message}
 use Rattle.base_bytes.specs.Choice.{pick}
 use Rattle.table_layout.specs.Access.{codeOf, linkOf, numberOf}
 use Rattle.state_layout.proofs.Laws.{back}
@@ -112,7 +113,7 @@ length-of s {n} e h q = ap Value (toZ-pos w32 n h ∙ ap pos q) ∙ ap (lengthOf
 
 -- ---- a plain reference
 module _ (t : List ℕ) (s : List ℤ) (p d : ℕ) {c : ℕ} (ec : c ≡ codeOf t d) where
-  pub plain-message : c ≡ 220 → {l : ℕ} {r : ℤ} → l ≡ linkOf t d → mag r < 2 ^ 31 → r ≡ kept l → Value (toZ w32 (ofZ w32 r)) ≡ plainOf t s p d
+  pub plain-message : c ≡ c-message → {l : ℕ} {r : ℤ} → l ≡ linkOf t d → mag r < 2 ^ 31 → r ≡ kept l → Value (toZ w32 (ofZ w32 r)) ≡ plainOf t s p d
   unfolding plainOf
   plain-message k el h er = rw (← ec, k) (ap Value (back h ∙ er ∙ ap kept el))
 
@@ -120,9 +121,9 @@ module _ (t : List ℕ) (s : List ℤ) (p d : ℕ) {c : ℕ} (ec : c ≡ codeOf 
   unfolding plainOf
   plain-pid k h = rw (← ec, k) (ap Value (toZ-pos w32 p (omega arith)))
 
-  pub plain-variable : (c ≡ 220 → ⊥) → (c ≡ 70 → ⊥) → {l i : ℕ} {r : ℤ} → l ≡ linkOf t d → i ≡ slotOf l p 0 → mag r < 2 ^ 31 → r ≡ cellOf s i → Value (toZ w32 (ofZ w32 r)) ≡ plainOf t s p d
+  pub plain-variable : (c ≡ c-message → ⊥) → (c ≡ 70 → ⊥) → {l i : ℕ} {r : ℤ} → l ≡ linkOf t d → i ≡ slotOf l p 0 → mag r < 2 ^ 31 → r ≡ cellOf s i → Value (toZ w32 (ofZ w32 r)) ≡ plainOf t s p d
   unfolding plainOf
-  plain-variable a b el ei h er = rw (← ec, ne-eqb c 220 a, ne-eqb c 70 b) (ap Value (back h ∙ er ∙ ap (cellOf s) (ei ∙ ap (λ x. slotOf x p 0) el)))
+  plain-variable a b el ei h er = rw (← ec, ne-eqb c c-message a, ne-eqb c 70 b) (ap Value (back h ∙ er ∙ ap (cellOf s) (ei ∙ ap (λ x. slotOf x p 0) el)))
 
 -- ---- a conditional
 module _ (x y z : Answer) where
@@ -243,10 +244,10 @@ module _ (t : List ℕ) (s : List ℤ) (p h from to : ℕ) where
 
 -- ---- references
 module _ (t : List ℕ) (s : List ℤ) (p from to : ℕ) {j c l : ℕ} (ej : j ≡ to - 1) (ec : c ≡ codeOf t j) (el : l ≡ variableOf t j) where
-  pub locate-element : c ≡ 177 → {x : Answer} {r : Located} → x ≡ evalOf t s p from j → r ≡ elementOf l p x → r ≡ locateOf t s p from to
+  pub locate-element : c ≡ c-index → {x : Answer} {r : Located} → x ≡ evalOf t s p from j → r ≡ elementOf l p x → r ≡ locateOf t s p from to
   unfolding locateOf
   locate-element k ex er = rw (← ej, ← ec, k) (er ∙ (λ i. elementOf (el i) p (ex i)))
 
-  pub locate-plain : (c ≡ 177 → ⊥) → {i : ℕ} → i ≡ slotOf l p 0 → At i ≡ locateOf t s p from to
+  pub locate-plain : (c ≡ c-index → ⊥) → {i : ℕ} → i ≡ slotOf l p 0 → At i ≡ locateOf t s p from to
   unfolding locateOf
-  locate-plain k ei = rw (← ej, ← ec, ne-eqb c 177 k) (ap At (ei ∙ ap (λ x. slotOf x p 0) el))
+  locate-plain k ei = rw (← ej, ← ec, ne-eqb c c-index k) (ap At (ei ∙ ap (λ x. slotOf x p 0) el))

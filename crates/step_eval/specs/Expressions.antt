@@ -5,6 +5,7 @@ use mathlib.Core.Bool.{Bool, true, false, not}
 use mathlib.Core.List.{List}
 use lib.IntN.{ℤ, pos}
 use lib.Dec.{eqb, ltb, leb}
+use Rattle.base_codes.specs.Codes.{c-and-then, c-bit-or, c-choice, c-complement, c-false, c-index, c-len, c-message, c-negate, c-not, c-or-else, c-plain, c-remainder, c-true}
 use Rattle.base_bytes.specs.Choice.{pick, either}
 use Rattle.table_layout.specs.Access.{codeOf, linkOf, numberOf}
 use Rattle.state_layout.specs.Layout.{cellOf, kept}
@@ -21,19 +22,19 @@ use Rattle.step_eval.specs.Variables.{variableOf, slotOf, elementOf, loa
 unfoldable pub nodeOf : ℕ → Node
 nodeOf c =
     pick (eqb c 71) Number
-    (pick (eqb c 147) (Lazy 1)
-    (pick (eqb c 148) (Lazy 2)
-    (pick (eqb c 165) (Unary 15)
-    (pick (eqb c 166) (Unary 19)
-    (pick (eqb c 167) (Unary 20)
-    (pick (eqb c 176) Plain
-    (pick (eqb c 177) Index
-    (pick (eqb c 178) True
-    (pick (eqb c 179) False
-    (pick (eqb c 180) Length
-    (pick (eqb c 182) Choice
-    (pick (ltb c 149) Other
-    (pick (ltb 164 c) Other (Binary (c - 146)))))))))))))))
+    (pick (eqb c c-or-else) (Lazy 1)
+    (pick (eqb c c-and-then) (Lazy 2)
+    (pick (eqb c c-negate) (Unary 15)
+    (pick (eqb c c-not) (Unary 19)
+    (pick (eqb c c-complement) (Unary 20)
+    (pick (eqb c c-plain) Plain
+    (pick (eqb c c-index) Index
+    (pick (eqb c c-true) True
+    (pick (eqb c c-false) False
+    (pick (eqb c c-len) Length
+    (pick (eqb c c-choice) Choice
+    (pick (ltb c c-bit-or) Other
+    (pick (ltb c-remainder c) Other (Binary (c - 146)))))))))))))))
 
 -- ## answers
 abbrev pub isFault : Answer → Bool
@@ -82,7 +83,7 @@ module _ (t : List ℕ) (s : List ℤ) (p : ℕ) where
   -- a plain reference to declaration d: the number of an mtype name (220), `_pid` (its own name, 70), or a variable
   unfoldable pub plainOf : ℕ → Answer
   plainOf d =
-      pick (eqb (codeOf t d) 220) (Value (kept (linkOf t d)))
+      pick (eqb (codeOf t d) c-message) (Value (kept (linkOf t d)))
       (pick (eqb (codeOf t d) 70) (Value (pos p)) (Value (cellOf s (slotOf (linkOf t d) p 0))))
 
   -- the expression whose last item is j; `go` works out a part
@@ -113,4 +114,4 @@ module _ (t : List ℕ) (s : List ℤ) (p : ℕ) where
   -- where the reference that the items from `from` to before `to` hold stands: its index is worked out, and must be in range
   unfoldable pub locateOf : ℕ → ℕ → Located
   locateOf from to =
-      pick (eqb (codeOf t (to - 1)) 177) (elementOf (variableOf t (to - 1)) p (evalOf from (to - 1))) (At (slotOf (variableOf t (to - 1)) p 0))
+      pick (eqb (codeOf t (to - 1)) c-index) (elementOf (variableOf t (to - 1)) p (evalOf from (to - 1))) (At (slotOf (variableOf t (to - 1)) p 0))

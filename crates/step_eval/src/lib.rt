@@ -132,22 +132,22 @@ fn node_of(c: u8) -> Node
 {
     match c {
         71 => Node::Number,
-        147 => Node::Lazy(1),
-        148 => Node::Lazy(2),
-        165 => Node::Unary(15),
-        166 => Node::Unary(19),
-        167 => Node::Unary(20),
-        176 => Node::Plain,
-        177 => Node::Index,
-        178 => Node::True,
-        179 => Node::False,
-        180 => Node::Length,
-        182 => Node::Choice,
+        base_codes::OR_ELSE => Node::Lazy(1),
+        base_codes::AND_THEN => Node::Lazy(2),
+        base_codes::NEGATE => Node::Unary(15),
+        base_codes::NOT => Node::Unary(19),
+        base_codes::COMPLEMENT => Node::Unary(20),
+        base_codes::PLAIN => Node::Plain,
+        base_codes::INDEX => Node::Index,
+        base_codes::TRUE => Node::True,
+        base_codes::FALSE => Node::False,
+        base_codes::LEN => Node::Length,
+        base_codes::CHOICE => Node::Choice,
         _ => {
-            if c < 149 {
+            if c < base_codes::BIT_OR {
                 return Node::Other;
             }
-            if 164 < c {
+            if base_codes::REMAINDER < c {
                 return Node::Other;
             }
             Node::Binary(c - 146)
@@ -241,7 +241,7 @@ fn plain(t: &[u32], s: &[i32], p: u8, d: usize) -> Answer
     ensures { λ r. ⌜ r ≡ expressions.plainOf (now (t .entry)) (now (s .entry)) p d ⌝ }
 {
     match table_layout::code(t, d) {
-        220 => Answer::Value(state_layout::kept(table_layout::link(t, d))),
+        base_codes::MESSAGE => Answer::Value(state_layout::kept(table_layout::link(t, d))),
         70 => Answer::Value(p as i32),
         _ => Answer::Value(state_layout::cell(s, slot(table_layout::link(t, d) as u32, p, 0))),
     }
@@ -319,7 +319,7 @@ pub fn locate(t: &[u32], s: &[i32], p: u8, from: usize, to: usize) -> Located
     ensures { λ r. ⌜ r ≡ expressions.locateOf (now (t .entry)) (now (s .entry)) p from to ⌝ }
 {
     let j = minus_one(to);
-    if table_layout::code(t, j) == 177 {
+    if table_layout::code(t, j) == base_codes::INDEX {
         element(variable(t, j), p, eval(t, s, p, from, j))
     } else {
         Located::At(slot(variable(t, j), p, 0))

@@ -12,6 +12,7 @@ use borrow.Author.Tests.{ne-eqb, eq-eqb}
 use mir.Syntax.{w32}
 use mir.Val.{toZ, ofZ, SFits}
 use mir.ValLaws.{toZ-ofZ}
+use Rattle.base_codes.specs.Codes.{c-end}
 use Rattle.base_bytes.specs.Choice.{pick}
 use Rattle.table_layout.specs.Access.{codeOf, linkOf}
 use Rattle.base_values.specs.Types.{castOf}
@@ -36,20 +37,20 @@ module _ (t : List ℕ) (s : List ℤ) (p : ℕ) where
   unfolding gatherEnd gatherList
   gather-end n a k l e = (rw e, rw e)
 
-  pub gather-over : (n a k : ℕ) (l : List ℤ) {c : ℕ} → c ≡ codeOf t a → c ≡ 187 → (Upto a ≡ gatherEnd t s p n a) × (l ≡ gatherList t s p n a k l)
+  pub gather-over : (n a k : ℕ) (l : List ℤ) {c : ℕ} → c ≡ codeOf t a → c ≡ c-end → (Upto a ≡ gatherEnd t s p n a) × (l ≡ gatherList t s p n a k l)
   unfolding gatherEnd gatherList
   gather-over zero a k l ec e = (refl, refl)
   gather-over (suc n) a k l ec e = (rw (← ec, e), rw (← ec, e))
 
-  module _ (n n1 a k : ℕ) (l : List ℤ) (en : n ≡ suc n1) {c m : ℕ} (ec : c ≡ codeOf t a) (h : c ≡ 187 → ⊥) (em : m ≡ linkOf t a) {x : Answer} (ex : x ≡ evalOf t s p a m) where
+  module _ (n n1 a k : ℕ) (l : List ℤ) (en : n ≡ suc n1) {c m : ℕ} (ec : c ≡ codeOf t a) (h : c ≡ c-end → ⊥) (em : m ≡ linkOf t a) {x : Answer} (ex : x ≡ evalOf t s p a m) where
     known : evalOf t s p a (linkOf t a) ≡ x
     known = sym (ex ∙ ap (evalOf t s p a) em)
 
     pub gather-fault : {f : Fault} → x ≡ Fails f → (Failed f ≡ gatherEnd t s p n a) × (l ≡ gatherList t s p n a k l)
     unfolding gatherEnd gatherList
     gather-fault {f} e = (
-      rw (en, ← ec, ne-eqb c 187 h) (ap (λ y. onValue y (λ v. gatherEnd t s p n1 (linkOf t a + 1)) (λ f. Failed f)) (sym (known ∙ e))),
-      rw (en, ← ec, ne-eqb c 187 h) (ap (λ y. onValue y (λ v. gatherList t s p n1 (linkOf t a + 1) (k + 1) (set l k v)) (λ f. l)) (sym (known ∙ e))),
+      rw (en, ← ec, ne-eqb c c-end h) (ap (λ y. onValue y (λ v. gatherEnd t s p n1 (linkOf t a + 1)) (λ f. Failed f)) (sym (known ∙ e))),
+      rw (en, ← ec, ne-eqb c c-end h) (ap (λ y. onValue y (λ v. gatherList t s p n1 (linkOf t a + 1) (k + 1) (set l k v)) (λ f. l)) (sym (known ∙ e))),
     )
 
     pub gather-more : {v : ℤ} {l′ : List ℤ} → x ≡ Value v → mag v < 2 ^ 31 → l′ ≡ set l k (toZ w32 (ofZ w32 v))
@@ -57,9 +58,9 @@ module _ (t : List ℕ) (s : List ℤ) (p : ℕ) where
     unfolding gatherEnd gatherList
     gather-more {v} {l′} e g el =
         let el′ : l′ ≡ set l k v = rw (back {z = v} g) at el in (
-          rw (en, ← ec, ne-eqb c 187 h)
+          rw (en, ← ec, ne-eqb c c-end h)
               (ap (λ b. gatherEnd t s p n1 (b + 1)) em ∙ ap (λ y. onValue y (λ v. gatherEnd t s p n1 (linkOf t a + 1)) (λ f. Failed f)) (sym (known ∙ e))),
-          rw (en, ← ec, ne-eqb c 187 h)
+          rw (en, ← ec, ne-eqb c c-end h)
               ((λ i. gatherList t s p n1 (em i + 1) (k + 1) (el′ i))
               ∙ ap (λ y. onValue y (λ v. gatherList t s p n1 (linkOf t a + 1) (k + 1) (set l k v)) (λ f. l)) (sym (known ∙ e))),
         )
@@ -69,28 +70,28 @@ module _ (t : List ℕ) (s : List ℤ) (p : ℕ) where
   unfolding aimEnd aimList
   aim-end n a k l e = (rw e, rw e)
 
-  pub aim-over : (n a k : ℕ) (l : List ℕ) {c : ℕ} → c ≡ codeOf t a → c ≡ 187 → (Upto a ≡ aimEnd t s p n a) × (l ≡ aimList t s p n a k l)
+  pub aim-over : (n a k : ℕ) (l : List ℕ) {c : ℕ} → c ≡ codeOf t a → c ≡ c-end → (Upto a ≡ aimEnd t s p n a) × (l ≡ aimList t s p n a k l)
   unfolding aimEnd aimList
   aim-over zero a k l ec e = (refl, refl)
   aim-over (suc n) a k l ec e = (rw (← ec, e), rw (← ec, e))
 
-  module _ (n n1 a k : ℕ) (l : List ℕ) (en : n ≡ suc n1) {c m : ℕ} (ec : c ≡ codeOf t a) (h : c ≡ 187 → ⊥) (em : m ≡ linkOf t a) {x : Located} (ex : x ≡ aimOf t s p a m) where
+  module _ (n n1 a k : ℕ) (l : List ℕ) (en : n ≡ suc n1) {c m : ℕ} (ec : c ≡ codeOf t a) (h : c ≡ c-end → ⊥) (em : m ≡ linkOf t a) {x : Located} (ex : x ≡ aimOf t s p a m) where
     seen : aimOf t s p a (linkOf t a) ≡ x
     seen = sym (ex ∙ ap (aimOf t s p a) em)
 
     pub aim-fault : {f : Fault} → x ≡ Astray f → (Failed f ≡ aimEnd t s p n a) × (l ≡ aimList t s p n a k l)
     unfolding aimEnd aimList
     aim-fault {f} e = (
-      rw (en, ← ec, ne-eqb c 187 h) (ap (λ y. onPlace y (λ v. aimEnd t s p n1 (linkOf t a + 1)) (λ f. Failed f)) (sym (seen ∙ e))),
-      rw (en, ← ec, ne-eqb c 187 h) (ap (λ y. onPlace y (λ v. aimList t s p n1 (linkOf t a + 1) (k + 1) (set l k v)) (λ f. l)) (sym (seen ∙ e))),
+      rw (en, ← ec, ne-eqb c c-end h) (ap (λ y. onPlace y (λ v. aimEnd t s p n1 (linkOf t a + 1)) (λ f. Failed f)) (sym (seen ∙ e))),
+      rw (en, ← ec, ne-eqb c c-end h) (ap (λ y. onPlace y (λ v. aimList t s p n1 (linkOf t a + 1) (k + 1) (set l k v)) (λ f. l)) (sym (seen ∙ e))),
     )
 
     pub aim-more : {v : ℕ} {l′ : List ℕ} → x ≡ At v → l′ ≡ set l k v → (aimEnd t s p n1 (m + 1) ≡ aimEnd t s p n a) × (aimList t s p n1 (m + 1) (k + 1) l′ ≡ aimList t s p n a k l)
     unfolding aimEnd aimList
     aim-more {v} e el = (
-      rw (en, ← ec, ne-eqb c 187 h)
+      rw (en, ← ec, ne-eqb c c-end h)
           (ap (λ b. aimEnd t s p n1 (b + 1)) em ∙ ap (λ y. onPlace y (λ v. aimEnd t s p n1 (linkOf t a + 1)) (λ f. Failed f)) (sym (seen ∙ e))),
-      rw (en, ← ec, ne-eqb c 187 h)
+      rw (en, ← ec, ne-eqb c c-end h)
           ((λ i. aimList t s p n1 (em i + 1) (k + 1) (el i)) ∙ ap (λ y. onPlace y (λ v. aimList t s p n1 (linkOf t a + 1) (k + 1) (set l k v)) (λ f. l)) (sym (seen ∙ e))),
     )
 
@@ -131,13 +132,13 @@ module _ (t : List ℕ) (ps : List ℕ) (l : List ℤ) where
   unfolding delivered
   deliver-end n a k s e = rw e
 
-  pub deliver-over : (n a k : ℕ) (s : List ℤ) {c : ℕ} → c ≡ codeOf t a → c ≡ 187 → s ≡ delivered t n a k ps l s
+  pub deliver-over : (n a k : ℕ) (s : List ℤ) {c : ℕ} → c ≡ codeOf t a → c ≡ c-end → s ≡ delivered t n a k ps l s
   unfolding delivered
   deliver-over zero a k s ec e = refl
   deliver-over (suc n) a k s ec e = rw (← ec, e)
 
-  pub deliver-more : (n n1 a k : ℕ) (s : List ℤ) {s′ : List ℤ} {c m : ℕ} → n ≡ suc n1 → c ≡ codeOf t a → (c ≡ 187 → ⊥) → m ≡ linkOf t a → s′ ≡ deliveredOne t m k ps l s
+  pub deliver-more : (n n1 a k : ℕ) (s : List ℤ) {s′ : List ℤ} {c m : ℕ} → n ≡ suc n1 → c ≡ codeOf t a → (c ≡ c-end → ⊥) → m ≡ linkOf t a → s′ ≡ deliveredOne t m k ps l s
       → delivered t n1 (m + 1) (k + 1) ps l s′ ≡ delivered t n a k ps l s
   unfolding delivered
   deliver-more n n1 a k s {s′} {c} en ec h em es =
-      rw (en, ← ec, ne-eqb c 187 h) (λ i. delivered t n1 (em i + 1) (k + 1) ps l ((es ∙ ap (λ x. deliveredOne t x k ps l s) em) i))
+      rw (en, ← ec, ne-eqb c c-end h) (λ i. delivered t n1 (em i + 1) (k + 1) ps l ((es ∙ ap (λ x. deliveredOne t x k ps l s) em) i))

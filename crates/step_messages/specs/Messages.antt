@@ -7,6 +7,7 @@ use mathlib.Core.List.{List}
 use lib.ListN.{getD, set}
 use lib.IntN.{ℤ, pos}
 use lib.Dec.{eqb}
+use Rattle.base_codes.specs.Codes.{c-end}
 use Rattle.base_bytes.specs.Choice.{pick}
 use Rattle.table_layout.specs.Access.{codeOf, linkOf}
 use Rattle.base_values.specs.Types.{castOf}
@@ -40,12 +41,12 @@ module _ (t : List ℕ) (s : List ℤ) (p : ℕ) where
   -- ## the values of arguments, at most n: where they end, or the first fault; and the list with the k-th value at k
   unfoldable pub gatherEnd : ℕ → ℕ → Gathered
   gatherEnd zero a = Upto a
-  gatherEnd (suc n) a = pick (eqb (codeOf t a) 187) (Upto a) (onValue (evalOf t s p a (linkOf t a)) (λ v. gatherEnd n (linkOf t a + 1)) (λ f. Failed f))
+  gatherEnd (suc n) a = pick (eqb (codeOf t a) c-end) (Upto a) (onValue (evalOf t s p a (linkOf t a)) (λ v. gatherEnd n (linkOf t a + 1)) (λ f. Failed f))
 
   unfoldable pub gatherList : ℕ → ℕ → ℕ → List ℤ → List ℤ
   gatherList zero a k l = l
   gatherList (suc n) a k l =
-      pick (eqb (codeOf t a) 187) l (onValue (evalOf t s p a (linkOf t a)) (λ v. gatherList n (linkOf t a + 1) (k + 1) (set l k v)) (λ f. l))
+      pick (eqb (codeOf t a) c-end) l (onValue (evalOf t s p a (linkOf t a)) (λ v. gatherList n (linkOf t a + 1) (k + 1) (set l k v)) (λ f. l))
 
   -- ## the places of received arguments that are stored to; one that is compared has none
   abbrev pub aimOf : ℕ → ℕ → Located
@@ -53,11 +54,11 @@ module _ (t : List ℕ) (s : List ℤ) (p : ℕ) where
 
   unfoldable pub aimEnd : ℕ → ℕ → Gathered
   aimEnd zero a = Upto a
-  aimEnd (suc n) a = pick (eqb (codeOf t a) 187) (Upto a) (onPlace (aimOf a (linkOf t a)) (λ i. aimEnd n (linkOf t a + 1)) (λ f. Failed f))
+  aimEnd (suc n) a = pick (eqb (codeOf t a) c-end) (Upto a) (onPlace (aimOf a (linkOf t a)) (λ i. aimEnd n (linkOf t a + 1)) (λ f. Failed f))
 
   unfoldable pub aimList : ℕ → ℕ → ℕ → List ℕ → List ℕ
   aimList zero a k l = l
-  aimList (suc n) a k l = pick (eqb (codeOf t a) 187) l (onPlace (aimOf a (linkOf t a)) (λ i. aimList n (linkOf t a + 1) (k + 1) (set l k i)) (λ f. l))
+  aimList (suc n) a k l = pick (eqb (codeOf t a) c-end) l (onPlace (aimOf a (linkOf t a)) (λ i. aimList n (linkOf t a + 1) (k + 1) (set l k i)) (λ f. l))
 
 -- ## messages
 -- one more message, of the values l, at the end
@@ -78,4 +79,4 @@ deliveredOne t m k ps l s = pick (comparedAt t m) s (set s (getD ps k 0) (castOf
 
 unfoldable pub delivered : List ℕ → ℕ → ℕ → ℕ → List ℕ → List ℤ → List ℤ → List ℤ
 delivered t zero a k ps l s = s
-delivered t (suc n) a k ps l s = pick (eqb (codeOf t a) 187) s (delivered t n (linkOf t a + 1) (k + 1) ps l (deliveredOne t (linkOf t a) k ps l s))
+delivered t (suc n) a k ps l s = pick (eqb (codeOf t a) c-end) s (delivered t n (linkOf t a + 1) (k + 1) ps l (deliveredOne t (linkOf t a) k ps l s))

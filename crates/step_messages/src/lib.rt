@@ -38,7 +38,7 @@ pub fn gather(t: &[u32], s: &[i32], p: u8, a: usize, values: &mut [i32]) -> Gath
     let mut j = a;
     let mut k: usize = 0;
     while k < ARGUMENTS_MOST {
-        if table_layout::code(t, j) == 187 {
+        if table_layout::code(t, j) == base_codes::END {
             return Gathered::Upto(j);
         }
         let m = table_layout::link(t, j);
@@ -85,7 +85,7 @@ pub fn aim(t: &[u32], s: &[i32], p: u8, a: usize, places: &mut [usize]) -> Gathe
     let mut j = a;
     let mut k: usize = 0;
     while k < MESSAGE_MOST {
-        if table_layout::code(t, j) == 187 {
+        if table_layout::code(t, j) == base_codes::END {
             return Gathered::Upto(j);
         }
         let m = table_layout::link(t, j);
@@ -202,7 +202,7 @@ pub fn deliver(t: &[u32], s: &mut [i32], a: usize, places: &[usize], values: &[i
     let mut j = a;
     let mut k: usize = 0;
     while k < MESSAGE_MOST {
-        if table_layout::code(t, j) == 187 {
+        if table_layout::code(t, j) == base_codes::END {
             return;
         }
         let m = table_layout::link(t, j);

@@ -7,6 +7,7 @@ use native.Mathlib.Omega.{arith}
 use lib.IntN.{ℤ}
 use lib.Dec.{eqb, ltb}
 use borrow.Author.Tests.{ltb-true, lt-ltb, le-ltb, eq-eqb, ne-eqb}
+use Rattle.base_codes.specs.Codes.{c-else, c-option}
 use Rattle.base_bytes.specs.Choice.{pick, both, either}
 use Rattle.table_layout.specs.Access.{codeOf, linkOf}
 use Rattle.step_ready.specs.Executing.{readyOf}
@@ -24,14 +25,14 @@ both-left true b e = refl
 both-left false b e = e
 
 pub option-below : (t : List ℕ) (m stop : ℕ) {r : Bool} → r ≡ isOption t m stop → r ≡ true → m < stop
-option-below t m stop er e = ltb-true m stop (both-left (ltb m stop) (eqb (codeOf t m) 208) (sym er ∙ e))
+option-below t m stop er e = ltb-true m stop (both-left (ltb m stop) (eqb (codeOf t m) c-option) (sym er ∙ e))
 
 module _ (t : List ℕ) (q k : ℕ) {c : ℕ} (ec : c ≡ codeOf t q) where
-  pub else-here : c ≡ 201 → {r : Walk} → r ≡ pickAt k (q ∷ []) → r ≡ pickAt k (elseAt t q 0)
+  pub else-here : c ≡ c-else → {r : Walk} → r ≡ pickAt k (q ∷ []) → r ≡ pickAt k (elseAt t q 0)
   else-here e er = rw (← ec, e) er
 
-  pub else-not : (c ≡ 201 → ⊥) → Left k ≡ pickAt k (elseAt t q 0)
-  else-not h = pick-none k (rw (← ec, ne-eqb c 201 h))
+  pub else-not : (c ≡ c-else → ⊥) → Left k ≡ pickAt k (elseAt t q 0)
+  else-not h = pick-none k (rw (← ec, ne-eqb c c-else h))
 
 -- ---- the options from m on
 module _ (t : List ℕ) (g : ℕ → ℕ → List ℕ) {n : ℕ} (m stop k : ℕ) where

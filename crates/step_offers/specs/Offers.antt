@@ -7,6 +7,7 @@ use mathlib.Core.List.{List, [], _∷_, _++_}
 use lib.ListN.{length}
 use lib.IntN.{ℤ}
 use lib.Dec.{eqb, ltb}
+use Rattle.base_codes.specs.Codes.{c-do, c-else, c-if, c-label, c-option}
 use Rattle.base_bytes.specs.Choice.{pick, both, either}
 use Rattle.base_bytes.specs.Lists.{orElse}
 use Rattle.table_layout.specs.Access.{codeOf, linkOf}
@@ -17,18 +18,18 @@ use Rattle.step_offers.specs.declared.Walk.the-variants.{Found, Left}
 module _ (t : List ℕ) where
   -- if (204) or do (206)
   abbrev pub isSelection : ℕ → Bool
-  isSelection q = either (eqb (codeOf t q) 204) (eqb (codeOf t q) 206)
+  isSelection q = either (eqb (codeOf t q) c-if) (eqb (codeOf t q) c-do)
 
   -- ## options: each begins with `option` (208), which links to its end; the next stands behind that. Items from `stop` on are not looked at
   abbrev pub isOption : ℕ → ℕ → Bool
-  isOption m stop = both (ltb m stop) (eqb (codeOf t m) 208)
+  isOption m stop = both (ltb m stop) (eqb (codeOf t m) c-option)
 
   abbrev pub endOf : ℕ → ℕ → ℕ
   endOf m stop = max (m + 1) (min (linkOf t m) stop)
 
   -- the place of an option's first statement, behind a label (188)
   unfoldable pub firstOf : ℕ → ℕ
-  firstOf m = pick (eqb (codeOf t (m + 2)) 188) (m + 3) (m + 1)
+  firstOf m = pick (eqb (codeOf t (m + 2)) c-label) (m + 3) (m + 1)
 
   -- what g gives for the first statement of each option, and where that option ends, at most n options
   unfoldable pub eachOption : (ℕ → ℕ → List ℕ) → ℕ → ℕ → ℕ → List ℕ
@@ -37,7 +38,7 @@ module _ (t : List ℕ) where
 
   -- the statement, if it is `else` (201)
   abbrev pub elseAt : ℕ → ℕ → List ℕ
-  elseAt q stop = pick (eqb (codeOf t q) 201) (q ∷ []) []
+  elseAt q stop = pick (eqb (codeOf t q) c-else) (q ∷ []) []
 
   module _ (s : List ℤ) (p : ℕ) (late : Bool) where
     -- at place q, where a selection ends before `stop`; selections nest d - 1 deep at the most

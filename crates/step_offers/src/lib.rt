@@ -33,7 +33,11 @@ fn is_selection(t: &[u32], q: u32) -> bool
     ensures { λ r. ⌜ r ≡ offers.isSelection (now (t .entry)) q ⌝ }
 {
     let c = table_layout::code(t, q as usize);
-    if c == 204 { true } else { c == 206 }
+    if c == base_codes::IF {
+        true
+    } else {
+        c == base_codes::DO
+    }
 }
 
 // Is there an option at item m, before `stop`?
@@ -41,7 +45,7 @@ fn is_option(t: &[u32], m: u32, stop: u32) -> bool
     ensures { λ r. ⌜ r ≡ offers.isOption (now (t .entry)) m stop ⌝ }
 {
     if m < stop {
-        table_layout::code(t, m as usize) == 208
+        table_layout::code(t, m as usize) == base_codes::OPTION
     } else {
         false
     }
@@ -63,7 +67,7 @@ fn first_of(t: &[u32], m: u32) -> u32
     ensures { λ r. ⌜ r ≡ offers.firstOf (now (t .entry)) m ⌝ }
     ensures { λ r. ⌜ r < 8196 ⌝ }
 {
-    if table_layout::code(t, m as usize + 2) == 188 {
+    if table_layout::code(t, m as usize + 2) == base_codes::LABEL {
         m + 3
     } else {
         m + 1
@@ -74,7 +78,7 @@ fn first_of(t: &[u32], m: u32) -> u32
 fn else_at(t: &[u32], q: u32, k: u32) -> Walk
     ensures { λ r. ⌜ r ≡ offers.pickAt k (offers.elseAt (now (t .entry)) q 0) ⌝ }
 {
-    if table_layout::code(t, q as usize) == 201 {
+    if table_layout::code(t, q as usize) == base_codes::ELSE {
         pick_one(k, q)
     } else {
         Walk::Left(k)

@@ -12,6 +12,7 @@ use borrow.Author.Tests.{ne-eqb, eq-eqb, lt-ltb, le-ltb, not-true, not-false}
 use mir.Syntax.{w32}
 use mir.Val.{toZ, ofZ, SFits, boolByte}
 use mir.ValLaws.{toZ-ofZ}
+use Rattle.base_codes.specs.Codes.{c-channel, c-end, c-express, c-into, c-message, c-receive, c-run, c-send, c-timeout}
 use Rattle.base_bytes.specs.Choice.{pick, both}
 use Rattle.table_layout.specs.Access.{codeOf, linkOf, numberOf}
 use Rattle.state_layout.proofs.Laws.{back}
@@ -37,13 +38,13 @@ pub equal-value : {x : Answer} {v : ℤ} (w : ℤ) → x ≡ Value v → mag v <
 equal-value {x} {v} w e h f = ap Value (ap (λ b. toZ w32 (boolByte b)) (same-bits v w (record { sfits = h }) f) ∙ one-if (same v w)) ∙ ap (λ a. equalBy a w) (sym e)
 
 module _ (t : List ℕ) (m : ℕ) {c : ℕ} (ec : c ≡ codeOf t m) where
-  pub compared-into : c ≡ 184 → {k d b : ℕ} → k ≡ m - 1 → d ≡ linkOf t k → b ≡ codeOf t d → eqb b 220 ≡ comparedAt t m
+  pub compared-into : c ≡ c-into → {k d b : ℕ} → k ≡ m - 1 → d ≡ linkOf t k → b ≡ codeOf t d → eqb b c-message ≡ comparedAt t m
   unfolding comparedAt
-  compared-into e ek ed eb = rw (← ec, e) (ap (λ a. eqb a 220) (eb ∙ ap (codeOf t) (ed ∙ ap (linkOf t) ek)))
+  compared-into e ek ed eb = rw (← ec, e) (ap (λ a. eqb a c-message) (eb ∙ ap (codeOf t) (ed ∙ ap (linkOf t) ek)))
 
-  pub compared-else : (c ≡ 184 → ⊥) → true ≡ comparedAt t m
+  pub compared-else : (c ≡ c-into → ⊥) → true ≡ comparedAt t m
   unfolding comparedAt
-  compared-else h = rw (← ec, ne-eqb c 184 h)
+  compared-else h = rw (← ec, ne-eqb c c-into h)
 
 module _ (t : List ℕ) (s : List ℤ) (p c a m f : ℕ) {b : Bool} (eb : b ≡ comparedAt t m) where
   pub agrees-compared : b ≡ true → {x r : Answer} {w : ℤ} → x ≡ evalOf t s p a m → mag w < 2 ^ 31 → w ≡ fieldOf s c 0 f → r ≡ equalBy x (toZ w32 (ofZ w32 w)) → r ≡ agreesOf t s p c a m f
@@ -70,14 +71,14 @@ module _ (t : List ℕ) (s : List ℤ) (n : ℕ) {x : Reached} {c d k : ℕ} (e 
 
 -- ---- arguments
 module _ (t : List ℕ) where
-  arguments-over : (n a : ℕ) {c : ℕ} → c ≡ codeOf t a → c ≡ 187 → argumentsFrom t n a ≡ 0
+  arguments-over : (n a : ℕ) {c : ℕ} → c ≡ codeOf t a → c ≡ c-end → argumentsFrom t n a ≡ 0
   unfolding argumentsFrom
   arguments-over zero a ec e = refl
   arguments-over (suc n) a ec e = rw (← ec, e)
 
-  arguments-more : (n k a : ℕ) {c l : ℕ} → n ≡ suc k → c ≡ codeOf t a → (c ≡ 187 → ⊥) → l ≡ linkOf t a → argumentsFrom t n a ≡ 1 + argumentsFrom t k (l + 1)
+  arguments-more : (n k a : ℕ) {c l : ℕ} → n ≡ suc k → c ≡ codeOf t a → (c ≡ c-end → ⊥) → l ≡ linkOf t a → argumentsFrom t n a ≡ 1 + argumentsFrom t k (l + 1)
   unfolding argumentsFrom
-  arguments-more n k a {c} en ec h el = rw (en, ← ec, ne-eqb c 187 h, el)
+  arguments-more n k a {c} en ec h el = rw (en, ← ec, ne-eqb c c-end h, el)
 
   none-left : (n a : ℕ) → n ≡ 0 → argumentsFrom t n a ≡ 0
   unfolding argumentsFrom
@@ -89,10 +90,10 @@ module _ (t : List ℕ) where
     arguments-end g = let q = none-left (5 - n) j (omega arith) in omega arith
 
     module _ {c : ℕ} (ec : c ≡ codeOf t j) where
-      pub arguments-all : c ≡ 187 → n ≡ w
+      pub arguments-all : c ≡ c-end → n ≡ w
       arguments-all e = let q = arguments-over (5 - n) j ec e in omega arith
 
-      pub arguments-turn : n < 5 → (c ≡ 187 → ⊥) → {l : ℕ} → l ≡ linkOf t j → n + 1 + argumentsFrom t (5 - (n + 1)) (l + 1) ≡ w
+      pub arguments-turn : n < 5 → (c ≡ c-end → ⊥) → {l : ℕ} → l ≡ linkOf t j → n + 1 + argumentsFrom t (5 - (n + 1)) (l + 1) ≡ w
       arguments-turn g e {l} el = let q = arguments-more (5 - n) (5 - (n + 1)) j (omega arith) ec e el in omega arith
 
 module _ (t : List ℕ) (s : List ℤ) (p c : ℕ) where
@@ -100,16 +101,16 @@ module _ (t : List ℕ) (s : List ℤ) (p c : ℕ) where
   unfolding matchesFrom
   matches-end n a f e = rw e
 
-  pub matches-over : (n a f : ℕ) {b : ℕ} → b ≡ codeOf t a → b ≡ 187 → matchesFrom t s p n c a f ≡ Value (pos 1)
+  pub matches-over : (n a f : ℕ) {b : ℕ} → b ≡ codeOf t a → b ≡ c-end → matchesFrom t s p n c a f ≡ Value (pos 1)
   unfolding matchesFrom
   matches-over zero a f eb e = refl
   matches-over (suc n) a f eb e = rw (← eb, e)
 
-  module _ (n k a f : ℕ) (en : n ≡ suc k) {b m : ℕ} (eb : b ≡ codeOf t a) (h : b ≡ 187 → ⊥) (em : m ≡ linkOf t a) {x : Answer} (ex : x ≡ agreesOf t s p c a m f) {z : Bool} (ez : z ≡ holds x) where
+  module _ (n k a f : ℕ) (en : n ≡ suc k) {b m : ℕ} (eb : b ≡ codeOf t a) (h : b ≡ c-end → ⊥) (em : m ≡ linkOf t a) {x : Answer} (ex : x ≡ agreesOf t s p c a m f) {z : Bool} (ez : z ≡ holds x) where
     turn : matchesFrom t s p n c a f ≡ pick (holds x) (matchesFrom t s p k c (m + 1) (f + 1)) x
     unfolding matchesFrom
     turn =
-        rw (en, ← eb, ne-eqb b 187 h)
+        rw (en, ← eb, ne-eqb b c-end h)
         (λ i. pick (holds (sym (ex ∙ ap (λ l. agreesOf t s p c a l f) em) i)) (matchesFrom t s p k c (sym em i + 1) (f + 1)) (sym (ex ∙ ap (λ l. agreesOf t s p c a l f) em) i))
 
     pub matches-more : z ≡ true → matchesFrom t s p n c a f ≡ matchesFrom t s p k c (m + 1) (f + 1)
@@ -120,7 +121,7 @@ module _ (t : List ℕ) (s : List ℤ) (p c : ℕ) where
 
 -- ---- units
 module _ (t : List ℕ) where
-  channels-more : (n k j : ℕ) {r : ℕ} → n ≡ suc k → r ≡ pick (eqb (codeOf t j) 217) 1 0 → channelsFrom t n j ≡ r + channelsFrom t k (j + 1)
+  channels-more : (n k j : ℕ) {r : ℕ} → n ≡ suc k → r ≡ pick (eqb (codeOf t j) c-channel) 1 0 → channelsFrom t n j ≡ r + channelsFrom t k (j + 1)
   unfolding channelsFrom
   channels-more n k j en er = rw (en, er)
 
@@ -131,7 +132,7 @@ module _ (t : List ℕ) where
   pub channels-start : (n u : ℕ) → 0 + channelsFrom t (n - 0) (u + 0) ≡ channelsFrom t n u
   channels-start n u = let a : n - 0 ≡ n = omega arith in let b : u + 0 ≡ u = omega arith in (λ i. 0 + channelsFrom t (a i) (b i)) ∙ omega arith
 
-  pub channels-turn : (c k n u w : ℕ) → k < n → c + channelsFrom t (n - k) (u + k) ≡ w → {r : ℕ} → r ≡ pick (eqb (codeOf t (u + k)) 217) 1 0 → c + r + channelsFrom t (n - (k + 1)) (u + (k + 1)) ≡ w
+  pub channels-turn : (c k n u w : ℕ) → k < n → c + channelsFrom t (n - k) (u + k) ≡ w → {r : ℕ} → r ≡ pick (eqb (codeOf t (u + k)) c-channel) 1 0 → c + r + channelsFrom t (n - (k + 1)) (u + (k + 1)) ≡ w
   channels-turn c k n u w h inv {r} er =
       let q = channels-more (n - k) (n - (k + 1)) (u + k) (omega arith) er in
       let z : u + k + 1 ≡ u + (k + 1) = omega arith in
@@ -162,26 +163,26 @@ module _ (t : List ℕ) (s : List ℤ) {x : Reached} {c : ℕ} (e : x ≡ Record
     receivable-by z ey er = er ∙ ap passes ey ∙ sym (ap (receivable t s p a) e ∙ ap (λ b. pick b false (passes (matchesOf t s p c a))) (ne-eqb _ 0 (λ q. z (en ∙ q))))
 
 module _ (t : List ℕ) (s : List ℤ) (p : ℕ) (late : Bool) (q m : ℕ) {c : ℕ} (ec : c ≡ codeOf t m) where
-  pub ready-express : c ≡ 189 → {x : Answer} {r : Bool} → x ≡ evalOf t s p q m → r ≡ passes x → r ≡ readyBy t s p late q m
+  pub ready-express : c ≡ c-express → {x : Answer} {r : Bool} → x ≡ evalOf t s p q m → r ≡ passes x → r ≡ readyBy t s p late q m
   unfolding readyBy
   ready-express e ex er = rw (← ec, e) (er ∙ ap passes ex)
 
-  pub ready-send : c ≡ 194 → {x : Reached} {r : Bool} → x ≡ messageOf t s p q m → r ≡ sendable t s x → r ≡ readyBy t s p late q m
+  pub ready-send : c ≡ c-send → {x : Reached} {r : Bool} → x ≡ messageOf t s p q m → r ≡ sendable t s x → r ≡ readyBy t s p late q m
   unfolding readyBy
   ready-send e ex er = rw (← ec, e) (er ∙ ap (sendable t s) ex)
 
-  pub ready-receive : c ≡ 195 → {x : Reached} {r : Bool} → x ≡ messageOf t s p q m → r ≡ receivable t s p (m + 1) x → r ≡ readyBy t s p late q m
+  pub ready-receive : c ≡ c-receive → {x : Reached} {r : Bool} → x ≡ messageOf t s p q m → r ≡ receivable t s p (m + 1) x → r ≡ readyBy t s p late q m
   unfolding readyBy
   ready-receive e ex er = rw (← ec, e) (er ∙ ap (receivable t s p (m + 1)) ex)
 
-  pub ready-timeout : c ≡ 200 → late ≡ readyBy t s p late q m
+  pub ready-timeout : c ≡ c-timeout → late ≡ readyBy t s p late q m
   unfolding readyBy
   ready-timeout e = rw (← ec, e)
 
-  pub ready-run : c ≡ 202 → {u : ℕ} {r : Bool} → u ≡ linkOf t m → r ≡ fitsOf t s u → r ≡ readyBy t s p late q m
+  pub ready-run : c ≡ c-run → {u : ℕ} {r : Bool} → u ≡ linkOf t m → r ≡ fitsOf t s u → r ≡ readyBy t s p late q m
   unfolding readyBy
   ready-run e eu er = rw (← ec, e) (er ∙ ap (fitsOf t s) eu)
 
-  pub ready-other : (c ≡ 189 → ⊥) → (c ≡ 194 → ⊥) → (c ≡ 195 → ⊥) → (c ≡ 200 → ⊥) → (c ≡ 202 → ⊥) → {r : Bool} → r ≡ isAlways c → r ≡ readyBy t s p late q m
+  pub ready-other : (c ≡ c-express → ⊥) → (c ≡ c-send → ⊥) → (c ≡ c-receive → ⊥) → (c ≡ c-timeout → ⊥) → (c ≡ c-run → ⊥) → {r : Bool} → r ≡ isAlways c → r ≡ readyBy t s p late q m
   unfolding readyBy
-  ready-other h₁ h₂ h₃ h₄ h₅ er = rw (← ec, ne-eqb c 189 h₁, ne-eqb c 194 h₂, ne-eqb c 195 h₃, ne-eqb c 200 h₄, ne-eqb c 202 h₅) er
+  ready-other h₁ h₂ h₃ h₄ h₅ er = rw (← ec, ne-eqb c c-express h₁, ne-eqb c c-send h₂, ne-eqb c c-receive h₃, ne-eqb c c-timeout h₄, ne-eqb c c-run h₅) er

@@ -5,6 +5,7 @@ use mathlib.Core.Bool.{Bool, true, false}
 use mathlib.Core.List.{List}
 use lib.IntN.{ℤ, pos}
 use lib.Dec.{eqb}
+use Rattle.base_codes.specs.Codes.{c-end, c-field, c-into, c-message}
 use Rattle.base_bytes.specs.Choice.{pick}
 use Rattle.table_layout.specs.Access.{codeOf, linkOf, numberOf}
 use Rattle.state_layout.specs.Layout.{declaredOf, fieldOf}
@@ -25,13 +26,13 @@ module _ (t : List ℕ) where
   -- "message fields 1 to 4"
   unfoldable pub fieldsOf : ℕ → ℕ
   fieldsOf d =
-      pick (eqb (codeOf t (d + 2)) 218)
-      (pick (eqb (codeOf t (d + 4)) 218) (pick (eqb (codeOf t (d + 6)) 218) (pick (eqb (codeOf t (d + 8)) 218) 4 3) 2) 1) 0
+      pick (eqb (codeOf t (d + 2)) c-field)
+      (pick (eqb (codeOf t (d + 4)) c-field) (pick (eqb (codeOf t (d + 6)) c-field) (pick (eqb (codeOf t (d + 8)) c-field) 4 3) 2) 1) 0
 
   -- ## arguments: the first item of one links to its mark, behind which the next begins; `end` (187) stands behind the last
   unfoldable pub argumentsFrom : ℕ → ℕ → ℕ
   argumentsFrom zero a = 0
-  argumentsFrom (suc n) a = pick (eqb (codeOf t a) 187) 0 (1 + argumentsFrom n (linkOf t a + 1))
+  argumentsFrom (suc n) a = pick (eqb (codeOf t a) c-end) 0 (1 + argumentsFrom n (linkOf t a + 1))
 
   -- how many there are from item a on; 5 is too many for a message
   abbrev pub argumentsOf : ℕ → ℕ
@@ -39,7 +40,7 @@ module _ (t : List ℕ) where
 
   -- a received argument with the mark m is compared, not stored: not `into` (184), or the mtype name (220) that it names
   unfoldable pub comparedAt : ℕ → Bool
-  comparedAt m = pick (eqb (codeOf t m) 184) (eqb (codeOf t (linkOf t (m - 1))) 220) true
+  comparedAt m = pick (eqb (codeOf t m) c-into) (eqb (codeOf t (linkOf t (m - 1))) c-message) true
 
 abbrev pub equalBy : Answer → ℤ → Answer
 equalBy (Value v) w = Value (oneIf (same v w))
@@ -58,7 +59,7 @@ module _ (t : List ℕ) (s : List ℤ) (p : ℕ) where
   unfoldable pub matchesFrom : ℕ → ℕ → ℕ → ℕ → Answer
   matchesFrom zero c a f = Value (pos 1)
   matchesFrom (suc n) c a f =
-      pick (eqb (codeOf t a) 187) (Value (pos 1))
+      pick (eqb (codeOf t a) c-end) (Value (pos 1))
       (pick (holds (agreesOf c a (linkOf t a) f)) (matchesFrom n c (linkOf t a + 1) (f + 1)) (agreesOf c a (linkOf t a) f))
 
   abbrev pub matchesOf : ℕ → ℕ → Answer

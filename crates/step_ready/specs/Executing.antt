@@ -6,6 +6,7 @@ use mathlib.Core.Bool.{Bool, true, false}
 use mathlib.Core.List.{List}
 use lib.IntN.{ℤ}
 use lib.Dec.{eqb, ltb, leb}
+use Rattle.base_codes.specs.Codes.{c-assert, c-break, c-channel, c-decrement, c-do, c-else, c-end-body, c-express, c-goto, c-if, c-increment, c-receive, c-run, c-send, c-skip, c-target, c-timeout}
 use Rattle.base_bytes.specs.Choice.{pick, both, either}
 use Rattle.table_layout.specs.Access.{codeOf, linkOf}
 use Rattle.state_layout.specs.Layout.{processesOf, channelsOf, declaredOf, waitingOf}
@@ -25,25 +26,25 @@ passes x = either (isFault x) (holds x)
 unfoldable pub isAlone : ℕ → Bool
 isAlone c =
     pick (eqb c 72) true
-    (pick (eqb c 197) true
-    (pick (eqb c 199) true
-    (pick (eqb c 200) true
-    (pick (eqb c 201) true
-    (pick (eqb c 204) true
-    (pick (eqb c 206) true
-    (pick (eqb c 228) true false)))))))
+    (pick (eqb c c-skip) true
+    (pick (eqb c c-break) true
+    (pick (eqb c c-timeout) true
+    (pick (eqb c c-else) true
+    (pick (eqb c c-if) true
+    (pick (eqb c c-do) true
+    (pick (eqb c c-end-body) true false)))))))
 
 -- one that is always executable: printf, target (of an assignment or `v = run`), `++`, `--`, assert, skip, goto, break
 unfoldable pub isAlways : ℕ → Bool
 isAlways c =
     pick (eqb c 72) true
-    (pick (eqb c 190) true
-    (pick (eqb c 192) true
-    (pick (eqb c 193) true
-    (pick (eqb c 196) true
-    (pick (eqb c 197) true
-    (pick (eqb c 198) true
-    (pick (eqb c 199) true false)))))))
+    (pick (eqb c c-target) true
+    (pick (eqb c c-increment) true
+    (pick (eqb c c-decrement) true
+    (pick (eqb c c-assert) true
+    (pick (eqb c c-skip) true
+    (pick (eqb c c-goto) true
+    (pick (eqb c c-break) true false)))))))
 
 module _ (t : List ℕ) where
   unfoldable pub markOf : ℕ → ℕ
@@ -52,7 +53,7 @@ module _ (t : List ℕ) where
   -- the channels that a process of the unit makes: its `channel` items (217), over n items from j on
   unfoldable pub channelsFrom : ℕ → ℕ → ℕ
   channelsFrom zero j = 0
-  channelsFrom (suc n) j = pick (eqb (codeOf t j) 217) 1 0 + channelsFrom n (j + 1)
+  channelsFrom (suc n) j = pick (eqb (codeOf t j) c-channel) 1 0 + channelsFrom n (j + 1)
 
   abbrev pub channelsIn : ℕ → ℕ
   channelsIn u = channelsFrom (unitLength t u) u
@@ -79,11 +80,11 @@ module _ (t : List ℕ) where
     -- the statement at place q with the mark m; `late` says whether `timeout` is executable
     unfoldable pub readyBy : Bool → ℕ → ℕ → Bool
     readyBy late q m =
-        pick (eqb (codeOf t m) 189) (passes (evalOf t s p q m))
-        (pick (eqb (codeOf t m) 194) (sendable s (messageOf q m))
-        (pick (eqb (codeOf t m) 195) (receivable s p (m + 1) (messageOf q m))
-        (pick (eqb (codeOf t m) 200) late
-        (pick (eqb (codeOf t m) 202) (fitsOf s (linkOf t m)) (isAlways (codeOf t m))))))
+        pick (eqb (codeOf t m) c-express) (passes (evalOf t s p q m))
+        (pick (eqb (codeOf t m) c-send) (sendable s (messageOf q m))
+        (pick (eqb (codeOf t m) c-receive) (receivable s p (m + 1) (messageOf q m))
+        (pick (eqb (codeOf t m) c-timeout) late
+        (pick (eqb (codeOf t m) c-run) (fitsOf s (linkOf t m)) (isAlways (codeOf t m))))))
 
     abbrev pub readyOf : Bool → ℕ → Bool
     readyOf late q = readyBy late q (markOf q)

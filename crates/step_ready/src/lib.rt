@@ -2,6 +2,7 @@
 ghost use mathlib.Core.Path.{_≡_};
 ghost use Prim.Native.Nat.{_+_, _<_, _≤_};
 ghost use lib.Dec.{eqb};
+ghost use Rattle.base_codes.specs.Codes.{c-channel};
 ghost use Rattle.base_bytes.specs.Choice.{pick};
 ghost use Rattle.table_layout.specs.Access.{codeOf};
 ghost use Rattle.step_ready.specs.Channels as channels;
@@ -22,10 +23,10 @@ pub fn fields(t: &[u32], d: u32) -> u32
     ensures { λ r. ⌜ r ≡ channels.fieldsOf (now (t .entry)) d ⌝ }
     ensures { λ r. ⌜ r ≤ 4 ⌝ }
 {
-    if table_layout::code(t, d as usize + 2) == 218 {
-        if table_layout::code(t, d as usize + 4) == 218 {
-            if table_layout::code(t, d as usize + 6) == 218 {
-                if table_layout::code(t, d as usize + 8) == 218 {
+    if table_layout::code(t, d as usize + 2) == base_codes::FIELD {
+        if table_layout::code(t, d as usize + 4) == base_codes::FIELD {
+            if table_layout::code(t, d as usize + 6) == base_codes::FIELD {
+                if table_layout::code(t, d as usize + 8) == base_codes::FIELD {
                     return 4;
                 }
                 return 3;
@@ -44,7 +45,7 @@ pub fn arguments(t: &[u32], a: usize) -> u32
     let mut j = a;
     let mut n: u32 = 0;
     while n < 5 {
-        if table_layout::code(t, j) == 187 {
+        if table_layout::code(t, j) == base_codes::END {
             return n;
         }
         j = table_layout::link(t, j) + 1;
@@ -57,8 +58,8 @@ pub fn arguments(t: &[u32], a: usize) -> u32
 pub fn is_compared(t: &[u32], m: usize) -> bool
     ensures { λ r. ⌜ r ≡ channels.comparedAt (now (t .entry)) m ⌝ }
 {
-    if table_layout::code(t, m) == 184 {
-        table_layout::code(t, table_layout::link(t, step_eval::minus_one(m))) == 220
+    if table_layout::code(t, m) == base_codes::INTO {
+        table_layout::code(t, table_layout::link(t, step_eval::minus_one(m))) == base_codes::MESSAGE
     } else {
         true
     }
@@ -117,7 +118,7 @@ pub fn matches(t: &[u32], s: &[i32], p: u8, c: u32, a: usize) -> Answer
     let mut j = a;
     let mut f: u32 = 0;
     while f < 4 {
-        if table_layout::code(t, j) == 187 {
+        if table_layout::code(t, j) == base_codes::END {
             return Answer::Value(1);
         }
         let m = table_layout::link(t, j);
@@ -146,13 +147,13 @@ fn is_alone(c: u8) -> bool
 {
     match c {
         72 => true,
-        197 => true,
-        199 => true,
-        200 => true,
-        201 => true,
-        204 => true,
-        206 => true,
-        228 => true,
+        base_codes::SKIP => true,
+        base_codes::BREAK => true,
+        base_codes::TIMEOUT => true,
+        base_codes::ELSE => true,
+        base_codes::IF => true,
+        base_codes::DO => true,
+        base_codes::END_BODY => true,
         _ => false,
     }
 }
@@ -162,13 +163,13 @@ fn is_always(c: u8) -> bool
 {
     match c {
         72 => true,
-        190 => true,
-        192 => true,
-        193 => true,
-        196 => true,
-        197 => true,
-        198 => true,
-        199 => true,
+        base_codes::TARGET => true,
+        base_codes::INCREMENT => true,
+        base_codes::DECREMENT => true,
+        base_codes::ASSERT => true,
+        base_codes::SKIP => true,
+        base_codes::GOTO => true,
+        base_codes::BREAK => true,
         _ => false,
     }
 }
@@ -187,10 +188,10 @@ pub fn mark(t: &[u32], q: u32) -> usize
 
 // 1 for an item that makes a channel.
 fn makes(t: &[u32], j: usize) -> u32
-    ensures { λ r. ⌜ r ≡ pick (eqb (codeOf (now (t .entry)) j) 217) 1 0 ⌝ }
+    ensures { λ r. ⌜ r ≡ pick (eqb (codeOf (now (t .entry)) j) c-channel) 1 0 ⌝ }
     ensures { λ r. ⌜ r ≤ 1 ⌝ }
 {
-    if table_layout::code(t, j) == 217 {
+    if table_layout::code(t, j) == base_codes::CHANNEL {
         1
     } else {
         0
@@ -268,11 +269,11 @@ fn ready_by(t: &[u32], s: &[i32], p: u8, late: bool, q: usize, m: usize) -> bool
 {
     let c = table_layout::code(t, m);
     match c {
-        189 => passes(step_eval::eval(t, s, p, q, m)),
-        194 => can_send(t, s, message(t, s, p, q, m as u32)),
-        195 => can_receive(t, s, p, m + 1, message(t, s, p, q, m as u32)),
-        200 => late,
-        202 => has_room(t, s, table_layout::link(t, m) as u32),
+        base_codes::EXPRESS => passes(step_eval::eval(t, s, p, q, m)),
+        base_codes::SEND => can_send(t, s, message(t, s, p, q, m as u32)),
+        base_codes::RECEIVE => can_receive(t, s, p, m + 1, message(t, s, p, q, m as u32)),
+        base_codes::TIMEOUT => late,
+        base_codes::RUN => has_room(t, s, table_layout::link(t, m) as u32),
         _ => is_always(c),
     }
 }

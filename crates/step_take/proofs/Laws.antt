@@ -10,6 +10,7 @@ use lib.Dec.{ltb, leb}
 use borrow.Author.Tests.{ne-eqb, eq-eqb, ltb-true}
 use mir.Syntax.{w32}
 use mir.Val.{toZ, ofZ}
+use Rattle.base_codes.specs.Codes.{c-assert, c-break, c-decrement, c-else, c-end, c-express, c-goto, c-increment, c-parameter, c-receive, c-run, c-send, c-set-run, c-skip, c-target, c-timeout}
 use Rattle.base_bytes.specs.Choice.{pick, both}
 use Rattle.table_layout.specs.Access.{codeOf, linkOf}
 use Rattle.base_values.specs.Types.{castOf}
@@ -34,25 +35,25 @@ use Rattle.step_take.specs.Effects.{endFrom, parameterSet, called, ran, 
 
 -- ---- arguments
 module _ (t : List ℕ) where
-  pub end-over : (n a : ℕ) {c : ℕ} → c ≡ codeOf t a → c ≡ 187 → a ≡ endFrom t n a
+  pub end-over : (n a : ℕ) {c : ℕ} → c ≡ codeOf t a → c ≡ c-end → a ≡ endFrom t n a
   unfolding endFrom
   end-over zero a ec e = refl
   end-over (suc n) a ec e = rw (← ec, e)
 
-  pub end-more : (n n1 a : ℕ) {c l : ℕ} → n ≡ suc n1 → c ≡ codeOf t a → (c ≡ 187 → ⊥) → l ≡ linkOf t a → endFrom t n1 (l + 1) ≡ endFrom t n a
+  pub end-more : (n n1 a : ℕ) {c l : ℕ} → n ≡ suc n1 → c ≡ codeOf t a → (c ≡ c-end → ⊥) → l ≡ linkOf t a → endFrom t n1 (l + 1) ≡ endFrom t n a
   unfolding endFrom
-  end-more n n1 a {c} en ec h el = rw (en, ← ec, ne-eqb c 187 h) (ap (λ b. endFrom t n1 (b + 1)) el)
+  end-more n n1 a {c} en ec h el = rw (en, ← ec, ne-eqb c c-end h) (ap (λ b. endFrom t n1 (b + 1)) el)
 
   pub end-none : (n a : ℕ) → n ≡ 0 → a ≡ endFrom t n a
   unfolding endFrom
   end-none n a e = rw e
 
 module _ (t : List ℕ) (p : ℕ) (l : List ℤ) (j : ℕ) (s : List ℤ) {c : ℕ} (ec : c ≡ codeOf t j) where
-  pub parameter-other : (c ≡ 222 → ⊥) → s ≡ parameterSet t p l j s
+  pub parameter-other : (c ≡ c-parameter → ⊥) → s ≡ parameterSet t p l j s
   unfolding parameterSet
-  parameter-other h = rw (← ec, ne-eqb c 222 h)
+  parameter-other h = rw (← ec, ne-eqb c c-parameter h)
 
-  pub parameter-here : c ≡ 222 → {k ty i : ℕ} {v z : ℤ} {s′ : List ℤ} → k ≡ linkOf t j → ty ≡ typeOf k → mag v < 2 ^ 31 → v ≡ cellOf l (k / 1024) → z ≡ castOf ty (toZ w32 (ofZ w32 v)) → mag z < 2 ^ 31
+  pub parameter-here : c ≡ c-parameter → {k ty i : ℕ} {v z : ℤ} {s′ : List ℤ} → k ≡ linkOf t j → ty ≡ typeOf k → mag v < 2 ^ 31 → v ≡ cellOf l (k / 1024) → z ≡ castOf ty (toZ w32 (ofZ w32 v)) → mag z < 2 ^ 31
       → i ≡ slotOf k p 0 → s′ ≡ set s i (toZ w32 (ofZ w32 z)) → s′ ≡ parameterSet t p l j s
   unfolding parameterSet
   parameter-here e ek et h ev ez g ei es =
@@ -140,74 +141,74 @@ module _ (t : List ℕ) (p i m e : ℕ) (s : List ℤ) {u : ℕ} (eu : u ≡ lin
 
 -- ---- which statement
 module _ (t : List ℕ) (p q m : ℕ) (s : List ℤ) {e c : ℕ} (ee : e ≡ linkOf t m) (ec : c ≡ codeOf t e) where
-  pub target-run : c ≡ 203 → {r : Result} → r ≡ setRan t p q m e s → r ≡ targeted t p q m s
+  pub target-run : c ≡ c-set-run → {r : Result} → r ≡ setRan t p q m e s → r ≡ targeted t p q m s
   unfolding targeted
   target-run k er =
-      er ∙ ap (λ a. setRan t p q m a s) ee ∙ sym (ap (λ z. pick z (setRan t p q m (linkOf t m) s) (assigned t p q m (linkOf t m) s)) (eq-eqb (codeOf t (linkOf t m)) 203 (sym (ec ∙ ap (codeOf t) ee) ∙ k)))
+      er ∙ ap (λ a. setRan t p q m a s) ee ∙ sym (ap (λ z. pick z (setRan t p q m (linkOf t m) s) (assigned t p q m (linkOf t m) s)) (eq-eqb (codeOf t (linkOf t m)) c-set-run (sym (ec ∙ ap (codeOf t) ee) ∙ k)))
 
-  pub target-assign : (c ≡ 203 → ⊥) → {r : Result} → r ≡ assigned t p q m e s → r ≡ targeted t p q m s
+  pub target-assign : (c ≡ c-set-run → ⊥) → {r : Result} → r ≡ assigned t p q m e s → r ≡ targeted t p q m s
   unfolding targeted
   target-assign k er =
       er ∙ ap (λ a. assigned t p q m a s) ee
-      ∙ sym (ap (λ z. pick z (setRan t p q m (linkOf t m) s) (assigned t p q m (linkOf t m) s)) (ne-eqb (codeOf t (linkOf t m)) 203 (λ z. k (ec ∙ ap (codeOf t) ee ∙ z))))
+      ∙ sym (ap (λ z. pick z (setRan t p q m (linkOf t m) s) (assigned t p q m (linkOf t m) s)) (ne-eqb (codeOf t (linkOf t m)) c-set-run (λ z. k (ec ∙ ap (codeOf t) ee ∙ z))))
 
 module _ (t : List ℕ) (p q m : ℕ) (s : List ℤ) {c : ℕ} (ec : c ≡ codeOf t m) where
   pub by-print : c ≡ 72 → {r : Result} → r ≡ printed t p m s → r ≡ takenBy t p q m s
   unfolding takenAs
   by-print e er = er ∙ ap (λ k. takenAs t p k q m s) (sym e ∙ ec)
 
-  pub by-express : c ≡ 189 → {r : Result} → r ≡ expressed t p q m s → r ≡ takenBy t p q m s
+  pub by-express : c ≡ c-express → {r : Result} → r ≡ expressed t p q m s → r ≡ takenBy t p q m s
   unfolding takenAs
   by-express e er = er ∙ ap (λ k. takenAs t p k q m s) (sym e ∙ ec)
 
-  pub by-target : c ≡ 190 → {r : Result} → r ≡ targeted t p q m s → r ≡ takenBy t p q m s
+  pub by-target : c ≡ c-target → {r : Result} → r ≡ targeted t p q m s → r ≡ takenBy t p q m s
   unfolding takenAs
   by-target e er = er ∙ ap (λ k. takenAs t p k q m s) (sym e ∙ ec)
 
-  pub by-more : c ≡ 192 → {r : Result} → r ≡ stepped t p (pos 1) q m s → r ≡ takenBy t p q m s
+  pub by-more : c ≡ c-increment → {r : Result} → r ≡ stepped t p (pos 1) q m s → r ≡ takenBy t p q m s
   unfolding takenAs
   by-more e er = er ∙ ap (λ k. takenAs t p k q m s) (sym e ∙ ec)
 
-  pub by-less : c ≡ 193 → {r : Result} → r ≡ stepped t p (negsuc 0) q m s → r ≡ takenBy t p q m s
+  pub by-less : c ≡ c-decrement → {r : Result} → r ≡ stepped t p (negsuc 0) q m s → r ≡ takenBy t p q m s
   unfolding takenAs
   by-less e er = er ∙ ap (λ k. takenAs t p k q m s) (sym e ∙ ec)
 
-  pub by-send : c ≡ 194 → {r : Result} → r ≡ sent t p q m s → r ≡ takenBy t p q m s
+  pub by-send : c ≡ c-send → {r : Result} → r ≡ sent t p q m s → r ≡ takenBy t p q m s
   unfolding takenAs
   by-send e er = er ∙ ap (λ k. takenAs t p k q m s) (sym e ∙ ec)
 
-  pub by-receive : c ≡ 195 → {r : Result} → r ≡ received t p q m s → r ≡ takenBy t p q m s
+  pub by-receive : c ≡ c-receive → {r : Result} → r ≡ received t p q m s → r ≡ takenBy t p q m s
   unfolding takenAs
   by-receive e er = er ∙ ap (λ k. takenAs t p k q m s) (sym e ∙ ec)
 
-  pub by-assert : c ≡ 196 → {r : Result} → r ≡ asserted t p q m s → r ≡ takenBy t p q m s
+  pub by-assert : c ≡ c-assert → {r : Result} → r ≡ asserted t p q m s → r ≡ takenBy t p q m s
   unfolding takenAs
   by-assert e er = er ∙ ap (λ k. takenAs t p k q m s) (sym e ∙ ec)
 
-  pub by-skip : c ≡ 197 → {r : Result} → r ≡ passed t p m s → r ≡ takenBy t p q m s
+  pub by-skip : c ≡ c-skip → {r : Result} → r ≡ passed t p m s → r ≡ takenBy t p q m s
   unfolding takenAs
   by-skip e er = er ∙ ap (λ k. takenAs t p k q m s) (sym e ∙ ec)
 
-  pub by-goto : c ≡ 198 → {r : Result} → r ≡ passed t p m s → r ≡ takenBy t p q m s
+  pub by-goto : c ≡ c-goto → {r : Result} → r ≡ passed t p m s → r ≡ takenBy t p q m s
   unfolding takenAs
   by-goto e er = er ∙ ap (λ k. takenAs t p k q m s) (sym e ∙ ec)
 
-  pub by-break : c ≡ 199 → {r : Result} → r ≡ passed t p m s → r ≡ takenBy t p q m s
+  pub by-break : c ≡ c-break → {r : Result} → r ≡ passed t p m s → r ≡ takenBy t p q m s
   unfolding takenAs
   by-break e er = er ∙ ap (λ k. takenAs t p k q m s) (sym e ∙ ec)
 
-  pub by-timeout : c ≡ 200 → {r : Result} → r ≡ passed t p m s → r ≡ takenBy t p q m s
+  pub by-timeout : c ≡ c-timeout → {r : Result} → r ≡ passed t p m s → r ≡ takenBy t p q m s
   unfolding takenAs
   by-timeout e er = er ∙ ap (λ k. takenAs t p k q m s) (sym e ∙ ec)
 
-  pub by-else : c ≡ 201 → {r : Result} → r ≡ passed t p m s → r ≡ takenBy t p q m s
+  pub by-else : c ≡ c-else → {r : Result} → r ≡ passed t p m s → r ≡ takenBy t p q m s
   unfolding takenAs
   by-else e er = er ∙ ap (λ k. takenAs t p k q m s) (sym e ∙ ec)
 
-  pub by-run : c ≡ 202 → {r : Result} → r ≡ ran t p m s → r ≡ takenBy t p q m s
+  pub by-run : c ≡ c-run → {r : Result} → r ≡ ran t p m s → r ≡ takenBy t p q m s
   unfolding takenAs
   by-run e er = er ∙ ap (λ k. takenAs t p k q m s) (sym e ∙ ec)
 
-  pub by-none : (c ≡ 72 → ⊥) → (c ≡ 189 → ⊥) → (c ≡ 190 → ⊥) → (c ≡ 192 → ⊥) → (c ≡ 193 → ⊥) → (c ≡ 194 → ⊥) → (c ≡ 195 → ⊥) → (c ≡ 196 → ⊥) → (c ≡ 197 → ⊥) → (c ≡ 198 → ⊥) → (c ≡ 199 → ⊥) → (c ≡ 200 → ⊥) → (c ≡ 201 → ⊥) → (c ≡ 202 → ⊥) → outcome Idle s ≡ takenBy t p q m s
+  pub by-none : (c ≡ 72 → ⊥) → (c ≡ c-express → ⊥) → (c ≡ c-target → ⊥) → (c ≡ c-increment → ⊥) → (c ≡ c-decrement → ⊥) → (c ≡ c-send → ⊥) → (c ≡ c-receive → ⊥) → (c ≡ c-assert → ⊥) → (c ≡ c-skip → ⊥) → (c ≡ c-goto → ⊥) → (c ≡ c-break → ⊥) → (c ≡ c-timeout → ⊥) → (c ≡ c-else → ⊥) → (c ≡ c-run → ⊥) → outcome Idle s ≡ takenBy t p q m s
   unfolding takenAs
-  by-none h72 h189 h190 h192 h193 h194 h195 h196 h197 h198 h199 h200 h201 h202 = rw (← ec, ne-eqb c 72 h72, ne-eqb c 189 h189, ne-eqb c 190 h190, ne-eqb c 192 h192, ne-eqb c 193 h193, ne-eqb c 194 h194, ne-eqb c 195 h195, ne-eqb c 196 h196, ne-eqb c 197 h197, ne-eqb c 198 h198, ne-eqb c 199 h199, ne-eqb c 200 h200, ne-eqb c 201 h201, ne-eqb c 202 h202)
+  by-none h72 h189 h190 h192 h193 h194 h195 h196 h197 h198 h199 h200 h201 h202 = rw (← ec, ne-eqb c 72 h72, ne-eqb c c-express h189, ne-eqb c c-target h190, ne-eqb c c-increment h192, ne-eqb c c-decrement h193, ne-eqb c c-send h194, ne-eqb c c-receive h195, ne-eqb c c-assert h196, ne-eqb c c-skip h197, ne-eqb c c-goto h198, ne-eqb c c-break h199, ne-eqb c c-timeout h200, ne-eqb c c-else h201, ne-eqb c c-run h202)

@@ -5,6 +5,7 @@ use mathlib.Core.List.{List}
 use lib.ListN.{getD, set}
 use lib.IntN.{ℤ, pos, negsuc}
 use lib.Dec.{eqb}
+use Rattle.base_codes.specs.Codes.{c-assert, c-break, c-decrement, c-else, c-end, c-express, c-goto, c-increment, c-parameter, c-receive, c-run, c-send, c-set-run, c-skip, c-target, c-timeout}
 use Rattle.base_bytes.specs.Choice.{pick}
 use Rattle.table_layout.specs.Access.{codeOf, linkOf}
 use Rattle.base_values.specs.Types.{castOf}
@@ -22,11 +23,11 @@ module _ (t : List ℕ) where
   -- where the arguments from item a on end, at most n of them
   unfoldable pub endFrom : ℕ → ℕ → ℕ
   endFrom zero a = a
-  endFrom (suc n) a = pick (eqb (codeOf t a) 187) a (endFrom n (linkOf t a + 1))
+  endFrom (suc n) a = pick (eqb (codeOf t a) c-end) a (endFrom n (linkOf t a + 1))
 
   -- item j, if it is a parameter (222) of process p: it gets its value of l
   unfoldable pub parameterSet : ℕ → List ℤ → ℕ → List ℤ → List ℤ
-  parameterSet p l j s = pick (eqb (codeOf t j) 222) (set s (slotOf (linkOf t j) p 0) (castOf (typeOf (linkOf t j)) (getD l (linkOf t j / 1024) (pos 0)))) s
+  parameterSet p l j s = pick (eqb (codeOf t j) c-parameter) (set s (slotOf (linkOf t j) p 0) (castOf (typeOf (linkOf t j)) (getD l (linkOf t j / 1024) (pos 0)))) s
 
   -- one more process of the unit u, with the arguments l
   unfoldable pub called : ℕ → List ℤ → List ℤ → List ℤ
@@ -52,26 +53,26 @@ module _ (t : List ℕ) where
 
     -- a target's statement: an assignment (191) or `v = run` (203)
     unfoldable pub targeted : ℕ → ℕ → List ℤ → Result
-    targeted q m s = pick (eqb (codeOf t (linkOf t m)) 203) (setRan q m (linkOf t m) s) (assigned t p q m (linkOf t m) s)
+    targeted q m s = pick (eqb (codeOf t (linkOf t m)) c-set-run) (setRan q m (linkOf t m) s) (assigned t p q m (linkOf t m) s)
 
     -- by the code of its mark
     unfoldable pub takenAs : ℕ → ℕ → ℕ → List ℤ → Result
     takenAs c q m s =
         pick (eqb c 72) (printed t p m s)
-        (pick (eqb c 189) (expressed t p q m s)
-        (pick (eqb c 190) (targeted q m s)
-        (pick (eqb c 192) (stepped t p (pos 1) q m s)
-        (pick (eqb c 193) (stepped t p (negsuc 0) q m s)
-        (pick (eqb c 194) (sent t p q m s)
-        (pick (eqb c 195) (received t p q m s)
-        (pick (eqb c 196) (asserted t p q m s)
+        (pick (eqb c c-express) (expressed t p q m s)
+        (pick (eqb c c-target) (targeted q m s)
+        (pick (eqb c c-increment) (stepped t p (pos 1) q m s)
+        (pick (eqb c c-decrement) (stepped t p (negsuc 0) q m s)
+        (pick (eqb c c-send) (sent t p q m s)
+        (pick (eqb c c-receive) (received t p q m s)
+        (pick (eqb c c-assert) (asserted t p q m s)
         -- skip, goto, break, timeout, else
-        (pick (eqb c 197) (passed t p m s)
-        (pick (eqb c 198) (passed t p m s)
-        (pick (eqb c 199) (passed t p m s)
-        (pick (eqb c 200) (passed t p m s)
-        (pick (eqb c 201) (passed t p m s)
-        (pick (eqb c 202) (ran m s) (Idle, s))))))))))))))
+        (pick (eqb c c-skip) (passed t p m s)
+        (pick (eqb c c-goto) (passed t p m s)
+        (pick (eqb c c-break) (passed t p m s)
+        (pick (eqb c c-timeout) (passed t p m s)
+        (pick (eqb c c-else) (passed t p m s)
+        (pick (eqb c c-run) (ran m s) (Idle, s))))))))))))))
 
     abbrev pub takenBy : ℕ → ℕ → List ℤ → Result
     takenBy q m s = takenAs (codeOf t m) q m s

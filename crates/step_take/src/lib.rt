@@ -14,7 +14,7 @@ fn end_of(t: &[u32], a: usize) -> usize
     let mut j = a;
     let mut n: usize = 0;
     while n < 32 {
-        if table_layout::code(t, j) == 187 {
+        if table_layout::code(t, j) == base_codes::END {
             return j;
         }
         j = table_layout::link(t, j) + 1;
@@ -26,7 +26,7 @@ fn end_of(t: &[u32], a: usize) -> usize
 fn set_parameter(t: &[u32], s: &mut [i32], p: u8, values: &[i32], j: u32)
     ensures { λ _. ⌜ now (s .exit) ≡ effects.parameterSet (now (t .entry)) p (now (values .entry)) j (now (s .entry)) ⌝ }
 {
-    if table_layout::code(t, j as usize) == 222 {
+    if table_layout::code(t, j as usize) == base_codes::PARAMETER {
         let l = table_layout::link(t, j as usize) as u32;
         let v = base_values::cast(
             step_eval::type_of(l),
@@ -112,7 +112,7 @@ fn target(t: &[u32], s: &mut [i32], p: u8, q: usize, m: usize) -> Taken
     ensures { λ r. ⌜ (r, now (s .exit)) ≡ effects.targeted (now (t .entry)) p q m (now (s .entry)) ⌝ }
 {
     let e = table_layout::link(t, m);
-    if table_layout::code(t, e) == 203 {
+    if table_layout::code(t, e) == base_codes::SET_RUN {
         set_run(t, s, p, q, m, e)
     } else {
         step_statements::assign(t, s, p, q, m as u32, e)
@@ -125,19 +125,19 @@ fn take_by(t: &[u32], s: &mut [i32], p: u8, q: usize, m: usize) -> Taken
 {
     match table_layout::code(t, m) {
         72 => step_statements::print(t, s, p, m as u32),
-        189 => step_statements::express(t, s, p, q, m),
-        190 => target(t, s, p, q, m),
-        192 => step_statements::step_by(t, s, p, 1, q, m),
-        193 => step_statements::step_by(t, s, p, -1, q, m),
-        194 => step_statements::send(t, s, p, q, m as u32),
-        195 => step_statements::receive(t, s, p, q, m as u32),
-        196 => step_statements::assert_that(t, s, p, q, m),
-        197 => step_statements::pass(t, s, p, m),
-        198 => step_statements::pass(t, s, p, m),
-        199 => step_statements::pass(t, s, p, m),
-        200 => step_statements::pass(t, s, p, m),
-        201 => step_statements::pass(t, s, p, m),
-        202 => run(t, s, p, m),
+        base_codes::EXPRESS => step_statements::express(t, s, p, q, m),
+        base_codes::TARGET => target(t, s, p, q, m),
+        base_codes::INCREMENT => step_statements::step_by(t, s, p, 1, q, m),
+        base_codes::DECREMENT => step_statements::step_by(t, s, p, -1, q, m),
+        base_codes::SEND => step_statements::send(t, s, p, q, m as u32),
+        base_codes::RECEIVE => step_statements::receive(t, s, p, q, m as u32),
+        base_codes::ASSERT => step_statements::assert_that(t, s, p, q, m),
+        base_codes::SKIP => step_statements::pass(t, s, p, m),
+        base_codes::GOTO => step_statements::pass(t, s, p, m),
+        base_codes::BREAK => step_statements::pass(t, s, p, m),
+        base_codes::TIMEOUT => step_statements::pass(t, s, p, m),
+        base_codes::ELSE => step_statements::pass(t, s, p, m),
+        base_codes::RUN => run(t, s, p, m),
         _ => Taken::Idle,
     }
 }

@@ -5,6 +5,7 @@ use mathlib.Core.List.{List, [], _∷_, map}
 use native.Mathlib.Omega.{arith}
 use lib.ListN.{length}
 use borrow.Author.Tests.{ne-eqb}
+use Rattle.base_codes.specs.Codes.{c-end-body, c-or-else}
 use Rattle.spec_grammar.specs.Code.{Item, i-plain}
 use Rattle.parse_tables.specs.Numbering.{items, nth, item}
 use Rattle.table_entries.specs.Entry.{Entry, entry, runs}
@@ -14,7 +15,7 @@ abbrev marked : ℕ → Entry
 marked x = entry x [] 0
 
 -- the numbers of the marks, all at once
-in-order : map entryOf items ≡ runs marked 147 82
+in-order : map entryOf items ≡ runs marked c-or-else 82
 unfolding runs
 in-order = refl
 
@@ -29,12 +30,12 @@ nth-runs i zero j d h = absurd (omega arith)
 nth-runs i (suc k) zero d h = let e : i + 0 ≡ i = omega arith in rw e
 nth-runs i (suc k) (suc j) d h = let e : i + 1 + j ≡ i + suc j = omega arith in nth-runs (i + 1) k j d (omega arith) ∙ rw e
 
-pub mark-entry : (x : ℕ) → 147 ≤ x → x ≤ 228 → entryOf (item x) ≡ entry x [] 0
+pub mark-entry : (x : ℕ) → c-or-else ≤ x → x ≤ c-end-body → entryOf (item x) ≡ entry x [] 0
 mark-entry x a b =
-    let e : 147 + (x - 147) ≡ x = omega arith in
-    sym (nth-map items (marked 0) i-plain (x - 147) (omega arith)) ∙ ap (λ l. nth l (x - 147) (marked 0)) in-order ∙ nth-runs 147 82 (x - 147) (marked 0) (omega arith) ∙ ap marked e
+    let e : c-or-else + (x - c-or-else) ≡ x = omega arith in
+    sym (nth-map items (marked 0) i-plain (x - c-or-else) (omega arith)) ∙ ap (λ l. nth l (x - c-or-else) (marked 0)) in-order ∙ nth-runs c-or-else 82 (x - c-or-else) (marked 0) (omega arith) ∙ ap marked e
 
-mark-back : (x : ℕ) → 147 ≤ x → itemOf (entry x [] 0) ≡ item x
+mark-back : (x : ℕ) → c-or-else ≤ x → itemOf (entry x [] 0) ≡ item x
 mark-back x a = simp (ne-eqb x 70 (λ z. omega arith), ne-eqb x 71 (λ z. omega arith), ne-eqb x 72 (λ z. omega arith))
 
 pub item-back : {i : Item} → Known i → itemOf (entryOf i) ≡ i

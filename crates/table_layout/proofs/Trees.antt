@@ -3,6 +3,7 @@ use Prim.Native.Nat.{ℕ, _≤_}
 use mathlib.Core.Path.{_≡_, refl, ap₂}
 use mathlib.Core.List.{List, [], _∷_, map}
 use native.Mathlib.Omega.{arith}
+use Rattle.base_codes.specs.Codes.{c-end-body, c-or-else}
 use Rattle.spec_grammar.specs.Tree.{Model}
 use Rattle.spec_grammar.specs.Code.{Item, code}
 use Rattle.spec_grammar.proofs.Built.{code-injective}
@@ -13,7 +14,7 @@ use Rattle.table_layout.specs.Back.{Fair, AllFair, Small}
 use Rattle.table_layout.specs.Trees.{entriesIn, tablesIn}
 use Rattle.table_layout.proofs.Back.{tables-determine}
 
-mark-fair : (x : ℕ) → 147 ≤ x → x ≤ 228 → Fair (entry x [] 0)
+mark-fair : (x : ℕ) → c-or-else ≤ x → x ≤ c-end-body → Fair (entry x [] 0)
 mark-fair x a b = record { coded = omega arith; short = omega arith; low = tt; bare = λ p q. refl; still = λ p. refl }
 
 pub item-fair : {i : Item} → Known i → Fair (entryOf i)

@@ -2,6 +2,7 @@
 use mathlib.Core.Path.{_≡_, refl}
 use mathlib.Core.List.{List, [], _∷_}
 use Prim.Native.Nat.{ℕ}
+use Rattle.base_codes.specs.Codes.{c-plain}
 use Rattle.base_kinds.specs.Kinds.{bytes}
 use Rattle.base_pens.specs.Pack.{four, packed, digit}
 use Rattle.table_entries.specs.Entry.{Entry, entry, number, joined}
@@ -9,16 +10,16 @@ use Rattle.table_layout.specs.Tables.{argument, itemWord, one, itemWords
 use Rattle.table_layout.specs.Access.{codeOf, linkOf, numberOf, nameLength, poolByte, nameByte}
 
 abbrev some : List Entry
-some = entry 70 (bytes "ab") 0 ∷ entry 71 [] 7 ∷ entry 176 [] 0 ∷ entry 72 (bytes "x") 0 ∷ []
+some = entry 70 (bytes "ab") 0 ∷ entry 71 [] 7 ∷ entry c-plain [] 0 ∷ entry 72 (bytes "x") 0 ∷ []
 
 abbrev table : List ℕ
-table = 14 ∷ 4 ∷ 1 ∷ 1 ∷ 582 ∷ 71 ∷ 176 ∷ 65864 ∷ 5 ∷ 0 ∷ 9 ∷ 0 ∷ 7 ∷ 7889505 ∷ []
+table = 14 ∷ 4 ∷ 1 ∷ 1 ∷ 582 ∷ 71 ∷ c-plain ∷ 65864 ∷ 5 ∷ 0 ∷ 9 ∷ 0 ∷ 7 ∷ 7889505 ∷ []
 
 written : tablesOf some (5 ∷ 0 ∷ 9 ∷ []) ≡ table
 unfolding tablesOf itemWords itemWord argument one linked numbers number joined pool packed four
 written = refl
 
-code : codeOf table 2 ≡ 176
+code : codeOf table 2 ≡ c-plain
 unfolding codeOf
 code = refl
 

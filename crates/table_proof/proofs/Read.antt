@@ -10,6 +10,7 @@ use lib.ListN.{length, getD, take, drop, length-map, length-drop}
 use lib.Seq.{drop-drop, take-take, length-take-le}
 use lib.Dec.{eqb, ltb}
 use borrow.Author.Tests.{lt-ltb, le-ltb, ne-eqb, eqb-true, eqb-false, ltb-true, ltb-false}
+use Rattle.base_codes.specs.Codes.{c-end-body, c-or-else}
 use Rattle.base_kinds.specs.Kinds.{sym, name, number, text}
 use Rattle.text_pieces.specs.Ceilings.{number-most}
 use Rattle.text_pieces.specs.Spans.{decimal}
@@ -130,7 +131,7 @@ module _ (t : List ℕ) (p : Placed) (o : p .start ≤ p .end) (h : p .end ≤ l
       go (inr (inl e)) = rw e (reads-number (k ∙ e))
       go (inr (inr e)) = rw e (reads-text (k ∙ e))
 
-mark-read : (t : List ℕ) (c s e : ℕ) → 147 ≤ c → c ≤ 228 → entry c (bytesOf t c s e) (valueOf t c s e) ≡ entryOf (item c)
+mark-read : (t : List ℕ) (c s e : ℕ) → c-or-else ≤ c → c ≤ c-end-body → entry c (bytesOf t c s e) (valueOf t c s e) ≡ entryOf (item c)
 unfolding bytesOf valueOf
 mark-read t c s e a b =
     simp (ne-eqb c 70 (λ z. omega arith), ne-eqb c 71 (λ z. omega arith), ne-eqb c 72 (λ z. omega arith)) (inv (mark-entry c a b))
@@ -180,9 +181,9 @@ module _ (t : List ℕ) (ps : List Placed) (e : reading t ≡ tokens ps) (x y : 
       let p = getD ps k nowhere in
       let l : k < length ps = r .2 in
       let a = ordered-at 0 (length t) ps (tokens-ordered t ps e) k l in
-      rw (get-map Placed.start ps x k nowhere 0 l, get-map Placed.end ps y k nowhere 0 l, lt-ltb c 147 (omega (arith, r .1)), get-only (tokenIn t) ps k nowhere (sym 0) l)
+      rw (get-map Placed.start ps x k nowhere 0 l, get-map Placed.end ps y k nowhere 0 l, lt-ltb c c-or-else (omega (arith, r .1)), get-only (tokenIn t) ps k nowhere (sym 0) l)
       (token-entry t p (a .0) (a .1) (sound-at t ps (tokens-sound t ps e) k l) c (r .0) (r .1) (r .3))
-  read-one c k (inr r) = rw (le-ltb c 147 (r .0)) (mark-read t c (getD starts k 0) (getD ends k 0) (r .0) (r .1))
+  read-one c k (inr r) = rw (le-ltb c c-or-else (r .0)) (mark-read t c (getD starts k 0) (getD ends k 0) (r .0) (r .1))
 
   -- the numbers v of o, of which f is the code and g the token
   module _ (f g : ℕ → ℕ) (o : List ℕ) (z : List ℕ) (few : length o ≤ 8192) (right : (j : ℕ) → j < length o → Right ps (f (getD o j 0)) (g (getD o j 0))) where

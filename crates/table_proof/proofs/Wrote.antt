@@ -8,6 +8,7 @@ use native.Mathlib.Omega.{arith}
 use lib.ListN.{length, getD, length-map}
 use lib.Dec.{T, eqb, ltb, leb, leb→le}
 use borrow.Author.Tests.{lt-ltb, ltb-true, ltb-false, eqb-true}
+use Rattle.base_codes.specs.Codes.{c-end-body, c-or-else}
 use Rattle.base_bytes.specs.Choice.{pick, both}
 use Rattle.text_tokens.specs.Reading.{Placed}
 use Rattle.parse_tables.specs.Tables.{rights, span, right}
@@ -19,23 +20,23 @@ use Rattle.table_proof.proofs.Read.{get-only}
 
 abbrev lows : List ℕ → Bool
 lows [] = true
-lows (x ∷ l) = both (leb x 228) (lows l)
+lows (x ∷ l) = both (leb x c-end-body) (lows l)
 
 all-low : T (lows rights)
 unfolding rights
 all-low = tt
 
-low-at : (l : List ℕ) → T (lows l) → (i : ℕ) → getD l i 0 ≤ 228
+low-at : (l : List ℕ) → T (lows l) → (i : ℕ) → getD l i 0 ≤ c-end-body
 low-at [] t i = omega arith
-low-at (x ∷ l) t zero = leb→le x 228 (both-parts (leb x 228) (lows l) t .0)
-low-at (x ∷ l) t (suc i) = low-at l (both-parts (leb x 228) (lows l) t .1) i
+low-at (x ∷ l) t zero = leb→le x c-end-body (both-parts (leb x c-end-body) (lows l) t .0)
+low-at (x ∷ l) t (suc i) = low-at l (both-parts (leb x c-end-body) (lows l) t .1) i
 
 -- a stack of such symbols
 abbrev Low : List ℕ → Type 0
 Low [] = Unit {0}
-Low (v ∷ st) = (v % 256 ≤ 228) × Low st
+Low (v ∷ st) = (v % 256 ≤ c-end-body) × Low st
 
-low-mark : (x b : ℕ) → x ≤ 228 → b % 256 ≡ 0 → (x + b) % 256 ≤ 228
+low-mark : (x b : ℕ) → x ≤ c-end-body → b % 256 ≡ 0 → (x + b) % 256 ≤ c-end-body
 low-mark x b h e = omega arith
 
 low-span : (i n b : ℕ) (st : List ℕ) → b % 256 ≡ 0 → Low st → Low (marked b (span i n) ++ st)
@@ -49,7 +50,7 @@ low-right p b st e s = low-span (p * 13 + 1) (getD rights (p * 13) 0) b st e s
 
 -- what is written
 abbrev pub Wrote : List ℕ → ℕ → Type 0
-Wrote ks v = ((70 ≤ symbol-of v) × (symbol-of v ≤ 72) × (place-of v < length ks) × (getD ks (place-of v) 0 ≡ symbol-of v)) ⊎ ((147 ≤ symbol-of v) × (symbol-of v ≤ 228))
+Wrote ks v = ((70 ≤ symbol-of v) × (symbol-of v ≤ 72) × (place-of v < length ks) × (getD ks (place-of v) 0 ≡ symbol-of v)) ⊎ ((c-or-else ≤ symbol-of v) × (symbol-of v ≤ c-end-body))
 
 abbrev All : List ℕ → List ℕ → Type 0
 All ks [] = Unit {0}
@@ -129,7 +130,7 @@ module _ (ks : List ℕ) (short : length ks ≤ 2048) (f : Config → Outcome) (
       by false true = ih (record { st = marked (mark v pos out) (right p) ++ st; pos = pos; out = out }) (low-right p (mark v pos out) st (mark-plain v pos out) l) a
       by false false = tt
 
-  mark-wrote : (v n : ℕ) → 147 ≤ symbol-of v → symbol-of v ≤ 228 → Wrote ks (packed (symbol-of v) (place-of v) n)
+  mark-wrote : (v n : ℕ) → c-or-else ≤ symbol-of v → symbol-of v ≤ c-end-body → Wrote ks (packed (symbol-of v) (place-of v) n)
   mark-wrote v n a b = let e : symbol-of (packed (symbol-of v) (place-of v) n) ≡ symbol-of v = packed-symbol (symbol-of v) (place-of v) n (omega arith) in inr (rw e a, rw e b)
 
   turn-good : (st : List ℕ) (pos : ℕ) (out : List ℕ) → Low st → All ks out → Good ks (next f (step-on ks st pos out))
@@ -139,13 +140,13 @@ module _ (ks : List ℕ) (short : length ks ≤ 2048) (f : Config → Outcome) (
       by : (b : Bool) → Good ks (pick b (refused pos) (done out))
       by true = tt
       by false = a
-  turn-good (v ∷ st) pos out l a = by (ltb (symbol-of v) 73) refl (ltb (symbol-of v) 147) refl
+  turn-good (v ∷ st) pos out l a = by (ltb (symbol-of v) 73) refl (ltb (symbol-of v) c-or-else) refl
     where
-      by : (b : Bool) → ltb (symbol-of v) 73 ≡ b → (c : Bool) → ltb (symbol-of v) 147 ≡ c
+      by : (b : Bool) → ltb (symbol-of v) 73 ≡ b → (c : Bool) → ltb (symbol-of v) c-or-else ≡ c
           → Good ks (next f (pick b (eat ks v st pos out) (pick c (expand v st pos out (Rattle.parse_tables.specs.Tables.production (symbol-of v) (column ks pos))) (write v (place-of v) st pos out))))
       by true e c g = eat-good v st pos out (l .1) a (ltb-true (symbol-of v) 73 e)
       by false e true g = expand-good v st pos out (Rattle.parse_tables.specs.Tables.production (symbol-of v) (column ks pos)) (l .1) a
-      by false e false g = write-good v (place-of v) st pos out (l .1) a (mark-wrote v (length out - count-of v) (ltb-false (symbol-of v) 147 g) (l .0))
+      by false e false g = write-good v (place-of v) st pos out (l .1) a (mark-wrote v (length out - count-of v) (ltb-false (symbol-of v) c-or-else g) (l .0))
 
 run-good : (ks : List ℕ) → length ks ≤ 2048 → (f : ℕ) (c : Config) → Low (c .st) → All ks (c .out) → Good ks (run ks f c)
 unfolding run

@@ -6,6 +6,7 @@ use mathlib.Core.Logic.{_⊎_}
 use mathlib.Core.List.{List}
 use lib.ListN.{length, getD}
 use lib.Dec.{ltb}
+use Rattle.base_codes.specs.Codes.{c-end-body, c-or-else}
 use Rattle.base_kinds.specs.Kinds.{Token, sym, name, number, text}
 use Rattle.spec_grammar.specs.Code.{Item, i-name, i-number, i-text, i-plain}
 use Rattle.parse_tables.specs.Numbering.{item}
@@ -20,11 +21,11 @@ held (text w) = i-text w
 
 -- the item of code c at token k
 abbrev pub read : List Token → ℕ → ℕ → Item
-read ts c k = cond (ltb c 147) (held (getD ts k (sym 0))) (item c)
+read ts c k = cond (ltb c c-or-else) (held (getD ts k (sym 0))) (item c)
 
 abbrev pub nowhere : Placed
 nowhere = placed 0 0 0
 
 -- code c at token k of these
 abbrev pub Right : List Placed → ℕ → ℕ → Type 0
-Right ps c k = ((70 ≤ c) × (c ≤ 72) × (k < length ps) × (getD ps k nowhere .kind ≡ c)) ⊎ ((147 ≤ c) × (c ≤ 228))
+Right ps c k = ((70 ≤ c) × (c ≤ 72) × (k < length ps) × (getD ps k nowhere .kind ≡ c)) ⊎ ((c-or-else ≤ c) × (c ≤ c-end-body))

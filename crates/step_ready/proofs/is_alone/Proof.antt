@@ -1,3 +1,4 @@
+use Rattle.base_codes.specs.Codes.{c-break, c-do, c-else, c-end-body, c-if, c-skip, c-timeout}
 use Rattle.step_ready.specs.Executing.{isAlone}
 use borrow.Author.Tests.{ne-eqb}
 use Rattle.step_ready.proofs.is_alone.Statement.{statement}
@@ -37,7 +38,7 @@ returns-8 c = rw (c .match .keys8)
 
 returns-9 : tie.Need-returns-9
 unfolding isAlone
-returns-9 c = simp (ne-eqb (c .before .args .c) 72 (c .match .rest .0 .0 .0 .0 .0 .0 .0 .1), ne-eqb (c .before .args .c) 197 (c .match .rest .0 .0 .0 .0 .0 .0 .1), ne-eqb (c .before .args .c) 199 (c .match .rest .0 .0 .0 .0 .0 .1), ne-eqb (c .before .args .c) 200 (c .match .rest .0 .0 .0 .0 .1), ne-eqb (c .before .args .c) 201 (c .match .rest .0 .0 .0 .1), ne-eqb (c .before .args .c) 204 (c .match .rest .0 .0 .1), ne-eqb (c .before .args .c) 206 (c .match .rest .0 .1), ne-eqb (c .before .args .c) 228 (c .match .rest .1))
+returns-9 c = simp (ne-eqb (c .before .args .c) 72 (c .match .rest .0 .0 .0 .0 .0 .0 .0 .1), ne-eqb (c .before .args .c) c-skip (c .match .rest .0 .0 .0 .0 .0 .0 .1), ne-eqb (c .before .args .c) c-break (c .match .rest .0 .0 .0 .0 .0 .1), ne-eqb (c .before .args .c) c-timeout (c .match .rest .0 .0 .0 .0 .1), ne-eqb (c .before .args .c) c-else (c .match .rest .0 .0 .0 .1), ne-eqb (c .before .args .c) c-if (c .match .rest .0 .0 .1), ne-eqb (c .before .args .c) c-do (c .match .rest .0 .1), ne-eqb (c .before .args .c) c-end-body (c .match .rest .1))
 
 pub is-alone-spec : {M : Type 1} → statement M
 is-alone-spec =
