@@ -8,19 +8,22 @@ use mathlib.Core.List.{List, [], _∷_, _++_}
 use lib.ListN.{length, getD, length-append}
 use lib.Dec.{eqb}
 use borrow.Author.Tests.{eq-eqb}
-use Rattle.base_codes.specs.Codes.{c-break, c-do, c-else, c-end-body, c-end-option, c-if, c-label, c-skip, c-timeout}
+use Rattle.base_codes.specs.Codes.{c-break, c-do, c-else, c-end-body, c-end-option, c-if, c-label, c-name, c-skip, c-text, c-timeout}
 use Rattle.base_bytes.specs.Choice.{pick, both, either}
 use Rattle.base_bytes.proofs.Tests.{true-false, both-no}
 use Rattle.rule_sheets.proofs.Walks.{first-stop, first-more}
 use Rattle.spec_grammar.specs.Tree.{Name, action, statement, Tree, express, assign, increment, decrement, send, receive, assert, print, skip, goto, break, timeout, else, run, set-run, select, loop, bare, labelled, Exp, Shape, Value, unset, set-number, set-minus, set-true, set-false, set-name, set-channel, Variable, variable, Declaration, declare}
-use Rattle.spec_grammar.specs.Code.{Item, i-name, i-type, i-end, i-label, i-express, i-target, i-assign, i-increment, i-decrement, i-send, i-receive, i-assert, i-goto, i-run, i-set-run, i-local, each, code-exp, code-argument, code-received, code-tree, code-field, code-size, code-value, code-variable, code-declaration}
-use Rattle.table_entries.specs.Items.{codeOf, AllKnown}
-use Rattle.link_places.specs.Places.{isPart, isMark, markFrom, markOf, isAlone, isLead, isPlace, isStop, placeFrom}
+use Rattle.base_codes.specs.Items.{Item, codeOf, i-assert, i-assign, i-decrement, i-end, i-express, i-goto, i-increment, i-label, i-local, i-name, i-receive, i-run, i-send, i-set-run, i-target}
+use Rattle.base_codes.specs.Sets.{isPart, isAlone, isLead}
+use Rattle.parse_code.specs.Code.{each, code-exp, code-argument, code-received, code-tree, code-field, code-size, code-value, code-variable, code-declaration}
+use Rattle.table_entries.specs.Items.{AllKnown}
+use Rattle.link_places.specs.Places.{isMark, markFrom, markOf, isPlace, isStop, placeFrom}
 use Rattle.link_phrases_proof.specs.Phrases.{At}
 use Rattle.link_phrases_proof.proofs.Starts.{at-front, at-back, some-items}
 use Rattle.agree_eval.proofs.Operators.{known-front, known-back}
 use Rattle.spec_machine.specs.Program.{sizeIn, placeIn}
-use Rattle.agree_control.proofs.Insides.{quiet, kind, part-known, type-known, Parts, parts-exp}
+use Rattle.agree_eval.proofs.Ranges.{Every, InPart, exp-parts}
+use Rattle.agree_control.proofs.Insides.{quiet, type-quiet}
 
 -- ---- what is no stop, and what is one
 quiet-says : (c : ℕ) → quiet c ≡ true → (isPart c ≡ false) × (isAlone c ≡ false) × (eqb c c-end-body ≡ false)
@@ -122,8 +125,8 @@ dull-each f h [] k = none
 dull-each f h (a ∷ l) k = dull-append (h a (known-front (f a) (each f l) k)) (dull-each f h l (known-back (f a) (each f l) k))
 
 dull-field : (n : ℕ) → AllKnown (code-field n) → Dull (code-field n)
-unfolding kind quiet isPart isAlone
-dull-field n k = mark (type-known (i-type n) (k .0) refl) (mark refl none)
+unfolding quiet isPart isAlone
+dull-field n k = mark (type-quiet (k .0)) (mark refl none)
 
 dull-size : (s : Option ℕ) → Dull (code-size s)
 unfolding quiet isPart isAlone isLead
@@ -145,8 +148,8 @@ unfolding quiet isPart isAlone isLead
 dull-variable (variable w s v) k = said refl refl refl refl (dull-append (dull-size s) (dull-value v (known-back (code-size s) (code-value v) (k .1 .1))))
 
 dull-declaration : (d : Declaration) → AllKnown (code-declaration i-local d) → Dull (code-declaration i-local d)
-unfolding kind quiet isPart isAlone
-dull-declaration (declare c vs) k = mark (type-known (i-type c) (k .0) refl) (mark refl (dull-each code-variable dull-variable vs (k .1 .1)))
+unfolding quiet isPart isAlone
+dull-declaration (declare c vs) k = mark (type-quiet (k .0)) (mark refl (dull-each code-variable dull-variable vs (k .1 .1)))
 
 pub dull-declarations : (ds : List Declaration) → AllKnown (each (code-declaration i-local) ds) → Dull (each (code-declaration i-local) ds)
 dull-declarations ds k = dull-each (code-declaration i-local) dull-declaration ds k
@@ -161,11 +164,11 @@ module _ (cs : List ℕ) where
   part-not c e = ap (λ b. pick b false true) e
 
   -- the mark behind parts of an expression
-  mark-behind : (l : List Item) → Parts l → AllKnown l → (y : Item) (rest : List Item) → isMark (codeOf y) ≡ true
+  mark-behind : (l : List Item) → Every InPart l → AllKnown l → (y : Item) (rest : List Item) → isMark (codeOf y) ≡ true
       → (k : ℕ) → At cs k (l ++ y ∷ rest) → k + length l < length cs → markFrom cs k ≡ k + length l
   mark-behind [] p a y rest m k h g = mark-here cs k (omega arith) (ap isMark (h .0) ∙ m) ∙ (let z : k ≡ k + 0 = omega arith in z)
   mark-behind (x ∷ l) p a y rest m k h g =
-      mark-on cs k (omega arith) (ap isMark (h .0) ∙ part-not (codeOf x) (part-known x (a .0) (p .0))) ∙ ap (markFrom cs) (let z : k + 1 ≡ suc k = omega arith in z)
+      mark-on cs k (omega arith) (ap isMark (h .0) ∙ part-not (codeOf x) (p .0 (a .0))) ∙ ap (markFrom cs) (let z : k + 1 ≡ suc k = omega arith in z)
       ∙ mark-behind l (p .1) (a .1) y rest m (suc k) (h .1) (omega arith) ∙ (let z : suc k + length l ≡ k + suc (length l) = omega arith in z)
 
   place-led : (p : ℕ) → isPart (getD cs p 0) ≡ true → isMark (getD cs (p - 1) 0) ≡ true → isLead (getD cs (markOf cs p) 0) ≡ true → isPlace cs p ≡ true
@@ -177,18 +180,18 @@ module _ (cs : List ℕ) where
       go false = rw (a, b, c)
 
   -- a phrase with the mark of a statement
-  led : (l : List Item) → 1 ≤ length l → Parts l → AllKnown l → (y : Item) (rest : List Item) → isMark (codeOf y) ≡ true → isLead (codeOf y) ≡ true
+  led : (l : List Item) → 1 ≤ length l → Every InPart l → AllKnown l → (y : Item) (rest : List Item) → isMark (codeOf y) ≡ true → isLead (codeOf y) ≡ true
       → (p : ℕ) → At cs p (l ++ y ∷ rest) → p + length (l ++ y ∷ rest) ≤ length cs → isMark (getD cs (p - 1) 0) ≡ true → isPlace cs p ≡ true
   led [] n q a y rest m u p h g b = absurd (omega arith)
   led (x ∷ l) n q a y rest m u p h g b =
       let w = length-append l (y ∷ rest) in
       let k : markOf cs p ≡ suc p + length l =
       ap (markFrom cs) (let z : p + 1 ≡ suc p = omega arith in z) ∙ mark-behind l (q .1) (a .1) y rest m (suc p) (h .1) (omega arith) in
-      place-led p (ap isPart (h .0) ∙ part-known x (a .0) (q .0)) b (ap (λ i. isLead (getD cs i 0)) k ∙ ap isLead (at-back cs l (y ∷ rest) (suc p) (suc p + length l) refl (h .1) .0) ∙ u)
+      place-led p (ap isPart (h .0) ∙ q .0 (a .0)) b (ap (λ i. isLead (getD cs i 0)) k ∙ ap isLead (at-back cs l (y ∷ rest) (suc p) (suc p + length l) refl (h .1) .0) ∙ u)
 
   led-by : {s : Shape} (e : Exp s) (y : Item) (rest : List Item) → isMark (codeOf y) ≡ true → isLead (codeOf y) ≡ true → AllKnown (code-exp e ++ y ∷ rest)
       → (p : ℕ) → At cs p (code-exp e ++ y ∷ rest) → p + length (code-exp e ++ y ∷ rest) ≤ length cs → isMark (getD cs (p - 1) 0) ≡ true → isPlace cs p ≡ true
-  led-by e y rest m u a p h g b = led (code-exp e) (some-items e) (parts-exp e) (known-front (code-exp e) (y ∷ rest) a) y rest m u p h g b
+  led-by e y rest m u a p h g b = led (code-exp e) (some-items e) (exp-parts e) (known-front (code-exp e) (y ∷ rest) a) y rest m u p h g b
 
   -- the same, with more behind it
   led-more : {s : Shape} (e : Exp s) (y : Item) (rest more : List Item) → isMark (codeOf y) ≡ true → isLead (codeOf y) ≡ true → AllKnown ((code-exp e ++ y ∷ rest) ++ more)
@@ -202,7 +205,7 @@ module _ (cs : List ℕ) where
   alone p c e h = rw (e, h)
 
   action-place : (a : Tree action) → AllKnown (code-tree a) → (p : ℕ) → At cs p (code-tree a) → p + sizeIn a ≤ length cs → isMark (getD cs (p - 1) 0) ≡ true → isPlace cs p ≡ true
-  unfolding isPart isAlone isLead kind
+  unfolding isPart isAlone isLead
   action-place (express e) k p h g b = led-by e i-express [] refl refl k p h g b
   action-place (assign r e) k p h g b = led-more r i-target (code-exp e) (i-assign ∷ []) refl refl k p h g b
   action-place (increment r) k p h g b = led-by r i-increment [] refl refl k p h g b
@@ -210,13 +213,13 @@ module _ (cs : List ℕ) where
   action-place (send r es) k p h g b = led-more r i-send (each code-argument es) (i-end ∷ []) refl refl k p h g b
   action-place (receive r xs) k p h g b = led-more r i-receive (each code-received xs) (i-end ∷ []) refl refl k p h g b
   action-place (assert e) k p h g b = led-by e i-assert [] refl refl k p h g b
-  action-place (print w es) k p h g b = alone p 72 (h .0) refl
+  action-place (print w es) k p h g b = alone p c-text (h .0) refl
   action-place skip k p h g b = alone p c-skip (h .0) refl
-  action-place (goto w) k p h g b = led (i-name w ∷ []) (omega arith) (refl, tt) (k .0, tt) i-goto [] refl refl p h g b
+  action-place (goto w) k p h g b = led (i-name w ∷ []) (omega arith) (λ z. refl, tt) (k .0, tt) i-goto [] refl refl p h g b
   action-place break k p h g b = alone p c-break (h .0) refl
   action-place timeout k p h g b = alone p c-timeout (h .0) refl
   action-place else k p h g b = alone p c-else (h .0) refl
-  action-place (run w es) k p h g b = led (i-name w ∷ []) (omega arith) (refl, tt) (k .0, tt) i-run (each code-argument es ++ i-end ∷ []) refl refl p h g b
+  action-place (run w es) k p h g b = led (i-name w ∷ []) (omega arith) (λ z. refl, tt) (k .0, tt) i-run (each code-argument es ++ i-end ∷ []) refl refl p h g b
   action-place (set-run r w es) k p h g b = led-more r i-target (i-name w ∷ i-set-run ∷ each code-argument es) (i-end ∷ []) refl refl k p h g b
   action-place (select os) k p h g b = alone p c-if (h .0) refl
   action-place (loop os) k p h g b = alone p c-do (h .0) refl
@@ -241,5 +244,5 @@ module _ (cs : List ℕ) where
       let z : suc (suc p) ≡ p + 2 = omega arith in (
         dull-skip cs (dull-label w) p (h .0, (h .1 .0, tt)) (omega arith)
             ∙ action-from a (k .1 .1) (p + 2) (subst (λ i. At cs i (code-tree a)) z (h .1 .1)) (omega arith) (label-mark p (h .1 .0)),
-        λ e. (let w : getD cs p 0 ≡ 70 = h .0 in omega arith),
+        λ e. (let w : getD cs p 0 ≡ c-name = h .0 in omega arith),
       )

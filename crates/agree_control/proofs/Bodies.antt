@@ -6,9 +6,10 @@ use mathlib.Core.List.{List, [], _++_}
 use lib.ListN.{length, getD, length-append}
 use Rattle.base_codes.specs.Codes.{c-active, c-active-many, c-init, c-proctype}
 use Rattle.spec_grammar.specs.Tree.{Name, Body, Activity, idle, once, times, Model}
-use Rattle.spec_grammar.specs.Code.{Item, each, code-group, code-body, code-activity, code-part, code}
+use Rattle.base_codes.specs.Items.{Item}
+use Rattle.base_codes.specs.Sets.{classOf}
+use Rattle.parse_code.specs.Code.{each, code-group, code-body, code-activity, code-part, code}
 use Rattle.table_entries.specs.Items.{AllKnown}
-use Rattle.link_items.specs.Links.{classOf}
 use Rattle.link_phrases_proof.specs.Phrases.{At}
 use Rattle.link_phrases_proof.proofs.Starts.{at-front, at-back}
 use Rattle.agree_eval.proofs.Operators.{known-front, known-back}

@@ -7,13 +7,16 @@ use mathlib.Core.List.{List, [], _∷_, _++_}
 use lib.ListN.{length, getD, length-append}
 use lib.Dec.{eqb}
 use borrow.Author.Tests.{eq-eqb, ne-eqb}
+use Rattle.base_ceilings.specs.Ceilings.{itemsMost}
 use Rattle.base_codes.specs.Codes.{c-do, c-end-option, c-fi, c-if, c-od, c-option}
 use Rattle.base_bytes.specs.Choice.{pick, both}
 use Rattle.spec_grammar.specs.Tree.{Sort, action, statement, sequence, options, Tree, express, assign, increment, decrement, send, receive, assert, print, skip, goto, break, timeout, else, run, set-run, select, loop, bare, labelled, end, then, option, Name}
-use Rattle.spec_grammar.specs.Code.{Item, i-name, i-text, i-end, i-express, i-target, i-assign, i-increment, i-decrement, i-send, i-receive, i-assert, i-skip, i-goto, i-break, i-timeout, i-else, i-run, i-set-run, i-if, i-fi, i-do, i-od, i-end-option, each, code-exp, code-argument, code-received, code-tree}
-use Rattle.table_entries.specs.Items.{codeOf, AllKnown}
-use Rattle.link_places.specs.Places.{isPart, isMark, isOpening, isClosing, shallower, closeOf, openOf, placeFrom, pastOption, nextFrom}
-use Rattle.link_items.specs.Links.{classOf, linkBy}
+use Rattle.base_codes.specs.Items.{Item, codeOf, i-assert, i-assign, i-break, i-decrement, i-do, i-else, i-end, i-end-option, i-express, i-fi, i-goto, i-if, i-increment, i-name, i-od, i-receive, i-run, i-send, i-set-run, i-skip, i-target, i-text, i-timeout}
+use Rattle.base_codes.specs.Sets.{isPart, isOpening, isClosing, classOf}
+use Rattle.parse_code.specs.Code.{each, code-exp, code-argument, code-received, code-tree}
+use Rattle.table_entries.specs.Items.{AllKnown}
+use Rattle.link_places.specs.Places.{isMark, shallower, closeOf, openOf, placeFrom, pastOption, nextFrom}
+use Rattle.link_items.specs.Links.{linkBy}
 use Rattle.link_phrases_proof.specs.Phrases.{At}
 use Rattle.link_phrases_proof.proofs.Starts.{at-front, at-back}
 use Rattle.agree_eval.proofs.Operators.{known-front, known-back}
@@ -161,14 +164,14 @@ closing-class : (classOf c-fi ≡ 7) × (classOf c-od ≡ 7)
 unfolding classOf
 closing-class = (refl, refl)
 
-module _ (cs vs : List ℕ) (few : length cs ≤ 8192) where
+module _ (cs vs : List ℕ) (few : length cs ≤ itemsMost) where
   abbrev pub L : List ℕ
   L = linksIn cs vs
 
   -- behind the item e - 1 place n follows, and place o is behind the loop there
   pub record Behind (e n o : ℕ) : Type 0 where
     pub goes : (m : List ℕ) → ((j : ℕ) → e ≤ j → getD m j 0 ≡ getD L j 0) → nextFrom cs m e ≡ n
-    pub small : n ≤ 8192
+    pub small : n ≤ itemsMost
     pub out : getD L (closeOf cs 1 e) 0 ≡ o
 
   -- the options from item i to item e are those of a selection; behind each place n follows
@@ -177,7 +180,7 @@ module _ (cs vs : List ℕ) (few : length cs ≤ 8192) where
     pub opened : openOf cs i 1 ≡ start
     pub closed : isClosing 0 (getD cs e 0) ≡ true
     pub leads : pick (eqb (getD cs start 0) c-do) start (getD L e 0) ≡ n
-    pub small : n ≤ 8192
+    pub small : n ≤ itemsMost
     pub out : getD L (closeOf cs 1 e) 0 ≡ o
 
   -- the link of the last item of a statement
@@ -324,7 +327,7 @@ module _ (cs vs : List ℕ) (few : length cs ≤ 8192) where
             ∙ ap (closeOf cs 1) (let z : i + sizeIn s + sizeIn (then r q) ≡ i + sizeIn (then s (then r q)) = omega arith in z)) ∙ b .out;
       }
     where
-      place-small : (r : Tree statement) (p : ℕ) → p + sizeIn r < length cs → placeIn r p ≤ 8192
+      place-small : (r : Tree statement) (p : ℕ) → p + sizeIn r < length cs → placeIn r p ≤ itemsMost
       place-small (bare a) p g = omega arith
       place-small (labelled w a) p g = omega arith
 

@@ -9,16 +9,19 @@ use mathlib.Core.List.{List, [], _∷_, _++_, map, append-nil}
 use lib.ListN.{length, getD, replicate, length-append, length-map}
 use lib.Dec.{eqb}
 use borrow.Author.Tests.{le-ltb}
+use Rattle.base_ceilings.specs.Ceilings.{itemsMost}
 use Rattle.base_codes.specs.Codes.{c-body, c-break, c-end-body, c-init, c-proctype}
 use Rattle.base_bytes.specs.Choice.{pick, both}
 use Rattle.rule_sheets.proofs.Walks.{first-most}
 use Rattle.spec_grammar.specs.Tree.{Name, action, sequence, Tree, express, assign, increment, decrement, send, receive, assert, print, skip, goto, break, timeout, else, run, set-run, select, loop, end, then, Declaration, Body, body}
-use Rattle.spec_grammar.specs.Code.{Item, i-local, i-end-body, each, code-tree, code-declaration, code-body, code}
-use Rattle.table_entries.specs.Items as items
+use Rattle.base_codes.specs.Items.{Item, i-end-body, i-local}
+use Rattle.parse_code.specs.Code.{each, code-tree, code-declaration, code-body, code}
+use Rattle.base_codes.specs.Items as items
+use Rattle.base_codes.specs.Sets.{isPart, isClosing, isOpening, classOf}
 use Rattle.table_entries.specs.Items.{AllKnown}
-use Rattle.link_places.specs.Places.{isPart, isMark, isStop, isClosing, isOpening, deeper, closeFrom, closeOf, placeFrom, pastLoop}
+use Rattle.link_places.specs.Places.{isMark, isStop, deeper, closeFrom, closeOf, placeFrom, pastLoop}
 use Rattle.link_places.proofs.Walks.{close-end}
-use Rattle.link_items.specs.Links.{classOf, linkBy, linksOf}
+use Rattle.link_items.specs.Links.{linkBy, linksOf}
 use Rattle.link_phrases_proof.specs.Phrases.{At}
 use Rattle.link_phrases_proof.proofs.Inside.{stands}
 use Rattle.link_phrases_proof.proofs.Starts.{at-front, at-back}
@@ -35,7 +38,7 @@ use Rattle.keep_tables.specs.Held.{Held}
 use Rattle.keep_tables.proofs.Links.{back-keeps, link-is}
 use Rattle.keep_tables.proofs.Tables.{codesAt, saidAt, text-held}
 use Rattle.spec_machine.specs.Stage.{Ways}
-use Rattle.spec_machine.specs.Program.{sizeIn, enter, Within, Holds, startIn, endIn, statementsOf, Statement}
+use Rattle.spec_machine.specs.Program.{sizeIn, enter, Within, Holds, startIn, endIn, sequenceOf, Statement}
 use Rattle.agree_stage.specs.Tables.{Leads}
 use Rattle.agree_control.specs.Onward.{Onward}
 use Rattle.agree_control.proofs.Insides.{inner-append, inner-tree, inner-declarations}
@@ -50,10 +53,10 @@ zeros zero k = refl
 zeros (suc n) zero = refl
 zeros (suc n) (suc k) = zeros n k
 
-module _ (cs vs : List ℕ) (few : length cs ≤ 8192) where
+module _ (cs vs : List ℕ) (few : length cs ≤ itemsMost) where
   links-past : (k : ℕ) → length cs ≤ k → getD (linksIn cs vs) k 0 ≡ 0
   unfolding linksOf
-  links-past k h = rw (le-ltb 8192 (length cs) few) (back-keeps cs vs (homes cs) (starts cs) (length cs) (replicate 8192 0) k h ∙ zeros 8192 k)
+  links-past k h = rw (le-ltb itemsMost (length cs) few) (back-keeps cs vs (homes cs) (starts cs) (length cs) (replicate itemsMost 0) k h ∙ zeros itemsMost k)
 
   links-small : (k : ℕ) → getD (linksIn cs vs) k 0 ≤ 4294967295
   links-small k = go (decLt k (length cs))
@@ -99,7 +102,7 @@ enter-from cs end s e h z c m = let g = h .ends in let w : s ≡ e = omega arith
 enter-from cs (then r q) s e h z c m = let f = here-first cs h in statement-from cs r (f .known) s (f .stands) (f .ends) m .0
 
 -- ---- a unit with a body
-module _ (cs vs : List ℕ) (few : length cs ≤ 8192) {u k : ℕ} (ds : List Declaration) (q : Tree sequence) (w : Whole cs u (body ds q) k) where
+module _ (cs vs : List ℕ) (few : length cs ≤ itemsMost) {u k : ℕ} (ds : List Declaration) (q : Tree sequence) (w : Whole cs u (body ds q) k) where
   abbrev D : List Item
   D = each (code-declaration i-local) ds
 
@@ -189,8 +192,8 @@ module _ (cs vs : List ℕ) (few : length cs ≤ 8192) {u k : ℕ} (ds : List De
       }
 
 -- ---- a statement of a unit
-module _ (cs vs : List ℕ) (few : length cs ≤ 8192) where
-  reached : (b : Body) {u k : ℕ} → Whole cs u b k → {a : Tree action} {j n o : ℕ} → Within sequence (statementsOf b) (startIn b k) (endIn b k) 0 a j n o
+module _ (cs vs : List ℕ) (few : length cs ≤ itemsMost) where
+  reached : (b : Body) {u k : ℕ} → Whole cs u b k → {a : Tree action} {j n o : ℕ} → Within sequence (sequenceOf b) (startIn b k) (endIn b k) 0 a j n o
       → Behind cs vs few (j + sizeIn a) n o × Here cs action a j
   reached (body ds q) w p = follow cs vs few p (here cs vs few ds q w) (behind-all cs vs few ds q w)
 
@@ -252,7 +255,7 @@ module _ (t : List ℕ) (a : Accepts t) where
       let d1 = d .1 in
       (H .links u g ∙ ends-at C S (H .few) ds q w, H .codes (endIn (body ds q) k) f ∙ at-end C S (H .few) ds q w, omega arith, omega arith)
 
-  enter-by : (b : Body) {u k : ℕ} → Whole C u b k → linkOf T k ≡ enter (statementsOf b) (startIn b k) (endIn b k)
+  enter-by : (b : Body) {u k : ℕ} → Whole C u b k → linkOf T k ≡ enter (sequenceOf b) (startIn b k) (endIn b k)
   enter-by (body ds q) {u} {k} w = let f = fits C S (H .few) ds q w in H .links k (omega arith) ∙ enters-at C S (H .few) ds q w
 
   -- the item that begins a unit links to the end of its body
@@ -261,7 +264,7 @@ module _ (t : List ℕ) (a : Accepts t) where
   text-unit {b = b} p = unit-by b (whole p)
 
   -- a body links to its first statement
-  pub text-enter : {u k : ℕ} {b : Body} → Holds (a .tree) 0 u b k → linkOf (tablesText t) k ≡ enter (statementsOf b) (startIn b k) (endIn b k)
+  pub text-enter : {u k : ℕ} {b : Body} → Holds (a .tree) 0 u b k → linkOf (tablesText t) k ≡ enter (sequenceOf b) (startIn b k) (endIn b k)
   text-enter {b = b} p = enter-by b (whole p)
 
   -- the last item of a statement links to the place that follows

@@ -10,14 +10,15 @@ use lib.Dec.{eqb}
 use borrow.Author.Tests.{ne-eqb}
 use Rattle.base_codes.specs.Codes.{c-do, c-end-body, c-end-option, c-fi, c-if, c-od, c-proctype}
 use Rattle.base_bytes.specs.Choice.{both}
-use Rattle.spec_grammar.specs.Code.{Item}
-use Rattle.table_entries.specs.Items.{codeOf, AllKnown}
-use Rattle.link_places.specs.Places.{isOpening, isClosing, deeper, closeFrom, closeOf, shallower, openOf}
+use Rattle.base_codes.specs.Items.{Item, codeOf}
+use Rattle.base_codes.specs.Sets.{isOpening, isClosing}
+use Rattle.table_entries.specs.Items.{AllKnown}
+use Rattle.link_places.specs.Places.{deeper, closeFrom, closeOf, shallower, openOf}
 use Rattle.link_phrases_proof.specs.Phrases.{At}
 use Rattle.link_phrases_proof.proofs.Starts.{at-front, at-back}
 use Rattle.agree_nesting.specs.Balanced.{Pair, if-fi, do-od, an-option, Balanced, none, other, pair}
-use Rattle.agree_nesting.proofs.Skips.{Kind, pass, stop, skip}
-use Rattle.agree_control.proofs.Insides.{Inner, inner-known}
+use Rattle.agree_nesting.proofs.Skips.{Kind, pass, stop, skip, deep-not, back-one}
+use Rattle.agree_control.proofs.Insides.{Inner}
 
 -- ---- going back over one item
 module _ (cs : List ℕ) where
@@ -48,12 +49,6 @@ record Around (d : ℕ) (x y : Item) : Type 0 where
   in-depth : shallower (codeOf y) d ≡ between
   out-step : both (isOpening 0 (codeOf x)) (eqb between 1) ≡ false
   out-depth : shallower (codeOf x) between ≡ d
-
-deep-not : (d : ℕ) → 1 ≤ d → eqb (d + 1) 1 ≡ false
-deep-not d h = ne-eqb (d + 1) 1 (λ e. omega arith)
-
-back-one : (d : ℕ) → d + 1 - 1 ≡ d
-back-one d = omega arith
 
 around : {q : ℕ} {x y : Item} → Pair q x y → (d : ℕ) → 1 ≤ d → Around d x y
 unfolding shallower isOpening isClosing
@@ -101,6 +96,6 @@ module _ (cs : List ℕ) where
   pub close-inner : (l : List Item) → Inner l → AllKnown l → (k : ℕ) → At cs k l → k + length l ≤ length cs → closeOf cs 3 k ≡ closeOf cs 3 (k + length l)
   close-inner [] n a k h g = ap (closeOf cs 3) (let z : k ≡ k + 0 = omega arith in z)
   close-inner (x ∷ l) n a k h g =
-      let f = inner-closes-not (codeOf x) (inner-known x (a .0) (n .0)) in
+      let f = inner-closes-not (codeOf x) (n .0 (a .0)) in
       close-pass 3 k (codeOf x) (omega arith) (h .0) (f .0) (f .1) ∙ ap (closeOf cs 3) (let z : k + 1 ≡ suc k = omega arith in z)
       ∙ close-inner l (n .1) (a .1) (suc k) (h .1) (omega arith) ∙ ap (closeOf cs 3) (let z : suc k + length l ≡ k + suc (length l) = omega arith in z)

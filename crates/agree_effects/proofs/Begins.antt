@@ -7,23 +7,25 @@ use mathlib.Core.Logic.{_⊎_, inl, inr}
 use mathlib.Core.List.{List, [], _∷_, _++_}
 use lib.ListN.{length, getD, length-append}
 use lib.Dec.{eqb}
-use Rattle.base_codes.specs.Codes.{c-assert, c-assign, c-break, c-do, c-else, c-express, c-goto, c-if, c-run, c-set-run, c-skip, c-target, c-timeout}
+use Rattle.base_codes.specs.Codes.{c-assert, c-assign, c-break, c-do, c-else, c-express, c-goto, c-if, c-name, c-run, c-set-run, c-skip, c-target, c-timeout}
 use Rattle.base_bytes.specs.Choice.{pick}
 use Rattle.spec_grammar.specs.Tree.{Name, Shape, Exp, Expr}
-use Rattle.spec_grammar.specs.Code.{Item, i-name, i-plain, i-target, i-assign, i-set-run, code-exp, code}
-use Rattle.table_entries.specs.Items as items
+use Rattle.base_codes.specs.Items.{Item, i-assign, i-name, i-plain, i-set-run, i-target}
+use Rattle.parse_code.specs.Code.{code-exp, code}
+use Rattle.base_codes.specs.Items as items
+use Rattle.base_codes.specs.Sets.{isPart, classOf, isAlone}
 use Rattle.rule_sheets.specs.Walks.{first}
 use Rattle.rule_sheets.proofs.Walks.{first-most}
 use Rattle.rule_search.specs.Search.{declares, find}
 use Rattle.rule_item.specs.Rules.{globalOf}
-use Rattle.link_places.specs.Places.{isPart, isMark}
-use Rattle.link_items.specs.Links.{classOf, linkBy}
+use Rattle.link_places.specs.Places.{isMark}
+use Rattle.link_items.specs.Links.{linkBy}
 use Rattle.link_phrases_proof.proofs.Starts.{at-front}
 use Rattle.link_phrases_proof.proofs.Inside.{phrase-inside}
 use Rattle.table_layout.specs.Access.{codeOf, linkOf}
 use Rattle.read_passes.specs.Judging.{tablesText}
 use Rattle.read_accepts_proof.specs.Meaning.{Accepts}
-use Rattle.step_ready.specs.Executing.{isAlone, markOf}
+use Rattle.step_ready.specs.Executing.{markOf, isOwnMark}
 use Rattle.agree_stage.specs.Scenes.{sizeIn}
 use Rattle.agree_eval.specs.Names.{firstName, codesAt, saidAt, homesAt}
 use Rattle.agree_eval.proofs.Main.{items-long}
@@ -40,7 +42,7 @@ use Rattle.agree_effects.proofs.Marks.{all-parts, leaf-alone, link-mark
 use Rattle.agree_effects.proofs.Phrases.{proper, linked-there}
 use Rattle.agree_effects.proofs.Lists.{leaf-there}
 
-name-class : classOf 70 ≡ 5
+name-class : classOf c-name ≡ 5
 unfolding classOf
 name-class = refl
 
@@ -48,11 +50,11 @@ target-class : classOf c-target ≡ 5
 unfolding classOf
 target-class = refl
 
-name-alone : isAlone 70 ≡ false
-unfolding isAlone
+name-alone : isOwnMark c-name ≡ false
+unfolding isOwnMark isAlone
 name-alone = refl
 
-name-part : isMark 70 ≡ false
+name-part : isMark c-name ≡ false
 unfolding isPart
 name-part = refl
 
@@ -70,8 +72,8 @@ unfolding isPart
 marks = (refl, refl, refl)
 
 -- skip, break, timeout, else, if, do
-pub alones : (isAlone c-skip ≡ true) × (isAlone c-break ≡ true) × (isAlone c-timeout ≡ true) × (isAlone c-else ≡ true) × (isAlone c-if ≡ true) × (isAlone c-do ≡ true)
-unfolding isAlone
+pub alones : (isOwnMark c-skip ≡ true) × (isOwnMark c-break ≡ true) × (isOwnMark c-timeout ≡ true) × (isOwnMark c-else ≡ true) × (isOwnMark c-if ≡ true) × (isOwnMark c-do ≡ true)
+unfolding isOwnMark isAlone
 alones = (refl, refl, refl, refl, refl, refl)
 
 module _ (t : List ℕ) (a : Accepts t) where
@@ -82,7 +84,7 @@ module _ (t : List ℕ) (a : Accepts t) where
   C = codesAt t a
 
   -- it is its own mark
-  pub alone-mark : (x : Item) (l : List Item) (j : ℕ) → Here t a (x ∷ l) j → isAlone (items.codeOf x) ≡ true → markOf (tablesText t) j ≡ j
+  pub alone-mark : (x : Item) (l : List Item) (j : ℕ) → Here t a (x ∷ l) j → isOwnMark (items.codeOf x) ≡ true → markOf (tablesText t) j ≡ j
   unfolding markOf
   alone-mark x l j p e = rw (first-code t a x l j p, e)
 

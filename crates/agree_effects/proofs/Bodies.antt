@@ -7,8 +7,9 @@ use lib.ListN.{length, length-append}
 use lib.IntN.{ℤ}
 use Rattle.base_codes.specs.Codes.{c-declared}
 use Rattle.spec_grammar.specs.Tree.{Name, Shape, Exp, Expr, Received, into, equal, exactly, exactly-true, exactly-false, Sort, action, sequence, Tree, express, assign, increment, decrement, send, receive, assert, print, skip, goto, break, timeout, else, run, set-run, select, loop, bare, labelled, end, then, over, option, Body}
-use Rattle.spec_grammar.specs.Code.{Item, i-name, i-number, i-text, i-true, i-false, i-argument, i-into, i-equal, i-constant, i-end, i-label, i-express, i-target, i-assign, i-increment, i-decrement, i-send, i-receive, i-assert, i-skip, i-goto, i-break, i-timeout, i-else, i-run, i-set-run, i-if, i-fi, i-do, i-od, i-option, i-end-option, each, code-exp, code-argument, code-received, code-tree, code-body, code}
-use Rattle.table_entries.specs.Items as items
+use Rattle.base_codes.specs.Items.{Item, i-argument, i-assert, i-assign, i-break, i-constant, i-decrement, i-do, i-else, i-end, i-end-option, i-equal, i-express, i-false, i-fi, i-goto, i-if, i-increment, i-into, i-label, i-name, i-number, i-od, i-option, i-receive, i-run, i-send, i-set-run, i-skip, i-target, i-text, i-timeout, i-true}
+use Rattle.parse_code.specs.Code.{each, code-exp, code-argument, code-received, code-tree, code-body, code}
+use Rattle.base_codes.specs.Items as items
 use Rattle.link_phrases_proof.proofs.Inside.{phrase-inside}
 use Rattle.read_passes.specs.Judging.{tablesText}
 use Rattle.read_accepts_proof.specs.Meaning.{Accepts}
@@ -16,8 +17,8 @@ use Rattle.agree_eval.specs.Names.{codesAt, declAt}
 use Rattle.agree_eval.proofs.Names.{low-at}
 use Rattle.agree_eval.proofs.Operators.{text-proper}
 use Rattle.spec_machine.specs.Stage.{Ways}
-use Rattle.agree_stage.specs.Tables.{stageOf}
-use Rattle.spec_machine.specs.Program.{Within, Holds, startIn, statementsOf, Statement}
+use Rattle.agree_stage.specs.Tables.{stageIn}
+use Rattle.spec_machine.specs.Program.{Within, Holds, startIn, sequenceOf, Statement}
 use Rattle.agree_stage.proofs.Stands.{within-lies, body-lies, lying-in, statements-lie, lying-front, lying-back}
 use Rattle.agree_offers.proofs.Places.{at-there}
 use Rattle.agree_effects.specs.Stages.{unitAt, stageAt}
@@ -120,18 +121,18 @@ module _ (t : List ℕ) (a : Accepts t) where
 
   -- ---- the statements of a body
   module _ (b : Body) (u k : ℕ) (held : Holds (a .tree) 0 u b k) where
-    statements-here : Here t a (code-tree (statementsOf b)) (startIn b k)
-    statements-here = lying-in xs (code-body b) (code-tree (statementsOf b)) 0 k (startIn b k) (body-lies held) (statements-lie b k)
+    statements-here : Here t a (code-tree (sequenceOf b)) (startIn b k)
+    statements-here = lying-in xs (code-body b) (code-tree (sequenceOf b)) 0 k (startIn b k) (body-lies held) (statements-lie b k)
 
-    pub body-names : {n o : ℕ} {x : Tree action} {j m v : ℕ} → Within sequence (statementsOf b) (startIn b k) n o x j m v → declAt t a j ≡ declAt t a (startIn b k)
+    pub body-names : {n o : ℕ} {x : Tree action} {j m v : ℕ} → Within sequence (sequenceOf b) (startIn b k) n o x j m v → declAt t a j ≡ declAt t a (startIn b k)
     body-names {x = x} {j = j} w =
         let l = within-lies w in
         let e = l .place in
-        let f = calm-tree (statementsOf b) (startIn b k) statements-here in
+        let f = calm-tree (sequenceOf b) (startIn b k) statements-here in
         let n = length-append (l .front) (code-tree x ++ l .rest) in
         let s = ap length (l .split) in
         decl-same t a (startIn b k) j (omega arith) (λ y p q. f y p (omega arith))
 
   -- THE STAGE OF EACH STATEMENT is that of the first place of its body
   pub text-stage : {u j : ℕ} {x : Tree action} {h : Ways} (f : Statement (a .tree) u x j h) → (s : List ℤ) (p : ℕ) → stageAt t a s p j ≡ stageAt t a s p (startIn (f .own) (f .at))
-  text-stage {u} f s p = ap (λ (d : Name → ℕ). stageOf (tablesText t) s p d (unitAt t a)) (body-names (f .own) u (f .at) (f .held) (f .inside))
+  text-stage {u} f s p = ap (λ (d : Name → ℕ). stageIn (tablesText t) s p d (unitAt t a)) (body-names (f .own) u (f .at) (f .held) (f .inside))

@@ -22,7 +22,7 @@ use Rattle.step_messages.specs.Messages.{onValue, gatherEnd, gatherList}
 use Rattle.step_take.specs.Effects.{endFrom}
 use Rattle.spec_machine.specs.Eval.{Scene, eval}
 use Rattle.agree_stage.specs.Scenes.{sceneOf}
-use Rattle.spec_machine.specs.Arguments.{Values, all, stopped, first, valuesBy, values}
+use Rattle.spec_machine.specs.Arguments.{WorkedOut, all, stopped, first, valuesBy, values}
 use Rattle.agree_effects.specs.Walked.{Passed, no-more, one-more}
 
 -- ---- a list filled from place k on
@@ -73,20 +73,20 @@ fill-blank {A} d n vs h i = go (ℕ-discrete (min i (length vs)) i)
     go (no e) = fill-behind d vs (replicate n d) 0 i (omega arith) ∙ same-all d n i ∙ sym (past-end d vs i (omega arith))
 
 -- ---- what is worked out
-abbrev pub endBy : ℕ → Values → Gathered
+abbrev pub endBy : ℕ → WorkedOut → Gathered
 endBy z (all vs) = Upto z
 endBy z (stopped f) = Failed f
 
-first-ends : (v : ℤ) (z : ℕ) (x : Values) → endBy z x ≡ endBy z (first v x)
+first-ends : (v : ℤ) (z : ℕ) (x : WorkedOut) → endBy z x ≡ endBy z (first v x)
 first-ends v z (all vs) = refl
 first-ends v z (stopped f) = refl
 
 -- all of them, and none at fault
-abbrev pub Whole : Values → Type 0
+abbrev pub Whole : WorkedOut → Type 0
 Whole (all vs) = Unit {0}
 Whole (stopped f) = ⊥
 
-abbrev pub listed : Values → List ℤ
+abbrev pub listed : WorkedOut → List ℤ
 listed (all vs) = vs
 listed (stopped f) = []
 
@@ -95,7 +95,7 @@ unfolding values
 values-count c [] w = refl
 values-count c (e ∷ es) w = go (eval c e) (values c es) w (values-count c es)
   where
-    go : (y : Answer) (r : Values) → Whole (valuesBy y r) → (Whole r → length (listed r) ≡ length es) → length (listed (valuesBy y r)) ≡ suc (length es)
+    go : (y : Answer) (r : WorkedOut) → Whole (valuesBy y r) → (Whole r → length (listed r) ≡ length es) → length (listed (valuesBy y r)) ≡ suc (length es)
     go (Value v) (all l) w below = ap suc (below tt)
     go (Value v) (stopped f) w below = absurd w
     go (Fails f) r w below = absurd w
@@ -131,7 +131,7 @@ module _ (t : List ℕ) (decl : Name → ℕ) where
         rw (ne-eqb (codeOf t a) c-end c) (ap (λ k. onValue (evalOf t s p a k) (λ w. gatherEnd t s p n (k + 1)) (λ f. Failed f)) l
         ∙ ap (λ y. onValue y (λ w. gatherEnd t s p n (m + 1)) (λ f. Failed f)) (v s p) ∙ go (eval scene e) (values scene es) (gather-ends r n (omega arith)))
       where
-        go : (y : Answer) (q : Values) → gatherEnd t s p n (m + 1) ≡ endBy z q → onValue y (λ w. gatherEnd t s p n (m + 1)) (λ f. Failed f) ≡ endBy z (valuesBy y q)
+        go : (y : Answer) (q : WorkedOut) → gatherEnd t s p n (m + 1) ≡ endBy z q → onValue y (λ w. gatherEnd t s p n (m + 1)) (λ f. Failed f) ≡ endBy z (valuesBy y q)
         go (Value w) q below = below ∙ first-ends w z q
         go (Fails f) q below = refl
 
@@ -146,7 +146,7 @@ module _ (t : List ℕ) (decl : Name → ℕ) where
         ∙ ap (λ y. onValue y (λ u. gatherList t s p n (m + 1) (k + 1) (set x k u)) (λ f. x)) (v s p)
         ∙ go (eval scene e) (values scene es) w (λ u. gather-fills r n (omega arith) (k + 1) (set x k u)))
       where
-        go : (y : Answer) (q : Values) → Whole (valuesBy y q) → ((u : ℤ) → Whole q → gatherList t s p n (m + 1) (k + 1) (set x k u) ≡ fill (set x k u) (k + 1) (listed q))
+        go : (y : Answer) (q : WorkedOut) → Whole (valuesBy y q) → ((u : ℤ) → Whole q → gatherList t s p n (m + 1) (k + 1) (set x k u) ≡ fill (set x k u) (k + 1) (listed q))
             → onValue y (λ u. gatherList t s p n (m + 1) (k + 1) (set x k u)) (λ f. x) ≡ fill x k (listed (valuesBy y q))
         go (Value u) (all vs) w below = below u tt
         go (Value u) (stopped f) w below = absurd w

@@ -8,10 +8,12 @@ use lib.ListN.{length, getD, length-append}
 use lib.IntN.{ℤ}
 use Rattle.base_codes.specs.Codes.{c-declared, c-into}
 use Rattle.spec_grammar.specs.Tree.{Shape, Exp, Expr, Received, into, equal, exactly, exactly-true, exactly-false, num, tru, fls, get}
-use Rattle.spec_grammar.specs.Code.{Item, i-argument, i-into, i-equal, i-constant, i-end, each, code-exp, code-argument, code-received, code}
-use Rattle.table_entries.specs.Items as items
+use Rattle.base_codes.specs.Items.{Item, i-argument, i-constant, i-end, i-equal, i-into}
+use Rattle.parse_code.specs.Code.{each, code-exp, code-argument, code-received, code}
+use Rattle.base_codes.specs.Items as items
+use Rattle.base_codes.specs.Sets.{isPart}
 use Rattle.link_phrases_proof.proofs.Starts.{at-front, some-items}
-use Rattle.link_places.specs.Places.{isPart, isMark}
+use Rattle.link_places.specs.Places.{isMark}
 use Rattle.table_layout.specs.Access.{codeOf}
 use Rattle.read_passes.specs.Judging.{tablesText}
 use Rattle.read_accepts_proof.specs.Meaning.{Accepts}

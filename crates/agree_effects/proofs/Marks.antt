@@ -4,28 +4,28 @@ use native.Mathlib.Omega.{arith}
 use native.Mathlib.Decide.{ℕ-discrete}
 use mathlib.Core.Path.{_≡_, refl, sym, ap, subst, _∙_}
 use mathlib.Core.Bool.{Bool, true, false}
-use mathlib.Core.Logic.{_⊎_, inl, inr}
 use mathlib.Core.List.{List, [], _∷_, _++_}
 use lib.ListN.{length, getD}
-use lib.Dec.{eqb, ltb}
-use borrow.Author.Tests.{ltb-true, ltb-false, le-leb, eqb-true}
-use Rattle.base_codes.specs.Codes.{c-argument, c-bit, c-choice, c-complement, c-end, c-false, c-int, c-or-else, c-plain, c-true}
-use Rattle.base_bytes.specs.Choice.{pick, both, either}
-use Rattle.base_bytes.proofs.Tests.{both-true, either-true, true-false}
+use lib.Dec.{ltb}
+use borrow.Author.Tests.{ltb-true, ltb-false}
+use Rattle.base_codes.specs.Codes.{c-end, c-false, c-name, c-number, c-text, c-true}
+use Rattle.base_bytes.specs.Choice.{pick}
+use Rattle.base_bytes.proofs.Tests.{true-false}
 use Rattle.spec_grammar.specs.Tree.{Shape, Exp, plain, indexed, num, tru, fls, get, len, unary, binary, choice}
-use Rattle.spec_grammar.specs.Code.{Item, i-len, i-unary, i-binary, i-otherwise, i-choice, code-exp}
-use Rattle.table_entries.specs.Items as items
+use Rattle.base_codes.specs.Items.{Item, i-binary, i-choice, i-len, i-otherwise, i-unary}
+use Rattle.parse_code.specs.Code.{code-exp}
+use Rattle.base_codes.specs.Items as items
+use Rattle.base_codes.specs.Sets.{isPart, classOf, isAlone}
 use Rattle.rule_sheets.specs.Walks.{first}
-use Rattle.rule_search.specs.Sets.{within}
-use Rattle.link_places.specs.Places.{isPart, isMark, markFrom, markOf}
-use Rattle.link_items.specs.Links.{classOf, linkBy}
-use Rattle.link_phrases_proof.specs.Phrases.{At, inExpression}
+use Rattle.link_places.specs.Places.{isMark, markFrom, markOf}
+use Rattle.link_items.specs.Links.{linkBy}
+use Rattle.link_phrases_proof.specs.Phrases.{At}
 use Rattle.link_phrases_proof.proofs.Starts.{at-front}
 use Rattle.link_phrases_proof.proofs.Inside.{all-inside}
 use Rattle.table_layout.specs.Access.{linkOf}
 use Rattle.read_passes.specs.Judging.{tablesText}
 use Rattle.read_accepts_proof.specs.Meaning.{Accepts}
-use Rattle.step_ready.specs.Executing.{isAlone}
+use Rattle.step_ready.specs.Executing.{isOwnMark}
 use Rattle.agree_eval.specs.Names.{codesAt, saidAt}
 use Rattle.keep_tables.specs.Facts.{homes, starts}
 use Rattle.keep_tables.proofs.Tables.{text-held}
@@ -35,8 +35,8 @@ use Rattle.keep_tables.proofs.Firsts.{First, first-is, first-most}
 
 -- ---- what an expression begins with
 pub data Leaf : ℕ → Type 0 where
-  a-name : Leaf 70
-  a-number : Leaf 71
+  a-name : Leaf c-name
+  a-number : Leaf c-number
   a-true : Leaf c-true
   a-false : Leaf c-false
 
@@ -47,8 +47,8 @@ leaf-class a-number = refl
 leaf-class a-true = refl
 leaf-class a-false = refl
 
-pub leaf-alone : {c : ℕ} → Leaf c → isAlone c ≡ false
-unfolding isAlone
+pub leaf-alone : {c : ℕ} → Leaf c → isOwnMark c ≡ false
+unfolding isOwnMark isAlone
 leaf-alone a-name = refl
 leaf-alone a-number = refl
 leaf-alone a-true = refl
@@ -60,7 +60,7 @@ leaf-no-end a-number e = omega arith
 leaf-no-end a-true e = omega arith
 leaf-no-end a-false e = omega arith
 
-pub leaf-no-text : {c : ℕ} → Leaf c → c ≡ 72 → ⊥
+pub leaf-no-text : {c : ℕ} → Leaf c → c ≡ c-text → ⊥
 leaf-no-text a-name e = omega arith
 leaf-no-text a-number e = omega arith
 leaf-no-text a-true e = omega arith
@@ -82,39 +82,8 @@ begins-leaf cs i (choice x y z) h =
     (at-front cs i (code-exp x ++ code-exp y) (i-otherwise ∷ code-exp z) (at-front cs i (code-exp x ++ code-exp y ++ i-otherwise ∷ code-exp z) (i-choice ∷ []) h)))
 
 -- ---- an expression's items are parts
-inside-part : (c : ℕ) → inExpression c ≡ true → isMark c ≡ false
-unfolding inExpression isPart
-inside-part c e = go (either-true (eqb c 70) _ e)
-  where
-    parted : (x y z : Bool) → (x ≡ true) ⊎ ((y ≡ true) ⊎ (z ≡ true)) → pick (either x (either y z)) false true ≡ false
-    parted true y z q = refl
-    parted false true z q = refl
-    parted false false true q = refl
-    parted false false false (inl q) = absurd (true-false (sym q))
-    parted false false false (inr (inl q)) = absurd (true-false (sym q))
-    parted false false false (inr (inr q)) = absurd (true-false (sym q))
-
-    between : (a b : ℕ) → both (ltb a c) (ltb c (suc b)) ≡ true → within (suc a) b c ≡ true
-    between a b q =
-        let r = both-true (ltb a c) (ltb c (suc b)) q in
-        let x = ltb-true a c (r .0) in
-        let y = ltb-true c (suc b) (r .1) in
-        rw (le-leb (suc a) c (omega arith), le-leb c b (omega arith))
-
-    go : (eqb c 70 ≡ true) ⊎ (either (eqb c 71) (either (both (ltb 146 c) (ltb c c-bit)) (both (ltb c-int c) (ltb c c-argument))) ≡ true)
-        → pick (either (within 70 71 c) (either (within c-or-else c-complement c) (within c-plain c-choice c))) false true ≡ false
-    go (inl x) = rw (eqb-true c 70 x)
-    go (inr x) = on (either-true (eqb c 71) _ x)
-      where
-        on : (eqb c 71 ≡ true) ⊎ (either (both (ltb 146 c) (ltb c c-bit)) (both (ltb c-int c) (ltb c c-argument)) ≡ true)
-            → pick (either (within 70 71 c) (either (within c-or-else c-complement c) (within c-plain c-choice c))) false true ≡ false
-        on (inl y) = rw (eqb-true c 71 y)
-        on (inr y) = last (either-true (both (ltb 146 c) (ltb c c-bit)) _ y)
-          where
-            last : (both (ltb 146 c) (ltb c c-bit) ≡ true) ⊎ (both (ltb c-int c) (ltb c c-argument) ≡ true)
-                → pick (either (within 70 71 c) (either (within c-or-else c-complement c) (within c-plain c-choice c))) false true ≡ false
-            last (inl z) = parted (within 70 71 c) (within c-or-else c-complement c) (within c-plain c-choice c) (inr (inl (between 146 c-complement z)))
-            last (inr z) = parted (within 70 71 c) (within c-or-else c-complement c) (within c-plain c-choice c) (inr (inr (between c-int c-choice z)))
+part-unmarked : (c : ℕ) → isPart c ≡ true → isMark c ≡ false
+part-unmarked c e = ap (λ b. pick b false true) e
 
 pub all-parts : (cs : List ℕ) (l : List Item) (i j : ℕ) → all-inside l → At cs i l → i ≤ j → j < i + length l → isMark (getD cs j 0) ≡ false
 all-parts cs [] i j a h b d = absurd (omega arith)
@@ -122,7 +91,7 @@ all-parts cs (x ∷ l) i j a h b d = go (ltb i j) refl (all-parts cs l (suc i) j
   where
     go : (c : Bool) → ltb i j ≡ c → (suc i ≤ j → j < suc i + length l → isMark (getD cs j 0) ≡ false) → isMark (getD cs j 0) ≡ false
     go true q below = let z = ltb-true i j q in below (omega arith) (omega arith)
-    go false q below = let z = ltb-false i j q in let w : j ≡ i = omega arith in ap (λ n. isMark (getD cs n 0)) w ∙ ap isMark (h .0) ∙ inside-part (items.codeOf x) (a .0)
+    go false q below = let z = ltb-false i j q in let w : j ≡ i = omega arith in ap (λ n. isMark (getD cs n 0)) w ∙ ap isMark (h .0) ∙ part-unmarked (items.codeOf x) (a .0)
 
 module _ (t : List ℕ) (a : Accepts t) where
   abbrev C : List ℕ

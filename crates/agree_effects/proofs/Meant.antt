@@ -10,7 +10,7 @@ use borrow.Author.Tests.{ltb-true, ltb-false, lt-ltb, le-ltb, ne-eqb, lt-leb}
 use Rattle.base_codes.specs.Codes.{c-declared, c-end-body, c-message, c-parameter}
 use Rattle.base_bytes.specs.Choice.{pick}
 use Rattle.spec_grammar.specs.Tree.{Name}
-use Rattle.spec_grammar.specs.Code.{code}
+use Rattle.parse_code.specs.Code.{code}
 use Rattle.rule_sheets.specs.Walks.{first}
 use Rattle.rule_sheets.specs.Homes.{insideOf}
 use Rattle.rule_search.specs.Sets.{among}

@@ -5,8 +5,9 @@ use mathlib.Core.Path.{_≡_, ap, _∙_}
 use mathlib.Core.List.{List, _∷_, _++_}
 use lib.ListN.{length, getD, List·getD-append}
 use lib.Seq.{getD-append-add}
-use Rattle.spec_grammar.specs.Code.{Item, i-plain, code}
-use Rattle.table_entries.specs.Items as items
+use Rattle.base_codes.specs.Items.{Item, i-plain}
+use Rattle.parse_code.specs.Code.{code}
+use Rattle.base_codes.specs.Items as items
 use Rattle.table_layout.specs.Access.{codeOf}
 use Rattle.read_passes.specs.Judging.{tablesText}
 use Rattle.read_accepts_proof.specs.Meaning.{Accepts}

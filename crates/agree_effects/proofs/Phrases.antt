@@ -9,22 +9,21 @@ use lib.ListN.{length, getD, length-append, length-replicate}
 use lib.IntN.{ℤ}
 use lib.Dec.{eqb, ltb}
 use borrow.Author.Tests.{ltb-true, ltb-false, ne-eqb}
-use Rattle.base_codes.specs.Codes.{c-argument, c-message, c-plain}
+use Rattle.base_ceilings.specs.Ceilings.{heightMost, itemsMost}
+use Rattle.base_codes.specs.Codes.{c-argument, c-message, c-plain, c-name}
 use Rattle.base_bytes.specs.Choice.{pick, either}
 use Rattle.spec_grammar.specs.Tree.{Name, Shape, Exp, Expr, Ref, plain, indexed, num, tru, fls}
-use Rattle.spec_grammar.specs.Code.{Item, i-name, i-plain, i-index, i-argument, i-into, i-equal, i-express, i-target, i-assign, i-increment, i-decrement, i-send, i-receive, i-assert, code-exp, code}
-use Rattle.table_entries.specs.Items as items
 use Rattle.rule_sheets.specs.Homes.{insideOf}
 use Rattle.rule_sheets.specs.Spans.{startsOf, heightsOf}
 use Rattle.rule_search.specs.Sets.{among}
 use Rattle.rule_search.specs.Search.{lookup}
-use Rattle.rule_item.specs.Rules.{roleOf, badPlain, badVariable, badUse, badRef, ruleOf, badBy, bad}
+use Rattle.rule_item.specs.Rules.{roleOf, badPlain, badVariable, badUse, badRef, badBy, bad}
 use Rattle.rule_least.specs.Faults.{blank}
 use Rattle.link_phrases_proof.specs.Phrases.{Proper, At}
 use Rattle.spec_rules.specs.Heights.{height}
 use Rattle.link_phrases_proof.proofs.Starts.{at-front, some-items, phrase-starts}
 use Rattle.link_phrases_proof.proofs.Inside.{phrase-inside}
-use Rattle.link_places.specs.Places.{isPart, isMark}
+use Rattle.link_places.specs.Places.{isMark}
 use Rattle.table_layout.specs.Access.{codeOf, linkOf}
 use Rattle.read_passes.specs.Judging.{tablesText}
 use Rattle.read_accepts_proof.specs.Meaning.{Accepts}
@@ -49,6 +48,10 @@ use Rattle.agree_offers.proofs.Places.{at-there, ends-there}
 use Rattle.agree_effects.proofs.Meant.{Quiet, decl-same}
 use Rattle.agree_effects.proofs.Parts.{Here, here-lies}
 use Rattle.agree_effects.proofs.Marks.{all-parts, begins-leaf, leaf-class, link-mark}
+use Rattle.base_codes.specs.Items.{Item, i-argument, i-assert, i-assign, i-decrement, i-equal, i-express, i-increment, i-index, i-into, i-name, i-plain, i-receive, i-send, i-target}
+use Rattle.parse_code.specs.Code.{code-exp, code}
+use Rattle.base_codes.specs.Sets.{isPart, ruleOf}
+use Rattle.base_codes.specs.Items as items
 
 -- ---- what stands behind expressions and references
 pub record Behind (x : Item) : Type 0 where
@@ -109,7 +112,7 @@ plain-rule : (cs vs hs ss ts : List ℕ) (j : ℕ) → getD cs j 0 ≡ c-plain �
 unfolding ruleOf badBy badRef
 plain-rule cs vs hs ss ts j e = rw e
 
-role-declared : (cs vs hs : List ℕ) (m h role : ℕ) → (role ≡ 0 → ⊥) → badUse cs vs hs m h role false ≡ 0 → getD cs (lookup cs vs hs (getD vs m 0) h m) 0 ≡ 70 → ⊥
+role-declared : (cs vs hs : List ℕ) (m h role : ℕ) → (role ≡ 0 → ⊥) → badUse cs vs hs m h role false ≡ 0 → getD cs (lookup cs vs hs (getD vs m 0) h m) 0 ≡ c-name → ⊥
 unfolding badUse among
 role-declared cs vs hs m h role n e c =
     go (eqb (getD vs m 0) 0)
@@ -160,7 +163,7 @@ module _ (t : List ℕ) (a : Accepts t) where
         let v = saidAt t a in
         let o = homesAt t a in
         let st : getD S (i + 1) 0 ≡ i =
-        phrase-starts C blank (plain w) tt i (i + 1) stood (codes-few t a) (omega (arith, codes-few t a, length-replicate 8192 zero)) (omega (arith, long)) (omega arith) in
+        phrase-starts C blank (plain w) tt i (i + 1) stood (codes-few t a) (omega (arith, codes-few t a, length-replicate itemsMost zero)) (omega (arith, long)) (omega arith) in
         let ho : getD o (i + 1) 0 ≡ insideOf C i = home-same t a i (i + 1) (omega arith) (omega (arith, long, items-long t a)) (λ y u b. low y u (omega arith)) in
         let y : i + 1 + 1 ≡ suc (suc i) = omega arith in
         let ro : getD C (i + 1 + 1) 0 ≡ items.codeOf x = ap (λ n. getD C n 0) y ∙ at-there t a (code-exp (plain w) ++ x ∷ z) i p .1 .1 .0 in
@@ -242,7 +245,7 @@ module _ (t : List ℕ) (a : Accepts t) where
     works e x z p b s q = evaluates-there e x z i p (b .closes) s q ∙ ap (λ (d : Name → ℕ). eval (sceneOf T s q d) e) (decl-same t a j i from quiet)
 
     -- a constant of a receive has no rule on its height
-    constant-works : (e : Expr) (x : Item) (z : List Item) → Here t a (code-exp e ++ x ∷ z) i → Arrays t a i e → height e ≤ 32 → (s : List ℤ) (q : ℕ)
+    constant-works : (e : Expr) (x : Item) (z : List Item) → Here t a (code-exp e ++ x ∷ z) i → Arrays t a i e → height e ≤ heightMost → (s : List ℤ) (q : ℕ)
         → evalOf (tablesText t) s q i (i + sizeIn e) ≡ eval (sceneOf (tablesText t) s q (declAt t a j)) e
     constant-works e x z p r h s q =
         let f = p .front in

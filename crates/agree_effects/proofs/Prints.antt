@@ -7,13 +7,12 @@ use mathlib.Core.List.{List, [], _∷_, _++_, append-assoc}
 use lib.ListN.{length, getD, replicate, length-map}
 use lib.IntN.{ℤ, pos}
 use borrow.Author.Tests.{ne-eqb}
+use Rattle.base_ceilings.specs.Ceilings.{numbersMost}
 use Rattle.table_layout.specs.Access.{codeOf, nameLength, nameByte}
 use Rattle.table_layout.specs.Trees.{entriesIn}
 use Rattle.table_layout.proofs.Holds.{holds-name-length, holds-name-byte}
 use Rattle.spec_grammar.specs.Tree.{Expr, action, Tree, express, assign, increment, decrement, send, receive, assert, print, skip, goto, break, timeout, else, run, set-run, select, loop}
-use Rattle.spec_grammar.specs.Code.{Item, i-name, i-plain, i-text, i-express, i-target, i-assign, i-increment, i-decrement, i-send, i-receive, i-assert, i-skip, i-goto, i-break, i-timeout, i-else, i-run, i-set-run, i-if, i-fi, i-do, i-od, i-end, each, code-exp, code-argument, code-received, code-tree, code}
 use Rattle.table_entries.specs.Entry.{nothing}
-use Rattle.table_entries.specs.Items as items
 use Rattle.table_proof.proofs.Read.{get-only}
 use Rattle.table_proof.proofs.Accepted.{accepted-fair, accepted-small}
 use Rattle.read_passes.specs.Judging.{tablesText}
@@ -21,11 +20,11 @@ use Rattle.read_accepts_proof.specs.Meaning.{Accepts, linksAt}
 use Rattle.read_accepts_proof.proofs.Tables.{text-tables}
 use Rattle.step_messages.specs.Messages.{gatherEnd, gatherList}
 use Rattle.step_prints.specs.Printing.{writtenFrom, textOf, unlessFailed, printedAt}
-use Rattle.spec_text.specs.Formats.{written, opened, counted}
+use Rattle.spec_text.specs.Formats.{formatted, opened, counted}
 use Rattle.agree_stage.specs.Scenes.{sceneOf}
 use Rattle.agree_eval.specs.Names.{declAt}
 use Rattle.agree_eval.proofs.Main.{items-long}
-use Rattle.spec_machine.specs.Arguments.{Values, all, stopped, values}
+use Rattle.spec_machine.specs.Arguments.{WorkedOut, all, stopped, values}
 use Rattle.spec_machine.specs.Effect.{format, textBy, prints}
 use Rattle.agree_stage.proofs.Stands.{Lying}
 use Rattle.agree_effects.specs.Few.{Few}
@@ -36,6 +35,11 @@ use Rattle.agree_effects.proofs.Marks.{leaf-no-text}
 use Rattle.agree_effects.proofs.Lists.{leaf-there}
 use Rattle.agree_effects.proofs.Shapes.{printing}
 use Rattle.agree_effects.proofs.Values.{text-alike, gathered-alike}
+use Rattle.base_codes.specs.Codes.{c-text}
+use Rattle.base_codes.specs.Items.{Item, i-assert, i-assign, i-break, i-decrement, i-do, i-else, i-end, i-express, i-fi, i-goto, i-if, i-increment, i-name, i-od, i-plain, i-receive, i-run, i-send, i-set-run, i-skip, i-target, i-text, i-timeout}
+use Rattle.parse_code.specs.Code.{each, code-exp, code-argument, code-received, code-tree, code}
+use Rattle.table_entries.specs.Items.{entryOf}
+use Rattle.base_codes.specs.Items as items
 
 -- ---- a format, byte by byte
 format-is : (t : List ℕ) (vs : List ℤ) (w : List ℕ) (n j i was k : ℕ) → n ≡ length w → ((d : ℕ) → d < length w → nameByte t j (i + d) ≡ getD w d 0)
@@ -47,8 +51,8 @@ format-is t vs (b ∷ w) zero j i was k e f = absurd (omega arith)
 format-is t vs (b ∷ w) (suc n) j i was k e f =
     let z : i ≡ i + 0 = omega arith in
     let q : nameByte t j i ≡ b = ap (nameByte t j) z ∙ f 0 (omega arith) in
-    ap (λ x. written vs was x k ++ writtenFrom t vs n j (i + 1) (opened was x) (counted was x k)) q
-    ∙ ap (written vs was b k ++_) (format-is t vs w n j (i + 1) (opened was b) (counted was b k) (omega arith)
+    ap (λ x. formatted vs was x k ++ writtenFrom t vs n j (i + 1) (opened was x) (counted was x k)) q
+    ∙ ap (formatted vs was b k ++_) (format-is t vs w n j (i + 1) (opened was b) (counted was b k) (omega arith)
     (λ d h. let y : i + 1 + d ≡ i + suc d = omega arith in ap (nameByte t j) y ∙ f (suc d) (omega arith)))
 
 module _ (t : List ℕ) (a : Accepts t) where
@@ -61,10 +65,10 @@ module _ (t : List ℕ) (a : Accepts t) where
   -- ---- the bytes of a string
   module _ (w : List ℕ) (l : List Item) (j : ℕ) (p : Here t a (i-text w ∷ l) j) where
     inside : j < length (entriesIn (a .tree))
-    inside = omega (arith, first-inside t a (i-text w) l j p, items-long t a, length-map xs items.entryOf)
+    inside = omega (arith, first-inside t a (i-text w) l j p, items-long t a, length-map xs entryOf)
 
-    entry-is : getD (entriesIn (a .tree)) j nothing ≡ items.entryOf (i-text w)
-    entry-is = get-only items.entryOf xs j i-plain nothing (omega (arith, inside, length-map xs items.entryOf)) ∙ ap items.entryOf (here-lies t a (i-text w ∷ l) j p .0)
+    entry-is : getD (entriesIn (a .tree)) j nothing ≡ entryOf (i-text w)
+    entry-is = get-only entryOf xs j i-plain nothing (omega (arith, inside, length-map xs entryOf)) ∙ ap entryOf (here-lies t a (i-text w ∷ l) j p .0)
 
     text-length : nameLength T j ≡ length w
     text-length =
@@ -83,27 +87,27 @@ module _ (t : List ℕ) (a : Accepts t) where
     text-is vs = format-is T vs w (nameLength T j) j 0 0 0 text-length (λ d h. let z : 0 + d ≡ d = omega arith in ap (nameByte T j) z ∙ text-byte d h)
 
   module _ (j : ℕ) (s : List ℤ) (p : ℕ) where
-    none-printed : (codeOf T j ≡ 72 → ⊥) → printedAt T s p j ≡ []
+    none-printed : (codeOf T j ≡ c-text → ⊥) → printedAt T s p j ≡ []
     unfolding printedAt
-    none-printed n = rw (ne-eqb (codeOf T j) 72 n)
+    none-printed n = rw (ne-eqb (codeOf T j) c-text n)
 
-    text-printed : codeOf T j ≡ 72 → printedAt T s p j ≡ unlessFailed (gatherEnd T s p 32 (j + 1)) (textOf T (gatherList T s p 32 (j + 1) 0 (replicate 32 (pos 0))) j)
+    text-printed : codeOf T j ≡ c-text → printedAt T s p j ≡ unlessFailed (gatherEnd T s p numbersMost (j + 1)) (textOf T (gatherList T s p numbersMost (j + 1) 0 (replicate numbersMost (pos 0))) j)
     unfolding printedAt
     text-printed e = rw e
 
-    print-prints : (w : List ℕ) (es : List Expr) → Here t a (code-tree (print w es)) j → length es ≤ 32 → printedAt T s p j ≡ textBy w (values (sceneOf T s p (declAt t a j)) es)
+    print-prints : (w : List ℕ) (es : List Expr) → Here t a (code-tree (print w es)) j → length es ≤ numbersMost → printedAt T s p j ≡ textBy w (values (sceneOf T s p (declAt t a j)) es)
     print-prints w es h few =
         let g = printing t a w es j h in
-        text-printed (g .coded) ∙ ap (λ y. unlessFailed y (textOf T (gatherList T s p 32 (j + 1) 0 (replicate 32 (pos 0))) j)) (gather-ends T (declAt t a j) s p (g .passed) 32 few)
+        text-printed (g .coded) ∙ ap (λ y. unlessFailed y (textOf T (gatherList T s p numbersMost (j + 1) 0 (replicate numbersMost (pos 0))) j)) (gather-ends T (declAt t a j) s p (g .passed) numbersMost few)
         ∙ go (j + length (code-tree (print w es)) - 1) (values (sceneOf T s p (declAt t a j)) es) (λ vs e. gathered-alike T (declAt t a j) s p (g .passed) few vs e) refl
       where
-        go : (z : ℕ) (y : Values)
-            → ((vs : List ℤ) → values (sceneOf T s p (declAt t a j)) es ≡ all vs → (i : ℕ) → getD (gatherList T s p 32 (j + 1) 0 (replicate 32 (pos 0))) i (pos 0) ≡ getD vs i (pos 0))
-            → values (sceneOf T s p (declAt t a j)) es ≡ y → unlessFailed (endBy z y) (textOf T (gatherList T s p 32 (j + 1) 0 (replicate 32 (pos 0))) j) ≡ textBy w y
-        go z (all vs) f e = text-alike T (gatherList T s p 32 (j + 1) 0 (replicate 32 (pos 0))) vs (f vs e) (nameLength T j) j 0 0 0 ∙ text-is w (each code-argument es ++ i-end ∷ []) j h vs
+        go : (z : ℕ) (y : WorkedOut)
+            → ((vs : List ℤ) → values (sceneOf T s p (declAt t a j)) es ≡ all vs → (i : ℕ) → getD (gatherList T s p numbersMost (j + 1) 0 (replicate numbersMost (pos 0))) i (pos 0) ≡ getD vs i (pos 0))
+            → values (sceneOf T s p (declAt t a j)) es ≡ y → unlessFailed (endBy z y) (textOf T (gatherList T s p numbersMost (j + 1) 0 (replicate numbersMost (pos 0))) j) ≡ textBy w y
+        go z (all vs) f e = text-alike T (gatherList T s p numbersMost (j + 1) 0 (replicate numbersMost (pos 0))) vs (f vs e) (nameLength T j) j 0 0 0 ∙ text-is w (each code-argument es ++ i-end ∷ []) j h vs
         go z (stopped f) g e = refl
 
-    alone-prints : (x : Item) (z : List Item) → Here t a (x ∷ z) j → (items.codeOf x ≡ 72 → ⊥) → printedAt T s p j ≡ []
+    alone-prints : (x : Item) (z : List Item) → Here t a (x ∷ z) j → (items.codeOf x ≡ c-text → ⊥) → printedAt T s p j ≡ []
     alone-prints x z h n = none-printed (λ e. n (sym (first-code t a x z j h) ∙ e))
 
     prints-at : (x : Tree action) → Here t a (code-tree x) j → Few x → printedAt T s p j ≡ prints (stageAt t a s p j) x

@@ -7,7 +7,8 @@ use mathlib.Core.List.{List, [], _∷_, _++_, append-assoc}
 use lib.ListN.{length}
 use lib.IntN.{ℤ}
 use lib.Dec.{eqb}
-use Rattle.base_codes.specs.Codes.{c-assert, c-break, c-decrement, c-do, c-else, c-express, c-goto, c-if, c-increment, c-receive, c-run, c-send, c-skip, c-target, c-timeout}
+use Rattle.base_ceilings.specs.Ceilings.{fieldsMost}
+use Rattle.base_codes.specs.Codes.{c-assert, c-break, c-decrement, c-do, c-else, c-express, c-goto, c-if, c-increment, c-receive, c-run, c-send, c-skip, c-target, c-timeout, c-text}
 use Rattle.base_bytes.specs.Choice.{pick}
 use Rattle.table_layout.specs.Access.{codeOf, linkOf}
 use Rattle.base_values.specs.declared.Answer.{Answer}
@@ -15,13 +16,10 @@ use Rattle.base_values.specs.declared.Answer.the-variants.{Value, Fails}
 use Rattle.state_layout.specs.Layout.{waitingOf}
 use Rattle.base_bytes.specs.Numbers.{nat}
 use Rattle.spec_grammar.specs.Tree.{Ref, Expr, Received, action, Tree, express, assign, increment, decrement, send, receive, assert, print, skip, goto, break, timeout, else, run, set-run, select, loop}
-use Rattle.spec_grammar.specs.Code.{Item, i-name, i-express, i-target, i-assign, i-increment, i-decrement, i-assert, i-skip, i-goto, i-break, i-timeout, i-else, i-if, i-fi, i-do, i-od, code-exp, code-tree, code}
-use Rattle.table_entries.specs.Items as items
 use Rattle.read_passes.specs.Judging.{tablesText}
 use Rattle.read_accepts_proof.specs.Meaning.{Accepts}
 use Rattle.step_eval.specs.Expressions.{evalOf}
-use Rattle.step_ready.specs.Executing.{isAlone, isAlways, markOf, fitsOf, readyBy, readyOf, messageOf}
-use Rattle.step_ready.specs.Executing as tables
+use Rattle.step_ready.specs.Executing.{isAlways, markOf, fitsOf, readyBy, readyOf, messageOf, isOwnMark}
 use Rattle.spec_machine.specs.Eval.{eval}
 use Rattle.agree_stage.specs.Scenes.{sceneOf, sizeIn}
 use Rattle.agree_eval.specs.Names.{declAt}
@@ -39,6 +37,10 @@ use Rattle.agree_effects.proofs.Phrases.{Refers, behind-express, refers
 use Rattle.agree_effects.proofs.Lists.{mark-code}
 use Rattle.agree_effects.proofs.Begins.{marks, alones, alone-mark, phrase-mark, name-mark}
 use Rattle.agree_effects.proofs.Shapes.{reference-there, sending, receiving, printing, running, set-running}
+use Rattle.base_codes.specs.Items.{Item, i-assert, i-assign, i-break, i-decrement, i-do, i-else, i-express, i-fi, i-goto, i-if, i-increment, i-name, i-od, i-skip, i-target, i-timeout}
+use Rattle.parse_code.specs.Code.{code-exp, code-tree, code}
+use Rattle.base_codes.specs.Items as items
+use Rattle.step_ready.specs.Executing as tables
 
 -- ---- by the code of the mark
 module _ (t : List ℕ) (s : List ℤ) (p : ℕ) (late : Bool) (q m : ℕ) where
@@ -62,7 +64,7 @@ module _ (t : List ℕ) (s : List ℤ) (p : ℕ) (late : Bool) (q m : ℕ) where
   unfolding readyBy
   by-run e = rw e
 
-  by-text : codeOf t m ≡ 72 → readyBy t s p late q m ≡ true
+  by-text : codeOf t m ≡ c-text → readyBy t s p late q m ≡ true
   unfolding readyBy isAlways
   by-text e = rw e
 
@@ -133,7 +135,7 @@ module _ (t : List ℕ) (a : Accepts t) where
         let g = f .0 in
         let m = j + sizeIn r in
         at-mark m (g .mark) ∙ by-send T s p late j m (g .coded)
-        ∙ ap (tables.sendable T s) (message-is T (declAt t a j) s p (unitAt t a) r j m (length es) (g .located s p) (count-is T (declAt t a j) (f .1) 5)) ∙ go (reach c r (length es))
+        ∙ ap (tables.sendable T s) (message-is T (declAt t a j) s p (unitAt t a) r j m (length es) (g .located s p) (count-is T (declAt t a j) (f .1) (fieldsMost + 1))) ∙ go (reach c r (length es))
       where
         go : (y : Reach) → tables.sendable T s (recordOf y) ≡ sendable (stageAt t a s p j) y
         go (channel v) = refl
@@ -145,18 +147,18 @@ module _ (t : List ℕ) (a : Accepts t) where
         let g = f .0 in
         let m = j + sizeIn r in
         at-mark m (g .mark) ∙ by-receive T s p late j m (g .coded)
-        ∙ ap (tables.receivable T s p (m + 1)) (message-is T (declAt t a j) s p (unitAt t a) r j m (length ys) (g .located s p) (got-count T (declAt t a j) (f .1) 5))
+        ∙ ap (tables.receivable T s p (m + 1)) (message-is T (declAt t a j) s p (unitAt t a) r j m (length ys) (g .located s p) (got-count T (declAt t a j) (f .1) (fieldsMost + 1)))
         ∙ go (f .1) (reach c r (length ys)) refl
       where
         go : {z : ℕ} → Got T (declAt t a j) ys (j + sizeIn r + 1) z → (y : Reach) → reach (stageAt t a s p j) r (length ys) ≡ y
             → tables.receivable T s p (j + sizeIn r + 1) (recordOf y) ≡ receivable (stageAt t a s p j) ys y
         go k (channel v) e =
             ap (λ y. pick (eqb (waitingOf s (nat v - 1)) 0) false y)
-            (ap tables.passes (matches-is T (declAt t a j) s p (unitAt t a) k 4 (reach-few T (declAt t a j) s p (unitAt t a) r (length ys) (subst Arrived (sym e) tt)) v 0)
+            (ap tables.passes (matches-is T (declAt t a j) s p (unitAt t a) k fieldsMost (reach-few T (declAt t a j) s p (unitAt t a) r (length ys) (subst Arrived (sym e) tt)) v 0)
             ∙ passes-is (agrees c v 0 ys))
         go k (astray f) e = refl
 
-    alone-ready : (x : Item) (l : List Item) (b : Bool) → Here t a (x ∷ l) j → isAlone (items.codeOf x) ≡ true → (codeOf T j ≡ items.codeOf x → readyBy T s p late j j ≡ b)
+    alone-ready : (x : Item) (l : List Item) (b : Bool) → Here t a (x ∷ l) j → isOwnMark (items.codeOf x) ≡ true → (codeOf T j ≡ items.codeOf x → readyBy T s p late j j ≡ b)
         → readyOf T s p late j ≡ b
     alone-ready x l b h o f = at-mark j (alone-mark t a x l j h o) ∙ f (first-code t a x l j h)
 

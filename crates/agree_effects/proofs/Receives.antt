@@ -15,6 +15,7 @@ use Rattle.base_values.specs.Types.{castOf}
 use Rattle.base_values.specs.declared.Fault.the-variants.{Index}
 use Rattle.base_values.specs.declared.Answer.{Answer}
 use Rattle.base_values.specs.declared.Answer.the-variants.{Value, Fails}
+use Rattle.base_values.specs.Operators.{equalBy}
 use Rattle.state_layout.specs.Layout.{fieldOf}
 use Rattle.base_bytes.specs.Numbers.{nat}
 use Rattle.spec_grammar.specs.Tree.{Name, Ref, plain, indexed, Received, into, equal, exactly, exactly-true, exactly-false}
@@ -23,22 +24,17 @@ use Rattle.step_eval.specs.declared.Located.the-variants.{At, Astray}
 use Rattle.step_eval.specs.Variables.{typeOf, sizeOf, slotOf, elementOf}
 use Rattle.step_eval.specs.Expressions.{holds, evalOf}
 use Rattle.step_ready.specs.Channels.{argumentsFrom, comparedAt, agreesOf, matchesFrom}
-use Rattle.step_ready.specs.Channels as tables
 use Rattle.step_messages.specs.declared.Gathered.{Gathered}
 use Rattle.step_messages.specs.declared.Gathered.the-variants.{Upto, Failed}
 use Rattle.step_messages.specs.Messages.{onPlace, aimOf, aimEnd, aimList, deliveredOne, delivered}
 use Rattle.spec_machine.specs.Eval.{eval}
 use Rattle.agree_stage.specs.Scenes.{sceneOf, locate}
 use Rattle.spec_machine.specs.Stage.{Stage}
-use Rattle.agree_stage.specs.Tables.{stageOf}
-use Rattle.spec_machine.specs.Arguments.{nameOf, Aim, hit, miss, aimBy, aim, equalBy, agree, agreeBy, agrees, Aims, hits, missed, before, aimsBy, target, targets}
+use Rattle.agree_stage.specs.Tables.{stageIn}
+use Rattle.spec_machine.specs.Arguments.{nameOf, Aim, hit, miss, aimBy, aim, agree, agreeBy, agrees, Aims, hits, missed, before, aimsBy, target, targets}
 use Rattle.spec_machine.specs.Effect.{delivery, deliveries}
 use Rattle.agree_effects.specs.Walked.{Stored, Agreed, Got, no-more, one-more}
 use Rattle.agree_effects.proofs.Gathers.{fill}
-
-equal-is : (x : Answer) (w : ℤ) → tables.equalBy x w ≡ equalBy x w
-equal-is (Value v) w = refl
-equal-is (Fails f) w = refl
 
 abbrev pub endAims : ℕ → Aims → Gathered
 endAims z (hits ks) = Upto z
@@ -122,25 +118,25 @@ module _ (t : List ℕ) (decl : Name → ℕ) where
 
   module _ (s : List ℤ) (p : ℕ) (unit : Name → ℕ) where
     abbrev c : Stage (List ℤ)
-    c = stageOf t s p decl unit
+    c = stageIn t s p decl unit
 
     -- ---- agreement with the oldest message
     agreed-other : (v : ℤ) (f a m : ℕ) (y : Answer) → (codeOf t m ≡ c-into → ⊥) → evalOf t s p a m ≡ y → agreesOf t s p (nat v - 1) a m f ≡ equalBy y (fieldOf s (nat v - 1) 0 f)
     unfolding agreesOf
-    agreed-other v f a m y n e = rw (other-compared m n, e) (equal-is y (fieldOf s (nat v - 1) 0 f))
+    agreed-other v f a m y n e = rw (other-compared m n, e)
 
-    agree-is : (x : Received) (a m : ℕ) → Agreed t decl x a m → (v : ℤ) (f : ℕ) → agreesOf t s p (nat v - 1) a m f ≡ agree (stageOf t s p decl unit) v f x
+    agree-is : (x : Received) (a m : ℕ) → Agreed t decl x a m → (v : ℤ) (f : ℕ) → agreesOf t s p (nat v - 1) a m f ≡ agree (stageIn t s p decl unit) v f x
     unfolding agreesOf eval
     agree-is (into r) a m g v f =
         rw (stored-compared r a m g) (ap (λ y. pick (constant (nameOf r)) y (Value (pos 1)))
-        (ap (λ y. tables.equalBy y (fieldOf s (nat v - 1) 0 f)) (g .worked s p) ∙ equal-is (eval (c .scene) r) (fieldOf s (nat v - 1) 0 f)))
+        (ap (λ y. equalBy y (fieldOf s (nat v - 1) 0 f)) (g .worked s p)))
     agree-is (equal e) a m g v f = agreed-other v f a m (eval (c .scene) e) (g .mark) (g .worked s p)
     agree-is (exactly n) a m g v f = agreed-other v f a m (Value (pos n)) (g .mark) (g .worked s p)
     agree-is exactly-true a m g v f = agreed-other v f a m (Value (pos 1)) (g .mark) (g .worked s p)
     agree-is exactly-false a m g v f = agreed-other v f a m (Value (pos 0)) (g .mark) (g .worked s p)
 
     pub matches-is : {xs : List Received} {a z : ℕ} → Got t decl xs a z → (n : ℕ) → length xs ≤ n → (v : ℤ) (f : ℕ)
-        → matchesFrom t s p n (nat v - 1) a f ≡ agrees (stageOf t s p decl unit) v f xs
+        → matchesFrom t s p n (nat v - 1) a f ≡ agrees (stageIn t s p decl unit) v f xs
     unfolding matchesFrom agrees
     matches-is (no-more e) zero h v f = refl
     matches-is (no-more {a = a} e) (suc n) h v f = rw (eq-eqb (codeOf t a) c-end e)
@@ -162,7 +158,7 @@ module _ (t : List ℕ) (decl : Name → ℕ) where
     aim-other : (a m : ℕ) → (codeOf t m ≡ c-into → ⊥) → aimOf t s p a m ≡ At 0
     aim-other a m n = rw (other-compared m n)
 
-    aim-is : (x : Received) (a m : ℕ) → Agreed t decl x a m → aimOf t s p a m ≡ spotBy x (target (stageOf t s p decl unit) x)
+    aim-is : (x : Received) (a m : ℕ) → Agreed t decl x a m → aimOf t s p a m ≡ spotBy x (target (stageIn t s p decl unit) x)
     aim-is (into r) a m g =
         rw (stored-compared r a m g) (ap (λ y. pick (constant (nameOf r)) (At 0) y) (g .located s p ∙ locate-aim s p r) ∙ go (constant (nameOf r)) refl (aim (c .scene) r))
       where
@@ -175,7 +171,7 @@ module _ (t : List ℕ) (decl : Name → ℕ) where
     aim-is exactly-true a m g = aim-other a m (g .mark)
     aim-is exactly-false a m g = aim-other a m (g .mark)
 
-    pub aim-ends : {xs : List Received} {a z : ℕ} → Got t decl xs a z → (n : ℕ) → length xs ≤ n → aimEnd t s p n a ≡ endAims z (targets (stageOf t s p decl unit) xs)
+    pub aim-ends : {xs : List Received} {a z : ℕ} → Got t decl xs a z → (n : ℕ) → length xs ≤ n → aimEnd t s p n a ≡ endAims z (targets (stageIn t s p decl unit) xs)
     unfolding aimEnd targets
     aim-ends (no-more e) zero h = refl
     aim-ends (no-more {a = a} e) (suc n) h = rw (eq-eqb (codeOf t a) c-end e)
@@ -188,8 +184,8 @@ module _ (t : List ℕ) (decl : Name → ℕ) where
         go (hit i) q below = below ∙ before-ends i z q
         go (miss f) q below = refl
 
-    pub aim-fills : {xs : List Received} {a z : ℕ} → Got t decl xs a z → (n : ℕ) → length xs ≤ n → (k : ℕ) (l : List ℕ) → Sure (targets (stageOf t s p decl unit) xs)
-        → aimList t s p n a k l ≡ fill l k (spots p xs (aimed (targets (stageOf t s p decl unit) xs)))
+    pub aim-fills : {xs : List Received} {a z : ℕ} → Got t decl xs a z → (n : ℕ) → length xs ≤ n → (k : ℕ) (l : List ℕ) → Sure (targets (stageIn t s p decl unit) xs)
+        → aimList t s p n a k l ≡ fill l k (spots p xs (aimed (targets (stageIn t s p decl unit) xs)))
     unfolding aimList targets
     aim-fills (no-more e) zero h k l w = refl
     aim-fills (no-more {a = a} e) (suc n) h k l w = rw (eq-eqb (codeOf t a) c-end e)
@@ -207,7 +203,7 @@ module _ (t : List ℕ) (decl : Name → ℕ) where
 
     -- ---- stores
     stored-there : (r : Ref) (a m : ℕ) → Stored t decl r a m → (v : ℤ) (f k : ℕ) (ps : List ℕ) (l : List ℤ) → getD ps f 0 ≡ spot p (into r) k → getD l f (pos 0) ≡ fieldOf s (nat v - 1) 0 f
-        → (x : List ℤ) → deliveredOne t m f ps l x ≡ delivery (stageOf t s p decl unit) v f (into r) k x
+        → (x : List ℤ) → deliveredOne t m f ps l x ≡ delivery (stageIn t s p decl unit) v f (into r) k x
     stored-there r a m g v f k ps l e d x =
         rw (stored-compared r a m g) (ap (λ i. pick (constant w) x (set x (getD ps f 0) (castOf (typeOf (linkOf t i)) (getD l f (pos 0))))) (g .declared)
         ∙ ap (λ y. pick (constant w) x (set x (getD ps f 0) (castOf (typeOf (linkOf t (decl w))) y))) d ∙ go (constant w) refl)
@@ -224,7 +220,7 @@ module _ (t : List ℕ) (decl : Name → ℕ) where
     other-there m f ps l x n = rw (other-compared m n)
 
     one-delivered : (y : Received) (a m : ℕ) → Agreed t decl y a m → (v : ℤ) (f k : ℕ) (ps : List ℕ) (l : List ℤ) → getD ps f 0 ≡ spot p y k → getD l f (pos 0) ≡ fieldOf s (nat v - 1) 0 f
-        → (x : List ℤ) → deliveredOne t m f ps l x ≡ delivery (stageOf t s p decl unit) v f y k x
+        → (x : List ℤ) → deliveredOne t m f ps l x ≡ delivery (stageIn t s p decl unit) v f y k x
     one-delivered (into r) a m g v f k ps l e d x = stored-there r a m g v f k ps l e d x
     one-delivered (equal y) a m g v f k ps l e d x = other-there m f ps l x (g .mark)
     one-delivered (exactly n) a m g v f k ps l e d x = other-there m f ps l x (g .mark)
@@ -233,7 +229,7 @@ module _ (t : List ℕ) (decl : Name → ℕ) where
 
     pub delivered-is : {xs : List Received} {a z : ℕ} → Got t decl xs a z → (n : ℕ) → length xs ≤ n → (v : ℤ) (f : ℕ) (ps : List ℕ) (l : List ℤ) (ks : List ℕ) → length ks ≡ length xs
         → ((i : ℕ) → i < length xs → getD ps (f + i) 0 ≡ getD (spots p xs ks) i 0) → ((i : ℕ) → i < length xs → getD l (f + i) (pos 0) ≡ fieldOf s (nat v - 1) 0 (f + i))
-        → (x : List ℤ) → delivered t n a f ps l x ≡ deliveries (stageOf t s p decl unit) v f xs ks x
+        → (x : List ℤ) → delivered t n a f ps l x ≡ deliveries (stageIn t s p decl unit) v f xs ks x
     unfolding delivered deliveries
     delivered-is (no-more e) zero h v f ps l ks q gp gl x = refl
     delivered-is (no-more {a = a} e) (suc n) h v f ps l ks q gp gl x = rw (eq-eqb (codeOf t a) c-end e)

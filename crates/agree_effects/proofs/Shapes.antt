@@ -7,16 +7,18 @@ use mathlib.Core.Logic.{inl, inr}
 use mathlib.Core.List.{List, [], _∷_, _++_, append-assoc}
 use lib.ListN.{length, length-append}
 use lib.IntN.{ℤ}
-use Rattle.base_codes.specs.Codes.{c-run, c-set-run}
+use Rattle.base_codes.specs.Codes.{c-run, c-set-run, c-text}
 use Rattle.table_layout.specs.Access.{codeOf, linkOf}
 use Rattle.spec_grammar.specs.Tree.{Name, Ref, Expr, Received, send, receive, print, run, set-run}
-use Rattle.spec_grammar.specs.Code.{Item, i-name, i-text, i-target, i-send, i-receive, i-run, i-set-run, i-end, each, code-exp, code-argument, code-received, code-tree, code}
-use Rattle.table_entries.specs.Items as items
+use Rattle.base_codes.specs.Items.{Item, i-end, i-name, i-receive, i-run, i-send, i-set-run, i-target, i-text}
+use Rattle.parse_code.specs.Code.{each, code-exp, code-argument, code-received, code-tree, code}
+use Rattle.base_codes.specs.Items as items
+use Rattle.base_codes.specs.Sets.{isPart, isAlone}
 use Rattle.read_passes.specs.Judging.{tablesText}
 use Rattle.read_accepts_proof.specs.Meaning.{Accepts}
-use Rattle.link_places.specs.Places.{isPart, isMark}
+use Rattle.link_places.specs.Places.{isMark}
 use Rattle.step_eval.specs.Expressions.{locateOf}
-use Rattle.step_ready.specs.Executing.{isAlone, markOf}
+use Rattle.step_ready.specs.Executing.{markOf, isOwnMark}
 use Rattle.agree_stage.specs.Scenes.{sizeIn, locate}
 use Rattle.agree_eval.specs.Names.{declAt}
 use Rattle.spec_machine.specs.Arguments.{nameOf}
@@ -34,8 +36,8 @@ run-mark : isMark c-run ≡ true
 unfolding isPart
 run-mark = refl
 
-text-alone : isAlone 72 ≡ true
-unfolding isAlone
+text-alone : isOwnMark c-text ≡ true
+unfolding isOwnMark isAlone
 text-alone = refl
 
 module _ (t : List ℕ) (a : Accepts t) where
@@ -91,7 +93,7 @@ module _ (t : List ℕ) (a : Accepts t) where
 
   pub record Printing (es : List Expr) (j z : ℕ) : Type 0 where
     pub mark : markOf (tablesText t) j ≡ j
-    pub coded : codeOf (tablesText t) j ≡ 72
+    pub coded : codeOf (tablesText t) j ≡ c-text
     pub passed : Passed (tablesText t) (declAt t a j) es (j + 1) z
 
   pub printing : (w : List ℕ) (es : List Expr) (j : ℕ) → Here t a (code-tree (print w es)) j → Printing es j (j + tree.sizeIn (print w es) - 1)

@@ -7,14 +7,15 @@ use mathlib.Core.Bool.{true}
 use mathlib.Core.List.{List, [], _∷_, _++_, append-assoc}
 use lib.ListN.{length, length-append}
 use lib.IntN.{ℤ, pos, negsuc}
-use Rattle.base_codes.specs.Codes.{c-assert, c-assign, c-break, c-decrement, c-do, c-else, c-express, c-goto, c-if, c-increment, c-receive, c-run, c-send, c-set-run, c-skip, c-target, c-timeout}
+use Rattle.base_codes.specs.Codes.{c-assert, c-assign, c-break, c-decrement, c-do, c-else, c-express, c-goto, c-if, c-increment, c-receive, c-run, c-send, c-set-run, c-skip, c-target, c-text, c-timeout}
 use Rattle.table_layout.specs.Access.{codeOf, linkOf}
 use Rattle.spec_grammar.specs.Tree.{action, Tree, express, assign, increment, decrement, send, receive, assert, print, skip, goto, break, timeout, else, run, set-run, select, loop}
-use Rattle.spec_grammar.specs.Code.{Item, i-name, i-express, i-target, i-assign, i-increment, i-decrement, i-assert, i-skip, i-goto, i-break, i-timeout, i-else, i-if, i-fi, i-do, i-od, code-exp, code-tree, code}
-use Rattle.table_entries.specs.Items as items
+use Rattle.base_codes.specs.Items.{Item, i-assert, i-assign, i-break, i-decrement, i-do, i-else, i-express, i-fi, i-goto, i-if, i-increment, i-name, i-od, i-skip, i-target, i-timeout}
+use Rattle.parse_code.specs.Code.{code-exp, code-tree, code}
+use Rattle.base_codes.specs.Items as items
 use Rattle.read_passes.specs.Judging.{tablesText}
 use Rattle.read_accepts_proof.specs.Meaning.{Accepts}
-use Rattle.step_ready.specs.Executing.{isAlone, markOf}
+use Rattle.step_ready.specs.Executing.{markOf, isOwnMark}
 use Rattle.base_outcome.specs.declared.Taken.the-variants.{Idle}
 use Rattle.step_statements.specs.Statements.{passed, expressed, asserted, stepped, assigned, sent, received, printed}
 use Rattle.step_take.specs.Effects.{ran, setRan, targeted, takenAs, takenBy, takenOf}
@@ -37,7 +38,7 @@ use Rattle.agree_effects.proofs.Sends.{sent-is, received-is}
 
 -- ---- by the code of the mark
 module _ (t : List ℕ) (p q m : ℕ) (s : List ℤ) where
-  by-text : codeOf t m ≡ 72 → takenBy t p q m s ≡ printed t p m s
+  by-text : codeOf t m ≡ c-text → takenBy t p q m s ≡ printed t p m s
   unfolding takenAs
   by-text e = rw e
 
@@ -115,11 +116,11 @@ module _ (t : List ℕ) (a : Accepts t) where
     at-mark m e = ap (λ k. takenBy T p j k s) e
 
     -- a statement that only goes on
-    alone-takes : (x : Item) (n : ℕ) → Here t a (x ∷ []) j → isAlone (items.codeOf x) ≡ true → linkOf T j ≡ n → (codeOf T j ≡ items.codeOf x → takenBy T p j j s ≡ passed T p j s)
+    alone-takes : (x : Item) (n : ℕ) → Here t a (x ∷ []) j → isOwnMark (items.codeOf x) ≡ true → linkOf T j ≡ n → (codeOf T j ≡ items.codeOf x → takenBy T p j j s ≡ passed T p j s)
         → takenOf T p j s ≡ goOn (stageAt t a s p j) n s
     alone-takes x n h o l f = at-mark j (alone-mark t a x [] j h o) ∙ f (first-code t a x [] j h) ∙ ap (λ k. goOn (stageAt t a s p j) k s) l
 
-    idle-takes : (x : Item) (z : List Item) → Here t a (x ∷ z) j → isAlone (items.codeOf x) ≡ true → (codeOf T j ≡ items.codeOf x → takenBy T p j j s ≡ (Idle, s)) → takenOf T p j s ≡ (Idle, s)
+    idle-takes : (x : Item) (z : List Item) → Here t a (x ∷ z) j → isOwnMark (items.codeOf x) ≡ true → (codeOf T j ≡ items.codeOf x → takenBy T p j j s ≡ (Idle, s)) → takenOf T p j s ≡ (Idle, s)
     idle-takes x z h o f = at-mark j (alone-mark t a x z j h o) ∙ f (first-code t a x z j h)
 
     none-yet : Quiet t a j j

@@ -5,6 +5,7 @@ use mathlib.Core.List.{List, [], _∷_, _++_}
 use lib.ListN.{length, getD, set, replicate}
 use lib.IntN.{ℤ, pos}
 use lib.Dec.{eqb}
+use Rattle.base_ceilings.specs.Ceilings.{numbersMost}
 use Rattle.base_codes.specs.Codes.{c-parameter}
 use Rattle.base_bytes.specs.Choice.{pick}
 use Rattle.table_layout.specs.Access.{codeOf, linkOf, nameByte}
@@ -19,7 +20,7 @@ use Rattle.step_messages.specs.Messages.{fieldType, gatherList, appended}
 use Rattle.step_statements.specs.Statements.{blank}
 use Rattle.step_take.specs.Effects.{parameterSet, called}
 use Rattle.step_prints.specs.Printing.{writtenFrom}
-use Rattle.spec_text.specs.Formats.{decimal, escaped, written, opened, counted}
+use Rattle.spec_text.specs.Formats.{decimalOf, escaped, formatted, opened, counted}
 use Rattle.agree_stage.specs.Scenes.{sceneOf}
 use Rattle.spec_machine.specs.Arguments.{all, values}
 use Rattle.agree_effects.specs.Walked.{Passed}
@@ -41,10 +42,10 @@ called-alike t u l m s e =
     λ k. walk (λ i x. pick (eqb (codeOf t (u + i)) c-parameter) (set x (slotOf (linkOf t (u + i)) (processesOf s) 0) (castOf (typeOf (linkOf t (u + i))) (e (linkOf t (u + i) / 1024) k))) x) 0
     (unitLength t u) (processMade t u s)
 
-written-alike : (l m : List ℤ) → Alike l m → (was b k : ℕ) → written l was b k ≡ written m was b k
-unfolding written
+written-alike : (l m : List ℤ) → Alike l m → (was b k : ℕ) → formatted l was b k ≡ formatted m was b k
+unfolding formatted
 written-alike l m e was b k =
-    λ i. pick (eqb was 92) (escaped b ∷ []) (pick (eqb was 37) (pick (eqb b 100) (decimal (e k i)) (b ∷ [])) (pick (eqb b 92) [] (pick (eqb b 37) [] (b ∷ []))))
+    λ i. pick (eqb was 92) (escaped b ∷ []) (pick (eqb was 37) (pick (eqb b 100) (decimalOf (e k i)) (b ∷ [])) (pick (eqb b 92) [] (pick (eqb b 37) [] (b ∷ []))))
 
 pub text-alike : (t : List ℕ) (l m : List ℤ) → Alike l m → (n j i was k : ℕ) → writtenFrom t l n j i was k ≡ writtenFrom t m n j i was k
 unfolding writtenFrom
@@ -52,10 +53,10 @@ text-alike t l m e zero j i was k = refl
 text-alike t l m e (suc n) j i was k = ap₂ _++_ (written-alike l m e was (nameByte t j i) k) (text-alike t l m e n j (i + 1) (opened was (nameByte t j i)) (counted was (nameByte t j i) k))
 
 -- ---- what arguments fill
-pub gathered-alike : (t : List ℕ) (decl : Name → ℕ) (s : List ℤ) (p : ℕ) {es : List Expr} {a z : ℕ} → Passed t decl es a z → length es ≤ 32 → (vs : List ℤ)
+pub gathered-alike : (t : List ℕ) (decl : Name → ℕ) (s : List ℤ) (p : ℕ) {es : List Expr} {a z : ℕ} → Passed t decl es a z → length es ≤ numbersMost → (vs : List ℤ)
     → values (sceneOf t s p decl) es ≡ all vs
-    → Alike (gatherList t s p 32 a 0 (replicate 32 (pos 0))) vs
+    → Alike (gatherList t s p numbersMost a 0 (replicate numbersMost (pos 0))) vs
 gathered-alike t decl s p {es} r h vs e i =
     let w : Whole (values (sceneOf t s p decl) es) = subst Whole (inv e) tt in
-    ap (λ l. getD l i (pos 0)) (gather-fills t decl s p r 32 h 0 blank w)
-    ∙ fill-blank (pos 0) 32 (listed (values (sceneOf t s p decl) es)) (subst (λ n. n ≤ 32) (inv (values-count (sceneOf t s p decl) es w)) h) i ∙ ap (λ l. getD (listed l) i (pos 0)) e
+    ap (λ l. getD l i (pos 0)) (gather-fills t decl s p r numbersMost h 0 blank w)
+    ∙ fill-blank (pos 0) numbersMost (listed (values (sceneOf t s p decl) es)) (subst (λ n. n ≤ numbersMost) (inv (values-count (sceneOf t s p decl) es w)) h) i ∙ ap (λ l. getD (listed l) i (pos 0)) e

@@ -1,3 +1,4 @@
+-- Bridge, for `demand2` (crate `demands`).
 -- Arguments as they stand in tables: each begins with an item that links to its mark, behind which the next one begins, and `end` (187) stands behind the last. Document 01, "Grammar";
 -- docs/TABLES.md, "Links". `t` are tables, p the number of the process, `decl` has for each name the item that declares it.
 use Prim.Native.Nat.{ℕ, _+_, _-_}

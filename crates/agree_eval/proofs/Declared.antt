@@ -7,17 +7,17 @@ use mathlib.Core.List.{List, [], _∷_, _++_, map}
 use lib.ListN.{length, getD, length-append, length-replicate}
 use lib.Dec.{eqb, ltb}
 use borrow.Author.Tests.{ltb-true, ltb-false, eqb-true}
-use Rattle.base_codes.specs.Codes.{c-argument, c-index, c-message}
+use Rattle.base_ceilings.specs.Ceilings.{itemsMost}
+use Rattle.base_codes.specs.Codes.{c-argument, c-index, c-message, c-name}
 use Rattle.base_bytes.specs.Choice.{pick, either}
 use Rattle.base_bytes.proofs.Tests.{true-false}
 use Rattle.spec_grammar.specs.Tree.{Name, Shape, Exp, plain, indexed, num, tru, fls, get, len, unary, binary, choice}
-use Rattle.spec_grammar.specs.Code.{Item, i-name, i-plain, i-index, i-len, i-unary, i-binary, i-otherwise, i-choice, code-exp, code}
 use Rattle.parse_machine_proof.specs.Machine.{place-of}
 use Rattle.rule_sheets.specs.Homes.{insideOf}
 use Rattle.rule_sheets.specs.Spans.{startsOf, heightsOf}
 use Rattle.rule_search.specs.Sets.{among}
 use Rattle.rule_search.specs.Search.{lookup}
-use Rattle.rule_item.specs.Rules.{roleOf, badPlain, badVariable, badUse, badRef, ruleOf, badBy, bad}
+use Rattle.rule_item.specs.Rules.{roleOf, badPlain, badVariable, badUse, badRef, badBy, bad}
 use Rattle.rule_least.specs.declared.Fault.the-variants.{None}
 use Rattle.rule_least.specs.Faults.{place, sooner, joined, leastFrom, leastOf, blank, checked}
 use Rattle.link_phrases_proof.specs.Phrases.{Proper, At as Stood}
@@ -30,6 +30,9 @@ use Rattle.agree_eval.proofs.Main.{items-long}
 use Rattle.agree_eval.proofs.Said.{first-said, home-same}
 use Rattle.agree_eval.proofs.Names.{Lies, lies-front, lies-back, meaning, means-none}
 use Rattle.rule_least.proofs.Theorems.{sooner-some}
+use Rattle.base_codes.specs.Items.{Item, i-binary, i-choice, i-index, i-len, i-name, i-otherwise, i-plain, i-unary}
+use Rattle.base_codes.specs.Sets.{ruleOf}
+use Rattle.parse_code.specs.Code.{code-exp, code}
 
 module _ (cs vs hs ss ts toks : List ℕ) where
   none-bad : (j k x : ℕ) → leastFrom cs vs hs ss ts toks j k ≡ None → j ≤ x → x < j + k → bad cs vs hs ss ts x ≡ 0
@@ -70,7 +73,7 @@ module _ (cs vs hs : List ℕ) where
   unfolding ruleOf badBy badRef
   index-rule ss ts j e = rw e
 
-name-no-variable : among 14 70 ≡ false
+name-no-variable : among 14 c-name ≡ false
 unfolding among
 name-no-variable = refl
 
@@ -96,14 +99,14 @@ module _ (t : List ℕ) (a : Accepts t) where
         let s = some-items (indexed w e) in
         let v = saidAt t a in
         let o = homesAt t a in
-        let st : getD S j 0 ≡ k = phrase-starts C blank (indexed w e) p k j h (codes-few t a) (omega (arith, codes-few t a, length-replicate 8192 zero)) (omega arith) (omega arith) in
+        let st : getD S j 0 ≡ k = phrase-starts C blank (indexed w e) p k j h (codes-few t a) (omega (arith, codes-few t a, length-replicate itemsMost zero)) (omega arith) (omega arith) in
         let u = use-variable C v o (getD S j 0) (getD o j 0) (roleOf (getD C (j + 1) 0)) (inv (index-rule C v o S (heightsOf C S blank) j c) ∙ no-fault j (omega arith)) in
         ap (λ y. among 14 (getD C y 0))
         (ap (λ y. lookup C v o y (insideOf C i) k) (first-said t a w k (omega (arith, items-long t a)) l)
         ∙ ap (λ y. lookup C v o (getD v k 0) y k) (inv (home-same t a i j (omega arith) (omega (arith, items-long t a)) (λ y d z. low y d (omega arith))))
         ∙ ap (λ y. lookup C v o (getD v y 0) (getD o j 0) y) (inv st)) ∙ u
 
-    index-declared : (w : Name) (k : ℕ) → i ≤ k → k < i + n → getD C k 0 ≡ 70 → among 14 (getD C (meaning t a i n end low w k) 0) ≡ true → meantAt t a i w < i
+    index-declared : (w : Name) (k : ℕ) → i ≤ k → k < i + n → getD C k 0 ≡ c-name → among 14 (getD C (meaning t a i n end low w k) 0) ≡ true → meantAt t a i w < i
     index-declared w k b g c u = go (ltb (meantAt t a i w) i) refl
       where
         go : (d : Bool) → ltb (meantAt t a i w) i ≡ d → meantAt t a i w < i

@@ -8,3 +8,4 @@ pub mod Names
 pub mod Declared
 pub mod Operators
 pub mod Whole
+pub mod Ranges

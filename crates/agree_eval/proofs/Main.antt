@@ -6,11 +6,14 @@ use mathlib.Core.Path.{_≡_, refl, sym as inv, ap, _∙_, subst}
 use mathlib.Core.List.{List, [], _∷_, _++_, map, map-append}
 use lib.ListN.{length, getD, replicate, length-map, length-append, length-replicate}
 use lib.IntN.{ℤ}
+use Rattle.base_ceilings.specs.Ceilings.{heightMost, itemsMost}
 use Rattle.base_codes.specs.Codes.{c-choice, c-otherwise}
 use Rattle.spec_grammar.specs.Tree.{Name, Shape, Exp, plain, indexed, num, tru, fls, get, len, unary, binary, choice}
-use Rattle.spec_grammar.specs.Code.{Item, i-index, i-len, i-unary, i-binary, i-otherwise, i-choice, code-exp, code}
-use Rattle.table_entries.specs.Items as items
-use Rattle.link_items.specs.Links.{classOf}
+use Rattle.base_codes.specs.Items.{Item, i-binary, i-choice, i-index, i-len, i-otherwise, i-unary}
+use Rattle.parse_code.specs.Code.{code-exp, code}
+use Rattle.table_entries.specs.Items.{entryOf}
+use Rattle.base_codes.specs.Items as items
+use Rattle.base_codes.specs.Sets.{classOf}
 use Rattle.link_phrases_proof.specs.Phrases.{Proper, At}
 use Rattle.spec_rules.specs.Heights.{height}
 use Rattle.link_phrases_proof.proofs.Starts.{at-front, at-back, phrase-starts}
@@ -36,14 +39,14 @@ module _ (t : List ℕ) (a : Accepts t) where
   U = T t a
 
   pub items-long : length C ≡ length (code (a .tree))
-  items-long = codes-long t a ∙ length-map (code (a .tree)) items.entryOf
+  items-long = codes-long t a ∙ length-map (code (a .tree)) entryOf
 
   -- the link of an item that is an operator, `otherwise` or `choice`, behind a phrase that starts at k
   pub linked : {s : Shape} (e : Exp s) → Proper e → (i j c : ℕ) → At C i (code-exp e) → j ≡ i + length (code-exp e) → j < length C → getD C j 0 ≡ c → classOf c ≡ 4 → linkOf U j ≡ i
   linked e p i j c h q g k w =
       link-held t a j (omega (arith, items-long))
       ∙ link-starts C _ j i (codes-few t a) g (ap classOf k ∙ w)
-      (phrase-starts C (replicate 8192 0) e p i (j - 1) h (codes-few t a) (omega (arith, codes-few t a, length-replicate 8192 zero)) (omega arith) (omega arith)) (omega (arith, codes-few t a))
+      (phrase-starts C (replicate itemsMost 0) e p i (j - 1) h (codes-few t a) (omega (arith, codes-few t a, length-replicate itemsMost zero)) (omega arith) (omega arith)) (omega (arith, codes-few t a))
 
   stands-in : {s : Shape} (e : Exp s) (i : ℕ) → Proper e → At C i (code-exp e) → Held U i (code-exp e) → i + length (code-exp e) ≤ length C → Stands U e i
   unfolding Stands
@@ -128,6 +131,6 @@ module _ (t : List ℕ) (a : Accepts t) where
         (omega (arith, items-long, ap length within, length-append front (code-exp e ++ rest), length-append (code-exp e) rest)))
 
     -- what is worked out over its items is what it means
-    pub text-eval : (st : List ℤ) (pid : ℕ) (decl : Name → ℕ) → Named (tablesText t) decl e (length front) → height e ≤ 32
+    pub text-eval : (st : List ℤ) (pid : ℕ) (decl : Name → ℕ) → Named (tablesText t) decl e (length front) → height e ≤ heightMost
         → evalOf (tablesText t) st pid (length front) (length front + sizeIn e) ≡ eval (sceneOf (tablesText t) st pid decl) e
     text-eval st pid decl n g = eval-is (tablesText t) st pid decl e (length front) (length front + sizeIn e) p text-stands n g refl

@@ -11,18 +11,16 @@ use lib.Seq.{getD-append-add}
 use lib.IntN.{ℤ}
 use lib.Dec.{ltb}
 use borrow.Author.Tests.{ltb-true, ltb-false, lt-ltb, le-ltb}
-use Rattle.base_codes.specs.Codes.{c-argument, c-index, c-plain}
+use Rattle.base_ceilings.specs.Ceilings.{heightMost, itemsMost}
+use Rattle.base_codes.specs.Codes.{c-argument, c-index, c-plain, c-name}
 use Rattle.base_bytes.specs.Choice.{pick}
 use Rattle.base_bytes.proofs.Tests.{true-false}
 use Rattle.spec_grammar.specs.Tree.{Name, Shape, reference, Exp, plain, indexed, num, tru, fls, get, len, unary, binary, choice}
-use Rattle.spec_grammar.specs.Code.{Item, i-name, i-plain, i-index, i-len, i-unary, i-binary, i-otherwise, i-choice, code-exp, code}
-use Rattle.table_entries.specs.Items as items
 use Rattle.rule_sheets.specs.Homes.{insideOf}
 use Rattle.rule_search.specs.Search.{find, lookup}
 use Rattle.base_bytes.specs.Lists.{same}
 use Rattle.spec_text.specs.Names.{pid}
-use Rattle.link_items.specs.Links.{classOf}
-use Rattle.link_phrases_proof.specs.Phrases.{Proper, At, inExpression}
+use Rattle.link_phrases_proof.specs.Phrases.{Proper, At}
 use Rattle.spec_rules.specs.Heights.{height}
 use Rattle.link_phrases_proof.proofs.Starts.{at-front, at-back, some-items, phrase-starts}
 use Rattle.link_phrases_proof.proofs.Inside.{all-inside, phrase-inside, mark-outside}
@@ -40,6 +38,10 @@ use Rattle.agree_eval.proofs.Items.{link-held, code-held}
 use Rattle.agree_eval.proofs.Main.{U, items-long, stands-at, text-eval}
 use Rattle.agree_eval.proofs.Lookups.{lookup-most, lookup-further, lookup-none}
 use Rattle.agree_eval.proofs.Said.{pid-said, first-said, first-code, home-same}
+use Rattle.base_codes.specs.Items.{Item, i-binary, i-choice, i-index, i-len, i-name, i-otherwise, i-plain, i-unary}
+use Rattle.parse_code.specs.Code.{code-exp, code}
+use Rattle.base_codes.specs.Sets.{classOf, isPart}
+use Rattle.base_codes.specs.Items as items
 
 -- ---- items that lie in a list from place k on
 abbrev pub Lies : List Item → ℕ → List Item → Type 0
@@ -61,7 +63,7 @@ lies-all xs (x ∷ l) k h =
     (ap (λ n. getD xs n i-plain) z ∙ h 0 (omega arith), lies-all xs l (suc k) (λ j g. let w : suc k + j ≡ k + suc j = omega arith in ap (λ n. getD xs n i-plain) w ∙ h (suc j) (omega arith)))
 
 -- an expression's items have low codes
-low-code : (c : ℕ) → inExpression c ≡ true → c < c-argument
+low-code : (c : ℕ) → isPart c ≡ true → c < c-argument
 low-code c e = go (ltb c c-argument) refl
   where
     go : (b : Bool) → ltb c c-argument ≡ b → c < c-argument
@@ -104,7 +106,7 @@ module _ (t : List ℕ) (a : Accepts t) where
         let o = homesAt t a in
         link-held t a j x
         ∙ link-name C v j k (codes-few t a) (omega arith) (ap classOf d ∙ one)
-        (phrase-starts C (replicate 8192 0) r p k j h (codes-few t a) (omega (arith, codes-few t a, length-replicate 8192 zero)) (omega arith) (omega arith))
+        (phrase-starts C (replicate itemsMost 0) r p k j h (codes-few t a) (omega (arith, codes-few t a, length-replicate itemsMost zero)) (omega arith) (omega arith))
         ∙ ap (λ y. min 4294967295 (lookup C v o y (getD o j 0) k)) (inv f)
         ∙ ap (λ y. min 4294967295 (lookup C v o (getD v (firstName w xs) 0) y k)) (home-same t a i j (omega arith) x (λ y u z. low y u (omega arith)))
         ∙ (let m = lookup-most C v o i k b (λ y u z. low y u (omega arith)) (getD v (firstName w xs) 0) (insideOf C i) k in let y : min 4294967295 (meaning w k) ≡ meaning w k = omega (arith, codes-few t a) in y)
@@ -139,7 +141,7 @@ module _ (t : List ℕ) (a : Accepts t) where
             inr (ap (codeOf (U t a)) (q ∙ means-none w k b g l) ∙ code-held t a k h ∙ ap items.codeOf e, ap (codeOf (U t a)) (decl-none w l) ∙ code-held t a (firstName w xs) (f .0) ∙ f .1)
 
     -- `_pid` is declared by no item
-    pid-declared : (w : Name) (k : ℕ) → i ≤ k → k < i + n → getD xs k i-plain ≡ i-name w → same w pid ≡ true → codeOf (U t a) (declAt t a i w) ≡ 70
+    pid-declared : (w : Name) (k : ℕ) → i ≤ k → k < i + n → getD xs k i-plain ≡ i-name w → same w pid ≡ true → codeOf (U t a) (declAt t a i w) ≡ c-name
     unfolding meantAt lookup find
     pid-declared w k b g e q =
         let h : k < length xs = omega (arith, items-long t a) in
@@ -219,6 +221,6 @@ module _ (t : List ℕ) (a : Accepts t) where
         h (omega arith) (omega arith) r)
 
     -- EVALUATION OVER AN ACCEPTED TEXT'S TABLES IS THE MEANING OF ITS TREE, in every state and for every process
-    pub text-means : (st : List ℤ) (pid : ℕ) → Arrays t a (length front) e → height e ≤ 32
+    pub text-means : (st : List ℤ) (pid : ℕ) → Arrays t a (length front) e → height e ≤ heightMost
         → evalOf (tablesText t) st pid (length front) (length front + sizeIn e) ≡ eval (sceneOf (tablesText t) st pid (declAt t a (length front))) e
     text-means st pid r g = text-eval t a e front rest within p st pid (declAt t a (length front)) (text-named r) g

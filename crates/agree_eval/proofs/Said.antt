@@ -7,7 +7,8 @@ use mathlib.Core.List.{List, [], _∷_, map}
 use lib.ListN.{length, getD, replicate, length-map, length-replicate}
 use lib.Dec.{eqb}
 use borrow.Author.Tests.{le-ltb, eq-eqb, ne-eqb, eqb-true}
-use Rattle.base_codes.specs.Codes.{c-argument, c-end-body, c-parameter}
+use Rattle.base_ceilings.specs.Ceilings.{itemsMost, textMost}
+use Rattle.base_codes.specs.Codes.{c-argument, c-end-body, c-parameter, c-name}
 use Rattle.base_bytes.specs.Choice.{pick}
 use Rattle.base_bytes.specs.Lists.{same}
 use Rattle.base_bytes.proofs.Lists.{same-refl, same-eq}
@@ -15,9 +16,7 @@ use Rattle.base_bytes.proofs.Tests.{true-false}
 use Rattle.text_tokens.specs.Reading.{Placed}
 use Rattle.text_spacing_proof.proofs.Exact.{reading-exact}
 use Rattle.spec_grammar.specs.Tree.{Name}
-use Rattle.spec_grammar.specs.Code.{Item, i-name, i-plain, code}
 use Rattle.parse_machine_proof.specs.Machine.{symbol-of, place-of}
-use Rattle.table_entries.specs.Items as items
 use Rattle.rule_sheets.specs.Walks.{first}
 use Rattle.rule_sheets.specs.Payload.{wordOf, sameName, firstSame, nameArg, argOf, argsOf, spelled}
 use Rattle.spec_text.specs.Names.{pid}
@@ -31,18 +30,22 @@ use Rattle.agree_eval.specs.Names.{isName, firstName, codesAt, saidAt, h
 use Rattle.agree_eval.proofs.Codes.{codes-few, codes-are}
 use Rattle.agree_eval.proofs.Items.{items-count, item-read}
 use Rattle.agree_eval.proofs.Lookups.{first-reached}
+use Rattle.base_codes.specs.Items.{Item, i-name, i-plain}
+use Rattle.parse_code.specs.Code.{code}
+use Rattle.table_entries.specs.Items.{entryOf}
+use Rattle.base_codes.specs.Items as items
 
 -- ---- the first item that is a name
 record First (w : Name) (l : List Item) (m : ℕ) : Type 0 where
   before : firstName w l ≤ m
-  coded : items.codeOf (getD l (firstName w l) i-plain) ≡ 70
-  spelt : items.entryOf (getD l (firstName w l) i-plain) .bytes ≡ w
+  coded : items.codeOf (getD l (firstName w l) i-plain) ≡ c-name
+  spelt : entryOf (getD l (firstName w l) i-plain) .bytes ≡ w
 
-is-name : (w : Name) (x : Item) → isName w x ≡ true → (items.codeOf x ≡ 70) × (items.entryOf x .bytes ≡ w)
-is-name w x e = go (eqb (items.codeOf x) 70) refl e
+is-name : (w : Name) (x : Item) → isName w x ≡ true → (items.codeOf x ≡ c-name) × (entryOf x .bytes ≡ w)
+is-name w x e = go (eqb (items.codeOf x) c-name) refl e
   where
-    go : (b : Bool) → eqb (items.codeOf x) 70 ≡ b → pick b (same (items.entryOf x .bytes) w) false ≡ true → (items.codeOf x ≡ 70) × (items.entryOf x .bytes ≡ w)
-    go true h k = (eqb-true (items.codeOf x) 70 h, same-eq (items.entryOf x .bytes) w k)
+    go : (b : Bool) → eqb (items.codeOf x) c-name ≡ b → pick b (same (entryOf x .bytes) w) false ≡ true → (items.codeOf x ≡ c-name) × (entryOf x .bytes ≡ w)
+    go true h k = (eqb-true (items.codeOf x) c-name h, same-eq (entryOf x .bytes) w k)
     go false h k = absurd (true-false (inv k))
 
 first-is : (w : Name) (l : List Item) (m : ℕ) → m < length l → getD l m i-plain ≡ i-name w → First w l m
@@ -51,17 +54,17 @@ first-is w [] m h e = absurd (omega arith)
 first-is w (x ∷ l) zero h e =
     let q : isName w x ≡ true = ap (isName w) e ∙ same-refl w in
     let z : firstName w (x ∷ l) ≡ 0 = rw q in
-    record { before = omega arith; coded = ap (λ n. items.codeOf (getD (x ∷ l) n i-plain)) z ∙ ap items.codeOf e; spelt = ap (λ n. items.entryOf (getD (x ∷ l) n i-plain) .bytes) z ∙ ap (λ y. items.entryOf y .bytes) e }
+    record { before = omega arith; coded = ap (λ n. items.codeOf (getD (x ∷ l) n i-plain)) z ∙ ap items.codeOf e; spelt = ap (λ n. entryOf (getD (x ∷ l) n i-plain) .bytes) z ∙ ap (λ y. entryOf y .bytes) e }
 first-is w (x ∷ l) (suc m) h e = go (isName w x) refl (first-is w l m (omega arith) e)
   where
     go : (b : Bool) → isName w x ≡ b → First w l m → First w (x ∷ l) (suc m)
     go true q r =
         let z : firstName w (x ∷ l) ≡ 0 = rw q in
-        record { before = omega arith; coded = ap (λ n. items.codeOf (getD (x ∷ l) n i-plain)) z ∙ is-name w x q .0; spelt = ap (λ n. items.entryOf (getD (x ∷ l) n i-plain) .bytes) z ∙ is-name w x q .1 }
+        record { before = omega arith; coded = ap (λ n. items.codeOf (getD (x ∷ l) n i-plain)) z ∙ is-name w x q .0; spelt = ap (λ n. entryOf (getD (x ∷ l) n i-plain) .bytes) z ∙ is-name w x q .1 }
     go false q r =
         let z : firstName w (x ∷ l) ≡ suc (firstName w l) = rw q in
         let b = r .before in
-        record { before = omega arith; coded = ap (λ n. items.codeOf (getD (x ∷ l) n i-plain)) z ∙ r .coded; spelt = ap (λ n. items.entryOf (getD (x ∷ l) n i-plain) .bytes) z ∙ r .spelt }
+        record { before = omega arith; coded = ap (λ n. items.codeOf (getD (x ∷ l) n i-plain)) z ∙ r .coded; spelt = ap (λ n. entryOf (getD (x ∷ l) n i-plain) .bytes) z ∙ r .spelt }
 
 module _ (t : List ℕ) (a : Accepts t) where
   abbrev pub ss : List ℕ
@@ -86,33 +89,33 @@ module _ (t : List ℕ) (a : Accepts t) where
   code-of j h = ap (λ (l : List ℕ). getD l j 0) (codes-are t a) ∙ get-only items.codeOf xs j i-plain 0 h
 
   -- what a name item says
-  pub said : (j : ℕ) → j < length xs → getD C j 0 ≡ 70 → getD (saidAt t a) j 0 ≡ nameArg t ss es C ks j
+  pub said : (j : ℕ) → j < length xs → getD C j 0 ≡ c-name → getD (saidAt t a) j 0 ≡ nameArg t ss es C ks j
   unfolding argsOf argOf
   said j h e =
-      rw (le-ltb 8192 (length t) (reading-exact t (a .parts) .0 (a .reads) .1), le-ltb 8192 (length C) (codes-few t a))
-      (filled-at (argOf t ss es C ks) 0 (length C) (replicate 8192 0) j (omega arith) (omega (arith, long)) (omega (arith, codes-few t a, length-replicate 8192 zero))
-      ∙ (rw (eq-eqb (getD C j 0) 70 e)))
+      rw (le-ltb textMost (length t) (reading-exact t (a .parts) .0 (a .reads) .1), le-ltb itemsMost (length C) (codes-few t a))
+      (filled-at (argOf t ss es C ks) 0 (length C) (replicate itemsMost 0) j (omega arith) (omega (arith, long)) (omega (arith, codes-few t a, length-replicate itemsMost zero))
+      ∙ (rw (eq-eqb (getD C j 0) c-name e)))
 
-  pub word-is : (j : ℕ) → j < length xs → getD C j 0 ≡ 70 → wordOf t ss es C ks j ≡ items.entryOf (getD xs j i-plain) .bytes
+  pub word-is : (j : ℕ) → j < length xs → getD C j 0 ≡ c-name → wordOf t ss es C ks j ≡ entryOf (getD xs j i-plain) .bytes
   word-is j h e =
       let k : j < length (a .numbers) = omega (arith, items-count t a) in
       let v = getD (a .numbers) j 0 in
       ap (spelled t ss es) (get-only place-of (a .numbers) j 0 0 k)
       ∙ name-says t (a .parts) (a .reads) v (inv (get-only symbol-of (a .numbers) j 0 0 k) ∙ e)
       (machine-right (a .parts) (a .numbers) (reading-exact t (a .parts) .0 (a .reads) .2) (parsed-done (map Placed.kind (a .parts)) (a .numbers) (a .written)) j k)
-      ∙ ap (λ y. items.entryOf y .bytes) (inv (item-read t a j h))
+      ∙ ap (λ y. entryOf y .bytes) (inv (item-read t a j h))
 
   -- two items of one name, the first of them at f
   firsts : (f m : ℕ) → wordOf t ss es C ks f ≡ wordOf t ss es C ks m → first (sameName t ss es C ks f) 0 f ≡ first (sameName t ss es C ks m) 0 f
   unfolding sameName
-  firsts f m q = ap (λ (u : List ℕ). first (λ i. pick (eqb (getD C i 0) 70) (same (wordOf t ss es C ks i) u) false) 0 f) q
+  firsts f m q = ap (λ (u : List ℕ). first (λ i. pick (eqb (getD C i 0) c-name) (same (wordOf t ss es C ks i) u) false) 0 f) q
 
-  passes : (f m : ℕ) → getD C f 0 ≡ 70 → wordOf t ss es C ks f ≡ wordOf t ss es C ks m → sameName t ss es C ks m f ≡ true
+  passes : (f m : ℕ) → getD C f 0 ≡ c-name → wordOf t ss es C ks f ≡ wordOf t ss es C ks m → sameName t ss es C ks m f ≡ true
   unfolding sameName
-  passes f m e q = rw (eq-eqb (getD C f 0) 70 e) (ap (λ (u : List ℕ). same u (wordOf t ss es C ks m)) q ∙ same-refl (wordOf t ss es C ks m))
+  passes f m e q = rw (eq-eqb (getD C f 0) c-name e) (ap (λ (u : List ℕ). same u (wordOf t ss es C ks m)) q ∙ same-refl (wordOf t ss es C ks m))
 
-  same-said : (w : Name) (f m : ℕ) → f ≤ m → f < length xs → m < length xs → getD C f 0 ≡ 70 → getD C m 0 ≡ 70
-      → items.entryOf (getD xs f i-plain) .bytes ≡ w → items.entryOf (getD xs m i-plain) .bytes ≡ w → nameArg t ss es C ks f ≡ nameArg t ss es C ks m
+  same-said : (w : Name) (f m : ℕ) → f ≤ m → f < length xs → m < length xs → getD C f 0 ≡ c-name → getD C m 0 ≡ c-name
+      → entryOf (getD xs f i-plain) .bytes ≡ w → entryOf (getD xs m i-plain) .bytes ≡ w → nameArg t ss es C ks f ≡ nameArg t ss es C ks m
   unfolding nameArg firstSame
   same-said w f m b h k e g u v =
       let wf = word-is f h e ∙ u in
@@ -127,7 +130,7 @@ module _ (t : List ℕ) (a : Accepts t) where
   unfolding nameArg
   pid-said w m h e q =
       let cm = code-of m h ∙ ap items.codeOf e in
-      said m h cm ∙ ap (λ y. pick (same y pid) 0 (firstSame t ss es C ks m + 1)) (word-is m h cm ∙ ap (λ y. items.entryOf y .bytes) e) ∙ rw q
+      said m h cm ∙ ap (λ y. pick (same y pid) 0 (firstSame t ss es C ks m + 1)) (word-is m h cm ∙ ap (λ y. entryOf y .bytes) e) ∙ rw q
 
   -- the first item of a name says what each item of it says
   pub first-said : (w : Name) (m : ℕ) → m < length xs → getD xs m i-plain ≡ i-name w → getD (saidAt t a) (firstName w xs) 0 ≡ getD (saidAt t a) m 0
@@ -138,10 +141,10 @@ module _ (t : List ℕ) (a : Accepts t) where
       let f = firstName w xs in
       let cf = code-of f k ∙ r .coded in
       let cm = code-of m h ∙ ap items.codeOf e in
-      said f k cf ∙ same-said w f m b k h cf cm (r .spelt) (ap (λ y. items.entryOf y .bytes) e) ∙ inv (said m h cm)
+      said f k cf ∙ same-said w f m b k h cf cm (r .spelt) (ap (λ y. entryOf y .bytes) e) ∙ inv (said m h cm)
 
   -- it is a name
-  pub first-code : (w : Name) (m : ℕ) → m < length xs → getD xs m i-plain ≡ i-name w → (firstName w xs < length xs) × (items.codeOf (getD xs (firstName w xs) i-plain) ≡ 70)
+  pub first-code : (w : Name) (m : ℕ) → m < length xs → getD xs m i-plain ≡ i-name w → (firstName w xs < length xs) × (items.codeOf (getD xs (firstName w xs) i-plain) ≡ c-name)
   first-code w m h e = let r = first-is w xs m h e in let b = r .before in (omega arith, r .coded)
 
   -- ---- bodies
@@ -163,5 +166,5 @@ module _ (t : List ℕ) (a : Accepts t) where
     pub home-same : (j : ℕ) → i ≤ j → j < length xs → ((x : ℕ) → i ≤ x → x ≤ j → getD C x 0 < c-argument) → getD (homesAt t a) j 0 ≡ insideOf C i
     home-same j b h low =
         let z : i + (j - i) ≡ j = omega arith in
-        home-at C (replicate 8192 0) j (omega (arith, long)) (codes-few t a) (omega (arith, codes-few t a, length-replicate 8192 zero)) ∙ home-low j (low j b (omega arith))
+        home-at C (replicate itemsMost 0) j (omega (arith, long)) (codes-few t a) (omega (arith, codes-few t a, length-replicate itemsMost zero)) ∙ home-low j (low j b (omega arith))
         ∙ ap (insideOf C) (inv z) ∙ inside-same (j - i) (λ x u v. low x u (omega arith))

@@ -10,12 +10,15 @@ use lib.Seq.{getD-append-add, getD-append-seam}
 use lib.IntN.{ℤ}
 use lib.Dec.{ltb}
 use borrow.Author.Tests.{ltb-false}
+use Rattle.base_ceilings.specs.Ceilings.{heightMost, itemsMost}
 use Rattle.base_bytes.specs.Choice.{pick}
 use Rattle.spec_grammar.specs.Tree.{Shape, Exp}
-use Rattle.spec_grammar.specs.Code.{Item, i-plain, code-exp, code}
-use Rattle.table_entries.specs.Items as items
+use Rattle.base_codes.specs.Items.{Item, i-plain}
+use Rattle.parse_code.specs.Code.{code-exp, code}
+use Rattle.base_codes.specs.Items as items
+use Rattle.base_codes.specs.Sets.{ruleOf}
 use Rattle.rule_sheets.specs.Spans.{startsOf, heightsOf}
-use Rattle.rule_item.specs.Rules.{badHeight, ruleOf, badBy, bad}
+use Rattle.rule_item.specs.Rules.{badHeight, badBy, bad}
 use Rattle.rule_least.specs.Faults.{blank}
 use Rattle.spec_rules.specs.Heights.{height}
 use Rattle.link_phrases_proof.proofs.Starts.{some-items}
@@ -41,13 +44,13 @@ unfolding badBy
 height-rule cs vs hs ss ts j x e (plainly r) = ap (λ k. badBy cs vs hs ss ts k j) (ap ruleOf e ∙ r)
 height-rule cs vs hs ss ts j x e (in-parentheses r) = ap (λ k. badBy cs vs hs ss ts k j) (ap ruleOf e ∙ r)
 
-low-enough : (ts : List ℕ) (j h : ℕ) → getD ts (j - 1) 0 ≡ min 33 h → badHeight ts j ≡ 0 → h ≤ 32
+low-enough : (ts : List ℕ) (j h : ℕ) → getD ts (j - 1) 0 ≡ min (heightMost + 1) h → badHeight ts j ≡ 0 → h ≤ heightMost
 unfolding badHeight
-low-enough ts j h e b = go (ltb 32 (getD ts (j - 1) 0)) refl b
+low-enough ts j h e b = go (ltb heightMost (getD ts (j - 1) 0)) refl b
   where
-    go : (c : Bool) → ltb 32 (getD ts (j - 1) 0) ≡ c → _≡_ {A = ℕ} (pick c 2 0) 0 → h ≤ 32
+    go : (c : Bool) → ltb heightMost (getD ts (j - 1) 0) ≡ c → _≡_ {A = ℕ} (pick c 2 0) 0 → h ≤ heightMost
     go true q k = absurd (omega arith)
-    go false q k = let z = ltb-false 32 (getD ts (j - 1) 0) q in omega arith
+    go false q k = let z = ltb-false heightMost (getD ts (j - 1) 0) q in omega arith
 
 module _ (t : List ℕ) (a : Accepts t) {s : Shape} (e : Exp s) (front rest : List Item) where
   abbrev C : List ℕ
@@ -73,7 +76,7 @@ module _ (t : List ℕ) (a : Accepts t) {s : Shape} (e : Exp s) (front : List It
       ∙ ap items.codeOf (ap (λ (y : List Item). getD y (length front + sizeIn e) i-plain) within ∙ getD-append-add front (code-exp e ++ x ∷ rest) (sizeIn e) i-plain ∙ getD-append-seam (code-exp e) x rest i-plain)
 
   module _ (closes : Closes x) where
-    pub text-height : height e ≤ 32
+    pub text-height : height e ≤ heightMost
     text-height =
         let C = codesAt t a in
         let j = length front + sizeIn e in
@@ -81,8 +84,8 @@ module _ (t : List ℕ) (a : Accepts t) {s : Shape} (e : Exp s) (front : List It
         let n = long t a e front (x ∷ rest) within in
         let some = some-items e in
         low-enough (heightsOf C (startsOf C blank) blank) j (height e)
-        (phrase-heights C blank blank e p (length front) (j - 1) (stands-at t a e front (x ∷ rest) within p) (codes-few t a) (omega (arith, codes-few t a, length-replicate 8192 zero))
-        (omega (arith, codes-few t a, length-replicate 8192 zero)) (omega arith) (omega arith))
+        (phrase-heights C blank blank e p (length front) (j - 1) (stands-at t a e front (x ∷ rest) within p) (codes-few t a) (omega (arith, codes-few t a, length-replicate itemsMost zero))
+        (omega (arith, codes-few t a, length-replicate itemsMost zero)) (omega arith) (omega arith))
         (inv (height-rule C (saidAt t a) (homesAt t a) (startsOf C blank) (heightsOf C (startsOf C blank) blank) j x mark-at closes) ∙ no-fault t a j (omega arith))
 
     pub text-evaluates : (st : List ℤ) (pid : ℕ) → evalOf (tablesText t) st pid (length front) (length front + sizeIn e) ≡ eval (sceneOf (tablesText t) st pid (declAt t a (length front))) e

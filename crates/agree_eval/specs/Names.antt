@@ -1,3 +1,4 @@
+-- Bridge, for `demand2` (crate `demands`).
 -- What a name means at an item of an accepted text: document 01, "Names": "globals, mtype names and proctypes share one space, each declared once; a local hides any of them from its own
 -- name on". `t` is the text, `a` what makes it accepted.
 use Prim.Native.Nat.{ℕ, suc, _<_}
@@ -5,21 +6,25 @@ use mathlib.Core.Bool.{Bool, false}
 use mathlib.Core.List.{List, [], _∷_, map}
 use lib.ListN.{getD, replicate}
 use lib.Dec.{eqb, ltb}
+use Rattle.base_ceilings.specs.Ceilings.{itemsMost}
 use Rattle.base_bytes.specs.Choice.{pick}
 use Rattle.base_bytes.specs.Lists.{same}
 use Rattle.text_tokens.specs.Reading.{Placed}
 use Rattle.spec_grammar.specs.Tree.{Name, Shape, Exp, plain, indexed, num, tru, fls, get, len, unary, binary, choice}
-use Rattle.spec_grammar.specs.Code.{Item, code}
 use Rattle.parse_machine_proof.specs.Machine.{symbol-of, place-of}
-use Rattle.table_entries.specs.Items as items
 use Rattle.rule_sheets.specs.Homes.{insideOf, homesOf}
 use Rattle.rule_search.specs.Search.{lookup}
 use Rattle.read_passes.specs.Judging.{payload}
 use Rattle.read_accepts_proof.specs.Meaning.{Accepts}
+use Rattle.base_codes.specs.Codes.{c-name}
+use Rattle.base_codes.specs.Items.{Item}
+use Rattle.parse_code.specs.Code.{code}
+use Rattle.table_entries.specs.Items.{entryOf}
+use Rattle.base_codes.specs.Items as items
 
 -- the first item that is this name
 abbrev pub isName : Name → Item → Bool
-isName w x = pick (eqb (items.codeOf x) 70) (same (items.entryOf x .bytes) w) false
+isName w x = pick (eqb (items.codeOf x) c-name) (same (entryOf x .bytes) w) false
 
 unfoldable pub firstName : Name → List Item → ℕ
 firstName w [] = 0
@@ -34,7 +39,7 @@ module _ (t : List ℕ) (a : Accepts t) where
   saidAt = payload t (map Placed.start (a .parts)) (map Placed.end (a .parts)) codesAt (map place-of (a .numbers))
 
   abbrev pub homesAt : List ℕ
-  homesAt = homesOf codesAt (replicate 8192 0)
+  homesAt = homesOf codesAt (replicate itemsMost 0)
 
   -- the declaration before item i that a name means in the body that item i is in; i itself, where there is none
   unfoldable pub meantAt : ℕ → Name → ℕ

@@ -14,7 +14,7 @@ use Rattle.base_outcome.specs.declared.Taken.the-variants.{Done, Refuted, Fault
 use Rattle.spec_grammar.specs.Tree.{Name, Received, action, Tree, express, assign, increment, decrement, send, receive, assert, print, skip, goto, break, timeout, else, run, set-run, select, loop}
 use Rattle.spec_machine.specs.Eval.{eval}
 use Rattle.spec_machine.specs.Stage.{Stage, Ways}
-use Rattle.spec_machine.specs.Arguments.{nameOf, Aim, hit, miss, aim, Reach, channel, astray, reach, Values, all, stopped, values, agrees, Aims, hits, missed, targets}
+use Rattle.spec_machine.specs.Arguments.{nameOf, Aim, hit, miss, aim, Reach, channel, astray, reach, WorkedOut, all, stopped, values, agrees, Aims, hits, missed, targets}
 use Rattle.spec_machine.specs.Ready.{ready}
 use Rattle.spec_machine.specs.Effect.{Outcome, expressedBy, assertedBy, assignedBy, steppedBy, sentBy, receivedAt, receivedIf, receivedBy, printedBy, ranBy, setRunBy, effect}
 use Rattle.agree_transfer.specs.Agrees.{takable}
@@ -48,7 +48,7 @@ module _ {S : Type 0} (c : Stage S) (h : Ways) (s : S) where
   stepped w d (hit k) = tt
   stepped w d (miss f) = tt
 
-  sent : (vs : Values) (r : Reach) → Busy (sentBy c (h .next) s vs r .0)
+  sent : (vs : WorkedOut) (r : Reach) → Busy (sentBy c (h .next) s vs r .0)
   sent (all vs) (channel v) = tt
   sent (stopped f) (channel v) = tt
   sent (all vs) (astray f) = tt
@@ -66,16 +66,16 @@ module _ {S : Type 0} (c : Stage S) (h : Ways) (s : S) where
   received xs (channel v) = received-if v xs (agrees c v 0 xs)
   received xs (astray f) = tt
 
-  printed : (vs : Values) → Busy (printedBy c (h .next) s vs .0)
+  printed : (vs : WorkedOut) → Busy (printedBy c (h .next) s vs .0)
   printed (all vs) = tt
   printed (stopped f) = tt
 
-  ran : (w : Name) (vs : Values) (b : Bool) → b ≡ true → Busy (pick {A = Outcome S} b (ranBy c (h .next) s w vs) (Idle, s) .0)
+  ran : (w : Name) (vs : WorkedOut) (b : Bool) → b ≡ true → Busy (pick {A = Outcome S} b (ranBy c (h .next) s w vs) (Idle, s) .0)
   ran w (all vs) true e = tt
   ran w (stopped f) true e = tt
   ran w vs false e = absurd (true-false (inv e))
 
-  set-ran : (x w : Name) (vs : Values) (a : Aim) (b : Bool) → c .room w ≡ b → Busy (setRunBy c (h .next) s x w vs a .0)
+  set-ran : (x w : Name) (vs : WorkedOut) (a : Aim) (b : Bool) → c .room w ≡ b → Busy (setRunBy c (h .next) s x w vs a .0)
   set-ran x w vs (miss f) b e = tt
   set-ran x w (all vs) (hit k) true e = rw e tt
   set-ran x w (stopped f) (hit k) true e = rw e tt

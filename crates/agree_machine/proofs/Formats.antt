@@ -8,24 +8,25 @@ use lib.ListN.{length, getD, length-append}
 use lib.IntN.{ℤ, pos, negsuc}
 use lib.Dec.{eqb}
 use borrow.Author.Tests.{eqb-true}
+use Rattle.base_ceilings.specs.Ceilings.{printedMost}
 use Rattle.base_bytes.specs.Choice.{pick}
 use Rattle.base_bytes.proofs.Tests.{true-false, both-true}
 use Rattle.text_pieces.specs.Bytes.{isEscape}
 use Rattle.text_spacing_proof.specs.Spelled.{Between, empty, plain, escape}
 use Rattle.spec_text.specs.Formats.{moveOf, formatFrom, formatOf}
 use Rattle.spec_grammar.specs.Tree.{action, Tree, express, assign, increment, decrement, send, receive, assert, print, skip, goto, break, timeout, else, run, set-run, select, loop}
-use Rattle.spec_text.specs.Formats.{decimal, escaped, written, opened, counted}
+use Rattle.spec_text.specs.Formats.{decimalOf, escaped, formatted, opened, counted}
 use Rattle.spec_rules.specs.Expressions.{whole}
 use Rattle.spec_rules.specs.Statements as statements
 use Rattle.spec_rules.specs.Statements.{Place, sense, formats, allowed}
 use Rattle.spec_machine.specs.Stage.{Stage}
-use Rattle.spec_machine.specs.Arguments.{Values, all, stopped, values}
+use Rattle.spec_machine.specs.Arguments.{WorkedOut, all, stopped, values}
 use Rattle.spec_machine.specs.Effect.{format, textBy, prints}
 use Rattle.normal_letters.proofs.Tokens.{digits-short}
 use Rattle.agree_machine.proofs.Strings.{Fair, Worded}
 
 -- ---- numbers
-decimal-most : (z : ℤ) → length (decimal z) ≤ 11
+decimal-most : (z : ℤ) → length (decimalOf z) ≤ 11
 decimal-most (pos n) = omega (arith, digits-short 10 n)
 decimal-most (negsuc n) = omega (arith, digits-short 10 (n + 1))
 
@@ -86,23 +87,23 @@ module _ (vs : List ℤ) where
 
   module _ (k b : ℕ) (s : List ℕ) where
     plain-written : eqb b 92 ≡ false → eqb b 37 ≡ false → format vs 0 k (b ∷ s) ≡ b ∷ format vs 0 k s
-    unfolding format written opened counted
+    unfolding format formatted opened counted
     plain-written e f = rw (e, f)
 
     opening-written : eqb b 92 ≡ false → eqb b 37 ≡ true → format vs 0 k (b ∷ s) ≡ format vs 37 k s
-    unfolding format written opened counted
+    unfolding format formatted opened counted
     opening-written e f = rw (e, f)
 
     escape-written : format vs 0 k (92 ∷ b ∷ s) ≡ escaped b ∷ format vs 0 k s
-    unfolding format written opened counted
+    unfolding format formatted opened counted
     escape-written = refl
 
-    number-written : eqb b 100 ≡ true → format vs 37 k (b ∷ s) ≡ decimal (getD vs k (pos 0)) ++ format vs 0 (k + 1) s
-    unfolding format written opened counted
+    number-written : eqb b 100 ≡ true → format vs 37 k (b ∷ s) ≡ decimalOf (getD vs k (pos 0)) ++ format vs 0 (k + 1) s
+    unfolding format formatted opened counted
     number-written e = rw e
 
     percent-written : eqb b 100 ≡ false → format vs 37 k (b ∷ s) ≡ b ∷ format vs 0 k s
-    unfolding format written opened counted
+    unfolding format formatted opened counted
     percent-written e = rw e
 
   -- what is open behind a `%`, and its byte, which has written nothing yet
@@ -128,7 +129,7 @@ module _ (vs : List ℤ) where
       go true d f g =
           let y = number-counted n b s f in
           let z = x false (n + 1) (k + 1) (omega arith) in
-          omega (arith, ap length (number-written k b s f), length-append (decimal (getD vs k (pos 0))) (format vs 0 (k + 1) s), decimal-most (getD vs k (pos 0)))
+          omega (arith, ap length (number-written k b s f), length-append (decimalOf (getD vs k (pos 0))) (format vs 0 (k + 1) s), decimal-most (getD vs k (pos 0)))
       go false true f g = let y = percent-counted n b s f g in let z = x false (n + 0) k (omega arith) in omega (arith, ap length (percent-written k b s f))
       go false false f g = absurd (omega (arith, bad-counted n b s f g, bad-odd s false (n + 0)))
   plain-most b s r x false n k e = go (eqb b 37) refl
@@ -150,7 +151,7 @@ module _ (vs : List ℤ) where
   written-most (plain {b = b} {s = s} p q r x) = plain-most b s r (written-most x)
   written-most (escape {b = b} {s = s} p x) = escape-most b s p (written-most x)
 
-  text-most : (at : Place) (w : List ℕ) (n : ℕ) → Fair w → n ≤ 4 → formats at w n ≡ true → length (format vs 0 0 w) ≤ 100
+  text-most : (at : Place) (w : List ℕ) (n : ℕ) → Fair w → n ≤ printedMost → formats at w n ≡ true → length (format vs 0 0 w) ≤ 100
   unfolding formats
   text-most at w n f h e =
       let p = both-true (eqb (formatOf w % 2) 0) (eqb n (formatOf w / 2)) e in
@@ -172,7 +173,7 @@ prints-short c at l f (receive r xs) h g = omega arith
 prints-short c at l f (assert e) h g = omega arith
 prints-short c at l f (print w es) h g = go (values (c .scene) es)
   where
-    go : (vs : Values) → length (textBy w vs) ≤ 100
+    go : (vs : WorkedOut) → length (textBy w vs) ≤ 100
     go (all vs) = text-most vs at w (length es) (g .0) (g .1) (both-true (formats at w (length es)) (statements.all (whole (sense at)) es) h .0)
     go (stopped f) = omega arith
 prints-short c at l f skip h g = omega arith

@@ -3,10 +3,8 @@ pub mod Busy
 pub mod Entries
 pub mod Fitted
 pub mod Formats
-pub mod Moves
 pub mod Places
 pub mod Prints
-pub mod Replays
 pub mod Sited
 pub mod Step
 pub mod Strings

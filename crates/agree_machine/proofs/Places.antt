@@ -8,9 +8,11 @@ use mathlib.Core.List.{List, [], _∷_, _++_, map, append-nil}
 use lib.ListN.{length, getD, length-append, length-map}
 use Rattle.base_codes.specs.Codes.{c-body, c-label, c-option}
 use Rattle.spec_grammar.specs.Tree.{Sort, action, statement, sequence, options, Tree, bare, Body, body, Model}
-use Rattle.spec_grammar.specs.Code.{i-local, i-end-body, each, code-tree, code-declaration, code}
-use Rattle.table_entries.specs.Items as items
-use Rattle.link_places.specs.Places.{isPart, isMark}
+use Rattle.base_codes.specs.Items.{i-end-body, i-local}
+use Rattle.parse_code.specs.Code.{each, code-tree, code-declaration, code}
+use Rattle.base_codes.specs.Items as items
+use Rattle.base_codes.specs.Sets.{isPart}
+use Rattle.link_places.specs.Places.{isMark}
 use Rattle.link_phrases_proof.specs.Phrases.{At}
 use Rattle.link_phrases_proof.proofs.Inside as inside
 use Rattle.link_phrases_proof.proofs.Starts.{at-front, at-back}
@@ -26,7 +28,7 @@ use Rattle.keep_tables.specs.Held.{Held}
 use Rattle.keep_tables.proofs.Tables.{codesAt, saidAt, text-held}
 use Rattle.keep_tables.proofs.Known.{text-facts}
 use Rattle.keep_tables.proofs.Marks.{stop-of}
-use Rattle.spec_machine.specs.Program.{sizeIn, Within, itself, in-if, in-do, unlabelled, behind-label, in-first, in-rest, in-option, in-others, Holds, startIn, endIn, statementsOf}
+use Rattle.spec_machine.specs.Program.{sizeIn, Within, itself, in-if, in-do, unlabelled, behind-label, in-first, in-rest, in-option, in-others, Holds, startIn, endIn, sequenceOf}
 use Rattle.agree_control.proofs.Begins.{dull-last, dull-declarations, statement-from}
 use Rattle.agree_control.proofs.Bodies.{Whole, unit-whole}
 use Rattle.agree_control.proofs.Follows.{statement-last, Here, here-if, here-do, here-bare, here-labelled, here-first, here-rest, here-option, here-others}
@@ -67,7 +69,7 @@ module _ (cs : List ℕ) where
   lead (in-others p) h b = lead p (here-others cs h) tt
 
   -- the statements of a body
-  begun : (b : Body) {u k : ℕ} → Whole cs u b k → Here cs sequence (statementsOf b) (startIn b k) × (isMark (getD cs (startIn b k - 1) 0) ≡ true)
+  begun : (b : Body) {u k : ℕ} → Whole cs u b k → Here cs sequence (sequenceOf b) (startIn b k) × (isMark (getD cs (startIn b k - 1) 0) ≡ true)
   begun (body ds q) {u} {k} w =
       let D = each (code-declaration i-local) ds in
       let a = length-append (D ++ code-tree q) (i-end-body ∷ []) in
@@ -81,7 +83,7 @@ module _ (cs : List ℕ) where
         ap (λ i. isMark (getD cs i 0)) (let z : s - 1 ≡ k + length D = omega arith in z) ∙ dull-last cs d k (ap isMark (w .stands .0) ∙ codes .0) (at-front cs (suc k) D (code-tree q) front),
       )
 
-  body-head : (b : Body) {u k : ℕ} → Whole cs u b k → (u < startIn b k) × (endIn b k < length cs) × (endIn b k ≡ startIn b k + sizeIn (statementsOf b))
+  body-head : (b : Body) {u k : ℕ} → Whole cs u b k → (u < startIn b k) × (endIn b k < length cs) × (endIn b k ≡ startIn b k + sizeIn (sequenceOf b))
   body-head (body ds q) {u} {k} w =
       let D = each (code-declaration i-local) ds in
       let a = length-append (D ++ code-tree q) (i-end-body ∷ []) in

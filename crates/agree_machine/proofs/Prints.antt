@@ -15,8 +15,8 @@ use Rattle.read_accepts_proof.specs.Meaning.{Accepts}
 use Rattle.step_prints.specs.Printing.{printedAt}
 use Rattle.spec_rules.specs.Statements.{allowed}
 use Rattle.spec_rules.specs.Units.{ofModel, partsLawful, mtypesIn, initsIn, tally, modelLawful}
-use Rattle.spec_machine.specs.Program.{sizeIn, startIn, endIn, labelIn, statementsOf, Statement}
-use Rattle.agree_stage.specs.Tables.{stageOf}
+use Rattle.spec_machine.specs.Program.{sizeIn, startIn, endIn, labelIn, sequenceOf, Statement}
+use Rattle.agree_stage.specs.Tables.{stageIn}
 use Rattle.agree_eval.specs.Names.{declAt}
 use Rattle.agree_effects.specs.Stages as doing
 use Rattle.agree_tables.proofs.Statements.{within-within, statement-prints}
@@ -59,11 +59,11 @@ module _ (t : List ℕ) (a : Accepts t) (rest : List ℤ) (σ : State) (f : Fits
   abbrev j : ℕ
   j = getD (σ .processes) p noProcess .place
 
-  lawful : (k : ℕ) → Bodied (unitAt m k) → allowed (settingOf m k) false false (statementsOf (bodyOf (unitAt m k))) ≡ true
+  lawful : (k : ℕ) → Bodied (unitAt m k) → allowed (settingOf m k) false false (sequenceOf (bodyOf (unitAt m k))) ≡ true
   unfolding modelLawful
   lawful k b = unit-allowed (ofModel m) [] m k (both-true (both (leb (tally mtypesIn m) 1) (leb (tally initsIn m) 1)) (partsLawful (ofModel m) [] m) (text-lawful t a) .1) b
 
-  end-most : (b : Body) (i : ℕ) → startIn b i + sizeIn (statementsOf b) ≤ endIn b i
+  end-most : (b : Body) (i : ℕ) → startIn b i + sizeIn (sequenceOf b) ≤ endIn b i
   end-most (body ds q) i = omega arith
 
   -- the statement of a step that is offered
@@ -82,8 +82,8 @@ module _ (t : List ℕ) (a : Accepts t) (rest : List ℤ) (σ : State) (f : Fits
     where
       go : Belongs m k j → In q (stepsOf m σ p late) → Stood q
       go (ends b e) h =
-          none-in (subst (λ z. In q (stepsBy m σ p late j z)) (end-nothing (statementsOf (bodyOf (unitAt m k))) (startOf m k) (endOf m k) 0 j
-          (subst (λ z. startOf m k + sizeIn (statementsOf (bodyOf (unitAt m k))) ≤ z) (inv e) (end-most (bodyOf (unitAt m k)) (bodyAt m k)))) h)
+          none-in (subst (λ z. In q (stepsBy m σ p late j z)) (end-nothing (sequenceOf (bodyOf (unitAt m k))) (startOf m k) (endOf m k) 0 j
+          (subst (λ z. startOf m k + sizeIn (sequenceOf (bodyOf (unitAt m k))) ≤ z) (inv e) (end-most (bodyOf (unitAt m k)) (bodyAt m k)))) h)
       go (stands {x = x} {n = n} {o = o} b w) h =
           let r = offers-there (plainStage m p (unitAt m k) σ) late x j n o q (subst (λ z. In q (stepsBy m σ p late j z)) (within-found w) h) in
           let v : At m k (r .act) q (r .next) (r .out) = within-within w (r .within) in
@@ -103,11 +103,11 @@ module _ (t : List ℕ) (a : Accepts t) (rest : List ℤ) (σ : State) (f : Fits
       let r = stood late q h in
       let X = text-tabled t a (text-lawful t a) (text-begin t a) k (r .bodied) in
       let l = r .law in
-      let st : Statement m (headOf m k) (r .act) q (record { next = r .next; out = r .out; label = λ w. labelIn w (statementsOf (bodyOf (unitAt m k))) (startOf m k) 0 }) =
+      let st : Statement m (headOf m k) (r .act) q (record { next = r .next; out = r .out; label = λ w. labelIn w (sequenceOf (bodyOf (unitAt m k))) (startOf m k) 0 }) =
       record { own = bodyOf (unitAt m k); at = bodyAt m k; held = unit-holds m k 0 (itemsBefore m k) (omega arith) (r .bodied); inside = r .at; labels = λ v. refl } in
       ap (printBy m σ p) (within-found (r .at))
       ∙ prints-same (Kept (Belongs m) m k (settingOf m k) T (declAt t a (startOf m k)) (doing.unitAt t a) X p rest) (Belongs m k) (settingOf m k)
-      (plainStage m p (unitAt m k) σ) σ (stageOf T S p (declAt t a (startOf m k)) (doing.unitAt t a)) S
+      (plainStage m p (unitAt m k) σ) σ (stageIn T S p (declAt t a (startOf m k)) (doing.unitAt t a)) S
       (stages-agree (Belongs m) m k (settingOf m k) T (declAt t a (startOf m k)) (doing.unitAt t a) X p rest σ (record { fits = f; is = refl; here = g; unit = refl }))
       (l .loops) (l .first) (r .act) (l .law)
       ∙ inv (statement-prints t a st S p (text-few t a (text-lawful t a) k (r .bodied) (r .act) q (r .next) (r .out) (r .at)))

@@ -7,7 +7,7 @@ use mathlib.Core.Bool.{true, false}
 use mathlib.Core.Logic.{_⊎_, inl, inr}
 use mathlib.Core.List.{List, [], _∷_, _++_, append-assoc}
 use lib.ListN.{length, getD, length-append}
-use Rattle.base_codes.specs.Codes.{c-body, c-declared, c-global, c-group, c-local, c-parameter}
+use Rattle.base_codes.specs.Codes.{c-body, c-declared, c-global, c-group, c-local, c-name, c-parameter}
 use Rattle.base_bytes.specs.Choice.{pick}
 use Rattle.rule_sheets.specs.Walks.{sum}
 use Rattle.rule_sheets.specs.Homes.{insideOf}
@@ -16,8 +16,8 @@ use Rattle.rule_search.specs.Search.{last}
 use Rattle.rule_item.specs.Rules.{isArray}
 use Rattle.rule_ceilings.specs.Ceilings.{numbersAt}
 use Rattle.spec_grammar.specs.Tree.{Name, Model, Value, unset, Variable, variable, Declaration, declare, Group, group, body, Part, mtypes, global, process, init}
-use Rattle.spec_grammar.specs.Code.{Item, i-name, i-type, i-declared, i-local, i-global, i-group, i-parameter, each, code-size, code-value, code-variable, code-declaration, code-parameter, code-group, code-body, code-activity, code-part, code}
-use Rattle.table_entries.specs.Items.{codeOf}
+use Rattle.base_codes.specs.Items.{Item, codeOf, i-declared, i-global, i-group, i-local, i-name, i-parameter, i-type}
+use Rattle.parse_code.specs.Code.{each, code-size, code-value, code-variable, code-declaration, code-parameter, code-group, code-body, code-activity, code-part, code}
 use Rattle.spec_rules.specs.Ceilings.{sizeOf}
 use Rattle.legal_terms.specs.Says.{itemAt, Says}
 use Rattle.legal_declarations.proofs.Items.{Low, all-append, all-size, all-value, valued, settled, all-declaration, global-settled}
@@ -123,7 +123,7 @@ module _ (m : Model) (cs vs : List ℕ) (S : Says m cs vs) where
     named w s v c k o b d g q cx cc three size kind n =
         let x : Var = record { name = w; type = t; size = s; value = v } in
         let cn = code-is m cs vs S k (i-name w) g q in
-        let n1 : N h (suc k) ≡ o = numbers-one h k 70 cn (sets .0) ∙ n in
+        let n1 : N h (suc k) ≡ o = numbers-one h k c-name cn (sets .0) ∙ n in
         let kind1 : last cs 3 (suc k) ≡ suc (suc p) = last-skip m cs vs S 3 k (ap (among 3) cn ∙ sets .1) ∙ kind in
         let D : Declares cs vs H h (suc k) x o =
         record {

@@ -14,33 +14,30 @@ use Rattle.step_prints.specs.Printing.{Pen, pen, puts}
 use Rattle.base_outcome.specs.declared.Taken.{Taken}
 use Rattle.base_outcome.specs.declared.Taken.the-variants.{Done, Refuted, Faulted, Idle}
 use Rattle.spec_grammar.specs.Tree.{action, Tree, express, assign, increment, decrement, send, receive, assert, print, skip, goto, break, timeout, else, run, set-run, select, loop, Model}
-use Rattle.read_entry.specs.Entries.{room}
 use Rattle.read_passes.specs.Judging.{tablesText}
 use Rattle.read_accepts_proof.specs.Meaning.{Accepts}
 use Rattle.table_genuine.specs.Genuine.{written, genuine}
-use Rattle.step_offers.specs.declared.Walk.{Walk}
-use Rattle.step_offers.specs.declared.Walk.the-variants.{Found, Left}
-use Rattle.step_all.specs.Moving.{stepAt}
 use Rattle.step_take.specs.Effects.{takenOf}
-use Rattle.step_entry.specs.Entries.{Outcome, tookBy, refusedBy, tookAt, outcomeBy, printRoom, stepRefusal, outcomeOf}
+use Rattle.step_entry.specs.Entries.{Outcome, tookBy, refusedBy, outcomeBy, askedIn, stepRefusal, outcomeOf}
 use Rattle.spec_machine.specs.Stage.{Stage, Ways}
-use Rattle.spec_machine.specs.Arguments.{Values, all, stopped, values}
+use Rattle.spec_machine.specs.Arguments.{WorkedOut, all, stopped, values}
 use Rattle.spec_machine.specs.Effect.{printedBy, effect, textBy, prints}
 use Rattle.spec_machine.specs.State.{State}
 use Rattle.state_encode.specs.Encode.{encode}
 use Rattle.spec_machine.specs.Places.{Belongs}
 use Rattle.spec_machine.specs.Fits.{Fits}
 use Rattle.spec_machine.specs.Machine.{Machine, Step, late, offered, asked}
-use Rattle.spec_machine.specs.Steps as steps
 use Rattle.spec_machine.specs.Steps.{waysOf, takeBy, printBy, takeOf, printOf, machineOf}
-use Rattle.agree_tables.specs.Tables.{machineIn}
+use Rattle.step_all.specs.Moving.{machineIn}
 use Rattle.agree_states.proofs.Texts.{text-single}
 use Rattle.agree_machine.proofs.Survey.{text-modest, text-surveyed, text-same}
-use Rattle.agree_machine.proofs.Asked.{Met, step-met, asked-listed}
-use Rattle.agree_machine.proofs.Replays.{Still, taken-still}
+use Rattle.agree_machine.proofs.Asked.{asked-listed}
+use Rattle.step_take.proofs.Still.{Still, taken-still}
 use Rattle.agree_machine.proofs.Prints.{text-printed, text-short}
 use Rattle.agree_machine.proofs.Fitted.{text-fits}
 use Rattle.agree_machine.proofs.Entries.{none-refused, holding, same-offered}
+use Rattle.base_ceilings.specs.Ceilings.{printRoom, tablesRoom}
+use Rattle.spec_machine.specs.Steps as steps
 
 -- ---- "A failed assertion or fault .. prints nothing": only a step that is done does
 abbrev pub Silent : Taken → List ℕ → Type 0
@@ -67,7 +64,7 @@ module _ {S : Type 0} (c : Stage S) (h : Ways) (s : S) where
   silent (assert e) = hush (effect c h s (assert e) .0)
   silent (print w es) = go (values (c .scene) es)
     where
-      go : (vs : Values) → Silent (printedBy c (h .next) s vs .0) (textBy w vs)
+      go : (vs : WorkedOut) → Silent (printedBy c (h .next) s vs .0) (textBy w vs)
       go (all vs) = tt
       go (stopped f) = refl
   silent skip = tt
@@ -99,7 +96,7 @@ asked-any M N p k [] = refl
 asked-any M N p k (x ∷ l) = ap (λ o. pick (eqb (x .process) p) (pick (eqb (x .number) k) (some x) o) o) (asked-any M N p k l)
 
 -- ---- the entry
-module _ (ts : List ℕ) (big : room ≤ length ts) (real : genuine ts ≡ true) (t : List ℕ) (a : Accepts t) (own : written ts ≡ tablesText t) where
+module _ (ts : List ℕ) (big : tablesRoom ≤ length ts) (real : genuine ts ≡ true) (t : List ℕ) (a : Accepts t) (own : written ts ≡ tablesText t) where
   abbrev m : Model
   m = a .tree
 
@@ -129,28 +126,20 @@ module _ (ts : List ℕ) (big : room ≤ length ts) (real : genuine ts ≡ true)
         still-by (Faulted h) τ s g e q = text-single t a (text-modest t a) (text-surveyed t a) s τ σ rest rest g f e q
         still-by Idle τ s g e q = text-single t a (text-modest t a) (text-surveyed t a) s τ σ rest rest g f e q
 
-    module _ (p k : ℕ) (out : List ℕ) (long : 128 ≤ length out) where
+    module _ (p k : ℕ) (out : List ℕ) (long : printRoom ≤ length out) where
       none-refuses : stepRefusal ts E out ≡ 0
       unfolding stepRefusal
       none-refuses = rw (le-ltb (length out) printRoom long, none-refused ts big real t a own σ rest f)
 
-      met : Met (machineIn T) p (stepAt T E p k) (asked MP p k (offered MP σ))
-      met =
-          subst (Met (machineIn T) p (stepAt T E p k)) (ap (asked (machineIn T) p k) (same-offered ts big real t a own σ rest f) ∙ asked-any (machineIn T) MP p k (offered MP σ))
-          (step-met T E p k)
-
-      let-through : outcomeOf ts E p k out ≡ outcomeBy (stepAt T E p k) T E p out
+      let-through : outcomeOf ts E p k out ≡ outcomeBy (asked MP p k (offered MP σ)) T E out
       unfolding outcomeOf
       let-through =
-          ap (λ (i : ℕ). pick (eqb i 0) (outcomeBy (stepAt (written ts) E p k) (written ts) E p out) (refusedBy i E out)) none-refuses
-          ∙ ap (λ w. outcomeBy (stepAt w E p k) w E p out) own
+          ap (λ (i : ℕ). pick (eqb i 0) (outcomeBy (askedIn (written ts) E p k) (written ts) E out) (refusedBy i E out)) none-refuses
+          ∙ ap (λ w. outcomeBy (askedIn w E p k) w E out) own
+          ∙ ap (λ o. outcomeBy o T E out) (ap (asked (machineIn T) p k) (same-offered ts big real t a own σ rest f) ∙ asked-any (machineIn T) MP p k (offered MP σ))
 
       pub step-none : asked (machineOf (a .tree)) p k (offered (machineOf (a .tree)) σ) ≡ none → outcomeOf ts (encode (a .tree) σ ++ rest) p k out ≡ refusedBy 11 (encode (a .tree) σ ++ rest) out
-      step-none e = let-through ∙ go (stepAt T E p k) (subst (Met (machineIn T) p (stepAt T E p k)) e met)
-        where
-          go : (w : Walk) → Met (machineIn T) p w none → outcomeBy w T E p out ≡ refusedBy 11 E out
-          go (Left n) z = refl
-          go (Found q) z = absurd z
+      step-none e = let-through ∙ ap (λ o. outcomeBy o T E out) e
 
       -- the answer, the state and the text of step x
       abbrev pub taken : Step → Outcome
@@ -162,16 +151,12 @@ module _ (ts : List ℕ) (big : room ≤ length ts) (real : genuine ts ≡ true)
           }
 
       pub step-some : (x : Step) → asked (machineOf (a .tree)) p k (offered (machineOf (a .tree)) σ) ≡ some x → outcomeOf ts (encode (a .tree) σ ++ rest) p k out ≡ taken x
-      step-some x e = let-through ∙ go (stepAt T E p k) (subst (Met (machineIn T) p (stepAt T E p k)) e met)
-        where
-          go : (w : Walk) → Met (machineIn T) p w (some x) → outcomeBy w T E p out ≡ taken x
-          go (Left n) z = absurd z
-          go (Found q) z =
-              let i = x .process in
-              let j = x .place in
-              let l = asked-listed MP σ p k x e in
-              let R = text-same t a rest .take (holding ts big real t a own σ rest f) (late MP σ) i j (l .0) (l .1) in
-              let w = text-short t a rest σ f i (l .0) (late MP σ) j (l .1) in
-              ap₂ (λ (b c : ℕ). tookAt T E b c out) (inv (z .0)) (inv (z .1))
-              ∙ ap₂ (λ (y : Taken) (text : List ℕ). leaves y (takenOf T i j E .1) (puts text (pen out 0))) (inv (R .0)) (inv (text-printed t a rest σ f i (l .0) (late MP σ) j (l .1)))
-              ∙ ap₂ (λ (s : List ℤ) (n : Pen). leaves (takeOf m σ i j .0) s n) (R .1 .is) (text-fits (printOf m σ i j) out (omega arith))
+      step-some x e =
+          let i = x .process in
+          let j = x .place in
+          let l = asked-listed MP σ p k x e in
+          let R = text-same t a rest .take (holding ts big real t a own σ rest f) (late MP σ) i j (l .0) (l .1) in
+          let w = text-short t a rest σ f i (l .0) (late MP σ) j (l .1) in
+          let-through ∙ ap (λ o. outcomeBy o T E out) e
+          ∙ ap₂ (λ (y : Taken) (text : List ℕ). leaves y (takenOf T i j E .1) (puts text (pen out 0))) (inv (R .0)) (inv (text-printed t a rest σ f i (l .0) (late MP σ) j (l .1)))
+          ∙ ap₂ (λ (s : List ℤ) (n : Pen). leaves (takeOf m σ i j .0) s n) (R .1 .is) (text-fits (printOf m σ i j) out (omega arith))

@@ -6,6 +6,7 @@ use mathlib.Core.Bool.{true}
 use mathlib.Core.List.{List, [], _∷_, _++_}
 use lib.ListN.{length}
 use borrow.Author.Tests.{leb-true}
+use Rattle.base_ceilings.specs.Ceilings.{printedMost, stringMost}
 use Rattle.base_bytes.proofs.Tests.{both-true}
 use Rattle.base_kinds.specs.Kinds.{Token, name}
 use Rattle.text_pieces.specs.Bytes.{quote}
@@ -19,20 +20,21 @@ use Rattle.spec_grammar.specs.Grammar.{D, s-express, s-assign, s-increment, s-d
 use Rattle.read_accepts_proof.specs.Meaning.{Accepts}
 use Rattle.spec_rules.specs.Statements.{all}
 use Rattle.spec_rules.specs.Ceilings.{narrow, light}
-use Rattle.spec_machine.specs.Program.{Within, itself, in-if, in-do, unlabelled, behind-label, in-first, in-rest, in-option, in-others, statementsOf}
+use Rattle.spec_machine.specs.Program.{Within, itself, in-if, in-do, unlabelled, behind-label, in-first, in-rest, in-option, in-others, sequenceOf}
 use Rattle.spec_machine.specs.Names.{unitAt}
 use Rattle.spec_machine.specs.Begins.{bodyOf}
 use Rattle.table_proof.proofs.Tokens.{unquoted}
 use Rattle.normal_shortest_proof.proofs.Algebra.{sound-front, sound-back}
 use Rattle.state_encode.proofs.Totals.{light-narrow, modest-few}
 use Rattle.agree_machine.proofs.Survey.{text-modest}
+use Rattle.base_codes.specs.Codes.{c-text}
 
 -- the bytes between the quotes of a string
 pub record Fair (w : List ℕ) : Type 0 where
   pub between : Between w
-  pub short : length w ≤ 64
+  pub short : length w ≤ stringMost
 
-text-fair : (w : List ℕ) {k : ℕ} {x : List ℕ} → Spelled k x → k ≡ 72 → x ≡ quote ∷ (w ++ quote ∷ []) → Fair w
+text-fair : (w : List ℕ) {k : ℕ} {x : List ℕ} → Spelled k x → k ≡ c-text → x ≡ quote ∷ (w ++ quote ∷ []) → Fair w
 text-fair w (word {b = b} {s = s} l a n) h e = absurd (omega (arith, word-range (b ∷ s) .1))
 text-fair w (digits p q r) h e = absurd (omega arith)
 text-fair w (string {s = s} p q) h e = subst Fair (unquoted s w e) record { between = p; short = q }
@@ -47,7 +49,7 @@ Worded (decrement r) = Unit {0}
 Worded (send r es) = Unit {0}
 Worded (receive r xs) = Unit {0}
 Worded (assert e) = Unit {0}
-Worded (print w es) = Fair w × (length es ≤ 4)
+Worded (print w es) = Fair w × (length es ≤ printedMost)
 Worded skip = Unit {0}
 Worded (goto w) = Unit {0}
 Worded break = Unit {0}
@@ -85,7 +87,7 @@ worded (s-send r es) h n = tt
 worded (s-receive r xs) h n = tt
 worded (s-assert e) h n = tt
 worded (s-print-alone {w = w}) h n = (text-fair w (h .1 .1 .0) refl refl, omega arith)
-worded (s-print {w = w} {es = es} d) h n = (text-fair w (h .1 .1 .0) refl refl, leb-true (length es) 4 n)
+worded (s-print {w = w} {es = es} d) h n = (text-fair w (h .1 .1 .0) refl refl, leb-true (length es) printedMost n)
 worded s-skip h n = tt
 worded s-goto h n = tt
 worded s-break h n = tt
@@ -104,26 +106,26 @@ worded (o-last {q = q} d) h n = (worded d (h .1) (both-true (narrow q) true n .0
 worded (o-also {ts = ts} {us = us} {q = q} {os = os} d e) h n =
     let p = both-true (narrow q) (narrow os) n in (worded d (sound-front ts us (h .1)) (p .0), worded e (sound-back ts us (h .1)) (p .1))
 
-items-worded : {ts : List Token} {b : Body} → Items ts b → AllSound ts → narrow (statementsOf b) ≡ true → Worded (statementsOf b)
+items-worded : {ts : List Token} {b : Body} → Items ts b → AllSound ts → narrow (sequenceOf b) ≡ true → Worded (sequenceOf b)
 items-worded (statements d) h n = worded d h n
 items-worded (declared {ts = ts} {us = us} {vs = vs} d u r) h n = items-worded r (sound-back (ts ++ us) vs h) n
 
-body-worded : {ts : List Token} {b : Body} → A-body ts b → AllSound ts → narrow (statementsOf b) ≡ true → Worded (statementsOf b)
+body-worded : {ts : List Token} {b : Body} → A-body ts b → AllSound ts → narrow (sequenceOf b) ≡ true → Worded (sequenceOf b)
 body-worded (a-body {ts = ts} d) h n = items-worded d (sound-front ts ('rbrace ∷ []) (h .1)) n
 
-unit-worded : {ts : List Token} {u : Part} → A-unit ts u → AllSound ts → light u ≡ true → Worded (statementsOf (bodyOf u))
+unit-worded : {ts : List Token} {u : Part} → A-unit ts u → AllSound ts → light u ≡ true → Worded (sequenceOf (bodyOf u))
 unit-worded (u-mtypes l) h n = tt
 unit-worded (u-global d) h n = tt
 unit-worded (u-process {xs = xs} {ts = ts} {us = us} {a = a} {w = w} {gs = gs} {b = b} x g d) h n =
     body-worded d (sound-back (xs ++ 'proctype ∷ name w ∷ 'lpar ∷ ts) ('rpar ∷ us) h .1) (light-narrow (process a w gs b) n)
 unit-worded (u-init {b = b} d) h n = body-worded d (h .1) (light-narrow (init b) n)
 
-model-worded : {ts : List Token} {m : Model} → Gram ts m → AllSound ts → all light m ≡ true → (k : ℕ) → Worded (statementsOf (bodyOf (unitAt m k)))
+model-worded : {ts : List Token} {m : Model} → Gram ts m → AllSound ts → all light m ≡ true → (k : ℕ) → Worded (sequenceOf (bodyOf (unitAt m k)))
 model-worded (g-last {ts = ts} {us = us} {u = u} d s) h n zero = unit-worded d (sound-front ts us h) (both-true (light u) true n .0)
 model-worded (g-last d s) h n (suc k) = tt
 model-worded (g-more {ts = ts} {us = us} {vs = vs} {u = u} {m = m} d s g) h n zero =
     unit-worded d (sound-front ts us (sound-front (ts ++ us) vs h)) (both-true (light u) (all light m) n .0)
 model-worded (g-more {ts = ts} {us = us} {vs = vs} {u = u} {m = m} d s g) h n (suc k) = model-worded g (sound-back (ts ++ us) vs h) (both-true (light u) (all light m) n .1) k
 
-pub text-worded : (t : List ℕ) (a : Accepts t) (k : ℕ) → Worded (statementsOf (bodyOf (unitAt (a .tree) k)))
+pub text-worded : (t : List ℕ) (a : Accepts t) (k : ℕ) → Worded (sequenceOf (bodyOf (unitAt (a .tree) k)))
 text-worded t a k = model-worded (a .gram) (tokens-sound t (a .parts) (a .reads)) (modest-few (a .tree) (text-modest t a) .units) k

@@ -13,7 +13,8 @@ use Rattle.base_bytes.specs.Choice.{pick}
 use Rattle.base_bytes.specs.Lists.{same}
 use Rattle.base_bytes.proofs.Tests.{true-false}
 use Rattle.spec_grammar.specs.Tree.{Name, Value, set-name, set-channel, Part, mtypes, global, process, init, Model}
-use Rattle.spec_grammar.specs.Code.{i-name, i-named, code-value, code}
+use Rattle.base_codes.specs.Items.{i-name, i-named}
+use Rattle.parse_code.specs.Code.{code-value, code}
 use Rattle.read_passes.specs.Judging.{tablesText}
 use Rattle.read_accepts_proof.specs.Meaning.{Accepts}
 use Rattle.table_layout.specs.Access.{linkOf}
@@ -27,14 +28,14 @@ use Rattle.legal_declarations.proofs.Judging.{hs}
 use Rattle.agree_eval.specs.Names.{codesAt, saidAt, homesAt}
 use Rattle.spec_machine.specs.Names.{Var, variablesOf, globalsOf, messagesOf, unitAt, message, messageFrom, numberOf}
 use Rattle.spec_machine.specs.State.{Channel, State}
-use Rattle.spec_machine.specs.Plain.{noVar, madeBy}
+use Rattle.spec_machine.specs.Plain.{noVar, declaredBy}
 use Rattle.spec_machine.specs.Begins.{itemsBefore}
 use Rattle.state_encode.specs.Encode.{headOf, channelItem}
 use Rattle.spec_machine.specs.Places.{Bodied, bodyAt, startOf}
 use Rattle.state_encode.specs.Tabled.{offsetOf, Linked}
 use Rattle.agree_transfer.specs.Alike.{Alike}
 use Rattle.spec_machine.specs.Steps.{machineOf}
-use Rattle.agree_tables.specs.Tables.{machineIn}
+use Rattle.step_all.specs.Moving.{machineIn}
 use Rattle.agree_tables.proofs.Main.{Holding}
 use Rattle.agree_names.proofs.Scopes.{Declares}
 use Rattle.agree_names.proofs.Links.{linked-global, linked-local}
@@ -64,10 +65,10 @@ module _ (m : Model) (cs vs : List ℕ) (X : Says m cs vs) (h lo hi : ℕ) where
       let q : s .var .size ≡ x .size = ap (λ (y : Var). y .size) (v 0 (omega arith)) in
       subst (Sited m cs vs X h lo hi (getD l i noSite)) (let z : o + s .var .size + offsetOf xs i ≡ o + (x .size + offsetOf xs i) = omega arith in z) r
 
-number-most : (n : ℕ) (ws : List Name) (w : Name) → numberOf (messageFrom n ws w) ≤ n + length ws
+numberMost : (n : ℕ) (ws : List Name) (w : Name) → numberOf (messageFrom n ws w) ≤ n + length ws
 unfolding messageFrom
-number-most n [] w = omega arith
-number-most n (v ∷ ws) w = go (same v w) (number-most (suc n) ws w)
+numberMost n [] w = omega arith
+numberMost n (v ∷ ws) w = go (same v w) (numberMost (suc n) ws w)
   where
     go : (b : Bool) → numberOf (messageFrom (suc n) ws w) ≤ suc n + length ws → numberOf (pick b (message n) (messageFrom (suc n) ws w)) ≤ n + suc (length ws)
     go true h = omega arith
@@ -173,7 +174,7 @@ module _ (t : List ℕ) (a : Accepts t) where
 
       done : (j : ℕ) → linkOf T (linkOf T (suc j)) ≡ numberOf (messageFrom 1 (messagesOf m) w) → kept (linkOf T (linkOf T (j + 1))) ≡ pos (numberOf (messageFrom 1 (messagesOf m) w))
       done j q =
-          let n = number-most 1 (messagesOf m) w in
+          let n = numberMost 1 (messagesOf m) w in
           let f = few t a legal .messages in
           ap kept (ap (λ i. linkOf T (linkOf T i)) (let z : j + 1 ≡ suc j = omega arith in z) ∙ q) ∙ kept-is (numberOf (messageFrom 1 (messagesOf m) w)) (omega arith)
 
@@ -196,7 +197,7 @@ module _ (t : List ℕ) (a : Accepts t) where
           subst (λ (s : Site). s .var .value ≡ set-name w → kept (linkOf T (linkOf T (s .worth + 1))) ≡ pos (numberOf (messageFrom 1 (messagesOf m) w))) p
           (outside (getD (globalSites m 0) (x .place) noSite) (0 + offsetOf (globalsOf m) (x .place)) (global-sited (x .place) (x .here))) e
 
-  channels : (c : Channel) (n : ℕ) (ks : List ℕ) → madeBy m c ≡ set-channel n ks → Channelled T (channelItem m c) n ks
+  channels : (c : Channel) (n : ℕ) (ks : List ℕ) → declaredBy m c ≡ set-channel n ks → Channelled T (channelItem m c) n ks
   channels c n ks e =
       let r = text-channels t a legal c n ks e in
       record { capacity = r .1; fields = r .2; types = λ f h. text-fields t a legal c n ks e f h; room = r .3; narrow = r .4 }

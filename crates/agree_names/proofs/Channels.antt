@@ -10,12 +10,14 @@ use lib.ListN.{length, getD, length-append, length-map, List·getD-append}
 use lib.Seq.{getD-append-add}
 use lib.Dec.{ltb, leb}
 use borrow.Author.Tests.{leb-true, ltb-true, ltb-false}
+use Rattle.base_ceilings.specs.Ceilings.{capacityLeast, capacityMost, fieldsMost}
 use Rattle.base_bytes.specs.Choice.{pick, both}
 use Rattle.base_bytes.proofs.Tests.{both-true}
 use Rattle.spec_grammar.specs.Tree.{Name, Model, sequence, Tree, Value, unset, set-channel, Variable, variable, Declaration, declare, Group, group, body, Part, mtypes, global, process, init}
-use Rattle.spec_grammar.specs.Code.{Item, i-name, i-declared, i-local, i-global, i-body, i-end-body, each, code-size, code-value, code-variable, code-declaration, code-group, code-tree, code-body, code-activity, code-part, code}
+use Rattle.base_codes.specs.Items.{Item, i-body, i-declared, i-end-body, i-global, i-local, i-name}
+use Rattle.parse_code.specs.Code.{each, code-size, code-value, code-variable, code-declaration, code-group, code-tree, code-body, code-activity, code-part, code}
 use Rattle.spec_rules.specs.Senses.{Sense, Scope, fresh, senseOf}
-use Rattle.spec_rules.specs.Ceilings.{madeBy}
+use Rattle.spec_rules.specs.Ceilings.{channelsBy}
 use Rattle.spec_rules.specs.Units as units
 use Rattle.spec_rules.specs.Units.{ofPart, sized, valued, localLawful, globalLawful, variables, declarations, joins, bodyLawful, partLawful, partsLawful}
 use Rattle.legal_terms.specs.Says.{Says}
@@ -29,7 +31,7 @@ use Rattle.agree_names.proofs.Units.{first-stands}
 
 -- ---- lawful values
 abbrev Narrow : Value → Type 0
-Narrow v = (n : ℕ) (ks : List ℕ) → v ≡ set-channel n ks → (n ≤ 8) × (length ks ≤ 4)
+Narrow v = (n : ℕ) (ks : List ℕ) → v ≡ set-channel n ks → (n ≤ capacityMost) × (length ks ≤ fieldsMost)
 
 abbrev Fine : List Variable → Type 0
 Fine [] = Unit {0}
@@ -37,8 +39,8 @@ Fine (variable w s v ∷ us) = Narrow v × Fine us
 
 valued-narrow : (sense : Name → Sense) (v : Value) → valued sense v ≡ true → Narrow v
 valued-narrow sense v h n ks e =
-    let p = both-true (both (leb 1 n) (leb n 8)) (leb (length ks) 4) (inv (ap (valued sense) e) ∙ h) in
-    (leb-true n 8 (both-true (leb 1 n) (leb n 8) (p .0) .1), leb-true (length ks) 4 (p .1))
+    let p = both-true (both (leb capacityLeast n) (leb n capacityMost)) (leb (length ks) fieldsMost) (inv (ap (valued sense) e) ∙ h) in
+    (leb-true n capacityMost (both-true (leb capacityLeast n) (leb n capacityMost) (p .0) .1), leb-true (length ks) fieldsMost (p .1))
 
 -- the tests f of the variables ask that their values are lawful
 fine-variables : (f : Scope → Variable → Bool) (k : ℕ) → ((l : Scope) (w : Name) (s : Option ℕ) (v : Value) → f l (variable w s v) ≡ true → Narrow v) → (us : List Variable) (l : Scope)
@@ -46,24 +48,24 @@ fine-variables : (f : Scope → Variable → Bool) (k : ℕ) → ((l : Scope) (w
 unfolding variables
 fine-variables f k F [] l h = tt
 fine-variables f k F (variable w s v ∷ us) l h =
-    let p = both-true (f l (variable w s v)) (variables f k (l ++ units.ofVariable k (variable w s v) ∷ []) us) h in
-    (F l w s v (p .0), fine-variables f k F us (l ++ units.ofVariable k (variable w s v) ∷ []) (p .1))
+    let p = both-true (f l (variable w s v)) (variables f k (l ++ units.senseOfVariable k (variable w s v) ∷ []) us) h in
+    (F l w s v (p .0), fine-variables f k F us (l ++ units.senseOfVariable k (variable w s v) ∷ []) (p .1))
 
 fine-local : (g : Scope) (k : ℕ) (l : Scope) (us : List Variable) → variables (λ l x. localLawful g l k x) k l us ≡ true → Fine us
 fine-local g k l us h =
     fine-variables (λ l x. localLawful g l k x) k
-    (λ l w s v e. (let S = senseOf (l ++ units.ofVariable k (variable w s v) ∷ []) g in
+    (λ l w s v e. (let S = senseOf (l ++ units.senseOfVariable k (variable w s v) ∷ []) g in
     valued-narrow S v (both-true (sized s) (valued S v) (both-true (fresh l w) (both (sized s) (valued S v)) e .1) .1))) us l h
 
 fine-global : (k : ℕ) (l : Scope) (us : List Variable) → variables (λ l x. globalLawful l k x) k l us ≡ true → Fine us
 fine-global k l us h =
     fine-variables (λ l x. globalLawful l k x) k
-    (λ l w s v e. (let S = senseOf [] (l ++ units.ofVariable k (variable w s v) ∷ []) in
+    (λ l w s v e. (let S = senseOf [] (l ++ units.senseOfVariable k (variable w s v) ∷ []) in
     valued-narrow S v (both-true (sized s) (valued S v) (both-true (fresh l w) (both (sized s) (valued S v)) e .1) .1))) us l h
 
 -- what makes no channel is no channel
-no-channel : (v : Value) (n : ℕ) (ks : List ℕ) → madeBy v ≡ 0 → v ≡ set-channel n ks → ⊥
-no-channel v n ks a e = let z = ap madeBy e in omega arith
+no-channel : (v : Value) (n : ℕ) (ks : List ℕ) → channelsBy v ≡ 0 → v ≡ set-channel n ks → ⊥
+no-channel v n ks a e = let z = ap channelsBy e in omega arith
 
 groups-count : (gs : List Group) → length (ofGroups gs) ≡ countGroups gs
 groups-count [] = refl
@@ -101,7 +103,7 @@ module _ (m : Model) (cs vs : List ℕ) (S : Says m cs vs) where
     pub at : d ≡ suc from
     pub lies : Lies xs from (code-value (set-channel n ks))
     pub free : Free cs (from + length (code-value (set-channel n ks)))
-    pub most : (n ≤ 8) × (length ks ≤ 4)
+    pub most : (n ≤ capacityMost) × (length ks ≤ fieldsMost)
 
   module _ (n : ℕ) (ks : List ℕ) where
     abbrev Chan : Var → Type 0
@@ -149,11 +151,11 @@ module _ (m : Model) (cs vs : List ℕ) (S : Says m cs vs) where
         let X = code-declaration i-local (declare t us) in
         let E = each (code-declaration i-local) ds in
         let n1 : length (X ++ E) ≡ length X + length E = length-append X E in
-        let p = both-true (variables (λ l x. localLawful G l t x) t l us) (declarations G (l ++ units.ofDeclaration (declare t us)) ds) g in
+        let p = both-true (variables (λ l x. localLawful G l t x) t l us) (declarations G (l ++ units.scopeOfDeclaration (declare t us)) ds) g in
         let y2 = lies-back xs X E k (k + length X) refl y in
         let f2 = subst (Free cs) (let z : k + length (X ++ E) ≡ k + length X + length E = omega arith in z) f in
         go (ltb j (length us)) refl (declared-made i-local t us k j (lies-front xs k X E y) (free-declarations m cs vs S ds (k + length X) y2 f2) (fine-local G t l us (p .0)))
-        (declarations-made G (l ++ units.ofDeclaration (declare t us)) ds (k + length X) (j - length us) y2 f2 (p .1))
+        (declarations-made G (l ++ units.scopeOfDeclaration (declare t us)) ds (k + length X) (j - length us) y2 f2 (p .1))
       where
         go : (b : Bool) → ltb j (length us) ≡ b → (Chan (getD (map (ofVariable t) us) j noVar) → Made (variableAt us j (k + 2)) n ks)
             → (Chan (getD (ofDeclarations ds) (j - length us) noVar) → Made (declaredAt ds (j - length us) (k + length (code-declaration i-local (declare t us)))) n ks)
@@ -185,9 +187,9 @@ module _ (m : Model) (cs vs : List ℕ) (S : Says m cs vs) where
         let s2 : length ((A ++ P) ++ X) ≡ length (A ++ P) + length X = length-append (A ++ P) X in
         let b = i + length A + length P in
         let G2 = G ++ ofPart (process a w gs (body ds q)) in
-        let h1 = both-true (fresh G w) (both (joins [] (units.ofGroups gs)) (bodyLawful M G2 (units.ofGroups gs) (body ds q))) g .1 in
-        let h2 = both-true (joins [] (units.ofGroups gs)) (bodyLawful M G2 (units.ofGroups gs) (body ds q)) h1 .1 in
-        body-made M G2 (units.ofGroups gs) ds q b (j - countGroups gs) (lies-back xs (A ++ P) X i b (omega arith) y)
+        let h1 = both-true (fresh G w) (both (joins [] (units.scopeOfGroups gs)) (bodyLawful M G2 (units.scopeOfGroups gs) (body ds q))) g .1 in
+        let h2 = both-true (joins [] (units.scopeOfGroups gs)) (bodyLawful M G2 (units.scopeOfGroups gs) (body ds q)) h1 .1 in
+        body-made M G2 (units.scopeOfGroups gs) ds q b (j - countGroups gs) (lies-back xs (A ++ P) X i b (omega arith) y)
         (subst (Free cs) (let z : i + length ((A ++ P) ++ X) ≡ b + length X = omega arith in z) f) h2 (go (ltb j (length (ofGroups gs))) refl)
       where
         go : (c : Bool) → ltb j (length (ofGroups gs)) ≡ c → Chan (getD (ofDeclarations ds) (j - countGroups gs) noVar)

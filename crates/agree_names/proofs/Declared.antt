@@ -7,17 +7,19 @@ use mathlib.Core.Option.{Option, none, some}
 use mathlib.Core.Logic.{_⊎_, inl, inr}
 use mathlib.Core.List.{List, [], _∷_, _++_, map, append-assoc, append-nil}
 use lib.ListN.{length, getD, length-append}
-use Rattle.base_codes.specs.Codes.{c-declared, c-global, c-group, c-local, c-parameter, c-size}
+use Rattle.base_codes.specs.Codes.{c-declared, c-global, c-group, c-local, c-name, c-number, c-parameter, c-size}
 use Rattle.base_bytes.specs.Choice.{pick}
 use Rattle.rule_search.specs.Sets.{among}
 use Rattle.rule_search.specs.Search.{last}
 use Rattle.rule_item.specs.Rules.{isArray}
 use Rattle.spec_grammar.specs.Tree.{Name, Model, Value, unset, set-number, set-minus, set-true, set-false, set-name, set-channel, Variable, variable, Declaration, declare, Group, group}
-use Rattle.spec_grammar.specs.Code.{Item, i-name, i-number, i-type, i-declared, i-size, i-value, i-minus, i-named, i-channel, i-local, i-group, i-parameter, i-message, each, code-size, code-value, code-variable, code-declaration, code-parameter, code-group, code-message, code}
-use Rattle.table_entries.specs.Items.{codeOf, Known}
+use Rattle.base_codes.specs.Items.{Item, codeOf, i-channel, i-declared, i-group, i-local, i-message, i-minus, i-name, i-named, i-number, i-parameter, i-size, i-type, i-value}
+use Rattle.parse_code.specs.Code.{each, code-size, code-value, code-variable, code-declaration, code-parameter, code-group, code-message, code}
+use Rattle.table_entries.specs.Items.{Known}
 use Rattle.spec_rules.specs.Ceilings.{sizeOf}
 use Rattle.legal_terms.specs.Says.{itemAt, Says}
-use Rattle.legal_declarations.proofs.Items.{Low, type-code, all-append, all-size, all-value, valued}
+use Rattle.legal_declarations.proofs.Items.{Low, all-append, all-size, all-value, valued}
+use Rattle.table_entries.proofs.Items.{type-code}
 use Rattle.legal_declarations.proofs.Standing.{Lies, lies-front, lies-back, lies-all, long, known-at, code-is, valued-at}
 use Rattle.legal_declarations.proofs.Judging.{hs, last-here, last-skip, last-over}
 use Rattle.legal_declarations.proofs.Variables.{low-one, After, array-none}
@@ -36,7 +38,7 @@ slots-append (x ∷ xs) ys o =
     ap (λ (l : List Entry). entry (x .name) (slot x o) ∷ l)
     (slots-append xs ys (o + x .size) ∙ ap (λ n. slots (o + x .size) xs ++ slots n ys) (let z : o + x .size + totalOf xs ≡ o + (x .size + totalOf xs) = omega arith in z))
 
-pub sets : (among 1 70 ≡ false) × (among 3 70 ≡ false) × (among 3 c-declared ≡ false) × (among 3 c-parameter ≡ false) × (among 1 c-local ≡ false) × (among 1 c-global ≡ false)
+pub sets : (among 1 c-name ≡ false) × (among 3 c-name ≡ false) × (among 3 c-declared ≡ false) × (among 3 c-parameter ≡ false) × (among 1 c-local ≡ false) × (among 1 c-global ≡ false)
     × (among 1 c-group ≡ false) × (among 3 c-local ≡ true) × (among 3 c-global ≡ true) × (among 3 c-group ≡ true)
 unfolding among
 sets = (refl, refl, refl, refl, refl, refl, refl, refl, refl, refl)
@@ -57,14 +59,14 @@ module _ (m : Model) (cs vs : List ℕ) (S : Says m cs vs) where
   -- the code of a type
   pub type-at : (k t : ℕ) → k < length xs → itemAt xs k ≡ i-type t → (getD cs k 0 ≡ 130 + t) × (38 ≤ t) × (t ≤ 45) × (among 1 (getD cs k 0) ≡ false)
   type-at k t h q =
-      let a = type-code t (subst Known q (known-at m cs vs S k h)) in
+      let a = type-code (subst Known q (known-at m cs vs S k h)) in
       let x = a .0 in
       let y = a .1 in
       let z = code-is m cs vs S k (i-type t) h q in
       (z, omega arith, omega arith, low-one (getD cs k 0) (record { most = omega arith; string = λ u. omega arith; high = λ u. omega arith }))
 
   -- ---- how many numbers a variable has
-  array-some : (k n : ℕ) → getD cs (suc (suc k)) 0 ≡ 71 → getD cs (suc (suc (suc k))) 0 ≡ c-size → getD vs (suc (suc k)) 0 ≡ n → pick (isArray cs (suc k)) (getD vs (suc k + 1) 0) 1 ≡ n
+  array-some : (k n : ℕ) → getD cs (suc (suc k)) 0 ≡ c-number → getD cs (suc (suc (suc k))) 0 ≡ c-size → getD vs (suc (suc k)) 0 ≡ n → pick (isArray cs (suc k)) (getD vs (suc k + 1) 0) 1 ≡ n
   unfolding isArray
   array-some k n a b c = rw ((let z : suc k + 1 ≡ suc (suc k) = omega arith in z), (let z : suc k + 2 ≡ suc (suc (suc k)) = omega arith in z)) (rw (a, b) c)
 
@@ -98,7 +100,7 @@ module _ (m : Model) (cs vs : List ℕ) (S : Says m cs vs) where
     named w s v c l k o n b d g q cx cc three size kind sc =
         let x : Var = record { name = w; type = t; size = s; value = v } in
         let cn = code-is m cs vs S k (i-name w) g q in
-        let sc1 = scoped-one m cs vs H S l h k o n 70 cn (sets .0) sc in
+        let sc1 = scoped-one m cs vs H S l h k o n c-name cn (sets .0) sc in
         let kind1 : last cs 3 (suc k) ≡ suc (suc p) = last-skip m cs vs S 3 k (ap (among 3) cn ∙ sets .1) ∙ kind in
         let z : n + 0 ≡ n = omega arith in
         record {
@@ -260,7 +262,7 @@ module _ (m : Model) (cs vs : List ℕ) (S : Says m cs vs) where
     all-messages (w ∷ ws) l k e o n q b d y sc =
         let k2 = suc (suc k) in
         let x = entry w (number (suc n)) in
-        let sc1 = scoped-one m cs vs H S l h k o n 70 (code-is m cs vs S k (i-name w) (y .0) (y .1)) (sets .0) sc in
+        let sc1 = scoped-one m cs vs H S l h k o n c-name (code-is m cs vs S k (i-name w) (y .0) (y .1)) (sets .0) sc in
         let one = scoped-more m cs vs H S l h k o n w (number (suc n)) (below (suc k) (y .2 .0)) (y .1)
         (message-good cs vs H h (suc k) n (code-is m cs vs S (suc k) i-message (y .2 .0) (y .2 .1)) (home (suc k) (omega arith) (omega arith)) (sc1 .names)) sc1 in
         let one2 : Sc (l ++ x ∷ []) h k2 o (suc n) = subst (λ i. Sc (l ++ x ∷ []) h k2 i (suc n)) (let z : o + 0 ≡ o = omega arith in z)

@@ -5,12 +5,14 @@ use native.Mathlib.Decide.{ℕ-discrete, decLt}
 use mathlib.Core.Path.{_≡_, ap, _∙_, subst}
 use mathlib.Core.List.{List, [], _∷_, _++_}
 use lib.ListN.{length, getD, length-append}
-use Rattle.base_codes.specs.Codes.{c-active, c-body, c-declared, c-end-body, c-end-option, c-field, c-global, c-init, c-local, c-mtypes, c-proctype, c-size}
+use Rattle.base_codes.specs.Codes.{c-active, c-body, c-declared, c-end-body, c-end-option, c-field, c-global, c-init, c-local, c-mtypes, c-name, c-number, c-proctype, c-size}
 use Rattle.spec_grammar.specs.Tree.{Model, sequence, Tree, Variable, variable, Declaration, declare, body, idle, once, times, mtypes, global, process, init}
-use Rattle.spec_grammar.specs.Code.{Item, i-name, i-number, i-type, i-declared, i-local, i-global, i-mtypes, i-init, i-proctype, i-active, i-body, i-end-body, each, code-tree, code-variable, code-declaration, code-body, code}
+use Rattle.base_codes.specs.Items.{Item, i-active, i-body, i-declared, i-end-body, i-global, i-init, i-local, i-mtypes, i-name, i-number, i-proctype, i-type}
+use Rattle.parse_code.specs.Code.{each, code-tree, code-variable, code-declaration, code-body, code}
 use Rattle.table_entries.specs.Items.{Known}
 use Rattle.legal_terms.specs.Says.{itemAt, Says}
-use Rattle.legal_declarations.proofs.Items.{spoken, type-code, all-tree}
+use Rattle.legal_declarations.proofs.Items.{spoken, all-tree}
+use Rattle.table_entries.proofs.Items.{type-code}
 use Rattle.legal_declarations.proofs.Standing.{Lies, lies-front, lies-back, lies-all, known-at, code-is, spoken-at}
 use Rattle.legal_declarations.proofs.Variables.{After}
 use Rattle.legal_declarations.proofs.Parts.{beyond}
@@ -39,12 +41,12 @@ module _ (m : Model) (cs vs : List ℕ) (S : Says m cs vs) where
 
   type-free : (k t : ℕ) → k < length xs → itemAt xs k ≡ i-type t → Says-more (getD cs k 0) → ⊥
   type-free k t h q =
-      let a = type-code t (subst Known q (known-at m cs vs S k h)) .1 in below (getD cs k 0) (130 + t) (code-is m cs vs S k (i-type t) h q) (omega arith)
+      let a = type-code (subst Known q (known-at m cs vs S k h)) .1 in below (getD cs k 0) (130 + t) (code-is m cs vs S k (i-type t) h q) (omega arith)
 
   pub free-variables : (us : List Variable) (k : ℕ) → Lies xs k (each code-variable us) → Free cs (k + length (each code-variable us)) → Free cs k
   free-variables [] k y f = subst (Free cs) (let z : k + 0 ≡ k = omega arith in z) f
   free-variables (variable w s v ∷ us) k y f =
-      (below (getD cs k 0) 70 (code-is m cs vs S k (i-name w) (y .0) (y .1)) (omega arith), below (getD cs (suc k) 0) c-declared (code-is m cs vs S (suc k) i-declared (y .2 .0) (y .2 .1)) (omega arith))
+      (below (getD cs k 0) c-name (code-is m cs vs S k (i-name w) (y .0) (y .1)) (omega arith), below (getD cs (suc k) 0) c-declared (code-is m cs vs S (suc k) i-declared (y .2 .0) (y .2 .1)) (omega arith))
 
   pub free-declarations : (ds : List Declaration) (k : ℕ) → Lies xs k (each (code-declaration i-local) ds) → Free cs (k + length (each (code-declaration i-local) ds)) → Free cs k
   free-declarations [] k y f = subst (Free cs) (let z : k + 0 ≡ k = omega arith in z) f
@@ -80,14 +82,14 @@ module _ (m : Model) (cs vs : List ℕ) (S : Says m cs vs) where
   free-units [] k y e = (below (getD cs k 0) 0 (beyond cs k (omega arith)) (omega arith), below (getD cs (suc k) 0) 0 (beyond cs (suc k) (omega arith)) (omega arith))
   free-units (mtypes [] ∷ n) k y e = (above (getD cs k 0) c-mtypes (code-is m cs vs S k i-mtypes (y .0) (y .1)) (omega arith), free-units n (suc k) (y .2) (omega arith) .0)
   free-units (mtypes (w ∷ ws) ∷ n) k y e =
-      (above (getD cs k 0) c-mtypes (code-is m cs vs S k i-mtypes (y .0) (y .1)) (omega arith), below (getD cs (suc k) 0) 70 (code-is m cs vs S (suc k) (i-name w) (y .2 .0) (y .2 .1)) (omega arith))
+      (above (getD cs k 0) c-mtypes (code-is m cs vs S k i-mtypes (y .0) (y .1)) (omega arith), below (getD cs (suc k) 0) c-name (code-is m cs vs S (suc k) (i-name w) (y .2 .0) (y .2 .1)) (omega arith))
   free-units (global (declare t us) ∷ n) k y e =
       (type-free k t (y .0) (y .1), below (getD cs (suc k) 0) c-global (code-is m cs vs S (suc k) i-global (y .2 .0) (y .2 .1)) (omega arith))
   free-units (process idle w gs b ∷ n) k y e =
-      (below (getD cs k 0) 70 (code-is m cs vs S k (i-name w) (y .0) (y .1)) (omega arith), above (getD cs (suc k) 0) c-proctype (code-is m cs vs S (suc k) i-proctype (y .2 .0) (y .2 .1)) (omega arith))
+      (below (getD cs k 0) c-name (code-is m cs vs S k (i-name w) (y .0) (y .1)) (omega arith), above (getD cs (suc k) 0) c-proctype (code-is m cs vs S (suc k) i-proctype (y .2 .0) (y .2 .1)) (omega arith))
   free-units (process once w gs b ∷ n) k y e =
-      (below (getD cs k 0) 70 (code-is m cs vs S k (i-name w) (y .0) (y .1)) (omega arith), above (getD cs (suc k) 0) c-active (code-is m cs vs S (suc k) i-active (y .2 .0) (y .2 .1)) (omega arith))
+      (below (getD cs k 0) c-name (code-is m cs vs S k (i-name w) (y .0) (y .1)) (omega arith), above (getD cs (suc k) 0) c-active (code-is m cs vs S (suc k) i-active (y .2 .0) (y .2 .1)) (omega arith))
   free-units (process (times i) w gs b ∷ n) k y e =
-      (below (getD cs k 0) 71 (code-is m cs vs S k (i-number i) (y .0) (y .1)) (omega arith), below (getD cs (suc k) 0) 70 (code-is m cs vs S (suc k) (i-name w) (y .2 .0) (y .2 .1)) (omega arith))
+      (below (getD cs k 0) c-number (code-is m cs vs S k (i-number i) (y .0) (y .1)) (omega arith), below (getD cs (suc k) 0) c-name (code-is m cs vs S (suc k) (i-name w) (y .2 .0) (y .2 .1)) (omega arith))
   free-units (init (body ds q) ∷ n) k y e =
       (above (getD cs k 0) c-init (code-is m cs vs S k i-init (y .0) (y .1)) (omega arith), above (getD cs (suc k) 0) c-body (code-is m cs vs S (suc k) i-body (y .2 .0) (y .2 .1)) (omega arith))

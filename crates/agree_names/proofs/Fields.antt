@@ -8,10 +8,12 @@ use mathlib.Core.List.{List, [], _∷_}
 use lib.ListN.{length, getD}
 use lib.Dec.{eqb, ltb}
 use borrow.Author.Tests.{eq-eqb, ne-eqb, lt-ltb, le-ltb}
+use Rattle.base_ceilings.specs.Ceilings.{capacityMost, fieldsMost, itemsMost}
 use Rattle.base_codes.specs.Codes.{c-field}
 use Rattle.base_bytes.specs.Choice.{pick}
 use Rattle.spec_grammar.specs.Tree.{Model, set-channel}
-use Rattle.spec_grammar.specs.Code.{i-number, i-type, i-field, each, code-field, code-value, code}
+use Rattle.base_codes.specs.Items.{i-field, i-number, i-type}
+use Rattle.parse_code.specs.Code.{each, code-field, code-value, code}
 use Rattle.legal_terms.specs.Says.{Says}
 use Rattle.table_layout.specs.Access.{itemsOf, codeOf, numberOf}
 use Rattle.step_ready.specs.Channels.{capacityOf, fieldsOf}
@@ -95,7 +97,7 @@ module _ (t : List ℕ) (m : Model) (cs vs : List ℕ) (S : Says m cs vs) (H : H
         (λ h. ap (λ i. eqb (codeOf t i) c-field) (let z : d + 6 ≡ d + 2 + 2 * 2 = omega arith in z) ∙ field-there 2 h)
         (λ h. ap (λ i. eqb (codeOf t i) c-field) (let z : d + 8 ≡ d + 2 + 2 * 3 = omega arith in z) ∙ field-there 3 h)
 
-    pub channel-says : (d ≤ 8192) × (capacityOf t d ≡ n) × (fieldsOf t d ≡ length ks) × (n ≤ 8) × (length ks ≤ 4)
+    pub channel-says : (d ≤ itemsMost) × (capacityOf t d ≡ n) × (fieldsOf t d ≡ length ks) × (n ≤ capacityMost) × (length ks ≤ fieldsMost)
     channel-says =
         (let e = M .at in let a = number-at in let b = S .few in omega arith, capacity-is, fields-are, M .most .0, M .most .1)
 

@@ -8,14 +8,14 @@ use mathlib.Core.List.{List}
 use lib.ListN.{length, getD}
 use lib.Dec.{eqb}
 use borrow.Author.Tests.{ne-eqb}
-use Rattle.base_codes.specs.Codes.{c-declared, c-message, c-named, c-parameter}
+use Rattle.base_ceilings.specs.Ceilings.{mtypesMost}
+use Rattle.base_codes.specs.Codes.{c-declared, c-message, c-named, c-parameter, c-name}
 use Rattle.base_bytes.specs.Choice.{pick}
 use Rattle.rule_search.specs.Search.{lookup, last, count}
 use Rattle.rule_sheets.specs.Walks.{sum}
 use Rattle.rule_item.specs.Rules.{isArray}
 use Rattle.rule_ceilings.specs.Ceilings.{numbersAt}
-use Rattle.link_items.specs.Links as links
-use Rattle.link_items.specs.Links.{typeAt, sizeAt, offsetAt, slotAt, classOf, linkBy}
+use Rattle.link_items.specs.Links.{typeAt, sizeAt, offsetAt, slotAt, linkBy, sizeKept}
 use Rattle.table_layout.specs.Access.{codeOf, linkOf}
 use Rattle.state_layout.specs.Layout.{localAt, globalAt}
 use Rattle.step_eval.specs.Variables.{slotOf}
@@ -27,6 +27,8 @@ use Rattle.keep_tables.proofs.Variables.{size-is, slot-of, item-there}
 use Rattle.spec_machine.specs.Names.{Var}
 use Rattle.state_encode.specs.Tabled.{Linked}
 use Rattle.agree_names.proofs.Scopes.{Declares}
+use Rattle.base_codes.specs.Sets.{classOf}
+use Rattle.link_items.specs.Links as links
 
 classes : (classOf c-declared ≡ 14) × (classOf c-parameter ≡ 14) × (classOf c-message ≡ 15) × (classOf c-named ≡ 2)
 unfolding classOf
@@ -37,7 +39,7 @@ variable-class c (inl e) = ap classOf e ∙ classes .0
 variable-class c (inr e) = ap classOf e ∙ classes .1
 
 -- the type is the lowest digit
-lowest : (a b c d : ℕ) → a ≤ 7 → b ≤ 1 → c ≤ 63 → d ≤ 65535 → min 4294967295 (a + 8 * b + 16 * c + 1024 * d) % 8 ≡ a
+lowest : (a b c d : ℕ) → a ≤ 7 → b ≤ 1 → c ≤ sizeKept → d ≤ 65535 → min 4294967295 (a + 8 * b + 16 * c + 1024 * d) % 8 ≡ a
 lowest a b c d ha hb hc hd = omega arith
 
 module _ (cs vs hs : List ℕ) (d : ℕ) where
@@ -52,11 +54,11 @@ module _ (cs vs hs : List ℕ) (d : ℕ) where
       go true = omega arith
       go false = omega arith
 
-  size-most : sizeAt cs vs d ≤ 63
+  size-most : sizeAt cs vs d ≤ sizeKept
   unfolding sizeAt
   size-most = go (isArray cs d)
     where
-      go : (b : Bool) → pick b (min 63 (getD vs (d + 1) 0)) 1 ≤ 63
+      go : (b : Bool) → pick b (min sizeKept (getD vs (d + 1) 0)) 1 ≤ sizeKept
       go true = omega arith
       go false = omega arith
 
@@ -103,12 +105,12 @@ module _ (t cs vs : List ℕ) (H : Held t cs vs (linksIn cs vs)) (K : Facts cs v
     bound : d < length cs
     bound = there d (D .coded)
 
-    pub variable-code : (eqb (codeOf t d) c-message ≡ false) × (eqb (codeOf t d) 70 ≡ false)
+    pub variable-code : (eqb (codeOf t d) c-message ≡ false) × (eqb (codeOf t d) c-name ≡ false)
     variable-code = go (D .coded)
       where
-        go : (getD cs d 0 ≡ c-declared) ⊎ (getD cs d 0 ≡ c-parameter) → (eqb (codeOf t d) c-message ≡ false) × (eqb (codeOf t d) 70 ≡ false)
-        go (inl e) = let c = H .codes d bound in (ne-eqb (codeOf t d) c-message (λ z. omega arith), ne-eqb (codeOf t d) 70 (λ z. omega arith))
-        go (inr e) = let c = H .codes d bound in (ne-eqb (codeOf t d) c-message (λ z. omega arith), ne-eqb (codeOf t d) 70 (λ z. omega arith))
+        go : (getD cs d 0 ≡ c-declared) ⊎ (getD cs d 0 ≡ c-parameter) → (eqb (codeOf t d) c-message ≡ false) × (eqb (codeOf t d) c-name ≡ false)
+        go (inl e) = let c = H .codes d bound in (ne-eqb (codeOf t d) c-message (λ z. omega arith), ne-eqb (codeOf t d) c-name (λ z. omega arith))
+        go (inr e) = let c = H .codes d bound in (ne-eqb (codeOf t d) c-message (λ z. omega arith), ne-eqb (codeOf t d) c-name (λ z. omega arith))
 
     pub size-some : 1 ≤ x .size
     size-some = let a = size-is cs vs K d .0 in let b = size-is cs vs K d .1 in let c = D .size in omega arith
@@ -137,7 +139,7 @@ module _ (t cs vs : List ℕ) (H : Held t cs vs (linksIn cs vs)) (K : Facts cs v
     linked-local u e = linked localAt (λ p k. rw (flag-here false (ne-eqb h 0 (λ z. omega arith)), offset-here))
 
   -- ---- an mtype name
-  pub number-link : (d n : ℕ) → getD cs d 0 ≡ c-message → count cs hs 12 0 0 (suc d) ≡ n → n ≤ 64 → linkOf t d ≡ n
+  pub number-link : (d n : ℕ) → getD cs d 0 ≡ c-message → count cs hs 12 0 0 (suc d) ≡ n → n ≤ mtypesMost → linkOf t d ≡ n
   number-link d n c e small =
       let h = item-there cs d c-message (omega arith) c in
       let l = link-is cs vs d (K .few) h in

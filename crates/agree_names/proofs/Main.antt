@@ -16,36 +16,31 @@ use Rattle.base_bytes.specs.Choice.{pick, both}
 use Rattle.base_bytes.specs.Lists.{same}
 use Rattle.base_bytes.proofs.Tests.{true-false, both-true}
 use Rattle.spec_text.specs.Names.{pid}
-use Rattle.rule_sheets.specs.Homes.{heads, insideOf}
+use Rattle.rule_sheets.specs.Homes.{insideOf}
 use Rattle.rule_search.specs.Search.{find, lookup}
 use Rattle.spec_grammar.specs.Tree.{Sort, Name, action, Tree, express, assign, increment, decrement, send, receive, assert, print, skip, goto, break, timeout, else, run, set-run, select, loop, set-channel, Body, body, mtypes, process, init, Model}
-use Rattle.spec_grammar.specs.Tree as tree
-use Rattle.spec_grammar.specs.Code.{Item, i-name, code}
 use Rattle.read_passes.specs.Judging.{tablesText}
 use Rattle.read_accepts_proof.specs.Meaning.{Accepts}
 use Rattle.table_layout.specs.Access.{codeOf, linkOf}
-use Rattle.state_layout.specs.Layout.{localAt, globalAt}
+use Rattle.state_layout.specs.Layout.{localAt, globalAt, keptMost}
 use Rattle.step_ready.specs.Channels.{capacityOf, fieldsOf}
 use Rattle.step_ready.specs.Executing.{channelsFrom, channelsIn}
 use Rattle.step_messages.specs.Messages.{fieldType}
 use Rattle.step_take.specs.Effects.{called}
-use Rattle.spec_rules.specs.Senses as senses
 use Rattle.spec_rules.specs.Senses.{Sense, constant, procedure, unknown, Scope, senseIn, isUnknown, isConstant, hides, senseOf}
 use Rattle.spec_rules.specs.Expressions.{Role, operand, received, target, suits, usable, lawful, whole}
 use Rattle.spec_rules.specs.Statements.{all, Place, sense, takes, runs, allowed}
 use Rattle.spec_rules.specs.Ceilings.{madeByBody, narrow, modest}
 use Rattle.spec_rules.specs.Units.{ofPart, ofModel, partsLawful, mtypesIn, initsIn, tally, modelLawful}
 use Rattle.legal_terms.specs.Says.{itemAt, Says}
-use Rattle.spec_machine.specs.Program.{Within, itself, in-if, in-do, unlabelled, behind-label, in-first, in-rest, in-option, in-others, sizeIn, startIn, endIn, statementsOf}
+use Rattle.spec_machine.specs.Program.{Within, itself, in-if, in-do, unlabelled, behind-label, in-first, in-rest, in-option, in-others, sizeIn, startIn, endIn, sequenceOf}
 use Rattle.agree_eval.specs.Names.{codesAt, saidAt, homesAt, meantAt, declAt}
 use Rattle.agree_eval.proofs.Said.{first-said}
-use Rattle.agree_effects.specs.Stages as stages
-use Rattle.agree_effects.specs.Few as arguments
 use Rattle.agree_transfer.proofs.Ways.{within-lawful}
 use Rattle.agree_start.proofs.Units.{unit-long}
 use Rattle.legal_items.proofs.Says.{text-says}
 use Rattle.legal_items.proofs.Modest.{passed-modest}
-use Rattle.legal_declarations.proofs.Homes.{no-head, home-inside}
+use Rattle.legal_declarations.proofs.Homes.{home-inside}
 use Rattle.legal_declarations.proofs.Standing.{long}
 use Rattle.legal_declarations.proofs.Bodies.{Frame, home-in}
 use Rattle.keep_tables.specs.Facts.{linksIn, Facts}
@@ -53,16 +48,13 @@ use Rattle.keep_tables.specs.Held.{Held}
 use Rattle.keep_tables.proofs.Tables.{text-held}
 use Rattle.keep_tables.proofs.Known.{text-facts}
 use Rattle.agree_transfer.specs.Agrees.{storable}
-use Rattle.agree_transfer.specs.Agrees as agrees
 use Rattle.spec_machine.specs.Names.{variablesOf, parametersOf, globalsOf, messagesOf, unitAt, proctypeOf, Meaning, local, global, message, self, variableFrom, messageFrom, meant}
-use Rattle.spec_machine.specs.Names as names
 use Rattle.spec_machine.specs.State.{Channel, State}
-use Rattle.spec_machine.specs.Plain.{madeBy, isMessage, isVariable}
+use Rattle.spec_machine.specs.Plain.{declaredBy, isMessage, isVariable}
 use Rattle.spec_machine.specs.Begins.{itemsBefore, bodyOf, begins}
 use Rattle.state_encode.specs.Encode.{headIn, headOf, channelItem, encode}
 use Rattle.spec_machine.specs.Fits.{Fits}
 use Rattle.spec_machine.specs.Places.{Bodied, bodyAt, startOf, endOf, At, Belongs, ends, stands, settingFrom, settingOf}
-use Rattle.state_encode.specs.Tabled as tabled
 use Rattle.state_encode.specs.Tabled.{offsetOf, totalOf, of-local, of-global, of-message}
 use Rattle.agree_transfer.proofs.Statements.{within-range}
 use Rattle.state_encode.proofs.Units.{unit-holds, unit-allowed}
@@ -75,6 +67,18 @@ use Rattle.agree_names.proofs.Fields.{channel-says, field-says}
 use Rattle.agree_names.proofs.Makes.{unit-makes}
 use Rattle.state_encode.proofs.Totals.{offset-most, Few, modest-few}
 use Rattle.agree_names.proofs.Links.{code-there, variable-code, size-some, linked-global, linked-local, number-link}
+use Rattle.base_ceilings.specs.Ceilings.{capacityMost, channelsMost, fieldsMost, globalsMost, itemsMost, mtypesMost, numbersMost, printedMost, processesMost}
+use Rattle.base_codes.specs.Items.{Item, i-name}
+use Rattle.base_codes.specs.Sets.{isUnit}
+use Rattle.parse_code.specs.Code.{code}
+use Rattle.rule_sheets.proofs.Meaning.{no-head}
+use Rattle.spec_grammar.specs.Tree as tree
+use Rattle.spec_rules.specs.Senses as senses
+use Rattle.agree_effects.specs.Stages as stages
+use Rattle.agree_effects.specs.Few as arguments
+use Rattle.agree_transfer.specs.Agrees as agrees
+use Rattle.spec_machine.specs.Names as names
+use Rattle.state_encode.specs.Tabled as tabled
 
 -- ---- kinds: 0 a variable, 1 an mtype name, 2 a proctype, 3 none
 abbrev kindMeant : Meaning → ℕ
@@ -164,7 +168,7 @@ module _ (t : List ℕ) (a : Accepts t) (legal : modelLawful (a .tree) ≡ true)
 
   -- what its items say of its tree
   pub S : Says m C W
-  S = text-says t record { parts = a .parts; reads = a .reads; tree = a .tree; gram = a .gram; numbers = a .numbers; written = a .written; coded = a .coded }
+  S = text-says t record { parts = a .parts; reads = a .reads; tree = a .tree; gram = a .gram; shallow = a .shallow; numbers = a .numbers; written = a .written; coded = a .coded }
 
   pub H : Held T C W (linksIn C W)
   H = text-held t a
@@ -215,7 +219,7 @@ module _ (t : List ℕ) (a : Accepts t) (legal : modelLawful (a .tree) ≡ true)
         let top = frame .top in
         inv (home-inside C (S .few) f (omega arith) (plain (decLt f e))) ∙ home-in m C W S u (bodyAt m k) f e frame f (omega arith) (omega arith)
       where
-        plain : Dec (f < e) → heads (getD C f 0) ≡ false
+        plain : Dec (f < e) → isUnit (getD C f 0) ≡ false
         plain (yes h) = let z = frame .said f (omega arith) h in no-head (getD C f 0) (omega arith)
         plain (no h) = let i2 = frame .last in let z : getD C f 0 ≡ c-end-body = ap (λ i. getD C i 0) (let y : f ≡ e = omega arith in y) ∙ frame .ends in rw z refl
 
@@ -324,7 +328,7 @@ module _ (t : List ℕ) (a : Accepts t) (legal : modelLawful (a .tree) ≡ true)
             let o = outer (number i) q in
             let o2 = o .2 in
             let top = few .messages in
-            let small : i ≤ 64 = omega arith in
+            let small : i ≤ mtypesMost = omega arith in
             resolved w d (means w) (message i) (c .1 .0) (r ∙ o .0 ∙ o .1)
             (of-message (code-there T C W H K d c-message (omega arith) (c .1 .1 .0)) (number-link T C W H K d i (c .1 .1 .0) (c .1 .1 .2) small) small)
         go none (some (proctype c)) p q r h = absurd (omega arith)
@@ -380,7 +384,7 @@ module _ (t : List ℕ) (a : Accepts t) (legal : modelLawful (a .tree) ≡ true)
             (z, item-constant T m k (decl w) (meant m (unitAt m k) w) (r .item) ∙ z)
 
     -- ---- ceilings
-    pub text-totals : (totalOf (globalsOf m) ≤ 64) × (totalOf (variablesOf (unitAt m k)) ≤ 32)
+    pub text-totals : (totalOf (globalsOf m) ≤ globalsMost) × (totalOf (variablesOf (unitAt m k)) ≤ numbersMost)
     text-totals = (few .globals, few .locals k b)
 
     -- ---- places
@@ -390,7 +394,7 @@ module _ (t : List ℕ) (a : Accepts t) (legal : modelLawful (a .tree) ≡ true)
         let y = r .1 in
         (r .0, let z = end-is (bodyOf (unitAt m k)) (bodyAt m k) in omega arith)
       where
-        end-is : (b : Body) (i : ℕ) → endIn b i ≡ startIn b i + sizeIn (statementsOf b)
+        end-is : (b : Body) (i : ℕ) → endIn b i ≡ startIn b i + sizeIn (sequenceOf b)
         end-is (body ds q) i = refl
 
     -- no statement begins with an `end-body`
@@ -403,21 +407,24 @@ module _ (t : List ℕ) (a : Accepts t) (legal : modelLawful (a .tree) ≡ true)
         let d = H .codes j (omega arith) in
         ne-eqb (codeOf T j) c-end-body (λ z. omega arith)
 
-    belongs-small : (j : ℕ) → Belongs m k j → j ≤ 8192
+    belongs-small : (j : ℕ) → Belongs m k j → j ≤ itemsMost
     belongs-small j (ends c z) = let top = frame .top in let g = S .few in omega arith
     belongs-small j (stands {x = x} {n = n} {o = o} c w) = let r = statement-range x j n o w .1 in let top = frame .top in let g = S .few in omega arith
 
-  -- places are small numbers
-  pub text-small : (k j : ℕ) → Belongs m k j → j ≤ 2147483647
-  text-small k j (ends c z) = let r = belongs-small k c j (ends c z) in omega arith
-  text-small k j (stands {x = x} {n = n} {o = o} c w) = let r = belongs-small k c j (stands c w) in omega arith
+  -- places are small numbers: a model has at most 8,192 items
+  pub text-belongs : (k j : ℕ) → Belongs m k j → j ≤ itemsMost
+  text-belongs k j (ends c z) = belongs-small k c j (ends c z)
+  text-belongs k j (stands c w) = belongs-small k c j (stands c w)
+
+  pub text-small : (k j : ℕ) → Belongs m k j → j ≤ keptMost
+  text-small k j b = omega (arith, text-belongs k j b)
 
   -- ---- channels by their declarations
-  pub text-channels : (c : Channel) (n : ℕ) (ks : List ℕ) → madeBy m c ≡ set-channel n ks
-      → (channelItem m c ≤ 8192) × (capacityOf T (channelItem m c) ≡ n) × (fieldsOf T (channelItem m c) ≡ length ks) × (n ≤ 8) × (length ks ≤ 4)
+  pub text-channels : (c : Channel) (n : ℕ) (ks : List ℕ) → declaredBy m c ≡ set-channel n ks
+      → (channelItem m c ≤ itemsMost) × (capacityOf T (channelItem m c) ≡ n) × (fieldsOf T (channelItem m c) ≡ length ks) × (n ≤ capacityMost) × (length ks ≤ fieldsMost)
   text-channels c n ks e = channel-says T m C W S H (channelItem m c) n ks (channel-made m C W S n ks (ofModel m) (c .unit) (c .variable) parts e)
 
-  pub text-fields : (c : Channel) (n : ℕ) (ks : List ℕ) → madeBy m c ≡ set-channel n ks → (f : ℕ) → f < length ks → fieldType T (channelItem m c) f ≡ getD ks f 0
+  pub text-fields : (c : Channel) (n : ℕ) (ks : List ℕ) → declaredBy m c ≡ set-channel n ks → (f : ℕ) → f < length ks → fieldType T (channelItem m c) f ≡ getD ks f 0
   text-fields c n ks e f h = field-says T m C W S H (channelItem m c) n ks (channel-made m C W S n ks (ofModel m) (c .unit) (c .variable) parts e) f h
 
   -- ---- proctypes by their names
@@ -481,7 +488,7 @@ module _ (t : List ℕ) (a : Accepts t) (legal : modelLawful (a .tree) ≡ true)
     pub text-arity : n ≡ length (parametersOf (unitAt m (proctypeOf m w)))
     text-arity = eqb-true n (length (parametersOf (unitAt m (proctypeOf m w)))) (inv (ap (λ s. takes s n) (text-run .sense)) ∙ taken)
 
-    run-few : n ≤ 32
+    run-few : n ≤ numbersMost
     run-few = let e = text-arity in let f = few .parameters (proctypeOf m w) (text-run .bodied) in omega arith
 
   -- ---- arguments
@@ -495,7 +502,7 @@ module _ (t : List ℕ) (a : Accepts t) (legal : modelLawful (a .tree) ≡ true)
     few-in (send r es) c d h n = tt
     few-in (receive r xs) c d h n = tt
     few-in (assert e) c d h n = tt
-    few-in (print w es) c d h n = let z = leb-true (length es) 4 n in omega arith
+    few-in (print w es) c d h n = let z = leb-true (length es) printedMost n in omega arith
     few-in skip c d h n = tt
     few-in (goto w) c d h n = tt
     few-in break c d h n = tt
@@ -526,8 +533,8 @@ module _ (t : List ℕ) (a : Accepts t) (legal : modelLawful (a .tree) ≡ true)
   -- the one thing that is left: a process of unit k begins in numbers as it does in plain states
   abbrev pub Begins : Type 0
   Begins =
-      (k : ℕ) → Bodied (unitAt m k) → (vs : List ℤ) → length vs ≡ length (parametersOf (unitAt m k)) → (σ : State) (r : List ℤ) → Fits (Belongs m) m σ → length (σ .processes) < 16
-      → length (σ .channels) + madeByBody (bodyOf (unitAt m k)) ≤ 16
+      (k : ℕ) → Bodied (unitAt m k) → (vs : List ℤ) → length vs ≡ length (parametersOf (unitAt m k)) → (σ : State) (r : List ℤ) → Fits (Belongs m) m σ → length (σ .processes) < processesMost
+      → length (σ .channels) + madeByBody (bodyOf (unitAt m k)) ≤ channelsMost
       → (called T (headOf m k) vs (encode m σ ++ r) ≡ encode m (begins m k vs σ) ++ r) × Fits (Belongs m) m (begins m k vs σ)
 
   pub text-tabled : Begins → (k : ℕ) → Bodied (unitAt m k) → tabled.Tabled (Belongs m) m k (settingOf m k) T (declAt t a (startOf m k)) (stages.unitAt t a)

@@ -9,32 +9,33 @@ use mathlib.Core.List.{List, [], _∷_, _++_}
 use lib.ListN.{length, getD, length-append}
 use lib.Dec.{eqb}
 use borrow.Author.Tests.{eq-eqb, ne-eqb}
-use Rattle.base_codes.specs.Codes.{c-body, c-channel, c-declared, c-false, c-field, c-group, c-local, c-minus, c-named, c-parameter, c-proctype, c-size, c-true, c-value}
+use Rattle.base_codes.specs.Codes.{c-body, c-channel, c-declared, c-false, c-field, c-group, c-local, c-minus, c-name, c-named, c-number, c-parameter, c-proctype, c-size, c-true, c-value}
 use Rattle.base_bytes.specs.Choice.{pick}
 use Rattle.base_bytes.proofs.Tests.{true-false}
-use Rattle.rule_sheets.specs.Homes.{heads}
 use Rattle.spec_grammar.specs.Tree.{Name, Model, sequence, Tree, Value, unset, set-number, set-minus, set-true, set-false, set-name, set-channel, Variable, variable, Declaration, declare, Group, group, body, Activity, idle, once, times, Part, mtypes, global, process, init}
-use Rattle.spec_grammar.specs.Code.{Item, i-name, i-number, i-type, i-true, i-false, i-declared, i-size, i-value, i-minus, i-named, i-channel, i-field, i-local, i-group, i-parameter, i-body, i-end-body, each, code-tree, code-field, code-size, code-value, code-variable, code-declaration, code-parameter, code-group, code-body, code-activity, code-part, code}
-use Rattle.table_entries.specs.Items as items
+use Rattle.base_codes.specs.Items.{Item, i-body, i-channel, i-declared, i-end-body, i-false, i-field, i-group, i-local, i-minus, i-name, i-named, i-number, i-parameter, i-size, i-true, i-type, i-value}
+use Rattle.parse_code.specs.Code.{each, code-tree, code-field, code-size, code-value, code-variable, code-declaration, code-parameter, code-group, code-body, code-activity, code-part, code}
+use Rattle.base_codes.specs.Sets.{isUnit}
 use Rattle.table_entries.specs.Items.{Known}
-use Rattle.spec_rules.specs.Ceilings.{madeBy, madeByVariable, madeByDeclaration, madeByBody}
+use Rattle.spec_rules.specs.Ceilings.{channelsBy, madeByVariable, madeByDeclaration, madeByBody}
 use Rattle.spec_rules.specs.Units.{tally}
 use Rattle.legal_terms.specs.Says.{itemAt, Says}
 use Rattle.table_layout.specs.Access.{codeOf}
 use Rattle.step_ready.specs.Executing.{channelsFrom}
 use Rattle.spec_machine.specs.Program.{sizeIn, startIn, endIn}
-use Rattle.legal_declarations.proofs.Items.{type-code}
+use Rattle.table_entries.proofs.Items.{type-code}
 use Rattle.legal_declarations.proofs.Standing.{Lies, lies-front, lies-back, long, known-at, code-is}
-use Rattle.legal_declarations.proofs.Homes.{no-head}
 use Rattle.legal_declarations.proofs.Bodies.{Frame}
 use Rattle.keep_tables.specs.Facts.{linksIn}
 use Rattle.keep_tables.specs.Held.{Held}
 use Rattle.spec_machine.specs.Begins.{bodyIn, bodyOf}
 use Rattle.state_encode.specs.Encode.{headIn}
 use Rattle.spec_machine.specs.Places.{Bodied}
+use Rattle.rule_sheets.proofs.Meaning.{no-head}
+use Rattle.base_codes.specs.Items as items
 
 -- what begins a unit is no `channel`
-head-code : (c : ℕ) → heads c ≡ true → c-proctype ≤ c
+head-code : (c : ℕ) → isUnit c ≡ true → c-proctype ≤ c
 head-code c h = go (decLt c-parameter c)
   where
     go : Dec (c-parameter < c) → c-proctype ≤ c
@@ -93,7 +94,7 @@ module _ (t : List ℕ) (m : Model) (cs vs : List ℕ) (S : Says m cs vs) (H : H
   skip n k c x h q e o = from-other t n k (λ z. o (inv (table-code k c h (code-is m cs vs S k x h q ∙ e)) ∙ z))
 
   skip-type : (n k a : ℕ) → k < length xs → itemAt xs k ≡ i-type a → channelsFrom t (suc n) k ≡ channelsFrom t n (suc k)
-  skip-type n k a h q = let b = type-code a (subst Known q (known-at m cs vs S k h)) .1 in skip n k (130 + a) (i-type a) h q refl (λ z. omega arith)
+  skip-type n k a h q = let b = type-code (subst Known q (known-at m cs vs S k h)) .1 in skip n k (130 + a) (i-type a) h q refl (λ z. omega arith)
 
   -- two of them
   pair : (k c d : ℕ) (x y : Item) (l : List Item) → Lies xs k (x ∷ y ∷ l) → items.codeOf x ≡ c → items.codeOf y ≡ d → (c ≡ c-channel → ⊥) → (d ≡ c-channel → ⊥) → over (x ∷ y ∷ l) k ≡ over l (suc (suc k))
@@ -108,18 +109,18 @@ module _ (t : List ℕ) (m : Model) (cs vs : List ℕ) (S : Says m cs vs) (H : H
 
   size-none : (s : Option ℕ) (k : ℕ) → Lies xs k (code-size s) → over (code-size s) k ≡ 0
   size-none none k y = from-empty t k
-  size-none (some n) k y = pair k 71 c-size (i-number n) i-size [] y refl refl (λ z. omega arith) (λ z. omega arith) ∙ from-empty t (suc (suc k))
+  size-none (some n) k y = pair k c-number c-size (i-number n) i-size [] y refl refl (λ z. omega arith) (λ z. omega arith) ∙ from-empty t (suc (suc k))
 
-  value-made : (v : Value) (k : ℕ) → Lies xs k (code-value v) → over (code-value v) k ≡ madeBy v
+  value-made : (v : Value) (k : ℕ) → Lies xs k (code-value v) → over (code-value v) k ≡ channelsBy v
   value-made unset k y = from-empty t k
-  value-made (set-number n) k y = pair k 71 c-value (i-number n) i-value [] y refl refl (λ z. omega arith) (λ z. omega arith) ∙ from-empty t (suc (suc k))
-  value-made (set-minus n) k y = pair k 71 c-minus (i-number n) i-minus [] y refl refl (λ z. omega arith) (λ z. omega arith) ∙ from-empty t (suc (suc k))
+  value-made (set-number n) k y = pair k c-number c-value (i-number n) i-value [] y refl refl (λ z. omega arith) (λ z. omega arith) ∙ from-empty t (suc (suc k))
+  value-made (set-minus n) k y = pair k c-number c-minus (i-number n) i-minus [] y refl refl (λ z. omega arith) (λ z. omega arith) ∙ from-empty t (suc (suc k))
   value-made set-true k y = pair k c-true c-value i-true i-value [] y refl refl (λ z. omega arith) (λ z. omega arith) ∙ from-empty t (suc (suc k))
   value-made set-false k y = pair k c-false c-value i-false i-value [] y refl refl (λ z. omega arith) (λ z. omega arith) ∙ from-empty t (suc (suc k))
-  value-made (set-name w) k y = pair k 70 c-named (i-name w) i-named [] y refl refl (λ z. omega arith) (λ z. omega arith) ∙ from-empty t (suc (suc k))
+  value-made (set-name w) k y = pair k c-name c-named (i-name w) i-named [] y refl refl (λ z. omega arith) (λ z. omega arith) ∙ from-empty t (suc (suc k))
   value-made (set-channel n ks) k y =
       let F = each code-field ks in
-      let a = skip (suc (length F)) k 71 (i-number n) (y .0) (y .1) refl (λ z. omega arith) in
+      let a = skip (suc (length F)) k c-number (i-number n) (y .0) (y .1) refl (λ z. omega arith) in
       let c = table-code (suc k) c-channel (y .2 .0) (code-is m cs vs S (suc k) i-channel (y .2 .0) (y .2 .1)) in
       let b : channelsFrom t (suc (length F)) (suc k) ≡ 1 + channelsFrom t (length F) (suc k + 1) =
       from-one t (length F) (suc k) ∙ ap (λ b. pick b 1 0 + channelsFrom t (length F) (suc k + 1)) (eq-eqb (codeOf t (suc k)) c-channel c) in
@@ -135,7 +136,7 @@ module _ (t : List ℕ) (m : Model) (cs vs : List ℕ) (S : Says m cs vs) (H : H
       let R = code-size s ++ code-value v in
       let yx = lies-front xs k X E y in
       let a = over-both X E k in
-      let b = pair k 70 c-declared (i-name w) i-declared R yx refl refl (λ z. omega arith) (λ z. omega arith) in
+      let b = pair k c-name c-declared (i-name w) i-declared R yx refl refl (λ z. omega arith) (λ z. omega arith) in
       let c = over-both (code-size s) (code-value v) (suc (suc k)) in
       let d = size-none s (suc (suc k)) (lies-front xs (suc (suc k)) (code-size s) (code-value v) (yx .2 .2)) in
       let e = value-made v (suc (suc k) + length (code-size s)) (lies-back xs (code-size s) (code-value v) (suc (suc k)) (suc (suc k) + length (code-size s)) refl (yx .2 .2)) in
@@ -157,7 +158,7 @@ module _ (t : List ℕ) (m : Model) (cs vs : List ℕ) (S : Says m cs vs) (H : H
   parameters-none : (ws : List Name) (k : ℕ) → Lies xs k (each code-parameter ws) → over (each code-parameter ws) k ≡ 0
   parameters-none [] k y = from-empty t k
   parameters-none (w ∷ ws) k y =
-      pair k 70 c-parameter (i-name w) i-parameter (each code-parameter ws) y refl refl (λ z. omega arith) (λ z. omega arith) ∙ parameters-none ws (suc (suc k)) (y .2 .2)
+      pair k c-name c-parameter (i-name w) i-parameter (each code-parameter ws) y refl refl (λ z. omega arith) (λ z. omega arith) ∙ parameters-none ws (suc (suc k)) (y .2 .2)
 
   groups-none : (gs : List Group) (k : ℕ) → Lies xs k (each code-group gs) → over (each code-group gs) k ≡ 0
   groups-none [] k y = from-empty t k

@@ -13,7 +13,7 @@ use Rattle.base_bytes.proofs.Tests.{true-false, both-true}
 use Rattle.base_bytes.proofs.Lists.{same-eq}
 use Rattle.spec_text.specs.Names.{pid}
 use Rattle.spec_grammar.specs.Tree.{Name, Variable, variable, Declaration, declare, Group, group, body, Part, mtypes, global, process, init, Model}
-use Rattle.spec_grammar.specs.Code.{code-part}
+use Rattle.parse_code.specs.Code.{code-part}
 use Rattle.spec_rules.specs.Senses as senses
 use Rattle.spec_rules.specs.Senses.{Sense, constant, procedure, unknown, Scope, senseIn, isUnknown, fresh, senseOf}
 use Rattle.spec_rules.specs.Units as units
@@ -83,11 +83,11 @@ alike-none (d ∷ s) (e ∷ l) r w a h =
     go true q k = absurd (true-false (ap known q))
     go false q k = k q
 
-alike-variables : (k : ℕ) (us : List Variable) (o : ℕ) → Alike (map (units.ofVariable k) us) (slots o (map (ofVariable k) us))
+alike-variables : (k : ℕ) (us : List Variable) (o : ℕ) → Alike (map (units.senseOfVariable k) us) (slots o (map (ofVariable k) us))
 alike-variables k [] o = tt
 alike-variables k (variable w s v ∷ us) o = (refl, refl, alike-variables k us (o + ofVariable k (variable w s v) .size))
 
-alike-parameters : (k : ℕ) (ws : List Name) (o : ℕ) → Alike (map (units.ofParameter k) ws) (slots o (map (ofParameter k) ws))
+alike-parameters : (k : ℕ) (ws : List Name) (o : ℕ) → Alike (map (units.senseOfParameter k) ws) (slots o (map (ofParameter k) ws))
 alike-parameters k [] o = tt
 alike-parameters k (w ∷ ws) o = (refl, refl, alike-parameters k ws (o + 1))
 
@@ -99,16 +99,16 @@ alike-messages (w ∷ ws) n = (refl, refl, alike-messages ws (suc n))
 alike-slots : (s u : Scope) (xs ys : List Var) (o : ℕ) → Alike s (slots o xs) → Alike u (slots (o + totalOf xs) ys) → Alike (s ++ u) (slots o (xs ++ ys))
 alike-slots s u xs ys o a b = subst (Alike (s ++ u)) (inv (slots-append xs ys o)) (alike-append s u (slots o xs) (slots (o + totalOf xs) ys) a b)
 
-alike-declarations : (ds : List Declaration) (o : ℕ) → Alike (units.ofDeclarations ds) (slots o (ofDeclarations ds))
+alike-declarations : (ds : List Declaration) (o : ℕ) → Alike (units.scopeOfDeclarations ds) (slots o (ofDeclarations ds))
 alike-declarations [] o = tt
 alike-declarations (declare k us ∷ ds) o =
-    alike-slots (units.ofDeclaration (declare k us)) (units.ofDeclarations ds) (ofDeclaration (declare k us)) (ofDeclarations ds) o (alike-variables k us o)
+    alike-slots (units.scopeOfDeclaration (declare k us)) (units.scopeOfDeclarations ds) (ofDeclaration (declare k us)) (ofDeclarations ds) o (alike-variables k us o)
     (alike-declarations ds (o + totalOf (ofDeclaration (declare k us))))
 
-alike-groups : (gs : List Group) (o : ℕ) → Alike (units.ofGroups gs) (slots o (ofGroups gs))
+alike-groups : (gs : List Group) (o : ℕ) → Alike (units.scopeOfGroups gs) (slots o (ofGroups gs))
 alike-groups [] o = tt
 alike-groups (group k ws ∷ gs) o =
-    alike-slots (units.ofGroup (group k ws)) (units.ofGroups gs) (ofGroup (group k ws)) (ofGroups gs) o (alike-parameters k ws o) (alike-groups gs (o + totalOf (ofGroup (group k ws))))
+    alike-slots (units.scopeOfGroup (group k ws)) (units.scopeOfGroups gs) (ofGroup (group k ws)) (ofGroups gs) o (alike-parameters k ws o) (alike-groups gs (o + totalOf (ofGroup (group k ws))))
 
 alike-part : (u : Part) (s o n : ℕ) → Alike (ofPart u) (entriesIn s o n u)
 alike-part (mtypes ws) s o n = alike-messages ws n
@@ -129,7 +129,7 @@ alike-locals M g [] k b = absurd b
 alike-locals M g (mtypes ws ∷ m) zero b = absurd b
 alike-locals M g (global d ∷ m) zero b = absurd b
 alike-locals M g (process a w gs (body ds q) ∷ m) zero b =
-    alike-slots (units.ofGroups gs) (units.ofDeclarations ds) (ofGroups gs) (ofDeclarations ds) 0 (alike-groups gs 0) (alike-declarations ds (0 + totalOf (ofGroups gs)))
+    alike-slots (units.scopeOfGroups gs) (units.scopeOfDeclarations ds) (ofGroups gs) (ofDeclarations ds) 0 (alike-groups gs 0) (alike-declarations ds (0 + totalOf (ofGroups gs)))
 alike-locals M g (init (body ds q) ∷ m) zero b = alike-declarations ds 0
 alike-locals M g (u ∷ m) (suc k) b = alike-locals M (g ++ ofPart u) m k b
 
@@ -236,10 +236,10 @@ variables-other : (k : ℕ) (us : List Variable) (g : Scope) (f : ℕ → Var �
 unfolding variables variableFrom
 variables-other k [] g f b w d h e = refl
 variables-other k (variable v s x ∷ us) g f b w d h e =
-    let p = both-true (globalLawful g k (variable v s x)) (variables (λ l x. globalLawful l k x) k (g ++ units.ofVariable k (variable v s x) ∷ []) us) h in
-    let r = both-true (fresh g v) (both (sized s) (valued (senseOf [] (g ++ units.ofVariable k (variable v s x) ∷ [])) x)) (p .0) .0 in
+    let p = both-true (globalLawful g k (variable v s x)) (variables (λ l x. globalLawful l k x) k (g ++ units.senseOfVariable k (variable v s x) ∷ []) us) h in
+    let r = both-true (fresh g v) (both (sized s) (valued (senseOf [] (g ++ units.senseOfVariable k (variable v s x) ∷ [])) x)) (p .0) .0 in
     ap (λ c. pick c (f b (ofVariable k (variable v s x))) (variableFrom f (suc b) (map (ofVariable k) us) w d)) (fresh-other g v w r e)
-    ∙ variables-other k us (g ++ units.ofVariable k (variable v s x) ∷ []) f (suc b) w d (p .1) (known-append g (units.ofVariable k (variable v s x) ∷ []) w e)
+    ∙ variables-other k us (g ++ units.senseOfVariable k (variable v s x) ∷ []) f (suc b) w d (p .1) (known-append g (units.senseOfVariable k (variable v s x) ∷ []) w e)
 
 globals-other : (M g : Scope) (m : Model) (f : ℕ → Var → Meaning) (b : ℕ) (w : Name) (d : Meaning) → partsLawful M g m ≡ true → isUnknown (senseIn g w) ≡ false
     → variableFrom f b (globalsOf m) w d ≡ d
@@ -419,12 +419,12 @@ proctype-later u m k s w d e q r =
       other = r .other;
     }
 
-groups-arity : (gs : List Group) → length (units.ofGroups gs) ≡ length (ofGroups gs)
+groups-arity : (gs : List Group) → length (units.scopeOfGroups gs) ≡ length (ofGroups gs)
 groups-arity [] = refl
 groups-arity (group k ws ∷ gs) =
-    let a = length-append (units.ofGroup (group k ws)) (units.ofGroups gs) in
+    let a = length-append (units.scopeOfGroup (group k ws)) (units.scopeOfGroups gs) in
     let b = length-append (ofGroup (group k ws)) (ofGroups gs) in
-    let c : length (units.ofGroup (group k ws)) ≡ length ws = length-map ws (units.ofParameter k) in
+    let c : length (units.scopeOfGroup (group k ws)) ≡ length ws = length-map ws (units.senseOfParameter k) in
     let d : length (ofGroup (group k ws)) ≡ length ws = length-map ws (ofParameter k) in
     let r = groups-arity gs in
     omega arith
@@ -463,11 +463,11 @@ proctype-mean M g (process a v gs b ∷ m) k s o n w d h e =
     let u = process a v gs b in
     let p = both-true (partLawful M g u) (partsLawful M (g ++ ofPart u) m) h in
     let r = s + length (code-part u) in
-    go (same v w) (whatIn (entriesOf r (o + 0) (n + 0) m) w) refl e (both-true (fresh g v) (both (joins [] (units.ofGroups gs)) (bodyLawful M (g ++ ofPart u) (units.ofGroups gs) b)) (p .0) .0)
+    go (same v w) (whatIn (entriesOf r (o + 0) (n + 0) m) w) refl e (both-true (fresh g v) (both (joins [] (units.scopeOfGroups gs)) (bodyLawful M (g ++ ofPart u) (units.scopeOfGroups gs) b)) (p .0) .0)
     (proctype-mean M (g ++ ofPart u) m (suc k) r (o + 0) (n + 0) w d (p .1))
   where
     own : Sense
-    own = procedure (length (units.ofGroups gs))
+    own = procedure (length (units.scopeOfGroups gs))
 
     go : (c : Bool) (z : Option What) → same v w ≡ c → pick c (some (proctype (headIn (process a v gs b) s))) z ≡ some (proctype d) → fresh g v ≡ true
         → (z ≡ some (proctype d) → Proctype m (suc k) (s + length (code-part (process a v gs b))) w d) → Proctype (process a v gs b ∷ m) k s w d

@@ -23,7 +23,8 @@ use Rattle.rule_search.specs.Search.{declares, find, last, one, count}
 use Rattle.rule_item.specs.Rules.{isArray}
 use Rattle.rule_ceilings.specs.Ceilings.{numbersAt}
 use Rattle.spec_grammar.specs.Tree.{Name, Model}
-use Rattle.spec_grammar.specs.Code.{i-name, code}
+use Rattle.base_codes.specs.Items.{i-name}
+use Rattle.parse_code.specs.Code.{code}
 use Rattle.legal_terms.specs.Says.{itemAt, Says}
 use Rattle.keep_tables.proofs.Sums.{sum-next}
 use Rattle.spec_machine.specs.Names.{Var}

@@ -14,7 +14,7 @@ use Rattle.legal_items.proofs.Says.{text-says}
 use Rattle.legal_texts.proofs.Main.{rules}
 use Rattle.agree_transfer.specs.Alike.{Alike}
 use Rattle.spec_machine.specs.Steps.{machineOf}
-use Rattle.agree_tables.specs.Tables.{machineIn}
+use Rattle.step_all.specs.Moving.{machineIn}
 use Rattle.agree_tables.proofs.Main.{Holding, machines-alike}
 use Rattle.agree_names.proofs.Main.{Begins, text-tabled, text-small, text-begun, text-few}
 
@@ -23,7 +23,7 @@ module _ (t : List ℕ) (a : Accepts t) where
   pub text-lawful : modelLawful (a .tree) ≡ true
   text-lawful =
       rules (a .tree) (tokensIn t (a .parts)) (a .gram) (codesAt t a) (saidAt t a) (map place-of (a .numbers))
-      (text-says t record { parts = a .parts; reads = a .reads; tree = a .tree; gram = a .gram; numbers = a .numbers; written = a .written; coded = a .coded }) .0 (a .faultless)
+      (text-says t record { parts = a .parts; reads = a .reads; tree = a .tree; gram = a .gram; shallow = a .shallow; numbers = a .numbers; written = a .written; coded = a .coded }) .0 (a .faultless)
 
   module _ (B : Begins t a text-lawful) (rest : List ℤ) where
     pub text-alike : Alike (Holding t a text-lawful (text-tabled t a text-lawful B) (text-small t a text-lawful) (λ k b x j n o w. text-begun t a text-lawful k b x j n o w) (λ k b x j n o w. text-few t a text-lawful k b x j n o w) rest)

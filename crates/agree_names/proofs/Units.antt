@@ -9,17 +9,18 @@ use mathlib.Core.List.{List, [], _∷_, _++_, append-assoc, append-nil}
 use lib.ListN.{length, getD, length-append}
 use lib.Dec.{leb}
 use borrow.Author.Tests.{leb-true}
-use Rattle.base_codes.specs.Codes.{c-active, c-active-many, c-body, c-global, c-init, c-mtypes, c-parameter, c-proctype}
-use Rattle.rule_sheets.specs.Homes.{heads, insideOf}
+use Rattle.base_codes.specs.Codes.{c-active, c-active-many, c-body, c-global, c-init, c-mtypes, c-name, c-number, c-parameter, c-proctype}
+use Rattle.rule_sheets.specs.Homes.{insideOf}
 use Rattle.rule_search.specs.Sets.{among}
 use Rattle.spec_grammar.specs.Tree.{Name, Model, sequence, Tree, Declaration, declare, Group, body, Activity, idle, once, times, Part, mtypes, global, process, init}
-use Rattle.spec_grammar.specs.Code.{Item, i-name, i-number, i-mtypes, i-global, i-local, i-init, i-proctype, i-active, i-active-many, i-body, i-end-body, each, code-tree, code-declaration, code-group, code-body, code-activity, code-message, code-part, code}
-use Rattle.table_entries.specs.Items.{codeOf}
+use Rattle.base_codes.specs.Items.{Item, codeOf, i-active, i-active-many, i-body, i-end-body, i-global, i-init, i-local, i-mtypes, i-name, i-number, i-proctype}
+use Rattle.base_codes.specs.Sets.{isUnit}
+use Rattle.parse_code.specs.Code.{each, code-tree, code-declaration, code-group, code-body, code-activity, code-message, code-part, code}
 use Rattle.legal_terms.specs.Says.{itemAt, Says}
 use Rattle.spec_machine.specs.Program.{sizeIn, startIn, endIn}
 use Rattle.legal_declarations.proofs.Items.{settled, all-declaration, global-settled, All, all-each}
 use Rattle.legal_declarations.proofs.Standing.{Lies, lies-front, lies-back, lies-all, lies-whole, long, code-at, code-is, settled-at}
-use Rattle.legal_declarations.proofs.Homes.{no-head, inside-none, inside-over, home-inside, home-of-head, home-most}
+use Rattle.legal_declarations.proofs.Homes.{inside-none, inside-over, home-inside, home-of-head, home-most}
 use Rattle.legal_declarations.proofs.Judging.{hs}
 use Rattle.legal_declarations.proofs.Variables.{After}
 use Rattle.legal_declarations.proofs.Declarations.{after-declarations}
@@ -33,8 +34,9 @@ use Rattle.agree_names.specs.Entries.{proctype, Entry, entry, slots, ent
 use Rattle.agree_names.proofs.Scopes.{Scoped, scoped-start, scoped-over, scoped-one, scoped-more}
 use Rattle.agree_names.proofs.Ends.{Free, free-after, free-units}
 use Rattle.agree_names.proofs.Declared.{sets, one-declaration, joined, all-declarations, all-groups, all-messages}
+use Rattle.rule_sheets.proofs.Meaning.{no-head}
 
-marks : (among 1 c-mtypes ≡ false) × (among 1 c-init ≡ false) × (among 1 c-body ≡ false) × (among 1 71 ≡ false) × (among 13 c-proctype ≡ true) × (among 13 c-active ≡ true) × (among 13 c-active-many ≡ true)
+marks : (among 1 c-mtypes ≡ false) × (among 1 c-init ≡ false) × (among 1 c-body ≡ false) × (among 1 c-number ≡ false) × (among 13 c-proctype ≡ true) × (among 13 c-active ≡ true) × (among 13 c-active-many ≡ true)
 unfolding among
 marks = (refl, refl, refl, refl, refl, refl, refl)
 
@@ -104,7 +106,7 @@ module _ (m : Model) (cs vs : List ℕ) (S : Says m cs vs) where
       lies-front xs b (i-body ∷ each (code-declaration i-local) ds) (code-tree q) (lies-front xs b (i-body ∷ each (code-declaration i-local) ds ++ code-tree q) (i-end-body ∷ []) y) .2
 
   -- a proctype, whose name is item i
-  process-in : (a : Activity) (w : Name) (gs : List Group) (ds : List Declaration) (q : Tree sequence) (E : List Entry) (i u b f t k o n : ℕ) → u ≡ suc i → heads k ≡ true → among 13 k ≡ true
+  process-in : (a : Activity) (w : Name) (gs : List Group) (ds : List Declaration) (q : Tree sequence) (E : List Entry) (i u b f t k o n : ℕ) → u ≡ suc i → isUnit k ≡ true → among 13 k ≡ true
       → i < length xs → itemAt xs i ≡ i-name w → suc i < length xs → getD cs (suc i) 0 ≡ k
       → b ≡ suc u + length (each code-group gs) → f ≡ suc b + length (each (code-declaration i-local) ds) → t ≡ f + sizeIn q
       → Lies xs (suc u) (each code-group gs) → Lies xs b (code-body (body ds q)) → After m cs vs S (suc t) → Sc E 0 i o n
@@ -112,14 +114,14 @@ module _ (m : Model) (cs vs : List ℕ) (S : Says m cs vs) where
   process-in a w gs ds q E i u b f t k o n eu hd pr bi qi bu ck eb ef et yg yb after sc =
       let lg = long m cs vs S in
       let cu : getD cs u 0 ≡ k = ap (λ j. getD cs j 0) eu ∙ ck in
-      let F = frame-made m cs vs S gs ds q u b f t (ap heads cu ∙ hd) eb ef et yg yb (omega arith) in
+      let F = frame-made m cs vs S gs ds q u b f t (ap isUnit cu ∙ hd) eb ef et yg yb (omega arith) in
       let i0 = F .parts in
       let i1 = F .inner in
       let i2 = F .last in
       let E2 = E ++ entry w (proctype u) ∷ [] in
       let s2 : Sc E2 0 (suc (suc i)) (o + 0) (n + 0) =
-      scoped-more m cs vs H S E 0 i o n w (proctype u) (omega arith) qi (ap (among 13) ck ∙ pr, home-of-head cs (S .few) (suc i) (omega arith) (ap heads ck ∙ hd), inv eu)
-      (scoped-one m cs vs H S E 0 i o n 70 (code-is m cs vs S i (i-name w) bi qi) (sets .0) sc) in
+      scoped-more m cs vs H S E 0 i o n w (proctype u) (omega arith) qi (ap (among 13) ck ∙ pr, home-of-head cs (S .few) (suc i) (omega arith) (ap isUnit ck ∙ hd), inv eu)
+      (scoped-one m cs vs H S E 0 i o n c-name (code-is m cs vs S i (i-name w) bi qi) (sets .0) sc) in
       record {
         frame = F;
         locals = own-entries u b f t F gs ds eb ef yg (inner-declarations ds q b yb) (frame-behind m cs vs S u b f t F (after .0));
@@ -146,7 +148,7 @@ module _ (m : Model) (cs vs : List ℕ) (S : Says m cs vs) where
         InUnit x (E ++ entriesIn j o n x) (headIn x j) (bodyIn x j) (startIn (bodyOf x) (bodyIn x j)) (endIn (bodyOf x) (bodyIn x j)) (o + totalOf (globalIn x)) (n + length (messageIn x))
 
     -- a proctype whose name is item i
-    proctype-in : (a : Activity) (w : Name) (gs : List Group) (ds : List Declaration) (q : Tree sequence) (i k : ℕ) → suc (suc i) ≡ j + length (code-activity a w) → heads k ≡ true → among 13 k ≡ true
+    proctype-in : (a : Activity) (w : Name) (gs : List Group) (ds : List Declaration) (q : Tree sequence) (i k : ℕ) → suc (suc i) ≡ j + length (code-activity a w) → isUnit k ≡ true → among 13 k ≡ true
         → i < length xs → itemAt xs i ≡ i-name w → suc i < length xs → getD cs (suc i) 0 ≡ k
         → Lies xs j (code-part (process a w gs (body ds q))) → After m cs vs S (j + length (code-part (process a w gs (body ds q)))) → Sc E 0 i o n → In (process a w gs (body ds q))
     proctype-in a w gs ds q i k ei hd pr bi qi bu ck y after sc =
@@ -174,7 +176,7 @@ module _ (m : Model) (cs vs : List ℕ) (S : Says m cs vs) where
         proctype-in once w gs ds q j c-active (omega arith) refl (marks .5) (y .0) (y .1) (y .2 .0) (code-is m cs vs S (suc j) i-active (y .2 .0) (y .2 .1)) y after sc
     unit-in (process (times r) w gs (body ds q)) bo y after sc =
         proctype-in (times r) w gs ds q (suc j) c-active-many (omega arith) refl (marks .6) (y .2 .0) (y .2 .1) (y .2 .2 .0) (code-is m cs vs S (suc (suc j)) i-active-many (y .2 .2 .0) (y .2 .2 .1)) y after
-        (scoped-one m cs vs H S E 0 j o n 71 (code-is m cs vs S j (i-number r) (y .0) (y .1)) (marks .3) sc)
+        (scoped-one m cs vs H S E 0 j o n c-number (code-is m cs vs S j (i-number r) (y .0) (y .1)) (marks .3) sc)
     unit-in (init (body ds q)) bo y after sc =
         let D = each (code-declaration i-local) ds in
         let s3 = body-long ds q in
@@ -183,7 +185,7 @@ module _ (m : Model) (cs vs : List ℕ) (S : Says m cs vs) where
         let f = b + 1 + length D in
         let t = f + sizeIn q in
         let yb : Lies xs b (code-body (body ds q)) = subst (λ i. Lies xs i (code-body (body ds q))) (let z : suc j ≡ j + 1 = omega arith in z) (y .2) in
-        let F = frame-made m cs vs S [] ds q j b f t (ap heads ci) (omega arith) (omega arith) refl tt yb (y .0) in
+        let F = frame-made m cs vs S [] ds q j b f t (ap isUnit ci) (omega arith) (omega arith) refl tt yb (y .0) in
         let i1 = F .inner in
         let i2 = F .last in
         let aft = subst (After m cs vs S) (let z : j + suc (length (code-body (body ds q))) ≡ suc t = omega arith in z) after in

@@ -10,7 +10,7 @@ use mathlib.Core.List.{List, []}
 use lib.ListN.{length, getD}
 use lib.Dec.{ltb}
 use borrow.Author.Tests.{eqb-true}
-use Rattle.base_codes.specs.Codes.{c-declared, c-message, c-named, c-parameter}
+use Rattle.base_codes.specs.Codes.{c-declared, c-message, c-name, c-named, c-parameter}
 use Rattle.base_bytes.specs.Choice.{pick}
 use Rattle.base_bytes.specs.Lists.{same}
 use Rattle.base_bytes.proofs.Tests.{true-false}
@@ -19,7 +19,8 @@ use Rattle.spec_text.specs.Names.{pid}
 use Rattle.rule_search.specs.Sets.{among}
 use Rattle.rule_search.specs.Search.{find, lookup}
 use Rattle.spec_grammar.specs.Tree.{Name, Model}
-use Rattle.spec_grammar.specs.Code.{i-name, code}
+use Rattle.base_codes.specs.Items.{i-name}
+use Rattle.parse_code.specs.Code.{code}
 use Rattle.read_passes.specs.Judging.{tablesText}
 use Rattle.read_accepts_proof.specs.Meaning.{Accepts}
 use Rattle.table_layout.specs.Access.{linkOf}
@@ -74,7 +75,7 @@ module _ (t : List ℕ) (a : Accepts t) (legal : modelLawful (a .tree) ≡ true)
     abbrev is : ℕ
     is = numberOf (messageFrom 1 (messagesOf m) w)
 
-    name-here : getD C j 0 ≡ 70
+    name-here : getD C j 0 ≡ c-name
     name-here = code-is m C W says j (i-name w) (let z = long m C W says in omega arith) q
 
     message-there : (h : ℕ) → getD hs (suc j) 0 ≡ h → getD C (lookup C W hs v h j) 0 ≡ c-message
@@ -87,7 +88,7 @@ module _ (t : List ℕ) (a : Accepts t) (legal : modelLawful (a .tree) ≡ true)
     before h e = go (ℕ-discrete (lookup C W hs v h j) j)
       where
         go : Dec (lookup C W hs v h j ≡ j) → lookup C W hs v h j < j
-        go (yes z) = absurd (let x = message-there h e in let y : getD C (lookup C W hs v h j) 0 ≡ 70 = ap (λ i. getD C i 0) z ∙ name-here in omega arith)
+        go (yes z) = absurd (let x = message-there h e in let y : getD C (lookup C W hs v h j) 0 ≡ c-name = ap (λ i. getD C i 0) z ∙ name-here in omega arith)
         go (no z) = let l = lookup-most C W hs j j (omega arith) (λ x y w. absurd (omega arith)) v h j in omega arith
 
     -- it is not `_pid`, which is declared nowhere

@@ -1,3 +1,4 @@
+-- Bridge, for `demand2` (crate `demands`).
 -- WHAT IS DECLARED, in text order, with what a declaration says of the item that makes it: one list for each space of names, the globals' and each body's. Document 01, "Names": "globals, mtype
 -- names and proctypes share one space .. a local hides any of them". Tables and trees are both compared with these lists.
 use Prim.Native.Nat.{ℕ, zero, suc, _+_}
@@ -8,7 +9,7 @@ use Rattle.base_bytes.specs.Choice.{pick}
 use Rattle.base_bytes.specs.Lists.{same}
 use Rattle.spec_grammar.specs.Tree.{Name, Part, mtypes, process, init, Model}
 use Rattle.spec_grammar.specs.Tree as tree
-use Rattle.spec_grammar.specs.Code.{code-part}
+use Rattle.parse_code.specs.Code.{code-part}
 use Rattle.spec_machine.specs.Names.{Var, ofDeclaration, globalIn, messageIn}
 use Rattle.state_encode.specs.Encode.{headIn}
 use Rattle.state_encode.specs.Tabled.{totalOf}

@@ -8,9 +8,9 @@ use lib.ListN.{length}
 use Rattle.base_codes.specs.Codes.{c-label}
 use Rattle.base_kinds.specs.Kinds.{Token}
 use Rattle.spec_grammar.specs.Tree.{Sort, action, statement, sequence, Tree, express, assign, increment, decrement, send, receive, assert, print, skip, goto, break, timeout, else, run, set-run, select, loop, bare, labelled, end, then, Body, Part, Model}
-use Rattle.spec_grammar.specs.Code.{Item, i-name, i-text, i-express, i-target, i-assign, i-increment, i-decrement, i-send, i-receive, i-assert, i-skip, i-goto, i-break, i-timeout, i-else, i-run, i-set-run, i-if, i-fi, i-do, i-od, i-end, i-label, each, code-exp, code-argument, code-received, code-tree}
+use Rattle.base_codes.specs.Items.{Item, codeOf, i-assert, i-assign, i-break, i-decrement, i-do, i-else, i-end, i-express, i-fi, i-goto, i-if, i-increment, i-label, i-name, i-od, i-receive, i-run, i-send, i-set-run, i-skip, i-target, i-text, i-timeout}
+use Rattle.parse_code.specs.Code.{each, code-exp, code-argument, code-received, code-tree}
 use Rattle.spec_grammar.specs.Grammar.{D, s-express, s-assign, s-increment, s-decrement, s-send, s-receive, s-assert, s-print-alone, s-print, s-skip, s-goto, s-break, s-timeout, s-else, s-run, s-set-run, s-if, s-do, s-bare, s-label, q-last, q-then, o-last, o-also, Items, statements, declared, A-body, a-body, A-unit, u-mtypes, u-global, u-process, u-init, Gram, g-last, g-more}
-use Rattle.table_entries.specs.Items.{codeOf}
 use Rattle.agree_nesting.specs.Balanced.{Begun}
 use Rattle.agree_nesting.specs.Full.{Starts, Full, FullBody, FullPart, FullModel}
 

@@ -6,8 +6,9 @@ use mathlib.Core.Bool.{true}
 use mathlib.Core.List.{List}
 use lib.ListN.{length, getD}
 use Rattle.base_codes.specs.Codes.{c-do, c-if, c-option}
-use Rattle.spec_grammar.specs.Code.{Item}
-use Rattle.link_places.specs.Places.{isClosing, closeFrom, closeOf}
+use Rattle.base_codes.specs.Items.{Item}
+use Rattle.base_codes.specs.Sets.{isClosing}
+use Rattle.link_places.specs.Places.{closeFrom, closeOf}
 use Rattle.link_phrases_proof.specs.Phrases.{At}
 use Rattle.agree_nesting.specs.Balanced.{Begun, Balanced}
 use Rattle.agree_nesting.proofs.Skips.{Kind, selections, options, stop, skip}

@@ -10,9 +10,9 @@ use lib.Dec.{eqb}
 use borrow.Author.Tests.{ne-eqb}
 use Rattle.base_codes.specs.Codes.{c-do, c-end-option, c-fi, c-if, c-od, c-option}
 use Rattle.base_bytes.specs.Choice.{both}
-use Rattle.spec_grammar.specs.Code.{Item}
-use Rattle.table_entries.specs.Items.{codeOf}
-use Rattle.link_places.specs.Places.{isOpening, isClosing, deeper, closeFrom}
+use Rattle.base_codes.specs.Items.{Item, codeOf}
+use Rattle.base_codes.specs.Sets.{isOpening, isClosing}
+use Rattle.link_places.specs.Places.{deeper, closeFrom}
 use Rattle.link_phrases_proof.specs.Phrases.{At}
 use Rattle.link_phrases_proof.proofs.Starts.{at-front, at-back}
 use Rattle.agree_nesting.specs.Balanced.{Pair, if-fi, do-od, an-option, Balanced, none, other, pair}
@@ -65,10 +65,10 @@ record Around (p d : ℕ) (x y : Item) : Type 0 where
   out-step : both (isClosing p (codeOf y)) (eqb between 1) ≡ false
   out-depth : deeper p (codeOf y) between ≡ d
 
-deep-not : (d : ℕ) → 1 ≤ d → eqb (d + 1) 1 ≡ false
+pub deep-not : (d : ℕ) → 1 ≤ d → eqb (d + 1) 1 ≡ false
 deep-not d h = ne-eqb (d + 1) 1 (λ e. omega arith)
 
-back-one : (d : ℕ) → d + 1 - 1 ≡ d
+pub back-one : (d : ℕ) → d + 1 - 1 ≡ d
 back-one d = omega arith
 
 around : {p q : ℕ} {x y : Item} → Kind p → Pair q x y → (d : ℕ) → 1 ≤ d → Around p d x y

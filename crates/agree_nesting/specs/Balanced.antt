@@ -1,3 +1,4 @@
+-- Bridge, for `demand2` (crate `demands`).
 -- Items in which what opens a selection or an option is closed, each inside of what it opens in: docs/TABLES.md, "Links".
 use Prim.Native.Nat.{ℕ, _<_, _≤_}
 use mathlib.Core.Path.{_≡_}
@@ -5,10 +6,9 @@ use mathlib.Core.Logic.{_⊎_}
 use mathlib.Core.List.{List, [], _∷_, _++_}
 use lib.ListN.{length, getD}
 use Rattle.base_codes.specs.Codes.{c-end-option, c-if, c-label}
-use Rattle.spec_grammar.specs.Code.{Item, i-plain, i-if, i-fi, i-do, i-od, i-option, i-end-option}
-use Rattle.table_entries.specs.Items.{codeOf}
+use Rattle.base_codes.specs.Items.{Item, codeOf, i-do, i-end-option, i-fi, i-if, i-od, i-option, i-plain}
 
--- the number of a pair, what opens it, and what closes it (crate `link_places`): 0 selections, 2 options
+-- the number of a pair, what opens it, and what closes it (specs/Sets.antt of `base_codes`): 0 selections, 2 options
 pub data Pair : ℕ → Item → Item → Type 0 where
   if-fi : Pair 0 i-if i-fi
   do-od : Pair 0 i-do i-od

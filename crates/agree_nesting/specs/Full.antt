@@ -1,3 +1,4 @@
+-- Bridge, for `demand2` (crate `demands`).
 -- Trees whose options each hold a statement: document 01, "`if`/`do` with one or more options, each `::` and a statement sequence".
 use mathlib.Core.List.{[], _∷_}
 use Rattle.spec_grammar.specs.Tree.{Sort, sequence, Tree, express, assign, increment, decrement, send, receive, assert, print, skip, goto, break, timeout, else, run, set-run, select, loop, bare, labelled, end, then, over, option, Body, body, Part, mtypes, global, process, init, Model}

@@ -7,11 +7,12 @@ use mathlib.Core.List.{List, [], _∷_, _++_}
 use lib.ListN.{length, replicate}
 use lib.Dec.{eqb, ltb}
 use borrow.Author.Tests.{ltb-false}
+use Rattle.base_ceilings.specs.Ceilings.{channelsMost, globalsMost, itemsMost, mtypesMost, processesMost, proctypesMost, statementsMost}
 use Rattle.base_bytes.specs.Choice.{pick, either}
 use Rattle.base_bytes.proofs.Tests.{true-false, either-false}
 use Rattle.spec_grammar.specs.Tree.{action, statement, sequence, options, Tree, express, assign, increment, decrement, send, receive, assert, print, skip, goto, break, timeout, else, run, set-run, select, loop, bare, labelled, end, then, over, option}
-use Rattle.spec_grammar.specs.Code.{Item, i-name, i-text, i-express, i-target, i-assign, i-increment, i-decrement, i-send, i-receive, i-assert, i-end, i-run, i-set-run, i-if, i-fi, i-do, i-od, i-end-option, each, code-exp, code-argument, code-received, code-tree, code}
-use Rattle.table_entries.specs.Items.{codeOf}
+use Rattle.base_codes.specs.Items.{Item, codeOf, i-assert, i-assign, i-decrement, i-do, i-end, i-end-option, i-express, i-fi, i-if, i-increment, i-name, i-od, i-receive, i-run, i-send, i-set-run, i-target, i-text}
+use Rattle.parse_code.specs.Code.{each, code-exp, code-argument, code-received, code-tree, code}
 use Rattle.rule_sheets.specs.Walks.{sum}
 use Rattle.rule_sheets.specs.Homes.{homesOf}
 use Rattle.rule_search.specs.Sets.{among}
@@ -88,16 +89,16 @@ module _ (cs vs hs : List ℕ) where
       let z : i + 1 ≡ suc i = omega arith in
       ap₂ _+_ (ap (one 11) (h .0)) (ap (λ n. sum (weight cs vs hs 1) n (length l)) z ∙ counted l (suc i) (h .1))
 
-  ceiled : anyPassed cs vs hs ≡ false → total cs vs hs 1 ≤ 512
+  ceiled : anyPassed cs vs hs ≡ false → total cs vs hs 1 ≤ statementsMost
   unfolding anyPassed
   ceiled e =
       let n = total cs vs hs in
-      let p = either (ltb 512 (n 1)) (ltb 64 (n 2)) in
-      let q = either (ltb 16 (n 3)) (ltb 64 (numbers cs vs hs 0)) in
-      let r = either (either (ltb 0 (n 7)) (ltb 0 (n 6))) (either (either (ltb 16 (n 4)) (eqb (n 4) 0)) (ltb 16 (n 5))) in
-      ltb-false 512 (total cs vs hs 1) (either-false (ltb 512 (n 1)) (ltb 64 (n 2)) (either-false p q (either-false (either p q) r e .0) .0) .0)
+      let p = either (ltb statementsMost (n 1)) (ltb mtypesMost (n 2)) in
+      let q = either (ltb proctypesMost (n 3)) (ltb globalsMost (numbers cs vs hs 0)) in
+      let r = either (either (ltb 0 (n 7)) (ltb 0 (n 6))) (either (either (ltb processesMost (n 4)) (eqb (n 4) 0)) (ltb channelsMost (n 5))) in
+      ltb-false statementsMost (total cs vs hs 1) (either-false (ltb statementsMost (n 1)) (ltb mtypesMost (n 2)) (either-false p q (either-false (either p q) r e .0) .0) .0)
 
-  counted-few : (l : List Item) → At cs 0 l → length cs ≡ length l → anyPassed cs vs hs ≡ false → marks l ≤ 512
+  counted-few : (l : List Item) → At cs 0 l → length cs ≡ length l → anyPassed cs vs hs ≡ false → marks l ≤ statementsMost
   unfolding total
   counted-few l h n e =
       let a = ceiled e in
@@ -105,20 +106,20 @@ module _ (cs vs hs : List ℕ) where
       let c = ap (sum (weight cs vs hs 1) 0) n in
       omega arith
 
-passed-none : (cs vs : List ℕ) → passed cs vs ≡ false → anyPassed cs vs (homesOf cs (replicate 8192 0)) ≡ false
+passed-none : (cs vs : List ℕ) → passed cs vs ≡ false → anyPassed cs vs (homesOf cs (replicate itemsMost 0)) ≡ false
 unfolding passed
-passed-none cs vs e = go (ltb 8192 (length cs)) e
+passed-none cs vs e = go (ltb itemsMost (length cs)) e
   where
-    go : (b : Bool) → pick b true (anyPassed cs vs (homesOf cs (replicate 8192 0))) ≡ false → anyPassed cs vs (homesOf cs (replicate 8192 0)) ≡ false
+    go : (b : Bool) → pick b true (anyPassed cs vs (homesOf cs (replicate itemsMost 0))) ≡ false → anyPassed cs vs (homesOf cs (replicate itemsMost 0)) ≡ false
     go true e = absurd (true-false e)
     go false e = e
 
 module _ (t : List ℕ) (a : Accepts t) where
-  text-marks : marks (code (a .tree)) ≤ 512
+  text-marks : marks (code (a .tree)) ≤ statementsMost
   text-marks = counted-few (codesAt t a) (saidAt t a) (homesAt t a) (code (a .tree)) (all-at t a) (items-long t a) (passed-none (codesAt t a) (saidAt t a) (a .within))
 
   -- options whose items stand in its code
-  pub few-options : (os : Tree options) (i : ℕ) → Full os → Lying (code (a .tree)) 0 (code-tree os) i → optionsIn os ≤ 512
+  pub few-options : (os : Tree options) (i : ℕ) → Full os → Lying (code (a .tree)) 0 (code-tree os) i → optionsIn os ≤ statementsMost
   few-options os i f l =
       let b = options-marked os f in
       let c = text-marks in

@@ -9,9 +9,11 @@ use borrow.Author.Tests.{ne-eqb}
 use Rattle.base_codes.specs.Codes.{c-do, c-false, c-if, c-label, c-timeout}
 use Rattle.base_bytes.proofs.Tests.{true-false}
 use Rattle.spec_grammar.specs.Tree.{Shape, Exp, plain, indexed, num, tru, fls, get, len, unary, binary, choice, Expr, action, statement, sequence, options, Tree, express, assign, increment, decrement, send, receive, assert, print, skip, goto, break, timeout, else, run, set-run, select, loop, bare, labelled, end, then, over, option}
-use Rattle.spec_grammar.specs.Code.{Item, i-name, i-len, i-unary, i-binary, i-otherwise, i-choice, i-argument, i-express, i-target, i-assign, i-increment, i-decrement, i-send, i-receive, i-assert, i-end, i-set-run, i-fi, i-od, i-end-option, each, code-exp, code-argument, code-received, code-tree}
-use Rattle.table_entries.specs.Items.{codeOf as itemCode}
-use Rattle.link_phrases_proof.specs.Phrases.{Proper, inExpression}
+use Rattle.base_codes.specs.Items.{Item, i-argument, i-assert, i-assign, i-binary, i-choice, i-decrement, i-end, i-end-option, i-express, i-fi, i-increment, i-len, i-name, i-od, i-otherwise, i-receive, i-send, i-set-run, i-target, i-unary}
+use Rattle.parse_code.specs.Code.{each, code-exp, code-argument, code-received, code-tree}
+use Rattle.base_codes.specs.Items.{codeOf as itemCode}
+use Rattle.base_codes.specs.Sets.{isPart}
+use Rattle.link_phrases_proof.specs.Phrases.{Proper}
 use Rattle.link_phrases_proof.proofs.Starts.{some-items}
 use Rattle.link_phrases_proof.proofs.Inside.{all-inside, phrase-inside, mark-outside}
 use Rattle.table_layout.specs.Access.{codeOf}
@@ -87,7 +89,7 @@ module _ (U : List ℕ) where
   rest-first (then s q) l i h = statement-first s i (held-front U i (code-tree s) (code-tree q) (held-front U i (code-tree s ++ code-tree q) (i-end-option ∷ l) h))
 
   -- ---- the second item
-  inside-no-label : (c : ℕ) → inExpression c ≡ true → c ≡ c-label → ⊥
+  inside-no-label : (c : ℕ) → isPart c ≡ true → c ≡ c-label → ⊥
   inside-no-label c e z = true-false (inv e ∙ mark-outside c (omega arith))
 
   list-second : (p : List Item) (i : ℕ) → 1 ≤ length p → all-inside p → Held U i p → (codeOf U (i + length p) ≡ c-label → ⊥) → codeOf U (suc i) ≡ c-label → ⊥

@@ -7,9 +7,11 @@ use mathlib.Core.Bool.{Bool}
 use mathlib.Core.List.{List, [], _∷_, _++_}
 use lib.ListN.{length-append}
 use lib.IntN.{ℤ}
+use Rattle.base_ceilings.specs.Ceilings.{itemsMost, selectionsMost}
 use Rattle.base_codes.specs.Codes.{c-end-body}
 use Rattle.spec_grammar.specs.Tree.{Sort, action, Tree, Body, body, Model}
-use Rattle.spec_grammar.specs.Code.{i-local, i-body, i-end-body, each, code-declaration, code-body, code-tree}
+use Rattle.base_codes.specs.Items.{i-body, i-end-body, i-local}
+use Rattle.parse_code.specs.Code.{each, code-declaration, code-body, code-tree}
 use Rattle.table_layout.specs.Access.{codeOf}
 use Rattle.read_passes.specs.Judging.{tablesText}
 use Rattle.read_accepts_proof.specs.Meaning.{Accepts}
@@ -21,7 +23,7 @@ use Rattle.agree_eval.proofs.Codes.{codes-few}
 use Rattle.agree_eval.proofs.Items.{T}
 use Rattle.agree_eval.proofs.Main.{items-long}
 use Rattle.spec_machine.specs.Stage.{Ways}
-use Rattle.spec_machine.specs.Program.{Within, itself, in-if, in-do, unlabelled, behind-label, in-first, in-rest, in-option, in-others, Holds, in-process, in-init, later, endIn, statementsOf, Statement, Ending}
+use Rattle.spec_machine.specs.Program.{Within, itself, in-if, in-do, unlabelled, behind-label, in-first, in-rest, in-option, in-others, Holds, in-process, in-init, later, endIn, sequenceOf, Statement, BodyEnd}
 use Rattle.spec_machine.specs.Offers.{offers}
 use Rattle.agree_stage.proofs.Stands.{Lying, body-lies, statement-lies, lying-back}
 use Rattle.agree_nesting.specs.Full.{Full, FullBody, FullModel}
@@ -33,18 +35,18 @@ use Rattle.agree_offers.proofs.Places.{xs, held-there, inside-there}
 use Rattle.agree_offers.proofs.Texts.{told}
 
 -- ---- what holds of a model holds of its bodies, and of their statements
-full-statements : (b : Body) → FullBody b → Full (statementsOf b)
+full-statements : (b : Body) → FullBody b → Full (sequenceOf b)
 full-statements (body ds q) f = f
 
-shallow-statements : (b : Body) → ShallowBody b → depth (statementsOf b) ≤ 8
+shallow-statements : (b : Body) → ShallowBody b → depth (sequenceOf b) ≤ selectionsMost
 shallow-statements (body ds q) f = f
 
-holds-full : {m : Model} {i u k : ℕ} {b : Body} → Holds m i u b k → FullModel m → Full (statementsOf b)
+holds-full : {m : Model} {i u k : ℕ} {b : Body} → Holds m i u b k → FullModel m → Full (sequenceOf b)
 holds-full (in-process {b = b} e g) f = full-statements b (f .0)
 holds-full (in-init {b = b} e) f = full-statements b (f .0)
 holds-full (later h) f = holds-full h (f .1)
 
-holds-shallow : {m : Model} {i u k : ℕ} {b : Body} → Holds m i u b k → ShallowModel m → depth (statementsOf b) ≤ 8
+holds-shallow : {m : Model} {i u k : ℕ} {b : Body} → Holds m i u b k → ShallowModel m → depth (sequenceOf b) ≤ selectionsMost
 holds-shallow (in-process {b = b} e g) f = shallow-statements b (f .0)
 holds-shallow (in-init {b = b} e) f = shallow-statements b (f .0)
 holds-shallow (later h) f = holds-shallow h (f .1)
@@ -74,7 +76,7 @@ within-depth (in-others w) = let h = within-depth w in omega arith
 module _ (t : List ℕ) (a : Accepts t) where
   -- ---- ceilings
   -- "open if/do 8"
-  pub text-shallow : {u k : ℕ} {b : Body} → Holds (a .tree) 0 u b k → depth (statementsOf b) ≤ 8
+  pub text-shallow : {u k : ℕ} {b : Body} → Holds (a .tree) 0 u b k → depth (sequenceOf b) ≤ selectionsMost
   text-shallow h = holds-shallow h (shallow-model _ (a .tree) (a .gram) (a .shallow))
 
   text-full : {u j : ℕ} {x : Tree action} {h : Ways} → Statement (a .tree) u x j h → Full x
@@ -88,7 +90,7 @@ module _ (t : List ℕ) (a : Accepts t) where
       let d = text-shallow (st .held) in
       let e = within-depth (st .inside) in
       let b = inside-there t a (code-tree x) j l in
-      walked (T t a) s p late x j 9 8192 (told t a x j (text-full st) l) (omega arith) (omega (arith, items-long t a, codes-few t a))
+      walked (T t a) s p late x j (selectionsMost + 1) itemsMost (told t a x j (text-full st) l) (omega arith) (omega (arith, items-long t a, codes-few t a))
 
   pub text-offers : {u j : ℕ} {x : Tree action} {h : Ways} → Statement (a .tree) u x j h → (s : List ℤ) (p : ℕ) (late : Bool)
       → offersOf (tablesText t) s p late j ≡ offers (λ y i. readyOf (tablesText t) s p late i) x j
@@ -103,8 +105,8 @@ module _ (t : List ℕ) (a : Accepts t) where
       held-there t a (i-end-body ∷ []) (endIn (body ds q) k) (lying-back (xs t a) (D ++ code-tree q) (i-end-body ∷ []) 0 k (endIn (body ds q) k) (omega arith) l) .0
 
   -- a unit ends with `end-body` (228)
-  pub text-ends : {u j : ℕ} → Ending (a .tree) u j → codeOf (tablesText t) j ≡ c-end-body
+  pub text-ends : {u j : ℕ} → BodyEnd (a .tree) u j → codeOf (tablesText t) j ≡ c-end-body
   text-ends {u} {j} e = ap₂ codeOf (text-tables t a) (e .ends) ∙ end-in-tables (e .own) (e .at) (body-lies (e .held))
 
   pub text-ended : (s : List ℤ) (p : ℕ) (late : Bool) (j : ℕ) → codeOf (tablesText t) j ≡ c-end-body → offersOf (tablesText t) s p late j ≡ []
-  text-ended s p late j e = end-offers (tablesText t) s p late 9 j 8192 e
+  text-ended s p late j e = end-offers (tablesText t) s p late (selectionsMost + 1) j itemsMost e

@@ -6,9 +6,11 @@ use mathlib.Core.Bool.{true}
 use mathlib.Core.List.{List, _∷_, _++_}
 use lib.ListN.{length, length-append}
 use Rattle.spec_grammar.specs.Tree.{Shape, Exp}
-use Rattle.spec_grammar.specs.Code.{Item, code-exp, code}
-use Rattle.table_entries.specs.Items.{codeOf as itemCode, AllKnown}
-use Rattle.link_places.specs.Places.{isClosing}
+use Rattle.base_codes.specs.Items.{Item}
+use Rattle.parse_code.specs.Code.{code-exp, code}
+use Rattle.base_codes.specs.Items.{codeOf as itemCode}
+use Rattle.base_codes.specs.Sets.{isClosing}
+use Rattle.table_entries.specs.Items.{AllKnown}
 use Rattle.link_phrases_proof.specs.Phrases.{At, Proper}
 use Rattle.link_phrases_proof.proofs.Starts.{at-front, at-back}
 use Rattle.table_layout.specs.Access.{linkOf}

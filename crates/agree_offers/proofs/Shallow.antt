@@ -3,35 +3,30 @@ use Prim.Native.Nat.{ℕ, suc, max, _+_, _-_, _≤_, _<_}
 use native.Mathlib.Omega.{arith}
 use mathlib.Core.Path.{_≡_, refl, sym, subst, _∙_}
 use mathlib.Core.Bool.{Bool, true, false, cond}
-use mathlib.Core.Option.{Option, none, some}
+use mathlib.Core.Option.{none, some}
 use mathlib.Core.List.{List, [], _∷_, _++_, append-assoc}
 use lib.Dec.{leb}
 use borrow.Author.Tests.{leb-false, ne-eqb}
+use Rattle.base_ceilings.specs.Ceilings.{bracketsMost, selectionsMost}
 use Rattle.base_bytes.proofs.Tests.{true-false}
-use Rattle.base_kinds.specs.Kinds.{Token, sym as mark, name}
+use Rattle.base_kinds.specs.Kinds.{Token, sym as mark, name, level}
 use Rattle.spec_grammar.specs.Marks.{'!, '?, '=, '++, '--, '->, ':, '::, 'lpar, 'rpar, '], 'lbrace, 'rbrace, 'if, 'fi, 'do, 'od, 'run, 'init, 'proctype}
 use Rattle.spec_grammar.specs.Tree.{Sort, Expr, Received, Tree, Value, Variable, Declaration, Group, Body, Activity, Name, Part, Model}
-use Rattle.spec_grammar.specs.Grammar.{Listed, one, more, Maybe-listed, no-list, a-list, Message, commas, call, Semicolons, no-semi, semi, Trailing, none-trails, semi-trails, arrow-trails, Parted, by-semi, by-arrow, A-name, a-name, Is-type, is-bit, is-bool, is-byte, is-mtype, is-pid, is-chan, is-short, is-int, A-type, a-type, level, Is-unary, is-minus, is-not, is-flip, E, e-plain, e-index, e-number, e-true, e-false, e-len, e-group, e-choice, e-unary, e-binary, e-up, An-expression, A-received, r-into, r-eval, r-number, r-true, r-false, D, s-express, s-assign, s-increment, s-decrement, s-send, s-receive, s-assert, s-print-alone, s-print, s-skip, s-goto, s-break, s-timeout, s-else, s-run, s-set-run, s-if, s-do, s-bare, s-label, q-last, q-then, o-last, o-also, A-value, v-number, v-minus, v-true, v-false, v-name, A-variable, x-bare, x-set, x-array, x-array-set, x-channel, A-declaration, declaration, A-group, a-group, Items, statements, declared, A-body, a-body, An-activity, not-active, active, active-times, A-unit, u-mtypes, u-global, u-process, u-init, Gram, g-last, g-more}
+use Rattle.spec_grammar.specs.Grammar.{Listed, one, more, Maybe-listed, no-list, a-list, Message, commas, call, Semicolons, no-semi, semi, Trailing, none-trails, semi-trails, arrow-trails, Parted, by-semi, by-arrow, A-name, a-name, Is-type, is-bit, is-bool, is-byte, is-mtype, is-pid, is-chan, is-short, is-int, A-type, a-type, Is-unary, is-minus, is-not, is-flip, E, e-plain, e-index, e-number, e-true, e-false, e-len, e-group, e-choice, e-unary, e-binary, e-up, An-expression, A-received, r-into, r-eval, r-number, r-true, r-false, D, s-express, s-assign, s-increment, s-decrement, s-send, s-receive, s-assert, s-print-alone, s-print, s-skip, s-goto, s-break, s-timeout, s-else, s-run, s-set-run, s-if, s-do, s-bare, s-label, q-last, q-then, o-last, o-also, A-value, v-number, v-minus, v-true, v-false, v-name, A-variable, x-bare, x-set, x-array, x-array-set, x-channel, A-declaration, declaration, A-group, a-group, Items, statements, declared, A-body, a-body, An-activity, not-active, active, active-times, A-unit, u-mtypes, u-global, u-process, u-init, Gram, g-last, g-more}
 use Rattle.spec_grammar.proofs.Levels.{operator-small}
-use Rattle.parse_proof.specs.Engine.{either, both}
 use Rattle.parse_proof.specs.Depth.{opens-bracket, closes-bracket, opens-selection, closes-selection, count-after, passes, one-later, deep-from, too-deep}
 use Rattle.agree_offers.specs.Depth.{depth, ShallowBody, ShallowPart, ShallowModel}
+use Rattle.base_bytes.specs.Choice.{both, either}
+use Rattle.parse_proof.proofs.Tests.{some-none, later-none}
 
 -- ---- the ceiling of selections alone: no token opens one where eight are open
 abbrev Low : ℕ → List Token → Type 0
 Low s [] = Unit {0}
-Low s (t ∷ ts) = (opens-selection t ≡ true → s < 8) × Low (count-after (opens-selection t) (closes-selection t) s) ts
+Low s (t ∷ ts) = (opens-selection t ≡ true → s < selectionsMost) × Low (count-after (opens-selection t) (closes-selection t) s) ts
 
-some-none : (i : ℕ) → some i ≡ none → ⊥
-some-none i e = let z : _≡_ {A = ℕ} 0 1 = cc in omega arith
-
-later-none : (o : Option ℕ) → one-later o ≡ none → o ≡ none
-later-none none e = refl
-later-none (some i) e = absurd (some-none (suc i) e)
-
-passed-low : (s : ℕ) (x o : Bool) → either x (both o (leb 8 s)) ≡ false → o ≡ true → s < 8
+passed-low : (s : ℕ) (x o : Bool) → either x (both o (leb selectionsMost s)) ≡ false → o ≡ true → s < selectionsMost
 passed-low s true o e h = absurd (true-false e)
-passed-low s false true e h = leb-false 8 s e
+passed-low s false true e h = leb-false selectionsMost s e
 passed-low s false false e h = absurd (true-false (sym h))
 
 none-low : (b s : ℕ) (ts : List Token) → deep-from b s ts ≡ none → Low s ts
@@ -46,7 +41,7 @@ none-low b s (t ∷ ts) e = go (passes b s t) refl e (none-low b1 s1 ts)
 
     go : (p : Bool) → passes b s t ≡ p → cond p (some 0) (one-later (deep-from b1 s1 ts)) ≡ none → (deep-from b1 s1 ts ≡ none → Low s1 ts) → Low s (t ∷ ts)
     go true q h r = absurd (some-none 0 h)
-    go false q h r = (λ o. passed-low s (both (opens-bracket t) (leb 32 b)) (opens-selection t) q o, r (later-none (deep-from b1 s1 ts) h))
+    go false q h r = (λ o. passed-low s (both (opens-bracket t) (leb bracketsMost b)) (opens-selection t) q o, r (later-none (deep-from b1 s1 ts) h))
 
 -- ---- tokens that open and close no selection
 abbrev selects : Token → Bool
@@ -178,7 +173,7 @@ quiet-activity active-times = (refl, (refl, (refl, (refl, tt))))
 
 -- ---- what stands behind tokens of a tree: as many selections are open there as before them, and its selections pass no ceiling
 abbrev Nests : List Token → ℕ → Type 0
-Nests ts n = (us : List Token) (s : ℕ) → s ≤ 8 → Low s (ts ++ us) → (n + s ≤ 8) × Low s us
+Nests ts n = (us : List Token) (s : ℕ) → s ≤ selectionsMost → Low s (ts ++ us) → (n + s ≤ selectionsMost) × Low s us
 
 nests-quiet : (ts : List Token) → Quiet ts → Nests ts 0
 nests-quiet ts q us s b h = (omega arith, quiet-past ts us q s h)
@@ -193,7 +188,7 @@ nests-both x y n m f g us s b h =
 
 nests-in : (o c : Token) (ts : List Token) (n : ℕ) → opens-selection o ≡ true → opens-selection c ≡ false → closes-selection c ≡ true → Nests ts n → Nests (o ∷ ts ++ c ∷ []) (suc n)
 nests-in o c ts n x y z f us s b h =
-    let l : s < 8 = h .0 x in
+    let l : s < selectionsMost = h .0 x in
     let e : count-after (opens-selection o) (closes-selection o) s ≡ s + 1 = rw x in
     let p = f (c ∷ us) (s + 1) (omega arith) (subst (Low (s + 1)) (append-assoc ts (c ∷ []) us) (subst (λ k. Low k ((ts ++ c ∷ []) ++ us)) e (h .1))) in
     let a = p .0 in

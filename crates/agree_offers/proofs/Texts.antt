@@ -6,10 +6,11 @@ use mathlib.Core.Bool.{true}
 use mathlib.Core.List.{List, [], _∷_, _++_, append-assoc}
 use lib.ListN.{length}
 use borrow.Author.Tests.{eq-eqb, ne-eqb}
-use Rattle.base_codes.specs.Codes.{c-break, c-end-option, c-fi, c-label, c-od, c-skip, c-timeout}
+use Rattle.base_codes.specs.Codes.{c-break, c-end-option, c-fi, c-label, c-name, c-od, c-skip, c-text, c-timeout}
 use Rattle.spec_grammar.specs.Tree.{Sort, sequence, options, Exp, Shape, Tree, express, assign, increment, decrement, send, receive, assert, print, skip, goto, break, timeout, else, run, set-run, select, loop, bare, labelled, end, then, over, option}
-use Rattle.spec_grammar.specs.Code.{Item, i-name, i-label, i-express, i-target, i-assign, i-increment, i-decrement, i-send, i-receive, i-assert, i-end, i-set-run, i-if, i-fi, i-do, i-od, i-option, i-end-option, each, code-exp, code-argument, code-received, code-tree}
-use Rattle.link_places.specs.Places.{isClosing}
+use Rattle.base_codes.specs.Items.{Item, i-assert, i-assign, i-decrement, i-do, i-end, i-end-option, i-express, i-fi, i-if, i-increment, i-label, i-name, i-od, i-option, i-receive, i-send, i-set-run, i-target}
+use Rattle.base_codes.specs.Sets.{isClosing}
+use Rattle.parse_code.specs.Code.{each, code-exp, code-argument, code-received, code-tree}
 use Rattle.table_layout.specs.Access.{codeOf}
 use Rattle.step_offers.specs.Offers.{firstOf}
 use Rattle.read_accepts_proof.specs.Meaning.{Accepts}
@@ -87,13 +88,13 @@ module _ (t : List ℕ) (a : Accepts t) where
   told (send r es) i f p = front-plain r (i-send ∷ each code-argument es) i (front (code-exp r ++ i-send ∷ each code-argument es) (i-end ∷ []) i p)
   told (receive r es) i f p = front-plain r (i-receive ∷ each code-received es) i (front (code-exp r ++ i-receive ∷ each code-received es) (i-end ∷ []) i p)
   told (assert e) i f p = front-plain e (i-assert ∷ []) i p
-  told (print w es) i f p = code-plain U i 72 (held-there t a (code-tree (print w es)) i p .0) (omega arith)
+  told (print w es) i f p = code-plain U i c-text (held-there t a (code-tree (print w es)) i p .0) (omega arith)
   told skip i f p = code-plain U i c-skip (held-there t a (code-tree skip) i p .0) (omega arith)
-  told (goto w) i f p = code-plain U i 70 (held-there t a (code-tree (goto w)) i p .0) (omega arith)
+  told (goto w) i f p = code-plain U i c-name (held-there t a (code-tree (goto w)) i p .0) (omega arith)
   told break i f p = code-plain U i c-break (held-there t a (code-tree break) i p .0) (omega arith)
   told timeout i f p = code-plain U i c-timeout (held-there t a (code-tree timeout) i p .0) (omega arith)
   told else i f p = held-there t a (code-tree else) i p .0
-  told (run w es) i f p = code-plain U i 70 (held-there t a (code-tree (run w es)) i p .0) (omega arith)
+  told (run w es) i f p = code-plain U i c-name (held-there t a (code-tree (run w es)) i p .0) (omega arith)
   told (set-run r w es) i f p =
       front-plain r (i-target ∷ i-name w ∷ i-set-run ∷ each code-argument es) i (front (code-exp r ++ i-target ∷ i-name w ∷ i-set-run ∷ each code-argument es) (i-end ∷ []) i p)
   told (select os) i f p =

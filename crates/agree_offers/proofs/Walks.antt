@@ -7,11 +7,13 @@ use mathlib.Core.List.{List, [], _∷_, _++_}
 use lib.ListN.{length-append}
 use lib.IntN.{ℤ}
 use borrow.Author.Tests.{lt-ltb, le-ltb, eq-eqb, ne-eqb}
+use Rattle.base_ceilings.specs.Ceilings.{statementsMost}
 use Rattle.base_codes.specs.Codes.{c-do, c-else, c-if, c-option}
 use Rattle.base_bytes.specs.Choice.{pick}
 use Rattle.table_layout.specs.Access.{codeOf, linkOf}
 use Rattle.spec_grammar.specs.Tree.{Sort, action, statement, sequence, options, Tree, express, assign, increment, decrement, send, receive, assert, print, skip, goto, break, timeout, else, run, set-run, select, loop, bare, labelled, end, then, over, option}
-use Rattle.spec_grammar.specs.Code.{i-if, i-fi, i-do, i-od, i-option, i-end-option, code-tree}
+use Rattle.base_codes.specs.Items.{i-do, i-end-option, i-fi, i-if, i-od, i-option}
+use Rattle.parse_code.specs.Code.{code-tree}
 use Rattle.step_ready.specs.Executing.{readyOf}
 use Rattle.step_offers.specs.Offers.{isSelection, endOf, firstOf, eachOption, elseAt, offersFrom}
 use Rattle.base_bytes.specs.Lists.{orElse}
@@ -115,14 +117,14 @@ module _ (t : List ℕ) where
     alone (suc d) i stop h e = list-plain t s p late d i stop e
 
     -- a selection, by its options
-    selected : (os : Tree options) (i : ℕ) → isSelection t i ≡ true → linkOf t i ≡ i + 1 + sizeIn os → optionsIn os ≤ 512 → Told t os (i + 1) → Offered options os (i + 1)
+    selected : (os : Tree options) (i : ℕ) → isSelection t i ≡ true → linkOf t i ≡ i + 1 + sizeIn os → optionsIn os ≤ statementsMost → Told t os (i + 1) → Offered options os (i + 1)
         → (d stop : ℕ) → suc (depth os) < d → i + (sizeIn os + 2) ≤ stop → offersFrom t s p late d i stop ≡ orElse (offers able os (i + 1)) (elseOf os (i + 1))
     selected os i e l m c f zero stop h g = absurd (omega arith)
     selected os i e l m c f (suc d) stop h g =
         let z : min (linkOf t i) stop ≡ i + 1 + sizeIn os = omega arith in
         list-selection t s p late d i stop e
-        ∙ ap (λ k. orElse (eachOption t (λ f e. offersFrom t s p late d f e) 512 (i + 1) k) (eachOption t (elseAt t) 512 (i + 1) k)) z
-        ∙ ap₂ orElse (f d 512 (i + 1 + sizeIn os) (omega arith) m refl) (walk-else os (i + 1) c 512 (i + 1 + sizeIn os) m refl)
+        ∙ ap (λ k. orElse (eachOption t (λ f e. offersFrom t s p late d f e) statementsMost (i + 1) k) (eachOption t (elseAt t) statementsMost (i + 1) k)) z
+        ∙ ap₂ orElse (f d statementsMost (i + 1 + sizeIn os) (omega arith) m refl) (walk-else os (i + 1) c statementsMost (i + 1 + sizeIn os) m refl)
 
     is-if : (i : ℕ) → codeOf t i ≡ c-if → isSelection t i ≡ true
     is-if i e = rw e

@@ -1,6 +1,8 @@
+-- Bridge, for `demand2` (crate `demands`).
 -- How deep the selections of a tree nest, and how many options a selection has: document 01, "Ceilings", "statements 512", "open if/do 8".
 use Prim.Native.Nat.{ℕ, suc, max, _≤_}
 use mathlib.Core.List.{[], _∷_}
+use Rattle.base_ceilings.specs.Ceilings.{selectionsMost}
 use Rattle.spec_grammar.specs.Tree.{Sort, options, Tree, express, assign, increment, decrement, send, receive, assert, print, skip, goto, break, timeout, else, run, set-run, select, loop, bare, labelled, end, then, over, option, Body, body, Part, mtypes, global, process, init, Model}
 
 -- how many `if` and `do` stand inside of each other
@@ -35,7 +37,7 @@ optionsIn (option q os) = suc (optionsIn os)
 
 -- ## the bodies of a model keep the ceiling
 abbrev pub ShallowBody : Body → Type 0
-ShallowBody (body ds q) = depth q ≤ 8
+ShallowBody (body ds q) = depth q ≤ selectionsMost
 
 abbrev pub ShallowPart : Part → Type 0
 ShallowPart (mtypes ws) = Unit {0}

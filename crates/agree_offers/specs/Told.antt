@@ -1,8 +1,10 @@
+-- Bridge, for `demand2` (crate `demands`).
 -- That tables tell a tree's selections and options apart, and where they end: docs/TABLES.md, "Links". `t` are tables; the tree's items begin at item i.
 use Prim.Native.Nat.{ℕ, _+_, _≤_}
 use mathlib.Core.Path.{_≡_}
 use mathlib.Core.Bool.{false}
 use mathlib.Core.List.{List}
+use Rattle.base_ceilings.specs.Ceilings.{statementsMost}
 use Rattle.base_codes.specs.Codes.{c-do, c-else, c-if, c-option}
 use Rattle.table_layout.specs.Access.{codeOf, linkOf}
 use Rattle.spec_grammar.specs.Tree.{Sort, Tree, express, assign, increment, decrement, send, receive, assert, print, skip, goto, break, timeout, else, run, set-run, select, loop, bare, labelled, end, then, over, option}
@@ -33,8 +35,8 @@ module _ (t : List ℕ) where
   Told (run w es) i = Plain i
   Told (set-run r w es) i = Plain i
   -- if (204) and do (206) link to the item behind their options, of which there are at most 512
-  Told (select os) i = (codeOf t i ≡ c-if) × (linkOf t i ≡ i + 1 + sizeIn os) × (optionsIn os ≤ 512) × Told os (i + 1)
-  Told (loop os) i = (codeOf t i ≡ c-do) × (linkOf t i ≡ i + 1 + sizeIn os) × (optionsIn os ≤ 512) × Told os (i + 1)
+  Told (select os) i = (codeOf t i ≡ c-if) × (linkOf t i ≡ i + 1 + sizeIn os) × (optionsIn os ≤ statementsMost) × Told os (i + 1)
+  Told (loop os) i = (codeOf t i ≡ c-do) × (linkOf t i ≡ i + 1 + sizeIn os) × (optionsIn os ≤ statementsMost) × Told os (i + 1)
   Told (bare a) i = Told a i
   Told (labelled w a) i = Told a (i + 2)
   Told end i = Unit {0}

@@ -6,20 +6,15 @@ use mathlib.Core.Path.{_≡_, refl, ap, _∙_}
 use mathlib.Core.List.{List, [], _∷_, _++_}
 use lib.ListN.{length, getD}
 use Rattle.base_codes.specs.Codes.{c-body, c-label}
-use Rattle.spec_grammar.specs.Tree.{Name, Declaration, Group, group, Body, body, Model}
-use Rattle.spec_grammar.specs.Code.{Item, i-local, i-init, i-body, i-end-body, each, code-tree, code-declaration, code-parameter, code-group, code-body, code-activity, code-part, code}
+use Rattle.spec_grammar.specs.Tree.{Declaration, Group, Body, body, Model}
+use Rattle.base_codes.specs.Items.{Item, i-body, i-end-body, i-init, i-local}
+use Rattle.parse_code.specs.Code.{each, code-tree, code-declaration, code-group, code-body, code-activity, code-part, code}
 use Rattle.read_accepts_proof.specs.Meaning.{Accepts}
 use Rattle.agree_eval.specs.Names.{codesAt}
 use Rattle.spec_machine.specs.Program.{Holds, in-process, in-init, later, startIn}
 use Rattle.agree_stage.proofs.Stands.{Lying, lying-behind, lying-before, lying-whole, body-lies, lying-front, lying-back}
 use Rattle.agree_offers.proofs.Places.{at-there, known-there}
-use Rattle.agree_places.proofs.Labels.{Bare, bare-each, bare-at, bare-declaration, bare-type}
-
-bare-parameter : (w : Name) → Bare (code-parameter w)
-bare-parameter w = (λ k z. omega arith, (λ k z. omega arith, tt))
-
-bare-group : (g : Group) → Bare (code-group g)
-bare-group (group k ws) = (bare-type k, (λ n z. omega arith, bare-each code-parameter bare-parameter ws))
+use Rattle.agree_places.proofs.Labels.{Bare, bare-at, bare-declarations, bare-groups}
 
 -- the parameters of a unit stand between its first item and its body
 pub record Between (l : List Item) (i u k : ℕ) : Type 0 where
@@ -76,5 +71,5 @@ module _ (t : List ℕ) (a : Accepts t) where
 
     pub label-late : {u k : ℕ} (b : Body) → Holds (a .tree) 0 u b k → u < x → startIn b k ≤ x
     label-late {u} {k} b p g =
-        stands-late b p x g (λ gs l h. free (each code-group gs) (suc u) (bare-each code-group bare-group gs) l (omega arith) h) (λ z. omega arith)
-        (λ ds l y h. free (each (code-declaration i-local) ds) (k + 1) (bare-each (code-declaration i-local) bare-declaration ds) l y h)
+        stands-late b p x g (λ gs l h. free (each code-group gs) (suc u) (bare-groups gs) l (omega arith) h) (λ z. omega arith)
+        (λ ds l y h. free (each (code-declaration i-local) ds) (k + 1) (bare-declarations ds) l y h)

@@ -16,11 +16,13 @@ use Rattle.base_bytes.proofs.Tests.{true-false, both-true}
 use Rattle.rule_sheets.specs.Walks.{first}
 use Rattle.rule_search.specs.Sets.{among}
 use Rattle.rule_search.specs.Search.{declares, find}
-use Rattle.rule_item.specs.Rules.{badTwice, ruleOf, badBy}
+use Rattle.rule_item.specs.Rules.{badTwice, badBy}
 use Rattle.table_layout.specs.Access.{linkOf}
-use Rattle.link_places.specs.Places.{isPart, isAlone, isMark, placeFrom}
+use Rattle.link_places.specs.Places.{isMark, placeFrom}
 use Rattle.spec_grammar.specs.Tree.{Name, sequence, Tree, goto, bare, Body, body}
-use Rattle.spec_grammar.specs.Code.{Item, i-name, i-plain, i-label, i-goto, i-local, i-body, i-end-body, each, code-declaration, code-tree, code-body, code}
+use Rattle.base_codes.specs.Items.{Item, i-body, i-end-body, i-goto, i-label, i-local, i-name, i-plain}
+use Rattle.base_codes.specs.Sets.{isPart, isAlone, ruleOf}
+use Rattle.parse_code.specs.Code.{each, code-declaration, code-tree, code-body, code}
 use Rattle.read_passes.specs.Judging.{tablesText}
 use Rattle.read_accepts_proof.specs.Meaning.{Accepts}
 use Rattle.agree_eval.specs.Names.{codesAt, saidAt}
@@ -39,7 +41,7 @@ use Rattle.agree_control.proofs.Insides.{quiet}
 use Rattle.agree_control.proofs.Begins.{mark, none, dull-skip, statement-from}
 use Rattle.agree_control.proofs.Main.{text-unit}
 use Rattle.spec_machine.specs.Stage.{Ways}
-use Rattle.spec_machine.specs.Program.{sizeIn, Holds, labelIn, startIn, endIn, statementsOf, Statement}
+use Rattle.spec_machine.specs.Program.{sizeIn, Holds, labelIn, startIn, endIn, sequenceOf, Statement}
 use Rattle.agree_stage.proofs.Stands.{Lying, within-lies, body-lies, statements-lie, lying-in, lying-back}
 use Rattle.agree_stage.proofs.Labels.{Labelled, Search, label-found, marked, Behind, labelled-lies}
 use Rattle.agree_offers.proofs.Places.{at-there, known-there, ends-there}
@@ -114,7 +116,7 @@ body-long (body ds q) k =
     let n = length-append (i-body ∷ D) (code-tree q) in
     omega arith
 
-pub end-is : (b : Body) (k : ℕ) → endIn b k ≡ startIn b k + sizeIn (statementsOf b)
+pub end-is : (b : Body) (k : ℕ) → endIn b k ≡ startIn b k + sizeIn (sequenceOf b)
 end-is (body ds q) k = refl
 
 module _ (t : List ℕ) (a : Accepts t) where
@@ -150,7 +152,7 @@ module _ (t : List ℕ) (a : Accepts t) where
 
   module _ {u k : ℕ} (b : Body) (p : Holds (a .tree) 0 u b k) where
     abbrev q : Tree sequence
-    q = statementsOf b
+    q = sequenceOf b
 
     abbrev from : ℕ
     from = startIn b k

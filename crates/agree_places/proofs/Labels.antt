@@ -1,71 +1,29 @@
 -- Among the items of a tree every label item is the label of a statement; among those of declarations there is none.
-use Prim.Native.Nat.{ℕ, zero, suc, _+_, _-_, _≤_, _<_}
+use Prim.Native.Nat.{ℕ, suc, _+_, _-_, _≤_, _<_}
 use native.Mathlib.Omega.{arith}
 use native.Mathlib.Decide.{decLt, ℕ-discrete}
 use mathlib.Core.Path.{_≡_, refl, sym, ap, _∙_, subst}
-use mathlib.Core.Option.{Option, none, some}
-use mathlib.Core.Bool.{Bool, true, false}
 use mathlib.Core.Logic.{_⊎_, inl, inr}
 use mathlib.Core.List.{List, [], _∷_, _++_}
 use lib.ListN.{length, getD, length-append}
-use lib.Dec.{eqb, ltb}
-use borrow.Author.Tests.{ltb-true}
-use Rattle.base_codes.specs.Codes.{c-end-option, c-label, c-option, c-or-else, c-plain}
-use Rattle.base_bytes.specs.Choice.{pick, both}
-use Rattle.base_bytes.proofs.Tests.{true-false, both-true}
-use Rattle.spec_grammar.specs.Tree.{Name, Shape, Exp, Expr, Received, into, equal, exactly, exactly-true, exactly-false, Sort, action, statement, sequence, options, Tree, express, assign, increment, decrement, send, receive, assert, print, skip, goto, break, timeout, else, run, set-run, select, loop, bare, labelled, end, then, over, option, Value, unset, set-number, set-minus, set-true, set-false, set-name, set-channel, Variable, variable, Declaration, declare}
-use Rattle.spec_grammar.specs.Code.{Item, i-name, i-type, i-plain, i-argument, i-into, i-equal, i-end, i-express, i-target, i-assign, i-increment, i-decrement, i-send, i-receive, i-assert, i-set-run, i-if, i-fi, i-do, i-od, i-option, i-end-option, i-local, each, code-exp, code-argument, code-received, code-tree, code-field, code-size, code-value, code-variable, code-declaration}
-use Rattle.parse_tables.specs.Numbering.{nth, items}
-use Rattle.table_entries.specs.Items.{codeOf, Known, is-name, is-text, is-number, is-mark, AllKnown}
-use Rattle.link_places.specs.Places.{isPart}
+use Rattle.base_codes.specs.Codes.{c-end-option, c-label, c-option}
+use Rattle.spec_grammar.specs.Tree.{Name, Shape, Exp, Expr, Received, Sort, action, statement, sequence, options, Tree, express, assign, increment, decrement, send, receive, assert, print, skip, goto, break, timeout, else, run, set-run, select, loop, bare, labelled, end, then, over, option, Declaration, Group}
+use Rattle.base_codes.specs.Items.{Item, codeOf, i-assert, i-assign, i-decrement, i-do, i-end, i-end-option, i-express, i-fi, i-if, i-increment, i-local, i-name, i-od, i-option, i-receive, i-send, i-set-run, i-target}
+use Rattle.parse_code.specs.Code.{each, code-exp, code-argument, code-received, code-tree, code-declaration, code-group}
+use Rattle.table_entries.specs.Items.{AllKnown}
 use Rattle.link_phrases_proof.specs.Phrases.{At}
 use Rattle.link_phrases_proof.proofs.Starts.{at-front, at-back}
 use Rattle.agree_eval.proofs.Operators.{known-front, known-back}
-use Rattle.agree_control.proofs.Insides.{kind, part-known, Parts, parts-exp}
+use Rattle.agree_eval.proofs.Ranges.{Every, every-append, every-lift, InExp, exp-codes, InArgs, args-codes, all-received-codes, InDeclaration, local-codes, InGroup, groups-codes}
 use Rattle.spec_machine.specs.Program.{sizeIn}
 use Rattle.agree_stage.proofs.Labels.{Labelled}
 
--- ---- types, by the grammar's table
-unfoldable low : Item → Bool
-low x = pick (eqb (kind x) 1) (ltb (codeOf x) c-plain) true
-
-unfoldable lows : List Item → Bool
-lows [] = true
-lows (x ∷ l) = both (low x) (lows l)
-
-low-nth : (l : List Item) (n : ℕ) (d : Item) → lows l ≡ true → low d ≡ true → low (nth l n d) ≡ true
-unfolding lows
-low-nth [] n d e h = h
-low-nth (x ∷ l) zero d e h = both-true (low x) (lows l) e .0
-low-nth (x ∷ l) (suc n) d e h = low-nth l n d (both-true (low x) (lows l) e .1) h
-
-table-low : lows items ≡ true
-unfolding lows low kind
-table-low = refl
-
-known-low : {x : Item} → Known x → low x ≡ true
-unfolding low kind
-known-low (is-name a b) = refl
-known-low (is-text a b) = refl
-known-low is-number = refl
-known-low (is-mark x a b) = low-nth items (x - c-or-else) i-plain table-low refl
-
-type-low : (k : ℕ) → Known (i-type k) → codeOf (i-type k) < c-plain
-unfolding low kind
-type-low k e = ltb-true (codeOf (i-type k)) c-plain (known-low e)
-
 -- ---- items that are no label
+abbrev pub NoLabel : ℕ → Type 0
+NoLabel c = c ≡ c-label → ⊥
+
 abbrev pub Bare : List Item → Type 0
-Bare [] = Unit {0}
-Bare (x ∷ l) = (Known x → codeOf x ≡ c-label → ⊥) × Bare l
-
-bare-append : (x y : List Item) → Bare x → Bare y → Bare (x ++ y)
-bare-append [] y a b = b
-bare-append (c ∷ x) y a b = (a .0, bare-append x y (a .1) b)
-
-pub bare-each : {A : Type 0} (f : A → List Item) → ((a : A) → Bare (f a)) → (l : List A) → Bare (each f l)
-bare-each f h [] = tt
-bare-each f h (a ∷ l) = bare-append (f a) (each f l) (h a) (bare-each f h l)
+Bare l = Every NoLabel l
 
 -- none of them stands in the items where these do
 pub bare-at : (cs : List ℕ) (l : List Item) (k x : ℕ) → Bare l → AllKnown l → At cs k l → k ≤ x → x < k + length l → getD cs x 0 ≡ c-label → ⊥
@@ -76,56 +34,25 @@ bare-at cs (y ∷ l) k x b n h g d e = go (ℕ-discrete x k) (bare-at cs l (suc 
     go (yes z) below = b .0 (n .0) (sym (h .0) ∙ ap (λ i. getD cs i 0) (sym z) ∙ e)
     go (no z) below = below (omega arith) (omega arith) e
 
-part-not : isPart c-label ≡ false
-unfolding isPart
-part-not = refl
-
-bare-parts : (l : List Item) → Parts l → Bare l
-bare-parts [] p = tt
-bare-parts (x ∷ l) p = (λ k e. true-false (sym (part-known x k (p .0)) ∙ ap isPart e ∙ part-not), bare-parts l (p .1))
-
 bare-exp : {s : Shape} (e : Exp s) → Bare (code-exp e)
-bare-exp e = bare-parts (code-exp e) (parts-exp e)
+bare-exp e = every-lift InExp NoLabel (λ c h z. let y = h .0 in omega arith) (code-exp e) (exp-codes e)
 
 -- an expression and its mark
 bare-phrase : {s : Shape} (e : Exp s) (y : Item) → (codeOf y ≡ c-label → ⊥) → Bare (code-exp e ++ y ∷ [])
-bare-phrase e y n = bare-append (code-exp e) (y ∷ []) (bare-exp e) (λ k z. n z, tt)
+bare-phrase e y n = every-append NoLabel (code-exp e) (y ∷ []) (bare-exp e) (λ k z. n z, tt)
 
-bare-argument : (e : Expr) → Bare (code-argument e)
-bare-argument e = bare-phrase e i-argument (λ z. omega arith)
+bare-passed : (es : List Expr) → Bare (each code-argument es)
+bare-passed es = every-lift InArgs NoLabel (λ c h z. let y = h .0 in omega arith) (each code-argument es) (args-codes es)
 
-bare-received : (r : Received) → Bare (code-received r)
-bare-received (into r) = bare-phrase r i-into (λ z. omega arith)
-bare-received (equal e) = bare-phrase e i-equal (λ z. omega arith)
-bare-received (exactly n) = (λ k z. omega arith, (λ k z. omega arith, tt))
-bare-received exactly-true = (λ k z. omega arith, (λ k z. omega arith, tt))
-bare-received exactly-false = (λ k z. omega arith, (λ k z. omega arith, tt))
+bare-received : (xs : List Received) → Bare (each code-received xs)
+bare-received xs = every-lift InArgs NoLabel (λ c h z. let y = h .0 in omega arith) (each code-received xs) (all-received-codes xs)
 
 -- ---- declarations
-pub bare-type : (k : ℕ) → Known (i-type k) → codeOf (i-type k) ≡ c-label → ⊥
-bare-type k n z = let w = type-low k n in omega arith
+pub bare-declarations : (ds : List Declaration) → Bare (each (code-declaration i-local) ds)
+bare-declarations ds = every-lift InDeclaration NoLabel (λ c h z. let y = h .2 (omega arith) in omega arith) (each (code-declaration i-local) ds) (local-codes ds)
 
-bare-field : (k : ℕ) → Bare (code-field k)
-bare-field k = (bare-type k, (λ n z. omega arith, tt))
-
-bare-size : (s : Option ℕ) → Bare (code-size s)
-bare-size none = tt
-bare-size (some n) = (λ k z. omega arith, (λ k z. omega arith, tt))
-
-bare-value : (v : Value) → Bare (code-value v)
-bare-value unset = tt
-bare-value (set-number n) = (λ k z. omega arith, (λ k z. omega arith, tt))
-bare-value (set-minus n) = (λ k z. omega arith, (λ k z. omega arith, tt))
-bare-value set-true = (λ k z. omega arith, (λ k z. omega arith, tt))
-bare-value set-false = (λ k z. omega arith, (λ k z. omega arith, tt))
-bare-value (set-name w) = (λ k z. omega arith, (λ k z. omega arith, tt))
-bare-value (set-channel n ks) = (λ k z. omega arith, (λ k z. omega arith, bare-each code-field bare-field ks))
-
-bare-variable : (v : Variable) → Bare (code-variable v)
-bare-variable (variable w s v) = (λ k z. omega arith, (λ k z. omega arith, bare-append (code-size s) (code-value v) (bare-size s) (bare-value v)))
-
-pub bare-declaration : (d : Declaration) → Bare (code-declaration i-local d)
-bare-declaration (declare k xs) = (bare-type k, (λ n z. omega arith, bare-each code-variable bare-variable xs))
+pub bare-groups : (gs : List Group) → Bare (each code-group gs)
+bare-groups gs = every-lift InGroup NoLabel (λ c h z. let y = h .2 (omega arith) in omega arith) (each code-group gs) (groups-codes gs)
 
 -- ---- statements
 -- a label item stands here, with the name of a label of the tree before it
@@ -134,10 +61,10 @@ Label b i x = (w : Name) × Labelled w b i (x + 1)
 
 -- ---- statements that are no selections
 bare-listed : {s : Shape} (e : Exp s) (y : Item) (m : List Item) (z : Item) → (codeOf y ≡ c-label → ⊥) → Bare m → (codeOf z ≡ c-label → ⊥) → Bare (code-exp e ++ y ∷ m ++ z ∷ [])
-bare-listed e y m z p b q = bare-append (code-exp e ++ y ∷ m) (z ∷ []) (bare-append (code-exp e) (y ∷ m) (bare-exp e) (λ k. p, b)) (λ k. q, tt)
+bare-listed e y m z p b q = every-append NoLabel (code-exp e ++ y ∷ m) (z ∷ []) (every-append NoLabel (code-exp e) (y ∷ m) (bare-exp e) (λ k. p, b)) (λ k. q, tt)
 
 bare-arguments : (es : List Expr) → Bare (each code-argument es ++ i-end ∷ [])
-bare-arguments es = bare-append (each code-argument es) (i-end ∷ []) (bare-each code-argument bare-argument es) (λ k z. omega arith, tt)
+bare-arguments es = every-append NoLabel (each code-argument es) (i-end ∷ []) (bare-passed es) (λ k z. omega arith, tt)
 
 module _ (cs : List ℕ) where
   -- no label item stands among these
@@ -209,9 +136,9 @@ module _ (cs : List ℕ) where
   label-there (increment r) i x k h g d e = absurd (free (code-tree (increment r)) i (bare-phrase r i-increment (λ z. omega arith)) k h x g d e)
   label-there (decrement r) i x k h g d e = absurd (free (code-tree (decrement r)) i (bare-phrase r i-decrement (λ z. omega arith)) k h x g d e)
   label-there (send r es) i x k h g d e =
-      absurd (free (code-tree (send r es)) i (bare-listed r i-send (each code-argument es) i-end (λ z. omega arith) (bare-each code-argument bare-argument es) (λ z. omega arith)) k h x g d e)
+      absurd (free (code-tree (send r es)) i (bare-listed r i-send (each code-argument es) i-end (λ z. omega arith) (bare-passed es) (λ z. omega arith)) k h x g d e)
   label-there (receive r xs) i x k h g d e =
-      absurd (free (code-tree (receive r xs)) i (bare-listed r i-receive (each code-received xs) i-end (λ z. omega arith) (bare-each code-received bare-received xs) (λ z. omega arith)) k h x g d e)
+      absurd (free (code-tree (receive r xs)) i (bare-listed r i-receive (each code-received xs) i-end (λ z. omega arith) (bare-received xs) (λ z. omega arith)) k h x g d e)
   label-there (assert v) i x k h g d e = absurd (free (code-tree (assert v)) i (bare-phrase v i-assert (λ z. omega arith)) k h x g d e)
   label-there (print w es) i x k h g d e = absurd (free (code-tree (print w es)) i (λ n z. omega arith, bare-arguments es) k h x g d e)
   label-there skip i x k h g d e = absurd (free (code-tree skip) i (λ n z. omega arith, tt) k h x g d e)
@@ -222,7 +149,7 @@ module _ (cs : List ℕ) where
   label-there (run w es) i x k h g d e = absurd (free (code-tree (run w es)) i (λ n z. omega arith, (λ n z. omega arith, bare-arguments es)) k h x g d e)
   label-there (set-run r w es) i x k h g d e =
       absurd (free (code-tree (set-run r w es)) i
-      (bare-listed r i-target (i-name w ∷ i-set-run ∷ each code-argument es) i-end (λ z. omega arith) (λ n z. omega arith, (λ n z. omega arith, bare-each code-argument bare-argument es)) (λ z. omega arith)) k h x g d e)
+      (bare-listed r i-target (i-name w ∷ i-set-run ∷ each code-argument es) i-end (λ z. omega arith) (λ n z. omega arith, (λ n z. omega arith, bare-passed es)) (λ z. omega arith)) k h x g d e)
   label-there (select os) i x k h g d e =
       enclosed i-if (code-tree os) i-fi (λ z. omega arith) (λ z. omega arith) i x h g d e (λ p q. label-there os (i + 1) x (known-front (code-tree os) (i-fi ∷ []) (k .1)) (inner i-if (code-tree os) i-fi i h) p q e)
   label-there (loop os) i x k h g d e =

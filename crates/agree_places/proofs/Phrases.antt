@@ -7,18 +7,19 @@ use mathlib.Core.Bool.{Bool, true, false}
 use mathlib.Core.Logic.{_⊎_, inl, inr}
 use mathlib.Core.List.{List, [], _∷_}
 use lib.ListN.{length, getD}
-use lib.Dec.{eqb, ltb, leb}
-use borrow.Author.Tests.{eqb-true, ltb-true, leb-true, le-leb}
-use Rattle.base_codes.specs.Codes.{c-argument, c-bit, c-break, c-choice, c-complement, c-do, c-else, c-if, c-int, c-or-else, c-plain, c-skip}
+use lib.Dec.{eqb, leb}
+use borrow.Author.Tests.{eqb-true, leb-true, le-leb}
+use Rattle.base_codes.specs.Codes.{c-break, c-choice, c-complement, c-do, c-else, c-if, c-name, c-number, c-or-else, c-plain, c-skip, c-text}
 use Rattle.base_bytes.specs.Choice.{pick, both, either}
 use Rattle.base_bytes.proofs.Tests.{true-false, both-true, either-true}
 use Rattle.rule_sheets.specs.Walks.{first}
-use Rattle.rule_search.specs.Sets.{within}
 use Rattle.spec_grammar.specs.Tree.{Shape, Exp}
-use Rattle.spec_grammar.specs.Code.{Item, code-exp, code}
-use Rattle.table_entries.specs.Items as items
-use Rattle.link_places.specs.Places.{isPart, isMark, markFrom, markOf, isAlone, isLead, isPlace}
-use Rattle.link_phrases_proof.specs.Phrases.{At, inExpression}
+use Rattle.base_codes.specs.Items.{Item}
+use Rattle.parse_code.specs.Code.{code-exp, code}
+use Rattle.base_codes.specs.Items as items
+use Rattle.base_codes.specs.Sets.{isPart, isAlone, isLead, within}
+use Rattle.link_places.specs.Places.{isMark, markFrom, markOf, isPlace}
+use Rattle.link_phrases_proof.specs.Phrases.{At}
 use Rattle.link_phrases_proof.proofs.Inside.{all-inside, phrase-inside}
 use Rattle.read_accepts_proof.specs.Meaning.{Accepts}
 use Rattle.keep_tables.proofs.Firsts.{first-is, first-most}
@@ -28,13 +29,13 @@ use Rattle.agree_stage.proofs.Stands.{Lying}
 use Rattle.agree_offers.proofs.Places.{at-there, ends-there}
 
 -- ---- codes of expressions
-part-low : (c : ℕ) → 70 ≤ c → c ≤ 71 → isPart c ≡ true
+part-low : (c : ℕ) → c-name ≤ c → c ≤ c-number → isPart c ≡ true
 unfolding isPart
-part-low c h g = rw (le-leb 70 c h, le-leb c 71 g)
+part-low c h g = rw (le-leb c-name c h, le-leb c c-number g)
 
 part-operator : (c : ℕ) → c-or-else ≤ c → c ≤ c-complement → isPart c ≡ true
 unfolding isPart
-part-operator c h g = go (within 70 71 c)
+part-operator c h g = go (within c-name c-number c)
   where
     go : (b : Bool) → either b (either (within c-or-else c-complement c) (within c-plain c-choice c)) ≡ true
     go true = refl
@@ -42,65 +43,49 @@ part-operator c h g = go (within 70 71 c)
 
 part-other : (c : ℕ) → c-plain ≤ c → c ≤ c-choice → isPart c ≡ true
 unfolding isPart
-part-other c h g = go (within 70 71 c) (within c-or-else c-complement c)
+part-other c h g = go (within c-name c-number c) (within c-or-else c-complement c)
   where
     go : (a b : Bool) → either a (either b (within c-plain c-choice c)) ≡ true
     go true b = refl
     go false true = refl
     go false false = rw (le-leb c-plain c h, le-leb c c-choice g)
 
-pub inside-part : (c : ℕ) → inExpression c ≡ true → isPart c ≡ true
-unfolding inExpression
-inside-part c e = one (either-true (eqb c 70) _ e)
-  where
-    four : (both (ltb 146 c) (ltb c c-bit) ≡ true) ⊎ (both (ltb c-int c) (ltb c c-argument) ≡ true) → isPart c ≡ true
-    four (inl q) = let b = both-true (ltb 146 c) (ltb c c-bit) q in let x = ltb-true 146 c (b .0) in let y = ltb-true c c-bit (b .1) in part-operator c (omega arith) (omega arith)
-    four (inr q) = let b = both-true (ltb c-int c) (ltb c c-argument) q in let x = ltb-true c-int c (b .0) in let y = ltb-true c c-argument (b .1) in part-other c (omega arith) (omega arith)
-
-    two : (eqb c 71 ≡ true) ⊎ (either (both (ltb 146 c) (ltb c c-bit)) (both (ltb c-int c) (ltb c c-argument)) ≡ true) → isPart c ≡ true
-    two (inl q) = let z = eqb-true c 71 q in part-low c (omega arith) (omega arith)
-    two (inr q) = four (either-true (both (ltb 146 c) (ltb c c-bit)) _ q)
-
-    one : (eqb c 70 ≡ true) ⊎ (either (eqb c 71) (either (both (ltb 146 c) (ltb c c-bit)) (both (ltb c-int c) (ltb c c-argument))) ≡ true) → isPart c ≡ true
-    one (inl q) = let z = eqb-true c 70 q in part-low c (omega arith) (omega arith)
-    one (inr q) = two (either-true (eqb c 71) _ q)
-
-pub part-range : (c : ℕ) → isPart c ≡ true → (c ≤ 71) ⊎ ((c-or-else ≤ c) × (c ≤ c-choice))
+pub part-range : (c : ℕ) → isPart c ≡ true → (c ≤ c-number) ⊎ ((c-or-else ≤ c) × (c ≤ c-choice))
 unfolding isPart
-part-range c e = one (either-true (within 70 71 c) _ e)
+part-range c e = one (either-true (within c-name c-number c) _ e)
   where
-    two : (within c-or-else c-complement c ≡ true) ⊎ (within c-plain c-choice c ≡ true) → (c ≤ 71) ⊎ ((c-or-else ≤ c) × (c ≤ c-choice))
+    two : (within c-or-else c-complement c ≡ true) ⊎ (within c-plain c-choice c ≡ true) → (c ≤ c-number) ⊎ ((c-or-else ≤ c) × (c ≤ c-choice))
     two (inl q) = let b = both-true (leb c-or-else c) (leb c c-complement) q in let x = leb-true c-or-else c (b .0) in let y = leb-true c c-complement (b .1) in inr (omega arith, omega arith)
     two (inr q) = let b = both-true (leb c-plain c) (leb c c-choice) q in let x = leb-true c-plain c (b .0) in let y = leb-true c c-choice (b .1) in inr (omega arith, omega arith)
 
-    one : (within 70 71 c ≡ true) ⊎ (either (within c-or-else c-complement c) (within c-plain c-choice c) ≡ true) → (c ≤ 71) ⊎ ((c-or-else ≤ c) × (c ≤ c-choice))
-    one (inl q) = inl (leb-true c 71 (both-true (leb 70 c) (leb c 71) q .1))
+    one : (within c-name c-number c ≡ true) ⊎ (either (within c-or-else c-complement c) (within c-plain c-choice c) ≡ true) → (c ≤ c-number) ⊎ ((c-or-else ≤ c) × (c ≤ c-choice))
+    one (inl q) = inl (leb-true c c-number (both-true (leb c-name c) (leb c c-number) q .1))
     one (inr q) = two (either-true (within c-or-else c-complement c) _ q)
 
-alone-range : (c : ℕ) → isAlone c ≡ true → (c ≡ 72) ⊎ (c-skip ≤ c)
+alone-range : (c : ℕ) → isAlone c ≡ true → (c ≡ c-text) ⊎ (c-skip ≤ c)
 unfolding isAlone
-alone-range c e = one (either-true (either (eqb c 72) (eqb c c-skip)) _ e)
+alone-range c e = one (either-true (either (eqb c c-text) (eqb c c-skip)) _ e)
   where
-    low : (eqb c 72 ≡ true) ⊎ (eqb c c-skip ≡ true) → (c ≡ 72) ⊎ (c-skip ≤ c)
-    low (inl q) = inl (eqb-true c 72 q)
+    low : (eqb c c-text ≡ true) ⊎ (eqb c c-skip ≡ true) → (c ≡ c-text) ⊎ (c-skip ≤ c)
+    low (inl q) = inl (eqb-true c c-text q)
     low (inr q) = let z = eqb-true c c-skip q in inr (omega arith)
 
-    last : (eqb c c-if ≡ true) ⊎ (eqb c c-do ≡ true) → (c ≡ 72) ⊎ (c-skip ≤ c)
+    last : (eqb c c-if ≡ true) ⊎ (eqb c c-do ≡ true) → (c ≡ c-text) ⊎ (c-skip ≤ c)
     last (inl q) = let z = eqb-true c c-if q in inr (omega arith)
     last (inr q) = let z = eqb-true c c-do q in inr (omega arith)
 
-    high : (within c-break c-else c ≡ true) ⊎ (either (eqb c c-if) (eqb c c-do) ≡ true) → (c ≡ 72) ⊎ (c-skip ≤ c)
+    high : (within c-break c-else c ≡ true) ⊎ (either (eqb c c-if) (eqb c c-do) ≡ true) → (c ≡ c-text) ⊎ (c-skip ≤ c)
     high (inl q) = let z = leb-true c-break c (both-true (leb c-break c) (leb c c-else) q .0) in inr (omega arith)
     high (inr q) = last (either-true (eqb c c-if) (eqb c c-do) q)
 
-    one : (either (eqb c 72) (eqb c c-skip) ≡ true) ⊎ (either (within c-break c-else c) (either (eqb c c-if) (eqb c c-do)) ≡ true) → (c ≡ 72) ⊎ (c-skip ≤ c)
-    one (inl q) = low (either-true (eqb c 72) (eqb c c-skip) q)
+    one : (either (eqb c c-text) (eqb c c-skip) ≡ true) ⊎ (either (within c-break c-else c) (either (eqb c c-if) (eqb c c-do)) ≡ true) → (c ≡ c-text) ⊎ (c-skip ≤ c)
+    one (inl q) = low (either-true (eqb c c-text) (eqb c c-skip) q)
     one (inr q) = high (either-true (within c-break c-else c) _ q)
 
 part-alone : (c : ℕ) → isPart c ≡ true → isAlone c ≡ false
 part-alone c e = go (isAlone c) refl
   where
-    apart : (c ≤ 71) ⊎ ((c-or-else ≤ c) × (c ≤ c-choice)) → (c ≡ 72) ⊎ (c-skip ≤ c) → ⊥
+    apart : (c ≤ c-number) ⊎ ((c-or-else ≤ c) × (c ≤ c-choice)) → (c ≡ c-text) ⊎ (c-skip ≤ c) → ⊥
     apart (inl x) (inl y) = omega arith
     apart (inl x) (inr y) = omega arith
     apart (inr x) (inl y) = let z = x .0 in omega arith
@@ -116,7 +101,7 @@ all-parts cs (x ∷ l) k j a h b d = go (decLt k j) (all-parts cs l (suc k) j (a
   where
     go : Dec (k < j) → (suc k ≤ j → j < suc k + length l → isPart (getD cs j 0) ≡ true) → isPart (getD cs j 0) ≡ true
     go (yes q) below = below (omega arith) (omega arith)
-    go (no q) below = let z : j ≡ k = omega arith in ap (λ n. isPart (getD cs n 0)) z ∙ ap isPart (h .0) ∙ inside-part (items.codeOf x) (a .0)
+    go (no q) below = let z : j ≡ k = omega arith in ap (λ n. isPart (getD cs n 0)) z ∙ ap isPart (h .0) ∙ a .0
 
 -- ---- no place
 -- an item that is no part of an expression and does not stand alone

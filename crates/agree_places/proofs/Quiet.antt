@@ -6,13 +6,15 @@ use mathlib.Core.Path.{_≡_, refl, sym as inv, ap, _∙_, subst}
 use mathlib.Core.Bool.{true, false}
 use mathlib.Core.List.{List, [], _∷_, _++_}
 use lib.ListN.{length, getD, length-append}
-use Rattle.base_codes.specs.Codes.{c-argument, c-assert, c-assign, c-constant, c-decrement, c-end, c-end-option, c-equal, c-express, c-false, c-fi, c-goto, c-increment, c-into, c-label, c-od, c-option, c-receive, c-run, c-send, c-set-run, c-target, c-true}
+use Rattle.base_codes.specs.Codes.{c-argument, c-assert, c-assign, c-constant, c-decrement, c-end, c-end-option, c-equal, c-express, c-false, c-fi, c-goto, c-increment, c-into, c-label, c-name, c-number, c-od, c-option, c-receive, c-run, c-send, c-set-run, c-target, c-true}
 use Rattle.spec_grammar.specs.Tree.{Name, Shape, Exp, Expr, Received, into, equal, exactly, exactly-true, exactly-false}
-use Rattle.spec_grammar.specs.Code.{Item, i-name, i-number, i-true, i-false, i-argument, i-into, i-equal, i-constant, each, code-exp, code-argument, code-received, code}
+use Rattle.base_codes.specs.Items.{Item, i-argument, i-constant, i-equal, i-false, i-into, i-name, i-number, i-true}
+use Rattle.parse_code.specs.Code.{each, code-exp, code-argument, code-received, code}
 use Rattle.base_bytes.specs.Choice.{pick}
 use Rattle.base_bytes.proofs.Tests.{true-false}
-use Rattle.table_entries.specs.Items as items
-use Rattle.link_places.specs.Places.{isPart, isMark, isAlone, isLead, isPlace}
+use Rattle.base_codes.specs.Items as items
+use Rattle.base_codes.specs.Sets.{isPart, isAlone, isLead}
+use Rattle.link_places.specs.Places.{isMark, isPlace}
 use Rattle.read_accepts_proof.specs.Meaning.{Accepts}
 use Rattle.agree_eval.specs.Names.{codesAt}
 use Rattle.agree_stage.proofs.Stands.{Lying, lying-front, lying-back}
@@ -69,7 +71,7 @@ pub lead-plain : Plain c-express × Plain c-target × Plain c-increment × Plain
 unfolding isAlone isPart
 lead-plain = ((refl, refl), (refl, refl), (refl, refl), (refl, refl), (refl, refl), (refl, refl), (refl, refl), (refl, refl), (refl, refl))
 
-pub leaf-parts : (isPart 70 ≡ true) × (isPart 71 ≡ true) × (isPart c-true ≡ true) × (isPart c-false ≡ true)
+pub leaf-parts : (isPart c-name ≡ true) × (isPart c-number ≡ true) × (isPart c-true ≡ true) × (isPart c-false ≡ true)
 unfolding isPart
 leaf-parts = (refl, refl, refl, refl)
 

@@ -5,14 +5,15 @@ use native.Mathlib.Decide.{decLt, ℕ-discrete}
 use mathlib.Core.Path.{_≡_, refl, sym as inv, ap, _∙_, subst}
 use mathlib.Core.List.{List, [], _∷_, _++_}
 use lib.ListN.{length, getD, length-append}
-use Rattle.base_codes.specs.Codes.{c-body, c-end-body, c-init, c-proctype}
-use Rattle.spec_grammar.specs.Tree.{Name, Declaration, declare, Body, body, Activity, idle, once, times, Part, mtypes, global, process, init, Model}
-use Rattle.spec_grammar.specs.Code.{Item, i-local, i-body, i-end-body, each, code-tree, code-variable, code-declaration, code-group, code-body, code-activity, code-message, code-part, code}
+use Rattle.base_codes.specs.Codes.{c-body, c-end-body, c-init, c-name, c-number, c-proctype}
+use Rattle.spec_grammar.specs.Tree.{Name, Body, body, Activity, idle, once, times, Part, mtypes, global, process, init, Model}
+use Rattle.base_codes.specs.Items.{Item, i-body, i-end-body, i-local}
+use Rattle.parse_code.specs.Code.{each, code-tree, code-declaration, code-group, code-body, code-activity, code-part, code}
 use Rattle.table_entries.specs.Items.{AllKnown}
 use Rattle.link_phrases_proof.specs.Phrases.{At}
 use Rattle.link_phrases_proof.proofs.Starts.{at-front, at-back}
 use Rattle.agree_eval.proofs.Operators.{known-front, known-back}
-use Rattle.agree_control.proofs.Insides.{kind, inner-known, Inner, inner-append, inner-each, inner-variable, inner-tree, inner-declarations, inner-groups}
+use Rattle.agree_control.proofs.Insides.{Inner, inner-append, inner-tree, inner-declarations, inner-global, inner-groups, inner-mtypes}
 use Rattle.spec_machine.specs.Program.{in-process, in-init, later}
 use Rattle.agree_places.specs.Stated.{Head}
 
@@ -24,20 +25,8 @@ module _ (cs : List ℕ) where
   inner-low (y ∷ l) k x n a h g d = go (ℕ-discrete x k) (inner-low l (suc k) x (n .1) (a .1) (h .1))
     where
       go : Dec (x ≡ k) → (suc k ≤ x → x < suc k + length l → getD cs x 0 < c-proctype) → getD cs x 0 < c-proctype
-      go (yes z) below = subst (_< c-proctype) (inv (ap (λ i. getD cs i 0) z ∙ h .0)) (inner-known y (a .0) (n .0))
+      go (yes z) below = subst (_< c-proctype) (inv (ap (λ i. getD cs i 0) z ∙ h .0)) (n .0 (a .0))
       go (no z) below = below (omega arith) (omega arith)
-
-inner-message : (w : Name) → Inner (code-message w)
-unfolding kind
-inner-message w = (refl, (refl, tt))
-
-inner-mtypes : (ws : List Name) → Inner (code-part (mtypes ws))
-unfolding kind
-inner-mtypes ws = (refl, inner-each code-message inner-message ws)
-
-inner-global : (d : Declaration) → Inner (code-part (global d))
-unfolding kind
-inner-global (declare k xs) = (refl, (refl, inner-each code-variable inner-variable xs))
 
 -- the bounds of a body are above what begins a unit
 body-apart : (cs : List ℕ) (b : Body) (k x : ℕ) → AllKnown (code-body b) → At cs k (code-body b) → k ≤ x → x < k + length (code-body b) → c-proctype ≤ getD cs x 0 → getD cs x 0 ≤ c-init → ⊥
@@ -69,18 +58,18 @@ module _ (cs : List ℕ) where
   activity-head idle w i u h g d l = go (ℕ-discrete u i)
     where
       go : Dec (u ≡ i) → suc u ≡ i + 2
-      go (yes z) = absurd (let c : getD cs u 0 ≡ 70 = ap (λ n. getD cs n 0) z ∙ h .0 in omega arith)
+      go (yes z) = absurd (let c : getD cs u 0 ≡ c-name = ap (λ n. getD cs n 0) z ∙ h .0 in omega arith)
       go (no z) = omega arith
   activity-head once w i u h g d l = go (ℕ-discrete u i)
     where
       go : Dec (u ≡ i) → suc u ≡ i + 2
-      go (yes z) = absurd (let c : getD cs u 0 ≡ 70 = ap (λ n. getD cs n 0) z ∙ h .0 in omega arith)
+      go (yes z) = absurd (let c : getD cs u 0 ≡ c-name = ap (λ n. getD cs n 0) z ∙ h .0 in omega arith)
       go (no z) = omega arith
   activity-head (times n) w i u h g d l = go (ℕ-discrete u i) (ℕ-discrete u (suc i))
     where
       go : Dec (u ≡ i) → Dec (u ≡ suc i) → suc u ≡ i + 3
-      go (yes z) y = absurd (let c : getD cs u 0 ≡ 71 = ap (λ n. getD cs n 0) z ∙ h .0 in omega arith)
-      go (no z) (yes y) = absurd (let c : getD cs u 0 ≡ 70 = ap (λ n. getD cs n 0) y ∙ h .1 .0 in omega arith)
+      go (yes z) y = absurd (let c : getD cs u 0 ≡ c-number = ap (λ n. getD cs n 0) z ∙ h .0 in omega arith)
+      go (no z) (yes y) = absurd (let c : getD cs u 0 ≡ c-name = ap (λ n. getD cs n 0) y ∙ h .1 .0 in omega arith)
       go (no z) (no y) = omega arith
 
   part-head : (x : Part) (m : Model) (i u : ℕ) → AllKnown (code-part x) → At cs i (code-part x) → i ≤ u → u < i + length (code-part x) → c-proctype ≤ getD cs u 0 → getD cs u 0 ≤ c-init → Head (x ∷ m) i u

@@ -10,11 +10,13 @@ use Rattle.base_codes.specs.Codes.{c-body, c-end-body}
 use Rattle.base_bytes.specs.Choice.{pick, both, either}
 use Rattle.base_bytes.proofs.Tests.{true-false, both-true}
 use Rattle.spec_grammar.specs.Tree.{Name, Group, group, Body}
-use Rattle.spec_grammar.specs.Code.{Item, i-type, code-tree, code-parameter, code-group, code-body, code}
+use Rattle.base_codes.specs.Items.{Item, i-type}
+use Rattle.base_codes.specs.Sets.{isPart, isAlone, isLead}
+use Rattle.parse_code.specs.Code.{code-tree, code-parameter, code-group, code-body, code}
 use Rattle.table_entries.specs.Items.{AllKnown}
 use Rattle.table_proof.proofs.Accepted.{accepted-known}
 use Rattle.link_phrases_proof.specs.Phrases.{At}
-use Rattle.link_places.specs.Places.{isPart, isMark, isAlone, isLead, isPlace, isStop, markOf, placeFrom}
+use Rattle.link_places.specs.Places.{isMark, isPlace, isStop, markOf, placeFrom}
 use Rattle.table_layout.specs.Access.{codeOf, linkOf}
 use Rattle.read_passes.specs.Judging.{tablesText}
 use Rattle.read_accepts_proof.specs.Meaning.{Accepts}
@@ -30,10 +32,10 @@ use Rattle.keep_tables.proofs.Firsts.{first-is, first-most}
 use Rattle.keep_tables.proofs.Units.{text-ends}
 use Rattle.keep_tables.proofs.Variables.{unit-there}
 use Rattle.keep_tables.proofs.Marks.{mark-is, mark-in, begun-class}
-use Rattle.agree_control.proofs.Insides.{quiet, kind, type-known}
+use Rattle.agree_control.proofs.Insides.{quiet, type-quiet}
 use Rattle.agree_control.proofs.Begins.{Dull, none, mark, said, dull-each, dull-skip, dull-declarations}
 use Rattle.agree_control.proofs.Main.{text-unit}
-use Rattle.spec_machine.specs.Program.{labelIn, Holds, startIn, endIn, statementsOf}
+use Rattle.spec_machine.specs.Program.{labelIn, Holds, startIn, endIn, sequenceOf}
 use Rattle.agree_stage.proofs.Stands.{Lying, body-lies, statements-lie, lying-in, lying-whole}
 use Rattle.agree_offers.proofs.Places.{at-there, known-there, ends-there}
 use Rattle.agree_places.specs.Stated.{Stated, Head}
@@ -49,8 +51,8 @@ unfolding quiet isPart isAlone isLead
 dull-parameter w k = said refl refl refl refl none
 
 dull-group : (g : Group) → AllKnown (code-group g) → Dull (code-group g)
-unfolding kind quiet isPart isAlone
-dull-group (group c ws) k = mark (type-known (i-type c) (k .0) refl) (mark refl (dull-each code-parameter dull-parameter ws (k .1 .1)))
+unfolding quiet isPart isAlone
+dull-group (group c ws) k = mark (type-quiet (k .0)) (mark refl (dull-each code-parameter dull-parameter ws (k .1 .1)))
 
 stop-if : (cs : List ℕ) (x : ℕ) → isPlace cs x ≡ true → isStop cs x ≡ true
 unfolding isStop
@@ -140,9 +142,9 @@ module _ (t : List ℕ) (a : Accepts t) where
       let z = end-is b k in
       let l = text-unit t a (r .held) .0 in
       let i1 = i .1 in
-      let f = places-in t a (statementsOf b) (startIn b k) (endIn b k) 0 (lying-in X (code-body b) (code-tree (statementsOf b)) 0 k (startIn b k) (body-lies (r .held)) (statements-lie b k)) q s (omega arith) c in
+      let f = places-in t a (sequenceOf b) (startIn b k) (endIn b k) 0 (lying-in X (code-body b) (code-tree (sequenceOf b)) 0 k (startIn b k) (body-lies (r .held)) (statements-lie b k)) q s (omega arith) c in
       record {
         act = f .0;
-        ways = record { next = f .1; out = f .2; label = λ w. labelIn w (statementsOf b) (startIn b k) 0 };
+        ways = record { next = f .1; out = f .2; label = λ w. labelIn w (sequenceOf b) (startIn b k) 0 };
         stands = record { own = b; at = k; held = r .held; inside = f .3; labels = λ w. refl };
       }

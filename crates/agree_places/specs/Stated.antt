@@ -1,3 +1,4 @@
+-- Bridge, for `demand2` (crate `demands`).
 -- That a place is one of a statement, and that an item begins a unit with a body: docs/TABLES.md, "Links".
 use Prim.Native.Nat.{ℕ}
 use Rattle.spec_grammar.specs.Tree.{Sort, action, Tree, Body, Model}

@@ -11,7 +11,8 @@ use Rattle.base_bytes.specs.Lists.{same}
 use Rattle.base_bytes.proofs.Lists.{same-refl, same-eq}
 use Rattle.base_bytes.proofs.Tests.{true-false}
 use Rattle.spec_grammar.specs.Tree.{Name, Sort, action, Tree, express, assign, increment, decrement, send, receive, assert, print, skip, goto, break, timeout, else, run, set-run, select, loop, bare, labelled, end, then, over, option}
-use Rattle.spec_grammar.specs.Code.{Item, i-if, i-fi, i-do, i-od, i-option, i-end-option, i-name, i-label, code-tree}
+use Rattle.base_codes.specs.Items.{Item, i-do, i-end-option, i-fi, i-if, i-label, i-name, i-od, i-option}
+use Rattle.parse_code.specs.Code.{code-tree}
 use Rattle.spec_machine.specs.Program.{sizeIn, labelIn}
 use Rattle.agree_stage.proofs.Stands.{Lying, lying-behind, lying-before, lying-whole}
 

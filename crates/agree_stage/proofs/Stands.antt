@@ -5,9 +5,10 @@ use mathlib.Core.Path.{_≡_, refl, sym, ap, _∙_}
 use mathlib.Core.List.{List, [], _∷_, _++_, append-assoc, append-nil}
 use lib.ListN.{length, length-append}
 use Rattle.spec_grammar.specs.Tree.{Sort, action, Tree, Body, body, Model}
-use Rattle.spec_grammar.specs.Code.{Item, i-if, i-fi, i-do, i-od, i-option, i-end-option, i-name, i-label, i-local, i-init, i-body, i-end-body, each, code-tree, code-declaration, code-group, code-body, code-activity, code-part, code}
+use Rattle.base_codes.specs.Items.{Item, i-body, i-do, i-end-body, i-end-option, i-fi, i-if, i-init, i-label, i-local, i-name, i-od, i-option}
+use Rattle.parse_code.specs.Code.{each, code-tree, code-declaration, code-group, code-body, code-activity, code-part, code}
 use Rattle.spec_machine.specs.Stage.{Ways}
-use Rattle.spec_machine.specs.Program.{sizeIn, Within, itself, in-if, in-do, unlabelled, behind-label, in-first, in-rest, in-option, in-others, Holds, in-process, in-init, later, startIn, statementsOf, Statement}
+use Rattle.spec_machine.specs.Program.{sizeIn, Within, itself, in-if, in-do, unlabelled, behind-label, in-first, in-rest, in-option, in-others, Holds, in-process, in-init, later, startIn, sequenceOf, Statement}
 
 -- the items x stand in the items l, which begin at item i, from item j on
 pub record Lying (l : List Item) (i : ℕ) (x : List Item) (j : ℕ) : Type 0 where
@@ -76,7 +77,7 @@ lying-in l x y i j k p q =
     }
 
 -- the statements of a body
-pub statements-lie : (b : Body) (k : ℕ) → Lying (code-body b) k (code-tree (statementsOf b)) (startIn b k)
+pub statements-lie : (b : Body) (k : ℕ) → Lying (code-body b) k (code-tree (sequenceOf b)) (startIn b k)
 statements-lie (body ds q) k =
     let D = each (code-declaration i-local) ds in
     lying-before (i-body ∷ D ++ code-tree q) (i-end-body ∷ []) (code-tree q) k (startIn (body ds q) k)
@@ -86,8 +87,8 @@ pub statement-lies : {m : Model} {u j : ℕ} {a : Tree action} {h : Ways} → St
 statement-lies {m} {u} {j} {a} {h} s =
     let b = s .own in
     let k = s .at in
-    lying-in (code m) (code-tree (statementsOf b)) (code-tree a) 0 (startIn b k) j
-    (lying-in (code m) (code-body b) (code-tree (statementsOf b)) 0 k (startIn b k) (body-lies (s .held)) (statements-lie b k)) (within-lies (s .inside))
+    lying-in (code m) (code-tree (sequenceOf b)) (code-tree a) 0 (startIn b k) j
+    (lying-in (code m) (code-body b) (code-tree (sequenceOf b)) 0 k (startIn b k) (body-lies (s .held)) (statements-lie b k)) (within-lies (s .inside))
 
 -- ---- parts of what lies: the first of them, those behind them, those between two others
 pub lying-front : (l x y : List Item) (i j : ℕ) → Lying l i (x ++ y) j → Lying l i x j

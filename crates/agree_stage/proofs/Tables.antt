@@ -11,21 +11,19 @@ use lib.ListN.{length, length-append}
 use lib.IntN.{ℤ, pos, negsuc}
 use lib.Dec.{eqb, ltb}
 use borrow.Author.Tests.{lt-leb, ne-eqb, le-ltb}
-use Rattle.base_codes.specs.Codes.{c-and-then, c-bit-or, c-choice, c-complement, c-false, c-index, c-len, c-message, c-negate, c-not, c-or-else, c-plain, c-remainder, c-true}
+use Rattle.base_ceilings.specs.Ceilings.{heightMost}
+use Rattle.base_codes.specs.Codes.{c-and-then, c-bit-or, c-choice, c-complement, c-false, c-index, c-len, c-message, c-negate, c-not, c-or-else, c-plain, c-remainder, c-true, c-name, c-number}
 use Rattle.base_bytes.specs.Choice.{pick}
 use Rattle.base_bytes.specs.Lists.{same}
 use Rattle.spec_text.specs.Names.{pid}
 use Rattle.table_layout.specs.Access.{codeOf, linkOf}
-use Rattle.state_layout.specs.Layout.{kept, cellOf, waitingOf}
+use Rattle.state_layout.specs.Layout.{kept, cellOf, waitingOf, keptMost}
 use Rattle.base_bytes.specs.Numbers.{nat}
-use Rattle.base_values.specs.Operators.{isTrue, oneIf}
-use Rattle.base_values.specs.declared.Fault.the-variants as fault
+use Rattle.base_values.specs.Operators.{isTrue, oneIf, truth}
 use Rattle.base_values.specs.declared.Answer.{Answer}
 use Rattle.base_values.specs.declared.Answer.the-variants.{Value, Fails}
 use Rattle.spec_grammar.specs.Tree.{Name, Shape, Exp, Ref, plain, indexed, num, tru, fls, get, len, unary, binary, choice}
 use Rattle.spec_grammar.specs.Grammar.{Is-unary, is-minus, is-not, is-flip}
-use Rattle.spec_grammar.specs.Code.{code-exp, i-index, i-len, i-unary, i-binary, i-otherwise, i-choice}
-use Rattle.table_entries.specs.Items as items
 use Rattle.link_phrases_proof.specs.Phrases.{Proper}
 use Rattle.spec_rules.specs.Heights.{height}
 use Rattle.step_eval.specs.declared.Located.the-variants.{At, Astray}
@@ -33,12 +31,16 @@ use Rattle.step_eval.specs.declared.Reached.the-variants.{Record, Unmade}
 use Rattle.step_eval.specs.declared.Node.{Node}
 use Rattle.step_eval.specs.declared.Node.the-variants.{Number, True, False, Plain, Index, Length, Unary, Lazy, Binary, Choice}
 use Rattle.step_eval.specs.Variables.{variableOf, sizeOf, slotOf, elementOf, loadOf, madeOf, channelOf, lengthOf}
-use Rattle.step_eval.specs.Expressions.{nodeOf, truthOf, unaryBy, bothBy, lazyBy, choiceBy, startOf, plainOf, byNode, evalT, evalOf, locateOf}
-use Rattle.spec_machine.specs.Eval.{Scene, elementBy, lengthBy, signBy, truth, orBy, andBy, joinBy, operateBy, chooseBy, eval}
+use Rattle.step_eval.specs.Expressions.{nodeOf, unaryBy, bothBy, lazyBy, choiceBy, startOf, plainOf, byNode, evalT, evalOf, locateOf}
+use Rattle.spec_machine.specs.Eval.{Scene, elementBy, lengthBy, signBy, orBy, andBy, joinBy, operateBy, chooseBy, eval}
 use Rattle.agree_stage.specs.Scenes.{numberAt, sceneOf, sizeIn, Stands, Meant, Named, locate, Linked}
+use Rattle.base_codes.specs.Items.{i-binary, i-choice, i-index, i-len, i-otherwise, i-unary}
+use Rattle.parse_code.specs.Code.{code-exp}
+use Rattle.base_values.specs.declared.Fault.the-variants as fault
+use Rattle.base_codes.specs.Items as items
 
 -- ---- what an item is, by its code
-node-number : nodeOf 71 ≡ Number
+node-number : nodeOf c-number ≡ Number
 unfolding nodeOf
 node-number = refl
 
@@ -85,26 +87,22 @@ unfolding nodeOf
 node-binary o a b =
     let c = 146 + o in
     let z : 146 + o - 146 ≡ o = omega arith in
-    rw (ne-eqb c 71 (λ e. omega arith), ne-eqb c c-or-else (λ e. omega arith), ne-eqb c c-and-then (λ e. omega arith), ne-eqb c c-negate (λ e. omega arith), ne-eqb c c-not (λ e. omega arith), ne-eqb c c-complement (λ e. omega arith), ne-eqb c c-plain (λ e. omega arith), ne-eqb c c-index (λ e. omega arith), ne-eqb c c-true (λ e. omega arith), ne-eqb c c-false (λ e. omega arith), ne-eqb c c-len (λ e. omega arith), ne-eqb c c-choice (λ e. omega arith), le-ltb c c-bit-or (omega arith), le-ltb c-remainder c (omega arith)) (ap Binary z)
+    rw (ne-eqb c c-number (λ e. omega arith), ne-eqb c c-or-else (λ e. omega arith), ne-eqb c c-and-then (λ e. omega arith), ne-eqb c c-negate (λ e. omega arith), ne-eqb c c-not (λ e. omega arith), ne-eqb c c-complement (λ e. omega arith), ne-eqb c c-plain (λ e. omega arith), ne-eqb c c-index (λ e. omega arith), ne-eqb c c-true (λ e. omega arith), ne-eqb c c-false (λ e. omega arith), ne-eqb c c-len (λ e. omega arith), ne-eqb c c-choice (λ e. omega arith), le-ltb c c-bit-or (omega arith), le-ltb c-remainder c (omega arith)) (ap Binary z)
 
 -- ---- what was worked out, in the words of the tree
-truth-is : (y : Answer) → truthOf y ≡ truth y
-truth-is (Value v) = refl
-truth-is (Fails f) = refl
-
 or-is : (x y : Answer) → lazyBy 1 x y ≡ orBy x y
 or-is (Value v) y = go (isTrue v)
   where
-    go : (b : Bool) → pick b (Value (oneIf b)) (truthOf y) ≡ pick b (Value (pos 1)) (truth y)
+    go : (b : Bool) → pick b (Value (oneIf b)) (truth y) ≡ pick b (Value (pos 1)) (truth y)
     go true = refl
-    go false = truth-is y
+    go false = refl
 or-is (Fails f) y = refl
 
 and-is : (x y : Answer) → lazyBy 2 x y ≡ andBy x y
 and-is (Value v) y = go (isTrue v)
   where
-    go : (b : Bool) → pick (not b) (Value (oneIf b)) (truthOf y) ≡ pick b (truth y) (Value (pos 0))
-    go true = truth-is y
+    go : (b : Bool) → pick (not b) (Value (oneIf b)) (truth y) ≡ pick b (truth y) (Value (pos 0))
+    go true = refl
     go false = refl
 and-is (Fails f) y = refl
 
@@ -124,7 +122,7 @@ unary-is o (Fails f) = refl
 module _ (t : List ℕ) (s : List ℤ) (p : ℕ) (decl : Name → ℕ) where
   number-is : (d : ℕ) → plainOf t s p d ≡ Value (numberAt t s p d)
   unfolding plainOf numberAt
-  number-is d = go (eqb (codeOf t d) c-message) (eqb (codeOf t d) 70)
+  number-is d = go (eqb (codeOf t d) c-message) (eqb (codeOf t d) c-name)
     where
       go : (a b : Bool)
           → pick a (Value (kept (linkOf t d))) (pick b (Value (pos p)) (Value (cellOf s (slotOf (linkOf t d) p 0))))
@@ -133,7 +131,7 @@ module _ (t : List ℕ) (s : List ℤ) (p : ℕ) (decl : Name → ℕ) where
       go false true = refl
       go false false = refl
 
-  pid-is : (d : ℕ) → codeOf t d ≡ 70 → numberAt t s p d ≡ pos p
+  pid-is : (d : ℕ) → codeOf t d ≡ c-name → numberAt t s p d ≡ pos p
   unfolding numberAt
   pid-is d e = rw e
 
@@ -142,10 +140,10 @@ module _ (t : List ℕ) (s : List ℤ) (p : ℕ) (decl : Name → ℕ) where
   plain-is w d (inr e) = number-is d ∙ ap Value (pid-is d (e .0) ∙ sym (pid-is (decl w) (e .1)))
 
   -- `_pid` is the number of the process
-  pid-number : (w : Name) → (same w pid ≡ true → codeOf t (decl w) ≡ 70) → numberAt t s p (decl w) ≡ pick (same w pid) (pos p) (numberAt t s p (decl w))
+  pid-number : (w : Name) → (same w pid ≡ true → codeOf t (decl w) ≡ c-name) → numberAt t s p (decl w) ≡ pick (same w pid) (pos p) (numberAt t s p (decl w))
   pid-number w h = go (same w pid) h
     where
-      go : (b : Bool) → (b ≡ true → codeOf t (decl w) ≡ 70) → numberAt t s p (decl w) ≡ pick b (pos p) (numberAt t s p (decl w))
+      go : (b : Bool) → (b ≡ true → codeOf t (decl w) ≡ c-name) → numberAt t s p (decl w) ≡ pick b (pos p) (numberAt t s p (decl w))
       go true h = pid-is (decl w) (h refl)
       go false h = refl
 
@@ -223,8 +221,8 @@ module _ (t : List ℕ) (s : List ℤ) (p : ℕ) (decl : Name → ℕ) where
       ∙ ap (λ d. loadOf s (elementOf (linkOf t d) p (evalT t s p (h - 1) from j))) (n .1)
       ∙ ap (λ x. loadOf s (elementOf (linkOf t (decl w)) p x)) (eval-tables e (i + 1) from (h - 1) r (z .0) (n .0) (omega arith) (omega arith)) ∙ element-is w (eval scene e)
   eval-tables (num v) i from h r z n f g =
-      by-last h from (i + 1) i 71 (omega arith) (omega arith) f (z .0) node-number
-      ∙ ap (λ y. Value (kept y)) (z .1) ∙ (let b = z .2 in let y : min 2147483647 v ≡ v = omega arith in ap (λ y. Value (pos y)) y)
+      by-last h from (i + 1) i c-number (omega arith) (omega arith) f (z .0) node-number
+      ∙ ap (λ y. Value (kept y)) (z .1) ∙ (let b = z .2 in let y : min keptMost v ≡ v = omega arith in ap (λ y. Value (pos y)) y)
   eval-tables tru i from h r z n f g = by-last h from (i + 1) i c-true (omega arith) (omega arith) f z node-true
   eval-tables fls i from h r z n f g = by-last h from (i + 1) i c-false (omega arith) (omega arith) f z node-false
   eval-tables (get v) i from h r z n f g = eval-tables v i from h r z n f g
@@ -268,8 +266,8 @@ module _ (t : List ℕ) (s : List ℤ) (p : ℕ) (decl : Name → ℕ) where
       (eval-tables c u u (h - 1) (r .2) (z .3) (n .2) (omega arith) (omega arith)) ∙ choice-is (eval scene a) (eval scene b) (eval scene c)
 
   -- "expression height 32"
-  pub eval-is : {k : Shape} (e : Exp k) (i to : ℕ) → Proper e → Stands t e i → Named t decl e i → height e ≤ 32 → to ≡ i + sizeIn e → evalOf t s p i to ≡ eval scene e
-  eval-is e i to r z n g q = ap (evalOf t s p i) q ∙ eval-tables e i i 32 r z n (omega arith) g
+  pub eval-is : {k : Shape} (e : Exp k) (i to : ℕ) → Proper e → Stands t e i → Named t decl e i → height e ≤ heightMost → to ≡ i + sizeIn e → evalOf t s p i to ≡ eval scene e
+  eval-is e i to r z n g q = ap (evalOf t s p i) q ∙ eval-tables e i i heightMost r z n (omega arith) g
 
   -- ---- references
   locate-element : (from to j : ℕ) → to - 1 ≡ j → codeOf t j ≡ c-index → locateOf t s p from to ≡ elementOf (variableOf t j) p (evalOf t s p from j)
@@ -280,7 +278,7 @@ module _ (t : List ℕ) (s : List ℤ) (p : ℕ) (decl : Name → ℕ) where
   unfolding locateOf
   locate-plain from to j q e = rw (q, e)
 
-  pub locate-is : (r : Ref) (i to : ℕ) → Proper r → Stands t r i → Named t decl r i → Linked t decl r i → height r ≤ 32 → to ≡ i + sizeIn r → locateOf t s p i to ≡ locate t s p decl r
+  pub locate-is : (r : Ref) (i to : ℕ) → Proper r → Stands t r i → Named t decl r i → Linked t decl r i → height r ≤ heightMost → to ≡ i + sizeIn r → locateOf t s p i to ≡ locate t s p decl r
   unfolding locate Linked Stands Named
   locate-is (plain w) i to r z n l g q = locate-plain i to (i + 1) (omega arith) z ∙ ap (λ d. At (slotOf (linkOf t d) p 0)) l
   locate-is (indexed w e) i to r z n l g q =
@@ -288,4 +286,4 @@ module _ (t : List ℕ) (s : List ℤ) (p : ℕ) (decl : Name → ℕ) where
       let y : length (code-exp e ++ i-index ∷ []) ≡ m + 1 = length-append (code-exp e) (i-index ∷ []) in
       let j = i + 1 + m in
       locate-element i to j (omega arith) (z .1) ∙ ap (λ d. elementOf (linkOf t d) p (evalOf t s p i j)) l
-      ∙ ap (elementOf (linkOf t (decl w)) p) (eval-tables e (i + 1) i 32 r (z .0) (n .0) (omega arith) (omega arith))
+      ∙ ap (elementOf (linkOf t (decl w)) p) (eval-tables e (i + 1) i heightMost r (z .0) (n .0) (omega arith) (omega arith))

@@ -1,3 +1,4 @@
+-- Bridge, for `demand2` (crate `demands`).
 -- The scene that tables and a state make, and that an expression of a tree stands in the tables: docs/TABLES.md, the rows of items and of links.
 -- `t` are tables, `s` a state, p the number of the process; `decl` has for each name the item that declares it, and for `_pid` any item that is a name.
 use Prim.Native.Nat.{ℕ, _+_, _-_, _≤_}
@@ -7,7 +8,8 @@ use mathlib.Core.Logic.{_⊎_}
 use lib.ListN.{length}
 use lib.IntN.{ℤ, pos}
 use lib.Dec.{eqb}
-use Rattle.base_codes.specs.Codes.{c-choice, c-false, c-index, c-len, c-message, c-plain, c-true}
+use Rattle.base_ceilings.specs.Ceilings.{numberMost}
+use Rattle.base_codes.specs.Codes.{c-choice, c-false, c-index, c-len, c-message, c-plain, c-true, c-name, c-number}
 use Rattle.base_bytes.specs.Choice.{pick}
 use Rattle.base_bytes.specs.Lists.{same}
 use Rattle.spec_text.specs.Names.{pid}
@@ -16,16 +18,17 @@ use Rattle.table_layout.specs.Access.{codeOf, linkOf, numberOf}
 use Rattle.state_layout.specs.Layout.{kept, cellOf, waitingOf}
 use Rattle.base_bytes.specs.Numbers.{nat}
 use Rattle.spec_grammar.specs.Tree.{Name, Shape, Exp, Ref, plain, indexed, num, tru, fls, get, len, unary, binary, choice}
-use Rattle.spec_grammar.specs.Code.{code-exp, i-unary, i-binary}
-use Rattle.table_entries.specs.Items as items
 use Rattle.step_eval.specs.declared.Located.{Located}
 use Rattle.step_eval.specs.declared.Located.the-variants.{At}
 use Rattle.step_eval.specs.Variables.{sizeOf, slotOf, madeOf, elementOf}
 use Rattle.spec_machine.specs.Eval.{Scene, eval}
+use Rattle.base_codes.specs.Items.{i-binary, i-unary}
+use Rattle.parse_code.specs.Code.{code-exp}
+use Rattle.base_codes.specs.Items as items
 
 -- a plain reference to declaration d: the number of an mtype name (220), `_pid` (its own name, 70), or a variable
 unfoldable pub numberAt : List ℕ → List ℤ → ℕ → ℕ → ℤ
-numberAt t s p d = pick (eqb (codeOf t d) c-message) (kept (linkOf t d)) (pick (eqb (codeOf t d) 70) (pos p) (cellOf s (slotOf (linkOf t d) p 0)))
+numberAt t s p d = pick (eqb (codeOf t d) c-message) (kept (linkOf t d)) (pick (eqb (codeOf t d) c-name) (pos p) (cellOf s (slotOf (linkOf t d) p 0)))
 
 abbrev pub sceneOf : List ℕ → List ℤ → ℕ → (Name → ℕ) → Scene
 sceneOf t s p decl =
@@ -45,7 +48,7 @@ sizeIn e = length (code-exp e)
 unfoldable pub Stands : List ℕ → {k : Shape} → Exp k → ℕ → Type 0
 Stands t (plain w) i = codeOf t (i + 1) ≡ c-plain
 Stands t (indexed w e) i = Stands t e (i + 1) × (codeOf t (i + 1 + sizeIn e) ≡ c-index)
-Stands t (num n) i = (codeOf t i ≡ 71) × (numberOf t i ≡ n) × (n ≤ 2147483647)
+Stands t (num n) i = (codeOf t i ≡ c-number) × (numberOf t i ≡ n) × (n ≤ numberMost)
 Stands t tru i = codeOf t i ≡ c-true
 Stands t fls i = codeOf t i ≡ c-false
 Stands t (get r) i = Stands t r i
@@ -59,11 +62,11 @@ Stands t (choice a b c) i =
 
 -- item d is what a name stands for, if that is item k; `_pid`, which is not declared, stands for itself wherever it is (70)
 abbrev pub Meant : List ℕ → ℕ → ℕ → Type 0
-Meant t d k = (d ≡ k) ⊎ ((codeOf t d ≡ 70) × (codeOf t k ≡ 70))
+Meant t d k = (d ≡ k) ⊎ ((codeOf t d ≡ c-name) × (codeOf t k ≡ c-name))
 
 -- each name in it links to what `decl` has for it
 unfoldable pub Named : List ℕ → (Name → ℕ) → {k : Shape} → Exp k → ℕ → Type 0
-Named t decl (plain w) i = Meant t (linkOf t (i + 1)) (decl w) × (same w pid ≡ true → codeOf t (decl w) ≡ 70)
+Named t decl (plain w) i = Meant t (linkOf t (i + 1)) (decl w) × (same w pid ≡ true → codeOf t (decl w) ≡ c-name)
 Named t decl (indexed w e) i = Named t decl e (i + 1) × (linkOf t (i + 1 + sizeIn e) ≡ decl w)
 Named t decl (num n) i = Unit {0}
 Named t decl tru i = Unit {0}

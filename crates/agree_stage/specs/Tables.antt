@@ -1,3 +1,4 @@
+-- Bridge, for `demand2` (crate `demands`).
 -- The stage that tables and a state make: docs/TABLES.md. `t` are tables, `s` the state before the step, p the number of the process; `decl` has for each name the item that declares it
 -- (specs/Scenes.antt), `unit` for each proctype the item that begins it.
 use Prim.Native.Nat.{ℕ, _+_, _-_}
@@ -22,8 +23,8 @@ use Rattle.agree_stage.specs.Scenes.{sceneOf}
 use Rattle.spec_machine.specs.Stage.{Stage, Ways}
 use Rattle.spec_machine.specs.Program.{sizeIn}
 
-abbrev pub stageOf : List ℕ → List ℤ → ℕ → (Name → ℕ) → (Name → ℕ) → Stage (List ℤ)
-stageOf t s p decl unit =
+abbrev pub stageIn : List ℕ → List ℤ → ℕ → (Name → ℕ) → (Name → ℕ) → Stage (List ℤ)
+stageIn t s p decl unit =
     record {
       scene = sceneOf t s p decl;
       constant = λ w. eqb (codeOf t (decl w)) c-message;

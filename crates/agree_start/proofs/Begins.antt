@@ -7,16 +7,14 @@ use lib.ListN.{length, set}
 use lib.IntN.{ℤ}
 use lib.Dec.{ltb}
 use borrow.Author.Tests.{ne-eqb}
-use Rattle.base_codes.specs.Codes.{c-body, c-declared, c-group, c-local, c-parameter}
+use Rattle.base_ceilings.specs.Ceilings.{processesMost}
+use Rattle.base_codes.specs.Codes.{c-body, c-declared, c-group, c-local, c-parameter, c-name}
 use Rattle.base_bytes.specs.Choice.{pick}
 use Rattle.spec_grammar.specs.Tree.{Name, Group, group, Body, body}
-use Rattle.spec_grammar.specs.Code.{Item, i-type, i-local, i-body, i-end-body, each, code-tree, code-declaration, code-parameter, code-group, code}
-use Rattle.table_entries.specs.Items as items
 use Rattle.table_layout.specs.Access.{codeOf, linkOf}
 use Rattle.read_accepts_proof.specs.Meaning.{Accepts}
 use Rattle.read_passes.specs.Judging.{tablesText}
 use Rattle.state_layout.specs.Layout.{kept, processAt, processesOf}
-use Rattle.spec_text.specs.Ceilings.{processesMost}
 use Rattle.state_layout.specs.Walks.{walk}
 use Rattle.state_start.specs.Starting.{declared, entered, processMade}
 use Rattle.spec_machine.specs.Program.{enter, Holds, startIn, endIn}
@@ -29,6 +27,9 @@ use Rattle.agree_start.proofs.Walks.{walk-from, over, Mute, Muted, over
 use Rattle.agree_start.proofs.Items.{type-below, Below, below-tree}
 use Rattle.agree_start.proofs.Values.{Makes, Clear, locals-over}
 use Rattle.agree_start.proofs.Units.{here, clear-body, clear-end, unit-over, body-ends, unit-long}
+use Rattle.base_codes.specs.Items.{Item, i-body, i-end-body, i-local, i-type}
+use Rattle.parse_code.specs.Code.{each, code-tree, code-declaration, code-parameter, code-group, code}
+use Rattle.base_codes.specs.Items as items
 
 -- ---- what is done at an item that a process enters
 module _ (t : List ℕ) (p : ℕ) where
@@ -53,7 +54,7 @@ module _ (t : List ℕ) (p : ℕ) where
       }
 
   enters-parameter : (w : Name) → Muted (entered t p) t (code-parameter w)
-  enters-parameter w = (λ k. enters-else 70 (λ e. omega arith) (λ e. omega arith), (λ k. enters-else c-parameter (λ e. omega arith) (λ e. omega arith), tt))
+  enters-parameter w = (λ k. enters-else c-name (λ e. omega arith) (λ e. omega arith), (λ k. enters-else c-parameter (λ e. omega arith) (λ e. omega arith), tt))
 
   enters-group : (g : Group) → Muted (entered t p) t (code-group g)
   enters-group (group n ws) = (

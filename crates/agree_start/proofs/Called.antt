@@ -7,10 +7,11 @@ use mathlib.Core.List.{List, [], _∷_, _++_}
 use lib.ListN.{length, getD, set, length-append}
 use lib.IntN.{ℤ, pos}
 use borrow.Author.Tests.{ne-eqb}
-use Rattle.base_codes.specs.Codes.{c-body, c-channel, c-declared, c-false, c-field, c-group, c-local, c-minus, c-named, c-parameter, c-size, c-true, c-value}
+use Rattle.base_codes.specs.Codes.{c-body, c-channel, c-declared, c-false, c-field, c-group, c-local, c-minus, c-name, c-named, c-number, c-parameter, c-size, c-true, c-value}
 use Rattle.spec_grammar.specs.Tree.{Name, Value, unset, set-number, set-minus, set-true, set-false, set-name, set-channel, Variable, variable, Declaration, declare, Group, group, Body, body}
-use Rattle.spec_grammar.specs.Code.{Item, i-type, i-local, each, code-field, code-size, code-value, code-variable, code-declaration, code-parameter, code-group, code-tree, code-body, code}
-use Rattle.table_entries.specs.Items as items
+use Rattle.base_codes.specs.Items.{Item, i-local, i-type}
+use Rattle.parse_code.specs.Code.{each, code-field, code-size, code-value, code-variable, code-declaration, code-parameter, code-group, code-tree, code-body, code}
+use Rattle.base_codes.specs.Items as items
 use Rattle.table_entries.specs.Items.{Known, AllKnown}
 use Rattle.table_layout.specs.Access.{codeOf, linkOf}
 use Rattle.read_accepts_proof.specs.Meaning.{Accepts}
@@ -42,7 +43,7 @@ use Rattle.agree_start.proofs.Offsets.{before, before-unit, before-else
 module _ (f : ℕ → List ℤ → List ℤ) (t : List ℕ) (h : (c : ℕ) → c ≤ c-field → Mute f t c) where
   muted-size : (z : Option ℕ) → Muted f t (code-size z)
   muted-size none = tt
-  muted-size (some n) = (λ k. h 71 (omega arith), (λ k. h c-size (omega arith), tt))
+  muted-size (some n) = (λ k. h c-number (omega arith), (λ k. h c-size (omega arith), tt))
 
   muted-type : (k : ℕ) → Known (i-type k) → Mute f t (items.codeOf (i-type k))
   muted-type k e = let b = type-below k e in h (items.codeOf (i-type k)) (omega arith)
@@ -52,15 +53,15 @@ module _ (f : ℕ → List ℤ → List ℤ) (t : List ℕ) (h : (c : ℕ) → c
 
   muted-value : (v : Value) → Muted f t (code-value v)
   muted-value unset = tt
-  muted-value (set-number n) = (λ k. h 71 (omega arith), (λ k. h c-value (omega arith), tt))
-  muted-value (set-minus n) = (λ k. h 71 (omega arith), (λ k. h c-minus (omega arith), tt))
+  muted-value (set-number n) = (λ k. h c-number (omega arith), (λ k. h c-value (omega arith), tt))
+  muted-value (set-minus n) = (λ k. h c-number (omega arith), (λ k. h c-minus (omega arith), tt))
   muted-value set-true = (λ k. h c-true (omega arith), (λ k. h c-value (omega arith), tt))
   muted-value set-false = (λ k. h c-false (omega arith), (λ k. h c-value (omega arith), tt))
-  muted-value (set-name w) = (λ k. h 70 (omega arith), (λ k. h c-named (omega arith), tt))
-  muted-value (set-channel n ks) = (λ k. h 71 (omega arith), (λ k. h c-channel (omega arith), muted-each f t code-field muted-field ks))
+  muted-value (set-name w) = (λ k. h c-name (omega arith), (λ k. h c-named (omega arith), tt))
+  muted-value (set-channel n ks) = (λ k. h c-number (omega arith), (λ k. h c-channel (omega arith), muted-each f t code-field muted-field ks))
 
   muted-variable : (x : Variable) → Muted f t (code-variable x)
-  muted-variable (variable w z v) = (λ k. h 70 (omega arith), (λ k. h c-declared (omega arith), muted-both f t (code-size z) (code-value v) (muted-size z) (muted-value v)))
+  muted-variable (variable w z v) = (λ k. h c-name (omega arith), (λ k. h c-declared (omega arith), muted-both f t (code-size z) (code-value v) (muted-size z) (muted-value v)))
 
   muted-declaration : (d : Declaration) → Muted f t (code-declaration i-local d)
   muted-declaration (declare k xs) = (muted-type k, (λ e. h c-local (omega arith), muted-each f t code-variable muted-variable xs))
@@ -79,11 +80,11 @@ module _ (t : List ℕ) (p : ℕ) (l : List ℤ) where
   sets-parameter j n s e o = rw e (ap (λ x. set s (slotOf (linkOf t j) p 0) (castOf (typeOf (linkOf t j)) (getD l x (pos 0)))) o)
 
 -- ---- no number stands first
-first-name : (t : List ℕ) (ws : List Name) (e : ℕ) → Held t e (each code-parameter ws) → (codeOf t (e + length (each code-parameter ws)) ≡ 71 → ⊥) → codeOf t e ≡ 71 → ⊥
+first-name : (t : List ℕ) (ws : List Name) (e : ℕ) → Held t e (each code-parameter ws) → (codeOf t (e + length (each code-parameter ws)) ≡ c-number → ⊥) → codeOf t e ≡ c-number → ⊥
 first-name t [] e h n c = n (ap (codeOf t) (let z : e + 0 ≡ e = omega arith in z) ∙ c)
 first-name t (w ∷ ws) e h n c = let z = h .0 in omega arith
 
-first-group : (t : List ℕ) (gs : List Group) (e : ℕ) → Held t e (each code-group gs) → (codeOf t (e + length (each code-group gs)) ≡ 71 → ⊥) → codeOf t e ≡ 71 → ⊥
+first-group : (t : List ℕ) (gs : List Group) (e : ℕ) → Held t e (each code-group gs) → (codeOf t (e + length (each code-group gs)) ≡ c-number → ⊥) → codeOf t e ≡ c-number → ⊥
 first-group t [] e h n c = n (ap (codeOf t) (let z : e + 0 ≡ e = omega arith in z) ∙ c)
 first-group t (group k ws ∷ gs) e h n c = let z = h .0 in omega arith
 
@@ -100,7 +101,7 @@ module _ (t : List ℕ) (a : Accepts t) where
     f = parameterSet T p l
 
     names-over : (ws : List Name) (n i : ℕ) (s : List ℤ) → u < i → i + length (each code-parameter ws) ≤ e → n ≤ i → Held T i (each code-parameter ws)
-        → (codeOf T (i + length (each code-parameter ws)) ≡ 71 → ⊥) → before t a u U i ≡ n
+        → (codeOf T (i + length (each code-parameter ws)) ≡ c-number → ⊥) → before t a u U i ≡ n
         → (over f (each code-parameter ws) i s ≡ namesIn T p l n ws i s) × (before t a u U (i + length (each code-parameter ws)) ≡ n + length ws)
     names-over [] n i s g m y h z b =
         (over-muted f T [] i s tt tt tt, ap (before t a u U) (let q : i + 0 ≡ i = omega arith in q) ∙ b ∙ (let q : n ≡ n + 0 = omega arith in q))
@@ -111,7 +112,7 @@ module _ (t : List ℕ) (a : Accepts t) where
         let r : i + length (each code-parameter (w ∷ ws)) ≡ suc (suc i) + length L = omega arith in
         let j : suc i ≡ i + 1 = omega arith in
         let x = first-name T ws (suc (suc i)) (h .2 .2) (λ o. z (ap (codeOf T) r ∙ o)) in
-        let b1 = before-else t a u U i 70 (omega arith) (h .0) (λ o. omega arith) (λ o. omega arith) in
+        let b1 = before-else t a u U i c-name (omega arith) (h .0) (λ o. omega arith) (λ o. omega arith) in
         let i1 : suc (suc i) < length (codesAt t a) = omega arith in
         let b2 = before-parameter t a u U (suc i) i1 (omega arith, omega arith) (h .2 .0) x in
         let o = parameter-at t a u U (suc i) i1 (omega arith, omega arith) (h .2 .0) (omega arith) in
@@ -119,7 +120,7 @@ module _ (t : List ℕ) (a : Accepts t) where
         let o1 : linkOf T (suc i) / 1024 ≡ n = omega arith in
         let R = names-over ws (n + 1) (suc (suc i)) (set s (slotOf (linkOf T (suc i)) p 0) (castOf (typeOf (linkOf T (suc i))) (getD l n (pos 0)))) (omega arith) (omega arith) (omega arith) (h .2 .2)
         (λ o. z (ap (codeOf T) r ∙ o)) b3 in (
-          walk-one f i (suc (length L)) s ∙ ap (walk f (suc i) (suc (length L))) (sets-else T p l 70 (λ o. omega arith) i s (h .0)) ∙ walk-one f (suc i) (length L) s
+          walk-one f i (suc (length L)) s ∙ ap (walk f (suc i) (suc (length L))) (sets-else T p l c-name (λ o. omega arith) i s (h .0)) ∙ walk-one f (suc i) (length L) s
               ∙ ap (over f L (suc (suc i))) (sets-parameter T p l (suc i) n s (h .2 .0) o1) ∙ R .0
               ∙ ap (λ x. namesIn T p l (n + 1) ws x (set s (slotOf (linkOf T (suc i)) p 0) (castOf (typeOf (linkOf T (suc i))) (getD l n (pos 0))))) q
               ∙ ap (λ x. namesIn T p l (n + 1) ws (i + 2) (set s (slotOf (linkOf T x) p 0) (castOf (typeOf (linkOf T x)) (getD l n (pos 0))))) j,
@@ -127,7 +128,7 @@ module _ (t : List ℕ) (a : Accepts t) where
         )
 
     groups-over : (gs : List Group) (n i : ℕ) (s : List ℤ) → u < i → i + length (each code-group gs) ≤ e → n ≤ i → AllKnown (each code-group gs) → Held T i (each code-group gs)
-        → (codeOf T (i + length (each code-group gs)) ≡ 71 → ⊥) → before t a u U i ≡ n → over f (each code-group gs) i s ≡ groupsIn T p l n gs i s
+        → (codeOf T (i + length (each code-group gs)) ≡ c-number → ⊥) → before t a u U i ≡ n → over f (each code-group gs) i s ≡ groupsIn T p l n gs i s
     groups-over [] n i s g m y k h z b = over-muted f T [] i s tt tt tt
     groups-over (group c ws ∷ gs) n i s g m y k h z b =
         let N = each code-parameter ws in
@@ -184,7 +185,7 @@ module _ (t : List ℕ) (a : Accepts t) where
         ∙ sets-else T p l c-body (λ o. omega arith) k _ B
         ∙ ap (over f G (suc u)) (sets-else T p l (codeOf T u) (λ o. omega arith) u s refl)
         ∙ groups-over p l u k U (omega arith) (omega arith) (r .groups) 0 (suc u) s (omega arith) (omega arith) (omega arith) (known-there t a G (suc u) (r .lies)) (here t a G (suc u) (r .lies))
-        (λ o. let y : codeOf T k ≡ 71 = ap (codeOf T) (let x : k ≡ suc u + length G = omega arith in x) ∙ o in omega arith) (before-unit t a u U)
+        (λ o. let y : codeOf T k ≡ c-number = ap (codeOf T) (let x : k ≡ suc u + length G = omega arith in x) ∙ o in omega arith) (before-unit t a u U)
 
   called-by : (b : Body) {u k : ℕ} → Holds (a .tree) 0 u b k → (r : Between (code (a .tree)) 0 u k) → (l s : List ℤ) → called (tablesText t) u l s ≡ calledIn (tablesText t) u (r .groups) b k l s
   unfolding called

@@ -9,17 +9,15 @@ use lib.ListN.{length, length-append}
 use lib.IntN.{ℤ}
 use lib.Dec.{eqb}
 use borrow.Author.Tests.{ne-eqb}
-use Rattle.base_codes.specs.Codes.{c-active, c-active-many, c-body, c-declared, c-end-body, c-init, c-message, c-mtypes, c-proctype}
+use Rattle.base_ceilings.specs.Ceilings.{processesMost}
+use Rattle.base_codes.specs.Codes.{c-active, c-active-many, c-body, c-declared, c-end-body, c-init, c-message, c-mtypes, c-proctype, c-name, c-number}
 use Rattle.base_bytes.specs.Choice.{pick}
 use Rattle.spec_grammar.specs.Tree.{Name, Body, body, Activity, idle, once, times, Part, mtypes, global, process, init, Model}
-use Rattle.spec_grammar.specs.Code.{Item, i-global, i-local, i-init, i-body, i-end-body, each, code-tree, code-declaration, code-group, code-body, code-activity, code-message, code-part, code}
-use Rattle.table_entries.specs.Items as items
 use Rattle.rule_sheets.specs.Homes.{insideOf}
 use Rattle.table_layout.specs.Access.{itemsOf, codeOf, linkOf, numberOf}
 use Rattle.read_accepts_proof.specs.Meaning.{Accepts}
 use Rattle.read_passes.specs.Judging.{tablesText}
 use Rattle.state_layout.specs.Layout.{cleared}
-use Rattle.spec_text.specs.Ceilings.{processesMost}
 use Rattle.state_layout.specs.Walks.{walk}
 use Rattle.state_start.specs.Starting.{declared, processMade, globalMade, startsOf, unitStarted, scanned, initialOf}
 use Rattle.keep_tables.specs.Well.{Unit}
@@ -32,14 +30,17 @@ use Rattle.spec_machine.specs.Program.{Holds, in-process, in-init, later, endIn
 use Rattle.agree_stage.proofs.Stands.{Lying, lying-whole, body-lies, lying-front, lying-back}
 use Rattle.agree_places.proofs.Heads.{holds-between}
 use Rattle.agree_control.proofs.Main.{text-unit}
-use Rattle.agree_control.proofs.Insides.{Inner, inner-known, inner-tree, inner-declarations, inner-groups}
+use Rattle.agree_control.proofs.Insides.{Inner, inner-tree, inner-declarations, inner-groups, inner-global, inner-mtypes}
 use Rattle.agree_offers.proofs.Places.{at-there, ends-there, known-there}
 use Rattle.agree_start.specs.Beginnings.{globalIn, globalsIn, startsIn, headIn, startedIn, allStarted, repeated, beginsIn, initialIn}
 use Rattle.agree_start.proofs.Walks.{walk-none, walk-one, over, over-both, Mute, Muted, over-muted, muted-both, muted-each, walk-idle, walk-repeated}
 use Rattle.agree_start.proofs.Values.{Makes, declaration-over}
 use Rattle.agree_start.proofs.Units.{here, body-ends}
 use Rattle.agree_start.proofs.Begins.{text-begins}
-use Rattle.agree_start.proofs.Parts.{inner-global, inner-mtypes, inside-none, inside-ended, inside-first, global-flag, clear-next}
+use Rattle.agree_start.proofs.Parts.{inside-none, inside-ended, inside-first, global-flag, clear-next}
+use Rattle.base_codes.specs.Items.{Item, i-body, i-end-body, i-global, i-init, i-local}
+use Rattle.parse_code.specs.Code.{each, code-tree, code-declaration, code-group, code-body, code-activity, code-message, code-part, code}
+use Rattle.base_codes.specs.Items as items
 
 -- ---- what is done at an item for a global variable
 module _ (t : List ℕ) where
@@ -82,7 +83,7 @@ module _ (t : List ℕ) where
 
 muted-inner : (f : ℕ → List ℤ → List ℤ) (t : List ℕ) → ((c : ℕ) → c < c-proctype → Mute f t c) → (l : List Item) → Inner l → Muted f t l
 muted-inner f t h [] n = tt
-muted-inner f t h (x ∷ l) n = (λ k. h (items.codeOf x) (inner-known x k (n .0)), muted-inner f t h l (n .1))
+muted-inner f t h (x ∷ l) n = (λ k. h (items.codeOf x) (n .0 k), muted-inner f t h l (n .1))
 
 head-is : (x : Activity) (w : Name) (i : ℕ) → suc (headIn x i) ≡ i + length (code-activity x w)
 head-is idle w i = omega arith
@@ -138,7 +139,7 @@ module _ (t : List ℕ) (a : Accepts t) where
       (over-muted (globalMade T) T P i s (muted-mtypes ws) k (here t a P i l), inside-none C P i (i + length P) (inner-mtypes ws) k (at-there t a P i l) z (omega arith) (omega arith))
     where
       muted-message : (w : Name) → Muted (globalMade T) T (code-message w)
-      muted-message w = (λ k. global-else T 70 (λ o. omega arith), (λ k. global-else T c-message (λ o. omega arith), tt))
+      muted-message w = (λ k. global-else T c-name (λ o. omega arith), (λ k. global-else T c-message (λ o. omega arith), tt))
 
       muted-mtypes : (ws : List Name) → Muted (globalMade T) T (code-part (mtypes ws))
       muted-mtypes ws = (λ k. global-else T c-mtypes (λ o. omega arith), muted-each (globalMade T) T code-message muted-message ws)
@@ -184,9 +185,9 @@ module _ (t : List ℕ) (a : Accepts t) where
       )
     where
       activity : (x : Activity) (w : Name) → Muted (globalMade T) T (code-activity x w)
-      activity idle w = (λ k. global-else T 70 (λ o. omega arith), (λ k. global-else T c-proctype (λ o. omega arith), tt))
-      activity once w = (λ k. global-else T 70 (λ o. omega arith), (λ k. global-else T c-active (λ o. omega arith), tt))
-      activity (times n) w = (λ k. global-else T 71 (λ o. omega arith), (λ k. global-else T 70 (λ o. omega arith), (λ k. global-else T c-active-many (λ o. omega arith), tt)))
+      activity idle w = (λ k. global-else T c-name (λ o. omega arith), (λ k. global-else T c-proctype (λ o. omega arith), tt))
+      activity once w = (λ k. global-else T c-name (λ o. omega arith), (λ k. global-else T c-active (λ o. omega arith), tt))
+      activity (times n) w = (λ k. global-else T c-number (λ o. omega arith), (λ k. global-else T c-name (λ o. omega arith), (λ k. global-else T c-active-many (λ o. omega arith), tt)))
   globals-part (init b) m i s p n g z =
       let B = code-body b in
       let k = i + 1 in
@@ -228,19 +229,19 @@ module _ (t : List ℕ) (a : Accepts t) where
   head-started : (x : Activity) (w : Name) (i : ℕ) (s : List ℤ) (r : List ℤ → List ℤ) → Held T i (code-activity x w) → ((y : List ℤ) → processMade T (headIn x i) y ≡ r y)
       → over (unitStarted T) (code-activity x w) i s ≡ repeated r (startsIn x) s
   head-started idle w i s r h e =
-      walk-one f i 1 s ∙ ap (walk f (suc i) 1) (inner-else 70 (omega arith) i s (h .0)) ∙ walk-one f (suc i) 0 s ∙ walk-none f (suc (suc i)) (f (suc i) s)
+      walk-one f i 1 s ∙ ap (walk f (suc i) 1) (inner-else c-name (omega arith) i s (h .0)) ∙ walk-one f (suc i) 0 s ∙ walk-none f (suc (suc i)) (f (suc i) s)
       ∙ started-else T c-proctype (λ o. omega arith) (λ o. omega arith) (λ o. omega arith) (suc i) s (h .2 .0)
     where
       f : ℕ → List ℤ → List ℤ
       f = unitStarted T
   head-started once w i s r h e =
-      walk-one f i 1 s ∙ ap (walk f (suc i) 1) (inner-else 70 (omega arith) i s (h .0)) ∙ walk-one f (suc i) 0 s ∙ walk-none f (suc (suc i)) (f (suc i) s) ∙ started-one T (suc i) s (h .2 .0)
+      walk-one f i 1 s ∙ ap (walk f (suc i) 1) (inner-else c-name (omega arith) i s (h .0)) ∙ walk-one f (suc i) 0 s ∙ walk-none f (suc (suc i)) (f (suc i) s) ∙ started-one T (suc i) s (h .2 .0)
       ∙ ap (λ j. processMade T j s) (let z : suc i ≡ i + 1 = omega arith in z) ∙ e s
     where
       f : ℕ → List ℤ → List ℤ
       f = unitStarted T
   head-started (times n) w i s r h e =
-      walk-one f i 2 s ∙ ap (walk f (suc i) 2) (inner-else 71 (omega arith) i s (h .0)) ∙ walk-one f (suc i) 1 s ∙ ap (walk f (suc (suc i)) 1) (inner-else 70 (omega arith) (suc i) s (h .2 .0))
+      walk-one f i 2 s ∙ ap (walk f (suc i) 2) (inner-else c-number (omega arith) i s (h .0)) ∙ walk-one f (suc i) 1 s ∙ ap (walk f (suc (suc i)) 1) (inner-else c-name (omega arith) (suc i) s (h .2 .0))
       ∙ walk-one f (suc (suc i)) 0 s ∙ walk-none f (suc (suc (suc i))) (f (suc (suc i)) s)
       ∙ started-many T (suc (suc i)) n s (h .2 .2 .0) (ap (numberOf T) (let z : suc (suc i) - 2 ≡ i = omega arith in z) ∙ h .1 refl .0)
       ∙ ap (λ j. walk (λ k x. processMade T j x) 0 (min processesMost n) s) (let z : suc (suc i) ≡ i + 2 = omega arith in z) ∙ walk-repeated (processMade T (i + 2)) r e (min processesMost n) 0 s

@@ -8,7 +8,7 @@ use mathlib.Core.List.{List}
 use lib.ListN.{length, getD}
 use lib.Dec.{eqb}
 use borrow.Author.Tests.{eq-eqb, ne-eqb, eqb-true}
-use Rattle.base_codes.specs.Codes.{c-declared, c-end-body, c-parameter}
+use Rattle.base_codes.specs.Codes.{c-declared, c-end-body, c-number, c-parameter}
 use Rattle.base_bytes.specs.Choice.{pick}
 use Rattle.base_bytes.proofs.Tests.{true-false}
 use Rattle.rule_sheets.specs.Walks.{sum}
@@ -56,9 +56,9 @@ none-elsewhere cs vs hs h j n = go (among 14 (getD cs j 0)) refl (eqb (getD hs j
     go true e false f = refl
     go false e d f = refl
 
-one-there : (cs vs hs : List ℕ) (h j : ℕ) → getD cs j 0 ≡ c-parameter → getD hs j 0 ≡ h → (getD cs (j + 1) 0 ≡ 71 → ⊥) → numbersAt cs vs hs h j ≡ 1
+one-there : (cs vs hs : List ℕ) (h j : ℕ) → getD cs j 0 ≡ c-parameter → getD hs j 0 ≡ h → (getD cs (j + 1) 0 ≡ c-number → ⊥) → numbersAt cs vs hs h j ≡ 1
 unfolding numbersAt isArray
-one-there cs vs hs h j c e n = rw (ap (among 14) c ∙ is-parameter, eq-eqb (getD hs j 0) h e, ne-eqb (getD cs (j + 1) 0) 71 n)
+one-there cs vs hs h j c e n = rw (ap (among 14) c ∙ is-parameter, eq-eqb (getD hs j 0) h e, ne-eqb (getD cs (j + 1) 0) c-number n)
 
 offset-is : (cs vs hs : List ℕ) (h j : ℕ) → getD hs j 0 ≡ h → sum (numbersAt cs vs hs h) 0 j ≤ 65535 → offsetAt cs vs hs j ≡ sum (numbersAt cs vs hs h) 0 j
 unfolding offsetAt
@@ -110,7 +110,7 @@ module _ (t : List ℕ) (a : Accepts t) where
       home : getD (homes C) j 0 ≡ u + 1
       home = unit-home (tablesText t) C S H K u j U i
 
-      pub before-parameter : (codeOf (tablesText t) (suc j) ≡ 71 → ⊥) → before (suc j) ≡ before j + 1
+      pub before-parameter : (codeOf (tablesText t) (suc j) ≡ c-number → ⊥) → before (suc j) ≡ before j + 1
       before-parameter n =
           let q : j + 1 ≡ suc j = omega arith in
           let z = one-there C S (homes C) (u + 1) j (code-here j c-parameter (omega arith) e) home (λ x. n (H .codes (suc j) h ∙ ap (λ y. getD C y 0) (inv q) ∙ x)) in

@@ -7,10 +7,10 @@ use mathlib.Core.Logic.{inl}
 use mathlib.Core.List.{List, [], _∷_}
 use lib.ListN.{length, getD}
 use borrow.Author.Tests.{ne-eqb, le-ltb}
-use Rattle.base_codes.specs.Codes.{c-active, c-body, c-declared, c-end-body, c-global, c-parameter, c-proctype}
-use Rattle.spec_grammar.specs.Tree.{Name, Declaration, declare, body, idle, once, times, mtypes, global, process, init, Model}
-use Rattle.spec_grammar.specs.Code.{Item, i-global, code-variable, code-declaration, code-message, code-part, code}
-use Rattle.table_entries.specs.Items as items
+use Rattle.base_codes.specs.Codes.{c-active, c-body, c-declared, c-end-body, c-global, c-name, c-parameter, c-proctype}
+use Rattle.spec_grammar.specs.Tree.{declare, body, idle, once, times, mtypes, global, process, init, Model}
+use Rattle.base_codes.specs.Items.{Item}
+use Rattle.parse_code.specs.Code.{code}
 use Rattle.table_entries.specs.Items.{AllKnown}
 use Rattle.rule_sheets.specs.Homes.{insideOf, homeOf}
 use Rattle.link_phrases_proof.specs.Phrases.{At}
@@ -19,28 +19,17 @@ use Rattle.read_passes.specs.Judging.{tablesText}
 use Rattle.read_accepts_proof.specs.Meaning.{Accepts}
 use Rattle.agree_eval.specs.Held.{Held}
 use Rattle.keep_tables.specs.Facts.{homes, linksIn, Facts}
-use Rattle.keep_tables.specs.Held as tables
 use Rattle.keep_tables.proofs.Tables.{codesAt, saidAt, text-held}
 use Rattle.keep_tables.proofs.Known.{text-facts}
 use Rattle.keep_tables.proofs.Homes.{home-is}
 use Rattle.keep_tables.proofs.Variables.{slot-of}
-use Rattle.agree_control.proofs.Insides.{kind, Inner, inner-known, inner-each, inner-variable}
+use Rattle.agree_control.proofs.Insides.{Inner}
 use Rattle.agree_start.proofs.Values.{Clear, clear-code}
 use Rattle.agree_start.proofs.Units.{first-model, past}
+use Rattle.base_codes.specs.Items as items
+use Rattle.keep_tables.specs.Held as tables
 
 -- ---- items that begin and end no body
-pub inner-global : (d : Declaration) → Inner (code-declaration i-global d)
-unfolding kind
-inner-global (declare k xs) = (refl, (refl, inner-each code-variable inner-variable xs))
-
-inner-message : (w : Name) → Inner (code-message w)
-unfolding kind
-inner-message w = (refl, (refl, tt))
-
-pub inner-mtypes : (ws : List Name) → Inner (code-part (mtypes ws))
-unfolding kind
-inner-mtypes ws = (refl, inner-each code-message inner-message ws)
-
 module _ (cs : List ℕ) where
   inside-same : (i c : ℕ) → getD cs i 0 ≡ c → c < c-proctype → insideOf cs (suc i) ≡ insideOf cs i
   unfolding insideOf
@@ -50,7 +39,7 @@ module _ (cs : List ℕ) where
   pub inside-none : (l : List Item) (i j : ℕ) → Inner l → AllKnown l → At cs i l → insideOf cs i ≡ 0 → i ≤ j → j ≤ i + length l → insideOf cs j ≡ 0
   inside-none [] i j n k h e a b = ap (insideOf cs) (let z : j ≡ i = omega arith in z) ∙ e
   inside-none (x ∷ l) i j n k h e a b =
-      go (ℕ-discrete j i) (λ d. inside-none l (suc i) j (n .1) (k .1) (h .1) (inside-same i (items.codeOf x) (h .0) (inner-known x (k .0) (n .0)) ∙ e) d (omega arith))
+      go (ℕ-discrete j i) (λ d. inside-none l (suc i) j (n .1) (k .1) (h .1) (inside-same i (items.codeOf x) (h .0) (n .0 (k .0)) ∙ e) d (omega arith))
     where
       go : Dec (j ≡ i) → (suc i ≤ j → insideOf cs j ≡ 0) → insideOf cs j ≡ 0
       go (yes z) r = ap (insideOf cs) z ∙ e
@@ -94,9 +83,9 @@ module _ (t : List ℕ) (a : Accepts t) where
   clear-next [] e k h n = λ x y. let z = past t a (e + 1) (omega arith) in omega arith
   clear-next (mtypes [] ∷ m) e k h n =
       clear-code (tablesText t) e (codeOf (tablesText t) (suc e)) refl (first-model (tablesText t) m (suc e) (k .1) (h .2) (λ z. past t a (suc e) (omega arith)))
-  clear-next (mtypes (w ∷ ws) ∷ m) e k h n = clear-code (tablesText t) e 70 (h .2 .0) (λ x y. omega arith)
+  clear-next (mtypes (w ∷ ws) ∷ m) e k h n = clear-code (tablesText t) e c-name (h .2 .0) (λ x y. omega arith)
   clear-next (global (declare c xs) ∷ m) e k h n = clear-code (tablesText t) e c-global (h .2 .0) (λ x y. omega arith)
   clear-next (process idle w gs b ∷ m) e k h n = clear-code (tablesText t) e c-proctype (h .2 .0) (λ x y. omega arith)
   clear-next (process once w gs b ∷ m) e k h n = clear-code (tablesText t) e c-active (h .2 .0) (λ x y. omega arith)
-  clear-next (process (times c) w gs b ∷ m) e k h n = clear-code (tablesText t) e 70 (h .2 .0) (λ x y. omega arith)
+  clear-next (process (times c) w gs b ∷ m) e k h n = clear-code (tablesText t) e c-name (h .2 .0) (λ x y. omega arith)
   clear-next (init (body ds q) ∷ m) e k h n = clear-code (tablesText t) e c-body (h .2 .0) (λ x y. omega arith)

@@ -8,8 +8,9 @@ use lib.IntN.{ℤ}
 use borrow.Author.Tests.{le-ltb}
 use Rattle.base_codes.specs.Codes.{c-channel, c-end-body, c-local, c-size}
 use Rattle.spec_grammar.specs.Tree.{Name, Declaration, declare, Body, body, Activity, idle, once, times, Part, mtypes, global, process, init, Model}
-use Rattle.spec_grammar.specs.Code.{Item, i-local, i-init, i-body, i-end-body, each, code-tree, code-declaration, code-group, code-body, code-activity, code-part, code}
-use Rattle.table_entries.specs.Items as items
+use Rattle.base_codes.specs.Items.{Item, i-body, i-end-body, i-init, i-local}
+use Rattle.parse_code.specs.Code.{each, code-tree, code-declaration, code-group, code-body, code-activity, code-part, code}
+use Rattle.base_codes.specs.Items as items
 use Rattle.table_entries.specs.Items.{AllKnown}
 use Rattle.table_layout.specs.Access.{itemsOf, codeOf}
 use Rattle.table_layout.specs.Trees.{tablesIn}

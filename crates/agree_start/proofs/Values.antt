@@ -8,10 +8,11 @@ use mathlib.Core.List.{List, [], _∷_, _++_}
 use lib.ListN.{length, length-append}
 use lib.IntN.{ℤ}
 use borrow.Author.Tests.{ne-eqb}
-use Rattle.base_codes.specs.Codes.{c-channel, c-declared, c-false, c-field, c-global, c-local, c-minus, c-named, c-size, c-true, c-value}
+use Rattle.base_codes.specs.Codes.{c-channel, c-declared, c-false, c-field, c-global, c-local, c-minus, c-name, c-named, c-number, c-size, c-true, c-value}
 use Rattle.spec_grammar.specs.Tree.{Value, unset, set-number, set-minus, set-true, set-false, set-name, set-channel, Variable, variable, Declaration, declare}
-use Rattle.spec_grammar.specs.Code.{Item, i-type, i-local, each, code-field, code-size, code-value, code-variable, code-declaration}
-use Rattle.table_entries.specs.Items as items
+use Rattle.base_codes.specs.Items.{Item, i-local, i-type}
+use Rattle.parse_code.specs.Code.{each, code-field, code-size, code-value, code-variable, code-declaration}
+use Rattle.base_codes.specs.Items as items
 use Rattle.table_entries.specs.Items.{AllKnown}
 use Rattle.table_layout.specs.Access.{codeOf, linkOf}
 use Rattle.state_start.specs.Values.{valueAt, literalOf, valueOf}
@@ -88,19 +89,19 @@ module _ (t : List ℕ) (f : ℕ → List ℤ → List ℤ) (p lo hi : ℕ) (M :
 
   muted-size : (z : Option ℕ) → Muted f t (code-size z)
   muted-size none = tt
-  muted-size (some n) = (λ k. M .low 71 (omega arith), (λ k. muted-mark c-size (omega arith) (omega arith), tt))
+  muted-size (some n) = (λ k. M .low c-number (omega arith), (λ k. muted-mark c-size (omega arith) (omega arith), tt))
 
   muted-field : (k : ℕ) → Muted f t (code-field k)
   muted-field k = (λ e. M .low (items.codeOf (i-type k)) (type-below k e), (λ e. muted-mark c-field (omega arith) (omega arith), tt))
 
   muted-value : (v : Value) → Muted f t (code-value v)
   muted-value unset = tt
-  muted-value (set-number n) = (λ k. M .low 71 (omega arith), (λ k. muted-mark c-value (omega arith) (omega arith), tt))
-  muted-value (set-minus n) = (λ k. M .low 71 (omega arith), (λ k. muted-mark c-minus (omega arith) (omega arith), tt))
+  muted-value (set-number n) = (λ k. M .low c-number (omega arith), (λ k. muted-mark c-value (omega arith) (omega arith), tt))
+  muted-value (set-minus n) = (λ k. M .low c-number (omega arith), (λ k. muted-mark c-minus (omega arith) (omega arith), tt))
   muted-value set-true = (λ k. M .low c-true (omega arith), (λ k. muted-mark c-value (omega arith) (omega arith), tt))
   muted-value set-false = (λ k. M .low c-false (omega arith), (λ k. muted-mark c-value (omega arith) (omega arith), tt))
-  muted-value (set-name w) = (λ k. M .low 70 (omega arith), (λ k. muted-mark c-named (omega arith) (omega arith), tt))
-  muted-value (set-channel n ks) = (λ k. M .low 71 (omega arith), (λ k. muted-mark c-channel (omega arith) (omega arith), muted-each f t code-field muted-field ks))
+  muted-value (set-name w) = (λ k. M .low c-name (omega arith), (λ k. muted-mark c-named (omega arith) (omega arith), tt))
+  muted-value (set-channel n ks) = (λ k. M .low c-number (omega arith), (λ k. muted-mark c-channel (omega arith) (omega arith), muted-each f t code-field muted-field ks))
 
   -- one variable
   variable-over : (x : Variable) (i : ℕ) (s : List ℤ) → lo ≤ i → i + length (code-variable x) ≤ hi → AllKnown (code-variable x) → Held t i (code-variable x) → Clear t (i + length (code-variable x))
@@ -111,7 +112,7 @@ module _ (t : List ℕ) (f : ℕ → List ℤ → List ℤ) (p lo hi : ℕ) (M :
       let u : suc i ≡ i + 1 = omega arith in
       let at : suc (suc i) + length (code-size z) ≡ i + 2 + length (code-size z) = omega arith in
       let C = subst (Clear t) (let y : i + length (code-variable (variable w z v)) ≡ suc (suc i) + length (code-size z) + length (code-value v) = omega arith in y) c in
-      walk-one f i (suc (length R)) s ∙ ap (walk f (suc i) (suc (length R))) (M .low 70 (omega arith) i s (h .0)) ∙ walk-one f (suc i) (length R) s
+      walk-one f i (suc (length R)) s ∙ ap (walk f (suc i) (suc (length R))) (M .low c-name (omega arith) i s (h .0)) ∙ walk-one f (suc i) (length R) s
       ∙ over-muted f t R (suc (suc i)) (f (suc i) s) (muted-both f t (code-size z) (code-value v) (muted-size z) (muted-value v)) (k .1 .1) (h .2 .2)
       ∙ M .makes (suc i) s (omega arith) (omega arith) (h .2 .0) ∙ ap (λ y. variableMade t (linkOf t (suc i)) p y s) (value-at t z v (suc i) (h .2 .2) C)
       ∙ made t (linkOf t (suc i)) p v (suc (suc i) + length (code-size z)) s (held-back t (code-size z) (code-value v) (suc (suc i)) (suc (suc i) + length (code-size z)) refl (h .2 .2)) C

@@ -5,8 +5,9 @@ use mathlib.Core.Path.{_≡_, refl, sym, ap, _∙_}
 use mathlib.Core.List.{List, [], _∷_, _++_}
 use lib.ListN.{length, length-append}
 use lib.IntN.{ℤ}
-use Rattle.spec_grammar.specs.Code.{Item, each}
-use Rattle.table_entries.specs.Items as items
+use Rattle.base_codes.specs.Items.{Item}
+use Rattle.parse_code.specs.Code.{each}
+use Rattle.base_codes.specs.Items as items
 use Rattle.table_entries.specs.Items.{Known, AllKnown}
 use Rattle.table_layout.specs.Access.{codeOf}
 use Rattle.state_layout.specs.Walks.{walk}

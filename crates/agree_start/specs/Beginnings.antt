@@ -1,3 +1,4 @@
+-- Bridge, for `demand2` (crate `demands`).
 -- Processes that begin, and the initial state, said of trees: document 01, "How it moves", "Variables start at 0 or their value; every element of an array gets it. mtype names count
 -- from 1 in list order. Channels count from 1 as made, globals first", "Processes start in text order (`init` included) at 0; a new one takes the next number", and of parameters "those
 -- of an `active` process start at 0". `t` are the tables of the model, whose links say of each declaring item where the numbers of its variable are (docs/TABLES.md, "Links"); s is the
@@ -7,14 +8,15 @@ use mathlib.Core.List.{List, [], _∷_}
 use lib.ListN.{length, getD, set}
 use lib.IntN.{ℤ, pos}
 use lib.Dec.{ltb}
+use Rattle.base_ceilings.specs.Ceilings.{processesMost}
 use Rattle.base_bytes.specs.Choice.{pick}
 use Rattle.spec_grammar.specs.Tree.{Name, Value, unset, set-number, set-minus, set-true, set-false, set-name, set-channel, Variable, variable, Declaration, declare, Group, group, Body, body, Activity, idle, once, times, Part, mtypes, global, process, init, Model}
-use Rattle.spec_grammar.specs.Code.{i-local, each, code-size, code-variable, code-declaration, code-group, code-part}
+use Rattle.base_codes.specs.Items.{i-local}
+use Rattle.parse_code.specs.Code.{each, code-size, code-variable, code-declaration, code-group, code-part}
 use Rattle.table_layout.specs.Access.{linkOf}
 use Rattle.base_values.specs.Types.{castOf}
 use Rattle.base_values.specs.Operators.{unaryOf}
 use Rattle.state_layout.specs.Layout.{kept, cleared, processAt, processesOf, channelsOf}
-use Rattle.spec_text.specs.Ceilings.{processesMost}
 use Rattle.step_eval.specs.Variables.{typeOf, slotOf}
 use Rattle.state_start.specs.Starting.{filled, stored, channelMade}
 use Rattle.spec_machine.specs.Program.{enter, startIn, endIn}

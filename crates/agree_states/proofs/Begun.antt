@@ -9,6 +9,7 @@ use mathlib.Core.List.{List, [], _∷_, _++_, map, append-assoc, append-nil}
 use lib.ListN.{length, getD, set, drop, replicate, length-append, length-replicate}
 use lib.IntN.{ℤ, pos}
 use lib.Dec.{ltb}
+use Rattle.base_ceilings.specs.Ceilings.{channelsMost, numbersMost, processesMost}
 use Rattle.base_bytes.specs.Choice.{pick}
 use Rattle.table_layout.specs.Access.{linkOf}
 use Rattle.base_values.specs.Types.{castOf, signedWidth, widthOf, within, inType}
@@ -17,7 +18,8 @@ use Rattle.state_layout.specs.Layout.{kept, localAt, processAt}
 use Rattle.step_eval.specs.Variables.{typeOf, slotOf}
 use Rattle.agree_start.specs.Beginnings.{valuedIn, variableIn, variablesIn, declarationIn, localsIn, setOut, beginsIn, namesIn, groupsIn, calledIn}
 use Rattle.spec_grammar.specs.Tree.{Name, Value, unset, set-number, set-minus, set-true, set-false, set-name, set-channel, Variable, variable, Declaration, declare, Group, group, Body, body, Part, process, init, Model}
-use Rattle.spec_grammar.specs.Code.{i-local, code-variable, code-declaration, code-group, code-activity}
+use Rattle.base_codes.specs.Items.{i-local}
+use Rattle.parse_code.specs.Code.{code-variable, code-declaration, code-group, code-activity}
 use Rattle.spec_rules.specs.Units.{tally}
 use Rattle.spec_rules.specs.Ceilings.{madeByVariable, madeByDeclaration, madeByBody}
 use Rattle.spec_machine.specs.State.{Channel, Process, State, noProcess}
@@ -157,7 +159,7 @@ module _ (T : List ℕ) (p : ℕ) where
         ∙ inv (giving-both n (nameSites k ws (i + 2)) (groupSites gs j) s)
 
 -- ---- variables of the last process
-module _ (m : Model) (t : List ℤ) (g : List (List ℤ)) (ps : List Process) (k place : ℕ) (xs : List Var) (few : length ps < 16) (small : totalOf xs ≤ 32) where
+module _ (m : Model) (t : List ℤ) (g : List (List ℤ)) (ps : List Process) (k place : ℕ) (xs : List Var) (few : length ps < processesMost) (small : totalOf xs ≤ numbersMost) where
   abbrev last : List (List ℤ) → Process
   last N = record { unit = k; place = place; variables = N }
 
@@ -170,18 +172,18 @@ module _ (m : Model) (t : List ℤ) (g : List (List ℤ)) (ps : List Process) (k
   there : (N : List (List ℤ)) (C : List Channel) → length ps < length (state N C .processes)
   there N C = let e = length-append ps (last N ∷ []) in omega arith
 
-  few-now : (N : List (List ℤ)) (C : List Channel) → length (state N C .processes) ≤ 16
+  few-now : (N : List (List ℤ)) (C : List Channel) → length (state N C .processes) ≤ processesMost
   few-now N C = let e = length-append ps (last N ∷ []) in omega arith
 
   last-is : (N : List (List ℤ)) → getD (ps ++ last N ∷ []) (length ps) noProcess ≡ last N
   last-is N = get-right ps (last N ∷ []) noProcess (length ps) 0 (length ps) refl (omega arith)
 
   local-set : (N : List (List ℤ)) (C : List Channel) (x : Process) → getD (ps ++ last N ∷ []) (length ps) noProcess ≡ x → (i n : ℕ) (v : ℤ) → i < length (x .variables)
-      → n < length (getD (x .variables) i []) → length (flat (x .variables)) ≤ 32
+      → n < length (getD (x .variables) i []) → length (flat (x .variables)) ≤ numbersMost
       → set (numbers N C) (localAt (length ps) (ahead (x .variables) i + n)) v
       ≡ encode m (withProcess (length ps) record { unit = x .unit; place = x .place; variables = oneStored (x .variables) i n v } (state N C)) ++ t
   local-set N C x e i n v =
-      subst (λ (x : Process). i < length (x .variables) → n < length (getD (x .variables) i []) → length (flat (x .variables)) ≤ 32
+      subst (λ (x : Process). i < length (x .variables) → n < length (getD (x .variables) i []) → length (flat (x .variables)) ≤ numbersMost
       → set (numbers N C) (localAt (length ps) (ahead (x .variables) i + n)) v
       ≡ encode m (withProcess (length ps) record { unit = x .unit; place = x .place; variables = oneStored (x .variables) i n v } (state N C)) ++ t) e
       (local-stored m t (state N C) (length ps) (there N C) (few-now N C) i n v)
@@ -190,7 +192,7 @@ module _ (m : Model) (t : List ℤ) (g : List (List ℤ)) (ps : List Process) (k
   local-writes =
       record {
         store = λ N C i n v S h q.
-            let a : length (flat N) ≤ 32 = subst (_≤ 32) (inv (flat-long xs N (S .all) (S .sized))) small in
+            let a : length (flat N) ≤ numbersMost = subst (_≤ numbersMost) (inv (flat-long xs N (S .all) (S .sized))) small in
             ap (λ j. set (numbers N C) (localAt (length ps) (j + n)) v) (inv (ahead-is xs N (S .all) (S .sized) i))
             ∙ local-set N C (last N) (last-is N) i n v (subst (i <_) (inv (S .all)) h) (subst (n <_) (inv (S .sized i h)) q) a
             ∙ ap (λ (l : List Process). encode m record { globals = g; processes = l; channels = C } ++ t)
@@ -344,8 +346,8 @@ set-out-is : (T : List ℕ) (p u : ℕ) (b : Body) (k : ℕ) (s : List ℤ)
     → setOut T p u b k s ≡ along T p (bodySites b k) (set (set (set s (processAt p) (kept u)) 0 (kept (p + 1))) (processAt p + 1) (kept (firstIn b k)))
 set-out-is T p u (body ds q) k s = locals-along T p ds (k + 1) (set (set (set s (processAt p) (kept u)) 0 (kept (p + 1))) (processAt p + 1) (kept (firstIn (body ds q) k)))
 
-module _ (m : Model) (T : List ℕ) (X : Charted m T) (k : ℕ) (b : Bodied (unitAt m k)) (σ : State) (t : List ℤ) (few : length (σ .processes) < 16)
-    (room : length (σ .channels) + madeByBody (bodyOf (unitAt m k)) ≤ 16) where
+module _ (m : Model) (T : List ℕ) (X : Charted m T) (k : ℕ) (b : Bodied (unitAt m k)) (σ : State) (t : List ℤ) (few : length (σ .processes) < processesMost)
+    (room : length (σ .channels) + madeByBody (bodyOf (unitAt m k)) ≤ channelsMost) where
   abbrev u : Part
   u = unitAt m k
 
@@ -443,11 +445,11 @@ module _ (m : Model) (T : List ℕ) (X : Charted m T) (k : ℕ) (b : Bodied (uni
   begun : beginsIn T (headOf m k) (bodyOf u) (bodyAt m k) (encode m σ ++ t) ≡ E (none ++ M .values) (M .channels)
   begun =
       let S = encode m σ ++ t in
-      ap (λ n. pick (ltb n 16) (setOut T n (headOf m k) (bodyOf u) (bodyAt m k) S) S) (processes-are m t σ (omega arith))
-      ∙ ap (λ c. pick c (setOut T p (headOf m k) (bodyOf u) (bodyAt m k) S) S) (lt-ltb p 16 few)
+      ap (λ n. pick (ltb n processesMost) (setOut T n (headOf m k) (bodyOf u) (bodyAt m k) S) S) (processes-are m t σ (omega arith))
+      ∙ ap (λ c. pick c (setOut T p (headOf m k) (bodyOf u) (bodyAt m k) S) S) (lt-ltb p processesMost few)
       ∙ set-out-is T p (headOf m k) (bodyOf u) (bodyAt m k) S
       ∙ ap (along T p B)
-      (process-more m t σ record { unit = k; place = first; variables = zeros xs } (pad-zeros xs 32 (X .locals-few k b)) few
+      (process-more m t σ record { unit = k; place = first; variables = zeros xs } (pad-zeros xs numbersMost (X .locals-few k b)) few
       ∙ ap (λ (N : List (List ℤ)). E N (σ .channels)) (ap zeros (unit-split u b) ∙ zeros-both (parametersOf u) (localsOf (bodyOf u))))
       ∙ made-all .0
 

@@ -9,12 +9,13 @@ use mathlib.Core.Logic.{_⊎_, inl, inr}
 use lib.ListN.{length, getD}
 use lib.IntN.{pos}
 use lib.Dec.{eqb}
+use Rattle.base_ceilings.specs.Ceilings.{globalsMost}
 use Rattle.base_codes.specs.Codes.{c-channel, c-declared, c-init, c-parameter, c-proctype}
 use Rattle.base_bytes.specs.Choice.{pick}
 use Rattle.base_bytes.proofs.Tests.{both-true, either-true, true-false}
 use Rattle.spec_grammar.specs.Tree.{Name, sequence, Value, unset, set-number, set-minus, set-true, set-false, set-name, set-channel, Variable, variable, Declaration, Group, group, Body, Part, mtypes, global, process, init, Model}
 use Rattle.spec_grammar.specs.Grammar.{Listed, one, more, A-value, v-number, v-minus, v-true, v-false, v-name, A-variable, x-bare, x-set, x-array, x-array-set, x-channel, A-declaration, declaration, Items, statements, declared, A-body, a-body, A-unit, u-mtypes, u-global, u-process, u-init, Gram, g-last, g-more}
-use Rattle.spec_grammar.specs.Code.{code-value, code-part, code}
+use Rattle.parse_code.specs.Code.{code-value, code-part, code}
 use Rattle.read_passes.specs.Judging.{tablesText}
 use Rattle.read_accepts_proof.specs.Meaning.{Accepts}
 use Rattle.table_layout.specs.Access.{itemsOf, codeOf, linkOf}
@@ -22,7 +23,7 @@ use Rattle.table_entries.specs.Items.{AllKnown}
 use Rattle.agree_eval.specs.Held.{Held}
 use Rattle.agree_eval.proofs.Main.{items-long}
 use Rattle.state_start.specs.Starting.{unitLength, scanned}
-use Rattle.state_layout.specs.Layout.{kept, globalAt, localAt}
+use Rattle.state_layout.specs.Layout.{kept, globalAt, localAt, keptMost}
 use Rattle.step_eval.specs.Variables.{sizeOf, slotOf}
 use Rattle.state_types.specs.Fits.{isGlobal, isLocal}
 use Rattle.keep_tables.proofs.Tables.{text-held}
@@ -32,7 +33,7 @@ use Rattle.agree_start.proofs.Units.{here, body-ends, unit-long}
 use Rattle.keep_tables.specs.Well as well
 use Rattle.keep_tables.proofs.Whole.{text-well}
 use Rattle.spec_rules.specs.Ceilings.{modest}
-use Rattle.spec_machine.specs.Program.{Within, Holds, in-process, in-init, later, startIn, endIn, statementsOf}
+use Rattle.spec_machine.specs.Program.{Within, Holds, in-process, in-init, later, startIn, endIn, sequenceOf}
 use Rattle.agree_control.proofs.Main.{text-unit}
 use Rattle.agree_places.proofs.Whole.{text-head, text-stated}
 use Rattle.spec_machine.specs.Names.{Var, ofVariable, ofDeclaration, ofDeclarations, ofParameter, ofGroups, localsOf, variablesOf, globalsOf, unitAt}
@@ -40,7 +41,7 @@ use Rattle.spec_machine.specs.Begins.{itemsBefore, bodyIn, bodyOf, valueOf}
 use Rattle.base_values.specs.Operators.{unaryOf}
 use Rattle.agree_start.specs.Beginnings.{valueIn}
 use Rattle.spec_machine.specs.State.{Channel}
-use Rattle.spec_machine.specs.Plain.{noVar, madeBy}
+use Rattle.spec_machine.specs.Plain.{noVar, declaredBy}
 use Rattle.state_encode.specs.Encode.{headIn, headOf, channelItem}
 use Rattle.spec_machine.specs.Places.{Bodied, bodyAt, Belongs, ends, stands}
 use Rattle.state_encode.specs.Tabled.{offsetOf, totalOf, Linked}
@@ -147,7 +148,7 @@ chan-is set-false e = absurd (true-false (inv e))
 chan-is (set-name w) e = absurd (true-false (inv e))
 
 -- ---- global or local, by where its numbers are
-flag-global : (l o : ℕ) → slotOf l 0 0 ≡ globalAt (o + 0) → o < 64 → l / 8 % 2 ≡ 0
+flag-global : (l o : ℕ) → slotOf l 0 0 ≡ globalAt (o + 0) → o < globalsMost → l / 8 % 2 ≡ 0
 unfolding slotOf
 flag-global l o e h = go (eqb (l / 8 % 2) 0) refl e
   where
@@ -163,8 +164,8 @@ flag-local l o e f z =
     let c : localAt 0 (o + 0) ≡ localAt 1 (o + 0) = inv e ∙ a ∙ inv b ∙ f in
     omega arith
 
-pub kept-is : (n : ℕ) → n ≤ 2147483647 → kept n ≡ pos n
-kept-is n h = ap pos (let z : min 2147483647 n ≡ n = omega arith in z)
+pub kept-is : (n : ℕ) → n ≤ keptMost → kept n ≡ pos n
+kept-is n h = ap pos (let z : min keptMost n ≡ n = omega arith in z)
 
 kind-of : (u : Part) (i : ℕ) → Bodied u ⊎ (globalHere u i ≡ unitSites u i)
 kind-of (mtypes ws) i = inr refl
@@ -204,8 +205,8 @@ module _ (t : List ℕ) (a : Accepts t) (small : modest (a .tree) ≡ true) (S :
       let o : s .own ≡ bodyOf (unitAt m k) = inv (r .own) ∙ ap (λ n. bodyOf (unitAt m n)) e in
       let p : s .at ≡ bodyAt m k = inv (r .place) ∙ ap (λ n. bodyIn (unitAt m n) (0 + itemsBefore m n)) e
       ∙ ap (bodyIn (unitAt m k)) (let z : 0 + itemsBefore m k ≡ itemsBefore m k = omega arith in z) in
-      stands b (subst (λ (x : Body). Within sequence (statementsOf x) (startIn x (bodyAt m k)) (endIn x (bodyAt m k)) 0 (d .act) j (d .ways .next) (d .ways .out)) o
-      (subst (λ n. Within sequence (statementsOf (s .own)) (startIn (s .own) n) (endIn (s .own) n) 0 (d .act) j (d .ways .next) (d .ways .out)) p (s .inside)))
+      stands b (subst (λ (x : Body). Within sequence (sequenceOf x) (startIn x (bodyAt m k)) (endIn x (bodyAt m k)) 0 (d .act) j (d .ways .next) (d .ways .out)) o
+      (subst (λ n. Within sequence (sequenceOf (s .own)) (startIn (s .own) n) (endIn (s .own) n) 0 (d .act) j (d .ways .next) (d .ways .out)) p (s .inside)))
 
   singles : (k i : ℕ) → i < length (sitesAt m k) → chan (getD (sitesAt m k) i noSite .var .value) ≡ true → getD (sitesAt m k) i noSite .var .size ≡ 1
   singles k i h =
@@ -314,7 +315,7 @@ module _ (t : List ℕ) (a : Accepts t) (small : modest (a .tree) ≡ true) (S :
       let l = S .globals i h in
       let n : 1 ≤ getD (globalsOf m) i noVar .size = subst (1 ≤_) (l .size) (some-number (globalItem m i) (is-local (globalItem m i) (inl c)) (omega arith)) in
       let r = offset-reach (globalsOf m) i 0 h n in
-      let w : totalOf (globalsOf m) ≤ 64 = modest-few m small .globals in
+      let w : totalOf (globalsOf m) ≤ globalsMost = modest-few m small .globals in
       let z = flag-global (linkOf T (globalItem m i)) (offsetOf (globalsOf m) i) (l .slot 0 0 n) (omega arith) in
       (omega arith, rw (c, z), l)
 
@@ -368,7 +369,7 @@ module _ (t : List ℕ) (a : Accepts t) (small : modest (a .tree) ≡ true) (S :
       go (set-channel n ks) e h c = absurd (true-false c)
 
   -- ---- channels
-  module _ (c : Channel) (n : ℕ) (ks : List ℕ) (e : madeBy m c ≡ set-channel n ks) where
+  module _ (c : Channel) (n : ℕ) (ks : List ℕ) (e : declaredBy m c ≡ set-channel n ks) where
     abbrev d : ℕ
     d = getD (sitesAt m (c .unit)) (c .variable) noSite .worth
 

@@ -5,6 +5,7 @@ use mathlib.Core.Bool.{true}
 use mathlib.Core.List.{List, _++_}
 use lib.ListN.{drop}
 use lib.IntN.{ℤ}
+use Rattle.base_ceilings.specs.Ceilings.{stateRoom}
 use Rattle.state_check.specs.Standing.{isStateOf}
 use Rattle.state_check.proofs.Meaning.{is-state-stands}
 use Rattle.state_check.proofs.Exact.{stands-is-state}
@@ -20,7 +21,7 @@ use Rattle.agree_states.proofs.Single.{encode-one}
 
 module _ (m : Model) (T : List ℕ) (X : Charted m T) where
   -- what refusal 9 lets through holds a state that fits
-  pub state-holds : (s : List ℤ) → isStateOf T s ≡ true → (σ : State) × (Fits (Belongs m) m σ × (s ≡ encode m σ ++ drop 2048 s))
+  pub state-holds : (s : List ℤ) → isStateOf T s ≡ true → (σ : State) × (Fits (Belongs m) m σ × (s ≡ encode m σ ++ drop stateRoom s))
   state-holds s h = stands-holds m T X s (is-state-stands T s h)
 
   -- what holds a state that fits is let through

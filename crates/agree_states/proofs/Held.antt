@@ -10,16 +10,17 @@ use lib.ListN.{length, getD, length-append}
 use lib.IntN.{ℤ, pos}
 use borrow.Author.Tests.{ltb-true}
 use lib.Dec.{ltb}
+use Rattle.base_ceilings.specs.Ceilings.{capacityMost, channelsMost, fieldsMost, globalsMost, numbersMost, processesMost, stateRoom}
 use Rattle.base_codes.specs.Codes.{c-init, c-proctype}
 use Rattle.base_bytes.specs.Choice.{pick}
 use Rattle.table_layout.specs.Access.{itemsOf, codeOf, linkOf}
 use Rattle.base_values.specs.Types.{castOf}
-use Rattle.state_layout.specs.Layout.{kept, cellOf, countOf, globalAt, processAt, localAt, channelAt, fieldAt, processesOf, channelsOf, unitOf, placeOf, declaredOf, waitingOf}
+use Rattle.state_layout.specs.Layout.{kept, cellOf, countOf, globalAt, processAt, localAt, channelAt, fieldAt, processesOf, channelsOf, unitOf, placeOf, declaredOf, waitingOf, keptMost, channelSize, processSize}
 use Rattle.base_bytes.specs.Numbers.{nat}
 use Rattle.step_eval.specs.Variables.{typeOf, sizeOf, slotOf}
 use Rattle.state_start.specs.Starting.{unitLength, scanned}
 use Rattle.step_ready.specs.Channels.{capacityOf, fieldsOf}
-use Rattle.state_types.specs.Fits.{isGlobal, isLocal, fieldType}
+use Rattle.state_types.specs.Fits.{isGlobal, isLocal}
 use Rattle.state_check.specs.Standing.{itemsLast}
 use Rattle.state_check.specs.Meaning as standing
 use Rattle.state_check.specs.Meaning.{InType, Counted, Used, global-number, process-unit, process-place, local-number, channel-item, channel-count, field-number}
@@ -29,10 +30,11 @@ use Rattle.spec_machine.specs.Names.{Var, variablesOf, globalsOf, unitAt}
 use Rattle.spec_machine.specs.Plain.{noVar}
 use Rattle.state_encode.specs.Encode.{flat, headOf, channelItem, messageRow, processRow, channelRow, encode}
 use Rattle.spec_machine.specs.Places.{Bodied, Belongs, ends, stands}
-use Rattle.spec_machine.specs.Fits.{Values, ChannelFits, Fits}
+use Rattle.spec_machine.specs.Fits.{Filled, ChannelFits, Fits}
 use Rattle.state_encode.specs.Tabled.{offsetOf, totalOf, Linked}
 use Rattle.state_encode.proofs.Rows.{off, get-flat}
 use Rattle.state_encode.proofs.Fitting.{ahead-is, flat-long}
+use Rattle.step_messages.specs.Messages.{fieldType}
 use Rattle.agree_states.specs.Charted.{globalItem, localItem, Placed, Channelled, Charted}
 use Rattle.agree_states.proofs.Cells.{Shown, row-any, at-four, encode-long, encode-shown}
 use Rattle.agree_states.proofs.Slices.{get-past, get-map, map-long, find, offset-reach}
@@ -47,11 +49,11 @@ code-inside T d h = go (ltb d (itemsOf T)) refl h
     go false e g = absurd (omega arith)
 
 -- the numbers of variables, from their first on
-pub values-cell : (xs : List Var) (l : List (List ℤ)) → Values xs l → (i k : ℕ) → i < length xs → k < getD xs i noVar .size → getD (flat l) (offsetOf xs i + k) (pos 0) ≡ getD (getD l i []) k (pos 0)
+pub values-cell : (xs : List Var) (l : List (List ℤ)) → Filled xs l → (i k : ℕ) → i < length xs → k < getD xs i noVar .size → getD (flat l) (offsetOf xs i + k) (pos 0) ≡ getD (getD l i []) k (pos 0)
 values-cell xs l v i k h g =
     ap (λ j. getD (flat l) (j + k) (pos 0)) (inv (ahead-is xs l (v .all) (v .sized) i)) ∙ get-flat l i k (subst (i <_) (inv (v .all)) h) (subst (k <_) (inv (v .sized i h)) g)
 
-values-type : (xs : List Var) (l : List (List ℤ)) → Values xs l → (i k : ℕ) → i < length xs → k < getD xs i noVar .size
+values-type : (xs : List Var) (l : List (List ℤ)) → Filled xs l → (i k : ℕ) → i < length xs → k < getD xs i noVar .size
     → castOf (getD xs i noVar .type) (getD (flat l) (offsetOf xs i + k) (pos 0)) ≡ getD (flat l) (offsetOf xs i + k) (pos 0)
 values-type xs l v i k h g = subst (λ z. castOf (getD xs i noVar .type) z ≡ z) (inv (values-cell xs l v i k h g)) (v .typed i h k (subst (k <_) (inv (v .sized i h)) g))
 
@@ -59,13 +61,13 @@ in-type : (s : List ℤ) (l ty i : ℕ) (v : ℤ) → typeOf l ≡ ty → cellOf
 in-type s l ty i v e f h = subst (λ n. castOf n (cellOf s i) ≡ cellOf s i) (inv e) (subst (λ z. castOf ty z ≡ z) (inv f) h)
 
 -- a number that is counted
-counted : (s : List ℤ) (i n most : ℕ) → cellOf s i ≡ kept n → n ≤ most → most ≤ 2147483647 → Counted s most i
+counted : (s : List ℤ) (i n most : ℕ) → cellOf s i ≡ kept n → n ≤ most → most ≤ keptMost → Counted s most i
 counted s i n most e h g =
-    let c : countOf s i ≡ n = ap nat e ∙ (let z : min 2147483647 n ≡ n = omega arith in z) in
-    (e ∙ ap pos (let z : min 2147483647 n ≡ countOf s i = omega arith in z), subst (_≤ most) (inv c) h)
+    let c : countOf s i ≡ n = ap nat e ∙ (let z : min keptMost n ≡ n = omega arith in z) in
+    (e ∙ ap pos (let z : min keptMost n ≡ countOf s i = omega arith in z), subst (_≤ most) (inv c) h)
 
-count-is : (s : List ℤ) (i n : ℕ) → cellOf s i ≡ kept n → n ≤ 2147483647 → countOf s i ≡ n
-count-is s i n e h = ap nat e ∙ (let z : min 2147483647 n ≡ n = omega arith in z)
+count-is : (s : List ℤ) (i n : ℕ) → cellOf s i ≡ kept n → n ≤ keptMost → countOf s i ≡ n
+count-is s i n e h = ap nat e ∙ (let z : min keptMost n ≡ n = omega arith in z)
 
 module _ (m : Model) (T : List ℕ) (X : Charted m T) (σ : State) (F : Fits (Belongs m) m σ) (t : List ℤ) where
   abbrev S : List ℤ
@@ -95,7 +97,7 @@ module _ (m : Model) (T : List ℕ) (X : Charted m T) (σ : State) (F : Fits (Be
         go (ends b e) = b
         go (stands b w) = b
 
-    process-cell : (k : ℕ) → k < 34 → cellOf S (processAt p + k) ≡ getD (processRow m me) k (pos 0)
+    process-cell : (k : ℕ) → k < processSize → cellOf S (processAt p + k) ≡ getD (processRow m me) k (pos 0)
     process-cell k g = W .processes p k (let w = F .processes in omega arith) g ∙ ap (λ (l : List ℤ). getD l k (pos 0)) (get-map (processRow m) (σ .processes) noProcess [] p h)
 
     head-in : headOf m (me .unit) ≤ itemsLast T
@@ -113,7 +115,7 @@ module _ (m : Model) (T : List ℕ) (X : Charted m T) (σ : State) (F : Fits (Be
     pub place-is : placeOf S p ≡ me .place
     place-is = count-is S (processAt p + 1) (me .place) (process-cell 1 (omega arith)) (let z = place-in in omega arith)
 
-    pub local-cell : (k : ℕ) → k < 32 → cellOf S (localAt p k) ≡ getD (flat (me .variables)) k (pos 0)
+    pub local-cell : (k : ℕ) → k < numbersMost → cellOf S (localAt p k) ≡ getD (flat (me .variables)) k (pos 0)
     local-cell k g = ap (cellOf S) (let z : localAt p k ≡ processAt p + suc (suc k) = omega arith in z) ∙ process-cell (suc (suc k)) (omega arith)
 
     local-type : (j k : ℕ) → j < unitLength T (unitOf S p) → isLocal T (unitOf S p + j) ≡ true → k < sizeOf (linkOf T (unitOf S p + j))
@@ -128,11 +130,11 @@ module _ (m : Model) (T : List ℕ) (X : Charted m T) (σ : State) (F : Fits (Be
         in-type S (linkOf T (unitOf S p + j)) (getD mine v noVar .type) (slotOf (linkOf T (unitOf S p + j)) p k) (getD (flat (me .variables)) (offsetOf mine v + k) (pos 0)) (l .type)
         (ap (cellOf S) (l .slot p k q) ∙ local-cell (offsetOf mine v + k) r) (values-type mine (me .variables) (F .each p h .values) v k (o .1 .0) q)
       where
-        offset-in : (i k : ℕ) → i < length mine → k < getD mine i noVar .size → offsetOf mine i + k < 32
+        offset-in : (i k : ℕ) → i < length mine → k < getD mine i noVar .size → offsetOf mine i + k < numbersMost
         offset-in i k a b = let c = offset-reach mine i k a b in let d = X .locals-few (me .unit) bodied in omega arith
 
     -- what stands in its row is in use, or 0
-    row-used : (k : ℕ) → k < 34 → Used T S (processAt p + k) ⊎ (cellOf S (processAt p + k) ≡ pos 0)
+    row-used : (k : ℕ) → k < processSize → Used T S (processAt p + k) ⊎ (cellOf S (processAt p + k) ≡ pos 0)
     row-used zero g = inl (subst (Used T S) (let z : processAt p ≡ processAt p + 0 = omega arith in z) (process-unit p (subst (p <_) (inv processes-are) h)))
     row-used (suc zero) g = inl (process-place p (subst (p <_) (inv processes-are) h))
     row-used (suc (suc k)) g = go (decLt k (totalOf mine))
@@ -164,13 +166,13 @@ module _ (m : Model) (T : List ℕ) (X : Charted m T) (σ : State) (F : Fits (Be
     pub chart : Channelled T (channelItem m it) (H .capacity) (H .types)
     chart = X .channels it (H .capacity) (H .types) (H .declared)
 
-    channel-cell : (k : ℕ) → k < 34 → cellOf S (channelAt c + k) ≡ getD (channelRow m it) k (pos 0)
+    channel-cell : (k : ℕ) → k < channelSize → cellOf S (channelAt c + k) ≡ getD (channelRow m it) k (pos 0)
     channel-cell k g = W .channels c k (let w = F .channels in omega arith) g ∙ ap (λ (l : List ℤ). getD l k (pos 0)) (get-map (channelRow m) (σ .channels) noChannel [] c h)
 
     item-in : channelItem m it ≤ itemsLast T
     item-in = let a = X .channel-codes it (H .capacity) (H .types) (H .declared) in let b = code-inside T (channelItem m it) (omega arith) in let d = X .few in omega arith
 
-    pub held-few : length (it .held) ≤ 8
+    pub held-few : length (it .held) ≤ capacityMost
     held-few = let a = H .room in let b = chart .room in omega arith
 
     item-cell : cellOf S (channelAt c) ≡ kept (channelItem m it)
@@ -185,11 +187,11 @@ module _ (m : Model) (T : List ℕ) (X : Charted m T) (σ : State) (F : Fits (Be
     fields-are : fieldsOf T (declaredOf S c) ≡ length (H .types)
     fields-are = ap (fieldsOf T) declared-is ∙ chart .fields
 
-    pub field-cell : (n f : ℕ) → n < 8 → f < 4 → cellOf S (fieldAt c n f) ≡ getD (getD (it .held) n []) f (pos 0)
+    pub field-cell : (n f : ℕ) → n < capacityMost → f < fieldsMost → cellOf S (fieldAt c n f) ≡ getD (getD (it .held) n []) f (pos 0)
     field-cell n f a b =
         let e = at-four messageRow n in
-        ap (cellOf S) (let z : fieldAt c n f ≡ channelAt c + suc (suc (off messageRow 4 n + f)) = omega arith in z) ∙ channel-cell (suc (suc (off messageRow 4 n + f))) (omega arith)
-        ∙ row-any messageRow 4 8 (it .held) n f a b ∙ ap (λ (l : List ℤ). getD l f (pos 0)) (same (it .held) n)
+        ap (cellOf S) (let z : fieldAt c n f ≡ channelAt c + suc (suc (off messageRow fieldsMost n + f)) = omega arith in z) ∙ channel-cell (suc (suc (off messageRow fieldsMost n + f))) (omega arith)
+        ∙ row-any messageRow fieldsMost capacityMost (it .held) n f a b ∙ ap (λ (l : List ℤ). getD l f (pos 0)) (same (it .held) n)
       where
         same : (l : List (List ℤ)) (i : ℕ) → getD (map messageRow l) i [] ≡ getD l i []
         same [] i = refl
@@ -206,26 +208,26 @@ module _ (m : Model) (T : List ℕ) (X : Charted m T) (σ : State) (F : Fits (Be
         subst (λ ty. castOf ty (cellOf S (fieldAt c n f)) ≡ cellOf S (fieldAt c n f)) (inv k)
         (subst (λ y. castOf (getD (H .types) f 0) y ≡ y) (inv (field-cell n f (omega arith) (omega arith))) (H .messages n u .typed f v))
 
-    record-used : (k : ℕ) → k < 34 → Used T S (channelAt c + k) ⊎ (cellOf S (channelAt c + k) ≡ pos 0)
+    record-used : (k : ℕ) → k < channelSize → Used T S (channelAt c + k) ⊎ (cellOf S (channelAt c + k) ≡ pos 0)
     record-used zero g = inl (subst (Used T S) (let z : channelAt c ≡ channelAt c + 0 = omega arith in z) (channel-item c (subst (c <_) (inv channels-are) h)))
     record-used (suc zero) g = inl (channel-count c (subst (c <_) (inv channels-are) h))
-    record-used (suc (suc k)) g = go (decLt (k / 4) (length (it .held))) (decLt (k % 4) (length (H .types)))
+    record-used (suc (suc k)) g = go (decLt (k / fieldsMost) (length (it .held))) (decLt (k % fieldsMost) (length (H .types)))
       where
-        there : fieldAt c (k / 4) (k % 4) ≡ channelAt c + suc (suc k)
+        there : fieldAt c (k / fieldsMost) (k % fieldsMost) ≡ channelAt c + suc (suc k)
         there = omega arith
 
-        go : Dec (k / 4 < length (it .held)) → Dec (k % 4 < length (H .types)) → Used T S (channelAt c + suc (suc k)) ⊎ (cellOf S (channelAt c + suc (suc k)) ≡ pos 0)
+        go : Dec (k / fieldsMost < length (it .held)) → Dec (k % fieldsMost < length (H .types)) → Used T S (channelAt c + suc (suc k)) ⊎ (cellOf S (channelAt c + suc (suc k)) ≡ pos 0)
         go (yes a) (yes b) =
-            inl (subst (Used T S) there (field-number c (k / 4) (k % 4) (subst (c <_) (inv channels-are) h) (subst (k / 4 <_) (inv waiting-is) a) (subst (k % 4 <_) (inv fields-are) b)))
+            inl (subst (Used T S) there (field-number c (k / fieldsMost) (k % fieldsMost) (subst (c <_) (inv channels-are) h) (subst (k / fieldsMost <_) (inv waiting-is) a) (subst (k % fieldsMost <_) (inv fields-are) b)))
         go (yes a) (no b) =
-            inr (ap (cellOf S) (inv there) ∙ field-cell (k / 4) (k % 4) (omega arith) (omega arith)
-            ∙ get-past (getD (it .held) (k / 4) []) (pos 0) (k % 4) (let e = H .messages (k / 4) a .long in omega arith))
+            inr (ap (cellOf S) (inv there) ∙ field-cell (k / fieldsMost) (k % fieldsMost) (omega arith) (omega arith)
+            ∙ get-past (getD (it .held) (k / fieldsMost) []) (pos 0) (k % fieldsMost) (let e = H .messages (k / fieldsMost) a .long in omega arith))
         go (no a) b =
-            inr (ap (cellOf S) (inv there) ∙ field-cell (k / 4) (k % 4) (omega arith) (omega arith)
-            ∙ ap (λ (l : List ℤ). getD l (k % 4) (pos 0)) (get-past (it .held) [] (k / 4) (omega arith)) ∙ get-past [] (pos 0) (k % 4) (omega arith))
+            inr (ap (cellOf S) (inv there) ∙ field-cell (k / fieldsMost) (k % fieldsMost) (omega arith) (omega arith)
+            ∙ ap (λ (l : List ℤ). getD l (k % fieldsMost) (pos 0)) (get-past (it .held) [] (k / fieldsMost) (omega arith)) ∙ get-past [] (pos 0) (k % fieldsMost) (omega arith))
 
   -- ---- globals
-  pub global-cell : (k : ℕ) → k < 64 → cellOf S (globalAt k) ≡ getD (flat (σ .globals)) k (pos 0)
+  pub global-cell : (k : ℕ) → k < globalsMost → cellOf S (globalAt k) ≡ getD (flat (σ .globals)) k (pos 0)
   global-cell k h = W .globals k h
 
   global-type : (j k : ℕ) → j < scanned T → isGlobal T j ≡ true → k < sizeOf (linkOf T j) → InType S (typeOf (linkOf T j)) (slotOf (linkOf T j) 0 k)
@@ -239,7 +241,7 @@ module _ (m : Model) (T : List ℕ) (X : Charted m T) (σ : State) (F : Fits (Be
       in-type S (linkOf T j) (getD xs (o .0) noVar .type) (slotOf (linkOf T j) 0 k) (getD (flat (σ .globals)) (offsetOf (globalsOf m) (o .0) + k) (pos 0)) (l .type)
       (ap (cellOf S) (l .slot 0 k q) ∙ global-cell (offsetOf (globalsOf m) (o .0) + k) (omega arith)) (values-type xs (σ .globals) (F .globals) (o .0) k (o .1 .0) q)
 
-  global-used : (k : ℕ) → k < 64 → Used T S (globalAt k) ⊎ (cellOf S (globalAt k) ≡ pos 0)
+  global-used : (k : ℕ) → k < globalsMost → Used T S (globalAt k) ⊎ (cellOf S (globalAt k) ≡ pos 0)
   global-used k h = go (decLt k (totalOf (globalsOf m)))
     where
       go : Dec (k < totalOf (globalsOf m)) → Used T S (globalAt k) ⊎ (cellOf S (globalAt k) ≡ pos 0)
@@ -251,12 +253,12 @@ module _ (m : Model) (T : List ℕ) (X : Charted m T) (σ : State) (F : Fits (Be
       go (no a) = inr (global-cell k h ∙ get-past (flat (σ .globals)) (pos 0) k (let e = flat-long (globalsOf m) (σ .globals) (F .globals .all) (F .globals .sized) in omega arith))
 
   -- ---- every number
-  no-process : (p k : ℕ) → p < 16 → k < 34 → length (σ .processes) ≤ p → cellOf S (processAt p + k) ≡ pos 0
+  no-process : (p k : ℕ) → p < processesMost → k < processSize → length (σ .processes) ≤ p → cellOf S (processAt p + k) ≡ pos 0
   no-process p k h g a =
       W .processes p k h g ∙ ap (λ (l : List ℤ). getD l k (pos 0)) (get-past (map (processRow m) (σ .processes)) [] p (let e = map-long (processRow m) (σ .processes) in omega arith))
       ∙ get-past [] (pos 0) k (omega arith)
 
-  no-channel : (c k : ℕ) → c < 16 → k < 34 → length (σ .channels) ≤ c → cellOf S (channelAt c + k) ≡ pos 0
+  no-channel : (c k : ℕ) → c < channelsMost → k < channelSize → length (σ .channels) ≤ c → cellOf S (channelAt c + k) ≡ pos 0
   no-channel c k h g a =
       W .channels c k h g ∙ ap (λ (l : List ℤ). getD l k (pos 0)) (get-past (map (channelRow m) (σ .channels)) [] c (let e = map-long (channelRow m) (σ .channels) in omega arith))
       ∙ get-past [] (pos 0) k (omega arith)
@@ -264,33 +266,33 @@ module _ (m : Model) (T : List ℕ) (X : Charted m T) (σ : State) (F : Fits (Be
   abbrev Spent : ℕ → Type 0
   Spent n = Used T S n ⊎ (cellOf S n ≡ pos 0)
 
-  unused : (i : ℕ) → 2 ≤ i → i < 2048 → Used T S i ⊎ (cellOf S i ≡ pos 0)
-  unused i h g = go (decLt i 66) (decLt i 610) (decLt i 1154) (decLt ((i - 66) / 34) (length (σ .processes))) (decLt ((i - 610) / 34) (length (σ .channels)))
+  unused : (i : ℕ) → 2 ≤ i → i < stateRoom → Used T S i ⊎ (cellOf S i ≡ pos 0)
+  unused i h g = go (decLt i (processAt 0)) (decLt i (channelAt 0)) (decLt i (channelAt channelsMost)) (decLt ((i - processAt 0) / processSize) (length (σ .processes))) (decLt ((i - channelAt 0) / channelSize) (length (σ .channels)))
     where
-      go : Dec (i < 66) → Dec (i < 610) → Dec (i < 1154) → Dec ((i - 66) / 34 < length (σ .processes)) → Dec ((i - 610) / 34 < length (σ .channels)) → Used T S i ⊎ (cellOf S i ≡ pos 0)
+      go : Dec (i < processAt 0) → Dec (i < channelAt 0) → Dec (i < channelAt channelsMost) → Dec ((i - processAt 0) / processSize < length (σ .processes)) → Dec ((i - channelAt 0) / channelSize < length (σ .channels)) → Used T S i ⊎ (cellOf S i ≡ pos 0)
       go (yes a) b c d e = subst Spent (let z : globalAt (i - 2) ≡ i = omega arith in z) (global-used (i - 2) (omega arith))
-      go (no a) (yes b) c (yes d) e = subst Spent (let z : processAt ((i - 66) / 34) + (i - 66) % 34 ≡ i = omega arith in z) (row-used ((i - 66) / 34) d ((i - 66) % 34) (omega arith))
+      go (no a) (yes b) c (yes d) e = subst Spent (let z : processAt ((i - processAt 0) / processSize) + (i - processAt 0) % processSize ≡ i = omega arith in z) (row-used ((i - processAt 0) / processSize) d ((i - processAt 0) % processSize) (omega arith))
       go (no a) (yes b) c (no d) e =
-          subst Spent (let z : processAt ((i - 66) / 34) + (i - 66) % 34 ≡ i = omega arith in z) (inr (no-process ((i - 66) / 34) ((i - 66) % 34) (omega arith) (omega arith) (omega arith)))
-      go (no a) (no b) (yes c) d (yes e) = subst Spent (let z : channelAt ((i - 610) / 34) + (i - 610) % 34 ≡ i = omega arith in z) (record-used ((i - 610) / 34) e ((i - 610) % 34) (omega arith))
+          subst Spent (let z : processAt ((i - processAt 0) / processSize) + (i - processAt 0) % processSize ≡ i = omega arith in z) (inr (no-process ((i - processAt 0) / processSize) ((i - processAt 0) % processSize) (omega arith) (omega arith) (omega arith)))
+      go (no a) (no b) (yes c) d (yes e) = subst Spent (let z : channelAt ((i - channelAt 0) / channelSize) + (i - channelAt 0) % channelSize ≡ i = omega arith in z) (record-used ((i - channelAt 0) / channelSize) e ((i - channelAt 0) % channelSize) (omega arith))
       go (no a) (no b) (yes c) d (no e) =
-          subst Spent (let z : channelAt ((i - 610) / 34) + (i - 610) % 34 ≡ i = omega arith in z) (inr (no-channel ((i - 610) / 34) ((i - 610) % 34) (omega arith) (omega arith) (omega arith)))
+          subst Spent (let z : channelAt ((i - channelAt 0) / channelSize) + (i - channelAt 0) % channelSize ≡ i = omega arith in z) (inr (no-channel ((i - channelAt 0) / channelSize) ((i - channelAt 0) % channelSize) (omega arith) (omega arith) (omega arith)))
       go (no a) (no b) (no c) d e = inr (W .rest i (omega arith) g)
 
   -- THE NUMBERS OF A STATE THAT FITS stand
-  pub fits-stands : standing.Stands T (encode m σ ++ t)
+  pub fits-stands : standing.IsState T (encode m σ ++ t)
   fits-stands =
       record {
         long = let e = length-append (encode m σ) t in let f = encode-long m σ in omega arith;
-        processes = counted S 0 (length (σ .processes)) 16 (W .processes-count) (F .processes) (omega arith);
-        channels = counted S 1 (length (σ .channels)) 16 (W .channels-count) (F .channels) (omega arith);
+        processes = counted S 0 (length (σ .processes)) processesMost (W .processes-count) (F .processes) (omega arith);
+        channels = counted S 1 (length (σ .channels)) channelsMost (W .channels-count) (F .channels) (omega arith);
         heads = λ p g. let h = there p g in (
           counted S (processAt p) (headOf m (me p h .unit)) (itemsLast T) (head-cell p h) (head-in p h) (omega arith),
           counted S (processAt p + 1) (me p h .place) (itemsLast T) (process-cell p h 1 (omega arith)) (place-in p h) (omega arith),
         );
         records = λ c g. let h = made c g in (
           counted S (channelAt c) (channelItem m (it c h)) (itemsLast T) (item-cell c h) (item-in c h) (omega arith),
-          counted S (channelAt c + 1) (length (it c h .held)) 8 (channel-cell c h 1 (omega arith)) (held-few c h) (omega arith),
+          counted S (channelAt c + 1) (length (it c h .held)) capacityMost (channel-cell c h 1 (omega arith)) (held-few c h) (omega arith),
         );
         globals = global-type;
         locals = λ p j k g b e q. local-type p (there p g) j k b e q;

@@ -7,15 +7,16 @@ use mathlib.Core.Bool.{true, false}
 use mathlib.Core.List.{List, [], _∷_, _++_, map, append-assoc, append-nil}
 use lib.ListN.{length, getD, set, drop, replicate, length-append, length-replicate, length-drop, getD-replicate}
 use lib.IntN.{ℤ, pos}
+use Rattle.base_ceilings.specs.Ceilings.{channelsMost, globalsMost, processesMost, stateRoom}
 use Rattle.table_layout.specs.Access.{linkOf}
 use Rattle.state_layout.specs.Layout.{cleared, cellOf, globalAt, processAt, channelAt}
 use Rattle.agree_start.specs.Beginnings as numeric
 use Rattle.agree_start.specs.Beginnings.{repeated, startsIn, beginsIn, globalsIn, startedIn, allStarted, initialIn}
 use Rattle.spec_grammar.specs.Tree.{Name, Body, Activity, idle, once, times, Part, mtypes, global, process, init, Model}
-use Rattle.spec_grammar.specs.Code.{each, code-group, code-activity, code-part}
+use Rattle.parse_code.specs.Code.{each, code-group, code-activity, code-part}
 use Rattle.spec_rules.specs.Statements.{all}
 use Rattle.spec_rules.specs.Units.{tally}
-use Rattle.spec_rules.specs.Ceilings.{madeByDeclaration, madeByBody, startedBy, startsOf, channelsOf, modest}
+use Rattle.spec_rules.specs.Ceilings.{madeByDeclaration, madeByBody, startedBy, startCount, channelCount, modest}
 use Rattle.spec_machine.specs.State.{Channel, State}
 use Rattle.spec_machine.specs.Names as names
 use Rattle.spec_machine.specs.Names.{Var, variablesOf, globalsOf, unitAt}
@@ -24,7 +25,7 @@ use Rattle.spec_machine.specs.Begins as plain
 use Rattle.spec_machine.specs.Plain.{noVar}
 use Rattle.state_encode.specs.Encode.{flat, headIn, headOf, encode}
 use Rattle.spec_machine.specs.Places.{Bodied, bodyAt, Belongs}
-use Rattle.spec_machine.specs.Fits.{Values, Fits}
+use Rattle.spec_machine.specs.Fits.{Filled, Fits}
 use Rattle.state_encode.specs.Tabled.{offsetOf, Linked}
 use Rattle.state_encode.proofs.Rows.{get-left, get-right}
 use Rattle.state_encode.proofs.Numbers.{channels-are, global-stored}
@@ -112,7 +113,7 @@ here-channels (global d) i = declaration-channels d i
 here-channels (process a w gs b) i = refl
 here-channels (init b) i = refl
 
-channels-split : (m : Model) → tally channelsOf m ≡ tally globalChannels m + tally ownChannels m
+channels-split : (m : Model) → tally channelCount m ≡ tally globalChannels m + tally ownChannels m
 channels-split [] = refl
 channels-split (mtypes ws ∷ m) = let r = channels-split m in omega arith
 channels-split (global d ∷ m) = let r = channels-split m in omega arith
@@ -134,22 +135,22 @@ module _ (m : Model) where
   abbrev pub blank : State
   blank = record { globals = zeros (globalsOf m); processes = []; channels = [] }
 
-  pub cleared-is : (s : List ℤ) → 2048 ≤ length s → cleared s ≡ encode m blank ++ drop 2048 s
+  pub cleared-is : (s : List ℤ) → stateRoom ≤ length s → cleared s ≡ encode m blank ++ drop stateRoom s
   cleared-is s h =
-      ap (λ n. replicate n (pos 0) ++ drop n s) (let z : min 2048 (length s) ≡ 2048 = omega arith in z)
-      ∙ shown-same m blank Z (let e = length-append (replicate 2048 (pos 0)) (drop 2048 s) in let f = length-replicate 2048 (pos 0) in omega arith) shown
-      ∙ ap (λ (l : List ℤ). encode m blank ++ l) (drop-front (replicate 2048 (pos 0)) (drop 2048 s) 2048 (length-replicate 2048 (pos 0)))
+      ap (λ n. replicate n (pos 0) ++ drop n s) (let z : min stateRoom (length s) ≡ stateRoom = omega arith in z)
+      ∙ shown-same m blank Z (let e = length-append (replicate stateRoom (pos 0)) (drop stateRoom s) in let f = length-replicate stateRoom (pos 0) in omega arith) shown
+      ∙ ap (λ (l : List ℤ). encode m blank ++ l) (drop-front (replicate stateRoom (pos 0)) (drop stateRoom s) stateRoom (length-replicate stateRoom (pos 0)))
     where
       Z : List ℤ
-      Z = replicate 2048 (pos 0) ++ drop 2048 s
+      Z = replicate stateRoom (pos 0) ++ drop stateRoom s
 
-      cell : (i : ℕ) → i < 2048 → cellOf (replicate 2048 (pos 0) ++ drop 2048 s) i ≡ pos 0
-      cell i g = get-left (replicate 2048 (pos 0)) (drop 2048 s) (pos 0) i (subst (i <_) (inv (length-replicate 2048 (pos 0))) g) ∙ getD-replicate 2048 i (pos 0) (pos 0) g
+      cell : (i : ℕ) → i < stateRoom → cellOf (replicate stateRoom (pos 0) ++ drop stateRoom s) i ≡ pos 0
+      cell i g = get-left (replicate stateRoom (pos 0)) (drop stateRoom s) (pos 0) i (subst (i <_) (inv (length-replicate stateRoom (pos 0))) g) ∙ getD-replicate stateRoom i (pos 0) (pos 0) g
 
       none : (p k : ℕ) → getD (getD [] p []) k (pos 0) ≡ pos 0
       none p k = ap (λ (l : List ℤ). getD l k (pos 0)) (get-past [] [] p (omega arith)) ∙ get-past [] (pos 0) k (omega arith)
 
-      shown : Shown m record { globals = zeros (globalsOf m); processes = []; channels = [] } (replicate 2048 (pos 0) ++ drop 2048 s)
+      shown : Shown m record { globals = zeros (globalsOf m); processes = []; channels = [] } (replicate stateRoom (pos 0) ++ drop stateRoom s)
       shown =
           record {
             processes-count = cell 0 (omega arith);
@@ -177,7 +178,7 @@ module _ (m : Model) where
           store = λ N C i n v S h q.
               ap (λ j. set (E N C) (globalAt (j + n)) v) (inv (ahead-is xs N (S .all) (S .sized) i))
               ∙ global-stored m t record { globals = N; processes = []; channels = C } i n v (subst (i <_) (inv (S .all)) h) (subst (n <_) (inv (S .sized i h)) q)
-              (subst (_≤ 64) (inv (flat-long xs N (S .all) (S .sized))) (X .globals-few));
+              (subst (_≤ globalsMost) (inv (flat-long xs N (S .all) (S .sized))) (X .globals-few));
           make = λ N C y e h. channel-more m t record { globals = N; processes = []; channels = C } y e h;
           count = λ N C h. channels-are m t record { globals = N; processes = []; channels = C } h;
         }
@@ -210,7 +211,7 @@ module _ (m : Model) where
         }
 
     globals-made : (us : Model) (k i n : ℕ) (A Z : List (List ℤ)) (C : List Channel) → Behind m us k i → ((j : ℕ) → getD (globalSites m 0) (n + j) noSite ≡ getD (globalSites us i) j noSite)
-        → n + length (globalSites us i) ≡ length (globalSites m 0) → Shaped xs (A ++ Z) → length A ≡ n → length Z ≡ length (globalSites us i) → length C + tally globalChannels us ≤ 16
+        → n + length (globalSites us i) ≡ length (globalSites m 0) → Shaped xs (A ++ Z) → length A ≡ n → length Z ≡ length (globalSites us i) → length C + tally globalChannels us ≤ channelsMost
         → globalsIn T us i (E (A ++ Z) C) ≡ E (globalsFrom m k us record { values = A; channels = C } .values) (globalsFrom m k us record { values = A; channels = C } .channels)
     unfolding globalsFrom
     globals-made [] k i n A [] C b same long S e z few = ap (λ (N : List (List ℤ)). E N C) (append-nil A)
@@ -237,11 +238,11 @@ module _ (m : Model) where
         ∙ ap (λ (y : Made). E (globalsFrom m (suc k) us y .values) (globalsFrom m (suc k) us y .channels)) q
 
     -- ---- and they fit
-    globals-fit : (us : Model) (k i : ℕ) (zs : List Var) (A : List (List ℤ)) (C : List Channel) → Behind m us k i → Values zs A → Sound m C
-        → Values (zs ++ globalsOf us) (globalsFrom m k us record { values = A; channels = C } .values) × Sound m (globalsFrom m k us record { values = A; channels = C } .channels)
+    globals-fit : (us : Model) (k i : ℕ) (zs : List Var) (A : List (List ℤ)) (C : List Channel) → Behind m us k i → Filled zs A → Sound m C
+        → Filled (zs ++ globalsOf us) (globalsFrom m k us record { values = A; channels = C } .values) × Sound m (globalsFrom m k us record { values = A; channels = C } .channels)
         × (length (globalsFrom m k us record { values = A; channels = C } .channels) ≡ length C + tally globalChannels us)
     unfolding globalsFrom
-    globals-fit [] k i zs A C b v s = (subst (λ (l : List Var). Values l A) (inv (append-nil zs)) v, s, omega arith)
+    globals-fit [] k i zs A C b v s = (subst (λ (l : List Var). Filled l A) (inv (append-nil zs)) v, s, omega arith)
     globals-fit (u ∷ us) k i zs A C b v s =
         let H = globalHere u i in
         let hv = here-vars u i in
@@ -254,7 +255,7 @@ module _ (m : Model) where
         let n : channelsAmong m (names.globalIn u) ≡ globalChannels u = ap (channelsAmong m) (inv hv) ∙ among-sites m H ∙ here-channels u i in
         let r = globals-fit us (suc k) (i + length (code-part u)) (zs ++ G) (Y .values) (Y .channels) (behind-next m u us k i b) (f .0) (f .1) in
         let r2 = r .2 in (
-          subst (λ (l : List Var). Values l (globalsFrom m (suc k) us record { values = Y .values; channels = Y .channels } .values)) (append-assoc zs G (globalsOf us)) (r .0),
+          subst (λ (l : List Var). Filled l (globalsFrom m (suc k) us record { values = Y .values; channels = Y .channels } .values)) (append-assoc zs G (globalsOf us)) (r .0),
           r .1,
           r2 ∙ (let z : length (Y .channels) + tally globalChannels us ≡ length C + (globalChannels u + tally globalChannels us) = omega arith in z),
         )
@@ -276,14 +277,14 @@ head-same idle w i = omega arith
 head-same once w i = omega arith
 head-same (times n) w i = omega arith
 
-starts-same : (a : Activity) → startedBy a ≤ 16 → startsIn a ≡ startedBy a
+starts-same : (a : Activity) → startedBy a ≤ processesMost → startsIn a ≡ startedBy a
 starts-same idle h = refl
 starts-same once h = refl
 starts-same (times n) h = omega arith
 
 module _ (m : Model) (T : List ℕ) (X : Charted m T) (t : List ℤ) where
   -- n times a process of unit k
-  times-begun : (k : ℕ) (b : Bodied (unitAt m k)) (n : ℕ) (σ : State) → Fits (Belongs m) m σ → length (σ .processes) + n ≤ 16 → length (σ .channels) + n * madeByBody (bodyOf (unitAt m k)) ≤ 16
+  times-begun : (k : ℕ) (b : Bodied (unitAt m k)) (n : ℕ) (σ : State) → Fits (Belongs m) m σ → length (σ .processes) + n ≤ processesMost → length (σ .channels) + n * madeByBody (bodyOf (unitAt m k)) ≤ channelsMost
       → (repeated (beginsIn T (headOf m k) (bodyOf (unitAt m k)) (bodyAt m k)) n (encode m σ ++ t) ≡ encode m (beginsTimes m k n σ) ++ t) × Fits (Belongs m) m (beginsTimes m k n σ)
       × (length (beginsTimes m k n σ .processes) ≡ length (σ .processes) + n) × (length (beginsTimes m k n σ .channels) ≡ length (σ .channels) + n * madeByBody (bodyOf (unitAt m k)))
   unfolding beginsTimes
@@ -291,8 +292,8 @@ module _ (m : Model) (T : List ℕ) (X : Charted m T) (t : List ℤ) where
   times-begun k b (suc n) σ F few room =
       let M = madeByBody (bodyOf (unitAt m k)) in
       let e = suc-mul n (madeByBody (bodyOf (unitAt m k))) in
-      let f : length (σ .processes) < 16 = omega arith in
-      let g : length (σ .channels) + madeByBody (bodyOf (unitAt m k)) ≤ 16 = omega arith in
+      let f : length (σ .processes) < processesMost = omega arith in
+      let g : length (σ .channels) + madeByBody (bodyOf (unitAt m k)) ≤ channelsMost = omega arith in
       let p = begins-processes m T X k b σ F f g [] in
       let c = begins-channels m T X k b σ F f g [] in
       let r = times-begun k b n (begins m k [] σ) (begins-fits m T X k b σ F f g []) (omega arith) (omega arith) in
@@ -304,9 +305,9 @@ module _ (m : Model) (T : List ℕ) (X : Charted m T) (t : List ℤ) where
   abbrev Started : Part → ℕ → ℕ → State → Type 0
   Started u k i σ =
       (startedIn T u i (encode m σ ++ t) ≡ encode m (beginsTimes m k (plain.startsOf m u) σ) ++ t) × Fits (Belongs m) m (beginsTimes m k (plain.startsOf m u) σ)
-      × (length (beginsTimes m k (plain.startsOf m u) σ .processes) ≡ length (σ .processes) + startsOf u) × (length (beginsTimes m k (plain.startsOf m u) σ .channels) ≡ length (σ .channels) + ownChannels u)
+      × (length (beginsTimes m k (plain.startsOf m u) σ .processes) ≡ length (σ .processes) + startCount u) × (length (beginsTimes m k (plain.startsOf m u) σ .channels) ≡ length (σ .channels) + ownChannels u)
 
-  unit-started : (u : Part) (k i : ℕ) (σ : State) → unitAt m k ≡ u → itemsBefore m k ≡ i → Fits (Belongs m) m σ → length (σ .processes) + startsOf u ≤ 16 → length (σ .channels) + ownChannels u ≤ 16
+  unit-started : (u : Part) (k i : ℕ) (σ : State) → unitAt m k ≡ u → itemsBefore m k ≡ i → Fits (Belongs m) m σ → length (σ .processes) + startCount u ≤ processesMost → length (σ .channels) + ownChannels u ≤ channelsMost
       → Started u k i σ
   unfolding beginsTimes
   unit-started (mtypes ws) k i σ e f F few room = (refl, F, omega arith, omega arith)
@@ -316,7 +317,7 @@ module _ (m : Model) (T : List ℕ) (X : Charted m T) (t : List ℤ) where
       let h : Bodied (unitAt m k) = subst Bodied (inv e) tt in
       let B : bodyOf (unitAt m k) ≡ b = ap bodyOf e in
       let M : madeByBody (bodyOf (unitAt m k)) ≡ madeByBody b = ap madeByBody B in
-      let r = times-begun k h (startedBy a) σ F few (subst (λ n. length (σ .channels) + startedBy a * n ≤ 16) (inv M) room) in
+      let r = times-begun k h (startedBy a) σ F few (subst (λ n. length (σ .channels) + startedBy a * n ≤ channelsMost) (inv M) room) in
       let hd : numeric.headIn a i ≡ headOf m k = head-same a w i ∙ ap₂ headIn (inv e) (inv f) in
       let s = some-items a w in
       let n = head-same a w i in
@@ -344,7 +345,7 @@ module _ (m : Model) (T : List ℕ) (X : Charted m T) (t : List ℤ) where
         omega arith,
       )
 
-  all-started : (us : Model) (k i : ℕ) (σ : State) → Behind m us k i → Fits (Belongs m) m σ → length (σ .processes) + tally startsOf us ≤ 16 → length (σ .channels) + tally ownChannels us ≤ 16
+  all-started : (us : Model) (k i : ℕ) (σ : State) → Behind m us k i → Fits (Belongs m) m σ → length (σ .processes) + tally startCount us ≤ processesMost → length (σ .channels) + tally ownChannels us ≤ channelsMost
       → (allStarted T us i (encode m σ ++ t) ≡ encode m (startsFrom m k us σ) ++ t) × Fits (Belongs m) m (startsFrom m k us σ)
   unfolding startsFrom
   all-started [] k i σ b F few room = (refl, F)
@@ -356,14 +357,14 @@ module _ (m : Model) (T : List ℕ) (X : Charted m T) (t : List ℤ) where
       (ap (allStarted T us (i + length (code-part u))) (s .0) ∙ r .0, r .1)
 
   -- ---- the whole
-  module _ (few : tally startsOf m ≤ 16) (room : tally channelsOf m ≤ 16) where
+  module _ (few : tally startCount m ≤ processesMost) (room : tally channelCount m ≤ channelsMost) where
     abbrev G : Made
     G = globalsFrom m 0 m record { values = []; channels = [] }
 
     abbrev base : State
     base = record { globals = G .values; processes = []; channels = G .channels }
 
-    globals-in : Values (globalsOf m) (G .values) × Sound m (G .channels) × (length (G .channels) ≡ 0 + tally globalChannels m)
+    globals-in : Filled (globalsOf m) (G .values) × Sound m (G .channels) × (length (G .channels) ≡ 0 + tally globalChannels m)
     globals-in = globals-fit m T X t m 0 0 [] [] [] (behind-all m) values-none (λ c h. absurd (omega arith))
 
     base-fits : Fits (Belongs m) m base
@@ -394,10 +395,10 @@ module _ (m : Model) (T : List ℕ) (X : Charted m T) (t : List ℤ) where
 
 -- THE INITIAL STATE of a modest model
 module _ (m : Model) (T : List ℕ) (X : Charted m T) (small : modest m ≡ true) where
-  pub initial-is : (s : List ℤ) → 2048 ≤ length s → initialIn T m s ≡ encode m (initial m) ++ drop 2048 s
+  pub initial-is : (s : List ℤ) → stateRoom ≤ length s → initialIn T m s ≡ encode m (initial m) ++ drop stateRoom s
   initial-is s h =
       let a = modest-few m small in
-      ap (λ x. allStarted T m 0 (globalsIn T m 0 x)) (cleared-is m s h) ∙ initial-set m T X (drop 2048 s) (a .starts) (a .channels)
+      ap (λ x. allStarted T m 0 (globalsIn T m 0 x)) (cleared-is m s h) ∙ initial-set m T X (drop stateRoom s) (a .starts) (a .channels)
 
   pub initially : Fits (Belongs m) m (initial m)
   initially = let a = modest-few m small in initial-fits m T X [] (a .starts) (a .channels)

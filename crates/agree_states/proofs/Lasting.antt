@@ -7,17 +7,18 @@ use mathlib.Core.Bool.{true}
 use mathlib.Core.List.{List, [], _∷_, _++_, map, append-assoc, append-nil}
 use lib.ListN.{length, getD, replicate, length-append, length-replicate, getD-replicate}
 use lib.IntN.{ℤ, pos}
+use Rattle.base_ceilings.specs.Ceilings.{channelsMost, processesMost}
 use Rattle.base_values.specs.Types.{castOf}
 use Rattle.base_values.proofs.Laws.{cast-twice}
 use Rattle.spec_grammar.specs.Tree.{Value, unset, set-number, set-minus, set-true, set-false, set-name, set-channel, action, Tree, sequence, bare, labelled, end, then, Body, body, Part, Model}
-use Rattle.spec_machine.specs.Program.{Within, itself, unlabelled, behind-label, in-first, startIn, endIn, statementsOf}
+use Rattle.spec_machine.specs.Program.{Within, itself, unlabelled, behind-label, in-first, startIn, endIn, sequenceOf}
 use Rattle.spec_rules.specs.Ceilings.{madeByBody}
 use Rattle.spec_machine.specs.State.{Channel, State, noChannel, noProcess}
 use Rattle.spec_machine.specs.Names.{Var, parametersOf, localsOf, variablesOf, unitAt}
 use Rattle.spec_machine.specs.Begins.{Made, valueOf, plainly, makes, makesAll, given, itemsBefore, bodyOf, firstIn, begins}
-use Rattle.spec_machine.specs.Plain.{noVar, madeBy}
+use Rattle.spec_machine.specs.Plain.{noVar, declaredBy}
 use Rattle.spec_machine.specs.Places.{Bodied, bodyAt, Belongs, ends, stands}
-use Rattle.spec_machine.specs.Fits.{Typed, Values, ChannelFits, ProcessFits, Fits}
+use Rattle.spec_machine.specs.Fits.{Typed, Filled, ChannelFits, ProcessFits, Fits}
 use Rattle.state_encode.proofs.Rows.{get-left, get-right}
 use Rattle.state_encode.proofs.Fitting.{at-more}
 use Rattle.agree_states.specs.Sites.{chan, Site, noSite, sitesAt, bodySites}
@@ -27,7 +28,7 @@ use Rattle.agree_states.proofs.Making.{making, channelsIn}
 use Rattle.agree_states.proofs.Begun.{unit-split, params-one, body-channels}
 
 -- ---- variables one behind another
-pub values-both : (xs ys : List Var) (l k : List (List ℤ)) → Values xs l → Values ys k → Values (xs ++ ys) (l ++ k)
+pub values-both : (xs ys : List Var) (l k : List (List ℤ)) → Filled xs l → Filled ys k → Filled (xs ++ ys) (l ++ k)
 values-both xs ys l k v w =
     record {
       all = length-append l k ∙ ap₂ _+_ (v .all) (w .all) ∙ inv (length-append xs ys);
@@ -51,10 +52,10 @@ values-both xs ys l k v w =
           subst (λ (x : Var). Typed (x .type) (getD (l ++ k) i [])) (inv e) (subst (Typed (getD ys (i - length xs) noVar .type)) (inv f) (w .typed (i - length xs) g)),
         )
 
-pub values-none : Values [] []
+pub values-none : Filled [] []
 values-none = record { all = refl; sized = λ i h. absurd (omega arith); typed = λ i h. absurd (omega arith) }
 
-values-one : (x : Var) (r : List ℤ) → length r ≡ x .size → Typed (x .type) r → Values (x ∷ []) (r ∷ [])
+values-one : (x : Var) (r : List ℤ) → length r ≡ x .size → Typed (x .type) r → Filled (x ∷ []) (r ∷ [])
 values-one x r e h = record { all = refl; sized = λ i g. size i g; typed = λ i g. type i g }
   where
     size : (i : ℕ) → i < 1 → length (getD (r ∷ []) i []) ≡ getD (x ∷ []) i noVar .size
@@ -75,7 +76,7 @@ typed-one ty v (suc i) h = absurd (omega arith)
 
 module _ (m : Model) where
   -- ---- parameters
-  given-values : (xs : List Var) (vs : List ℤ) → ((j : ℕ) → j < length xs → getD xs j noVar .size ≡ 1) → Values xs (given m xs vs)
+  given-values : (xs : List Var) (vs : List ℤ) → ((j : ℕ) → j < length xs → getD xs j noVar .size ≡ 1) → Filled xs (given m xs vs)
   unfolding given
   given-values [] vs h = values-none
   given-values (x ∷ xs) [] h =
@@ -89,14 +90,14 @@ module _ (m : Model) where
   abbrev pub Sound : List Channel → Type 0
   Sound C = (c : ℕ) → c < length C → ChannelFits m (getD C c noChannel)
 
-  module _ (u i : ℕ) (x : Var) (zs : List Var) (A : List (List ℤ)) (C : List Channel) (v : Values zs A) (s : Sound C) where
-    plain-fits : Values (zs ++ x ∷ []) (plainly m x A C .values)
+  module _ (u i : ℕ) (x : Var) (zs : List Var) (A : List (List ℤ)) (C : List Channel) (v : Filled zs A) (s : Sound C) where
+    plain-fits : Filled (zs ++ x ∷ []) (plainly m x A C .values)
     plain-fits =
         let w = castOf (x .type) (valueOf m (x .value)) in
         values-both zs (x ∷ []) A (replicate (x .size) w ∷ []) v (values-one x (replicate (x .size) w) (length-replicate (x .size) w) (typed-all (x .type) (x .size) (valueOf m (x .value))))
 
-    one-fits : (w : Value) → x .value ≡ w → (chan w ≡ true → x .size ≡ 1) → (chan w ≡ true → madeBy m record { unit = u; variable = i; held = [] } ≡ w)
-        → Values (zs ++ x ∷ []) (makes m u i x w A C .values) × Sound (makes m u i x w A C .channels) × (length (makes m u i x w A C .channels) ≡ length C + making (chan w))
+    one-fits : (w : Value) → x .value ≡ w → (chan w ≡ true → x .size ≡ 1) → (chan w ≡ true → declaredBy m record { unit = u; variable = i; held = [] } ≡ w)
+        → Filled (zs ++ x ∷ []) (makes m u i x w A C .values) × Sound (makes m u i x w A C .channels) × (length (makes m u i x w A C .channels) ≡ length C + making (chan w))
     one-fits unset e one made = (plain-fits, s, omega arith)
     one-fits (set-number n) e one made = (plain-fits, s, omega arith)
     one-fits (set-minus n) e one made = (plain-fits, s, omega arith)
@@ -120,11 +121,11 @@ module _ (m : Model) where
 
   -- ALL IN TURN, variables i and on of unit u
   pub all-fit : (u i : ℕ) (xs zs : List Var) (A : List (List ℤ)) (C : List Channel) → ((j : ℕ) → j < length xs → getD (variablesOf (unitAt m u)) (i + j) noVar ≡ getD xs j noVar)
-      → ((j : ℕ) → j < length xs → chan (getD xs j noVar .value) ≡ true → getD xs j noVar .size ≡ 1) → Values zs A → Sound C
-      → Values (zs ++ xs) (makesAll m u i xs record { values = A; channels = C } .values) × Sound (makesAll m u i xs record { values = A; channels = C } .channels)
+      → ((j : ℕ) → j < length xs → chan (getD xs j noVar .value) ≡ true → getD xs j noVar .size ≡ 1) → Filled zs A → Sound C
+      → Filled (zs ++ xs) (makesAll m u i xs record { values = A; channels = C } .values) × Sound (makesAll m u i xs record { values = A; channels = C } .channels)
       × (length (makesAll m u i xs record { values = A; channels = C } .channels) ≡ length C + channelsAmong xs)
   unfolding makesAll
-  all-fit u i [] zs A C own one v s = (subst (λ (y : List Var). Values y A) (inv (append-nil zs)) v, s, omega arith)
+  all-fit u i [] zs A C own one v s = (subst (λ (y : List Var). Filled y A) (inv (append-nil zs)) v, s, omega arith)
   all-fit u i (x ∷ xs) zs A C own one v s =
       let o : getD (variablesOf (unitAt m u)) i noVar ≡ x = ap (λ n. getD (variablesOf (unitAt m u)) n noVar) (let y : i ≡ i + 0 = omega arith in y) ∙ own 0 (omega arith) in
       let k = one-fits u i x zs A C v s (x .value) refl (one 0 (omega arith)) (λ c. ap (λ (y : Var). y .value) o) in
@@ -133,7 +134,7 @@ module _ (m : Model) where
       let r = all-fit u (suc i) xs (zs ++ x ∷ []) (Y .values) (Y .channels)
       (λ j g. ap (λ n. getD (variablesOf (unitAt m u)) n noVar) (let y : suc i + j ≡ i + suc j = omega arith in y) ∙ own (suc j) (omega arith)) (λ j g. one (suc j) (omega arith)) (k .0) (k .1) in
       let r2 = r .2 in (
-        subst (λ (y : List Var). Values y (makesAll m u (suc i) xs record { values = Y .values; channels = Y .channels } .values)) (append-assoc zs (x ∷ []) xs) (r .0),
+        subst (λ (y : List Var). Filled y (makesAll m u (suc i) xs record { values = Y .values; channels = Y .channels } .values)) (append-assoc zs (x ∷ []) xs) (r .0),
         r .1,
         r2 ∙ (let y : length (Y .channels) + channelsAmong xs ≡ length C + channelsAmong (x ∷ xs) = omega arith in y),
       )
@@ -141,7 +142,7 @@ module _ (m : Model) where
   -- ---- where a body begins is one of its places
   pub data Entered (b : Body) (i : ℕ) : Type 0 where
     at-end : firstIn b i ≡ endIn b i → Entered b i
-    at-statement : {x : Tree action} {n o : ℕ} → Within sequence (statementsOf b) (startIn b i) (endIn b i) 0 x (firstIn b i) n o → Entered b i
+    at-statement : {x : Tree action} {n o : ℕ} → Within sequence (sequenceOf b) (startIn b i) (endIn b i) 0 x (firstIn b i) n o → Entered b i
 
   entered : (b : Body) (i : ℕ) → Entered b i
   entered (body ds end) i = at-end refl
@@ -156,8 +157,8 @@ module _ (m : Model) where
       go (at-statement w) = stands b w
 
 -- ---- one process more
-module _ (m : Model) (T : List ℕ) (X : Charted m T) (k : ℕ) (b : Bodied (unitAt m k)) (σ : State) (F : Fits (Belongs m) m σ) (few : length (σ .processes) < 16)
-    (room : length (σ .channels) + madeByBody (bodyOf (unitAt m k)) ≤ 16) (vs : List ℤ) where
+module _ (m : Model) (T : List ℕ) (X : Charted m T) (k : ℕ) (b : Bodied (unitAt m k)) (σ : State) (F : Fits (Belongs m) m σ) (few : length (σ .processes) < processesMost)
+    (room : length (σ .channels) + madeByBody (bodyOf (unitAt m k)) ≤ channelsMost) (vs : List ℤ) where
   abbrev u : Part
   u = unitAt m k
 
@@ -182,7 +183,7 @@ module _ (m : Model) (T : List ℕ) (X : Charted m T) (k : ℕ) (b : Bodied (uni
       let s : getD (sitesAt m k) (length (parametersOf (unitAt m k)) + j) noSite .var ≡ getD (localsOf (bodyOf (unitAt m k))) j noVar = site-var (sitesAt m k) (variablesOf u) v (length Ps + j) g ∙ own j in
       ap (λ (x : Var). x .size) (inv s) ∙ X .singles k (length Ps + j) g (ap (λ (x : Var). chan (x .value)) s ∙ c)
 
-  made : Values (Ps ++ Ls) (Y .values) × Sound m (Y .channels) × (length (Y .channels) ≡ length (σ .channels) + channelsAmong m Ls)
+  made : Filled (Ps ++ Ls) (Y .values) × Sound m (Y .channels) × (length (Y .channels) ≡ length (σ .channels) + channelsAmong m Ls)
   made = all-fit m k (length Ps) Ls Ps (given m Ps vs) (σ .channels) (λ j h. own j) one (given-values m Ps vs (params-one u b)) (F .queues)
 
   made-many : channelsAmong m Ls ≡ madeByBody (bodyOf u)
@@ -205,6 +206,6 @@ module _ (m : Model) (T : List ℕ) (X : Charted m T) (k : ℕ) (b : Bodied (uni
         processes = let e = begins-processes in omega arith;
         channels = let e = begins-channels in omega arith;
         each = at-more (ProcessFits (Belongs m) m) (σ .processes) record { unit = k; place = firstIn (bodyOf u) (bodyAt m k); variables = Y .values } noProcess (F .each)
-            record { place = first-belongs m k b; values = subst (λ (xs : List Var). Values xs (Y .values)) (inv (unit-split u b)) (made .0) };
+            record { place = first-belongs m k b; values = subst (λ (xs : List Var). Filled xs (Y .values)) (inv (unit-split u b)) (made .0) };
         queues = made .1;
       }

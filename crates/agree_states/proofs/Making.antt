@@ -7,9 +7,10 @@ use mathlib.Core.List.{List, [], _∷_, _++_, map, append-assoc}
 use lib.ListN.{length, getD, set, drop, replicate, length-append, length-set, length-replicate}
 use lib.Seq.{getD-set-same, set-getD, set-set}
 use lib.IntN.{ℤ, pos}
+use Rattle.base_ceilings.specs.Ceilings.{channelsMost}
 use Rattle.table_layout.specs.Access.{linkOf}
 use Rattle.base_values.specs.Types.{castOf}
-use Rattle.state_layout.specs.Layout.{kept, channelsOf}
+use Rattle.state_layout.specs.Layout.{kept, channelsOf, keptMost}
 use Rattle.state_layout.specs.Walks.{walk}
 use Rattle.step_eval.specs.Variables.{typeOf, slotOf}
 use Rattle.state_start.specs.Starting.{filled, stored, channelMade}
@@ -41,8 +42,8 @@ shaped-set xs N i a s e =
 -- E N C are the numbers of a state with the variables N, of the globals or of process p, and the channels C: a number stored, a channel made
 pub record Writes (m : Model) (xs : List Var) (at : ℕ → ℕ → ℕ) (p : ℕ) (E : List (List ℤ) → List Channel → List ℤ) : Type 0 where
   pub store : (N : List (List ℤ)) (C : List Channel) (i k : ℕ) (v : ℤ) → Shaped xs N → i < length xs → k < getD xs i noVar .size → set (E N C) (at p (offsetOf xs i + k)) v ≡ E (oneStored N i k v) C
-  pub make : (N : List (List ℤ)) (C : List Channel) (y : Channel) → y .held ≡ [] → length C < 16 → channelMade (channelItem m y) (E N C) ≡ E N (C ++ y ∷ [])
-  pub count : (N : List (List ℤ)) (C : List Channel) → length C ≤ 16 → channelsOf (E N C) ≡ length C
+  pub make : (N : List (List ℤ)) (C : List Channel) (y : Channel) → y .held ≡ [] → length C < channelsMost → channelMade (channelItem m y) (E N C) ≡ E N (C ++ y ∷ [])
+  pub count : (N : List (List ℤ)) (C : List Channel) → length C ≤ channelsMost → channelsOf (E N C) ≡ length C
 
 -- ---- every number of a list
 setsFrom : ℕ → ℕ → ℤ → List ℤ → List ℤ
@@ -147,14 +148,14 @@ module _ (m : Model) (T : List ℕ) (xs : List Var) (at : ℕ → ℕ → ℕ) (
     z-long : length z ≡ getD xs n noVar .size
     z-long = ap length (inv (get-right A (z ∷ Z) [] n 0 n e (omega arith))) ∙ S .sized n (g .here)
 
-    channel-made : (k : ℕ) → k ≡ x .worth → chan (X .value) ≡ true → length C < 16
+    channel-made : (k : ℕ) → k ≡ x .worth → chan (X .value) ≡ true → length C < channelsMost
         → stored l p (kept (channelsOf (E (A ++ z ∷ Z) C) + 1)) (channelMade (k + 1) (E (A ++ z ∷ Z) C))
         ≡ E ((A ++ (castOf (X .type) (pos (length C + 1)) ∷ []) ∷ []) ++ Z) (C ++ record { unit = u; variable = i; held = [] } ∷ [])
     channel-made k q c few =
         let D = C ++ record { unit = u; variable = i; held = [] } ∷ [] in
         let one : getD xs n noVar .size ≡ 1 = ap (λ (y : Var). y .size) (g .var) ∙ g .single c in
         let w : castOf (typeOf l) (kept (channelsOf (E (A ++ z ∷ Z) C) + 1)) ≡ castOf (X .type) (pos (length C + 1)) =
-        ap₂ castOf (g .link .type) (ap (λ a. kept (a + 1)) (W .count (A ++ z ∷ Z) C (omega arith)) ∙ ap pos (let y : min 2147483647 (length C + 1) ≡ length C + 1 = omega arith in y)) in
+        ap₂ castOf (g .link .type) (ap (λ a. kept (a + 1)) (W .count (A ++ z ∷ Z) C (omega arith)) ∙ ap pos (let y : min keptMost (length C + 1) ≡ length C + 1 = omega arith in y)) in
         let val = castOf (X .type) (pos (length C + 1)) in
         ap₂ (λ s (v : ℤ). set s (slotOf l p 0) v) (ap (λ d. channelMade d (E (A ++ z ∷ Z) C)) (ap (λ a. a + 1) q ∙ inv (g .item c)) ∙ W .make (A ++ z ∷ Z) C record { unit = u; variable = i; held = [] } refl few) w
         ∙ ap (λ a. set (E (A ++ z ∷ Z) D) a val) (linked .slot p 0 (omega arith)) ∙ W .store (A ++ z ∷ Z) D n 0 val S (g .here) (omega arith)
@@ -162,7 +163,7 @@ module _ (m : Model) (T : List ℕ) (xs : List Var) (at : ℕ → ℕ → ℕ) (
         (ap (λ (b : List ℤ). set b 0 val) (get-right A (z ∷ Z) [] n 0 n e (omega arith)) ∙ set-one z val (z-long ∙ one))
         ∙ ap (λ (Y : List (List ℤ)). E Y D) (set-mid A z (val ∷ []) Z n e)
 
-    one-made : (v : Value) → X .value ≡ v → length C + making (chan v) ≤ 16
+    one-made : (v : Value) → X .value ≡ v → length C + making (chan v) ≤ channelsMost
         → valuedIn T l p v (x .worth) (E (A ++ z ∷ Z) C) ≡ E (makes m u i X v A C .values ++ Z) (makes m u i X v A C .channels)
     one-made unset f few = plain-made (pos 0) (ap (valueOf m) (inv f))
     one-made (set-number a) f few = plain-made (valueIn T (set-number a) (x .worth)) (ap (λ y. valueIn T y (x .worth)) (inv f) ∙ g .worth (ap chan f))
@@ -172,7 +173,7 @@ module _ (m : Model) (T : List ℕ) (xs : List Var) (at : ℕ → ℕ → ℕ) (
     one-made (set-name w) f few = plain-made (valueIn T (set-name w) (x .worth)) (ap (λ y. valueIn T y (x .worth)) (inv f) ∙ g .worth (ap chan f))
     one-made (set-channel a ks) f few = channel-made (x .worth) refl (ap chan f) (omega arith)
 
-    pub site-made : length C + making (chan (X .value)) ≤ 16
+    pub site-made : length C + making (chan (X .value)) ≤ channelsMost
         → valuedIn T l p (X .value) (x .worth) (E (A ++ z ∷ Z) C) ≡ E (makes m u i X (X .value) A C .values ++ Z) (makes m u i X (X .value) A C .channels)
     site-made few = one-made (X .value) refl few
 
@@ -189,7 +190,7 @@ module _ (m : Model) (T : List ℕ) (xs : List Var) (at : ℕ → ℕ → ℕ) (
 
   -- ALL IN TURN: behind what was made before (A, C) the variables of the sites, in numbers as plainly; variables that are not yet made stay (Z)
   pub sites-made : (u : ℕ) (L : List Site) (n i : ℕ) (A Z : List (List ℤ)) (C : List Channel) → ((j : ℕ) → j < length L → Good u (getD L j noSite) (n + j) (i + j)) → Shaped xs (A ++ Z) → length A ≡ n
-      → length L ≤ length Z → length C + channelsIn L ≤ 16
+      → length L ≤ length Z → length C + channelsIn L ≤ channelsMost
       → (along T p L (E (A ++ Z) C) ≡ E (makesAll m u i (map varOf L) record { values = A; channels = C } .values ++ drop (length L) Z) (makesAll m u i (map varOf L) record { values = A; channels = C } .channels))
       × (length (makesAll m u i (map varOf L) record { values = A; channels = C } .values) ≡ n + length L)
       × Shaped xs (makesAll m u i (map varOf L) record { values = A; channels = C } .values ++ drop (length L) Z)

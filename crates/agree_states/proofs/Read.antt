@@ -8,9 +8,10 @@ use mathlib.Core.List.{List, [], _∷_, _++_, map}
 use mathlib.Core.Logic.{_⊎_, inl, inr}
 use lib.ListN.{length, getD, drop}
 use lib.IntN.{ℤ, pos}
+use Rattle.base_ceilings.specs.Ceilings.{capacityMost, channelsMost, fieldsMost, globalsMost, processesMost, stateRoom}
 use Rattle.table_layout.specs.Access.{linkOf}
 use Rattle.base_values.specs.Types.{castOf}
-use Rattle.state_layout.specs.Layout.{kept, cellOf, countOf, globalAt, processAt, localAt, channelAt, fieldAt, processesOf, channelsOf, unitOf, placeOf, declaredOf, waitingOf}
+use Rattle.state_layout.specs.Layout.{kept, cellOf, countOf, globalAt, processAt, localAt, channelAt, fieldAt, processesOf, channelsOf, unitOf, placeOf, declaredOf, waitingOf, keptMost, channelSize, processSize}
 use Rattle.step_eval.specs.Variables.{typeOf, sizeOf, slotOf}
 use Rattle.state_start.specs.Starting.{unitLength}
 use Rattle.step_ready.specs.Channels.{fieldsOf}
@@ -20,10 +21,10 @@ use Rattle.state_check.specs.Meaning.{InType, Used, global-number, process-unit
 use Rattle.spec_grammar.specs.Tree.{set-channel, Model}
 use Rattle.spec_machine.specs.State.{Channel, Process, State, noChannel, noProcess}
 use Rattle.spec_machine.specs.Names.{Var, variablesOf, globalsOf, unitAt}
-use Rattle.spec_machine.specs.Plain.{noVar, madeBy}
+use Rattle.spec_machine.specs.Plain.{noVar, declaredBy}
 use Rattle.state_encode.specs.Encode.{rows, flat, headOf, channelItem, messageRow, processRow, channelRow, encode}
 use Rattle.spec_machine.specs.Places.{Bodied, Belongs}
-use Rattle.spec_machine.specs.Fits.{Values, Message, ChannelFits, ProcessFits, Fits}
+use Rattle.spec_machine.specs.Fits.{Filled, Fielded, ChannelFits, ProcessFits, Fits}
 use Rattle.state_encode.specs.Tabled.{offsetOf, totalOf, Linked}
 use Rattle.state_encode.proofs.Rows.{off}
 use Rattle.agree_states.specs.Charted.{globalItem, localItem, Placed, Channelled, Charted}
@@ -34,14 +35,14 @@ use Rattle.agree_states.proofs.Slices.{get-past, get-map, map-long, Cho
 type-at : (s : List ℤ) (l ty i j : ℕ) → typeOf l ≡ ty → i ≡ j → InType s (typeOf l) i → castOf ty (cellOf s j) ≡ cellOf s j
 type-at s l ty i j e f h = subst (λ n. castOf ty (cellOf s n) ≡ cellOf s n) f (subst (λ n. castOf n (cellOf s i) ≡ cellOf s i) e h)
 
-kept-count : (s : List ℤ) (i n most : ℕ) → cellOf s i ≡ pos (countOf s i) → countOf s i ≤ most → most ≤ 2147483647 → n ≡ countOf s i → cellOf s i ≡ kept n
-kept-count s i n most e h g f = e ∙ ap pos (let z : countOf s i ≡ min 2147483647 n = omega arith in z)
+kept-count : (s : List ℤ) (i n most : ℕ) → cellOf s i ≡ pos (countOf s i) → countOf s i ≤ most → most ≤ keptMost → n ≡ countOf s i → cellOf s i ≡ kept n
+kept-count s i n most e h g f = e ∙ ap pos (let z : countOf s i ≡ min keptMost n = omega arith in z)
 
 -- a field stands in one place only
-field-same : (c n f q i j : ℕ) → n < 8 → f < 4 → i < 8 → j < 4 → fieldAt c n f ≡ fieldAt q i j → (c ≡ q) × (n ≡ i) × (f ≡ j)
+field-same : (c n f q i j : ℕ) → n < capacityMost → f < fieldsMost → i < capacityMost → j < fieldsMost → fieldAt c n f ≡ fieldAt q i j → (c ≡ q) × (n ≡ i) × (f ≡ j)
 field-same c n f q i j a b x y e = let z : c ≡ q = omega arith in let w : n ≡ i = omega arith in (z, w, omega arith)
 
-module _ (m : Model) (T : List ℕ) (X : Charted m T) (s : List ℤ) (st : standing.Stands T s) where
+module _ (m : Model) (T : List ℕ) (X : Charted m T) (s : List ℤ) (st : standing.IsState T s) where
   -- ---- the processes
   -- x is process p
   pub record Reads (p : ℕ) (x : Process) : Type 0 where
@@ -64,7 +65,7 @@ module _ (m : Model) (T : List ℕ) (X : Charted m T) (s : List ℤ) (st : stand
     pub item : channelItem m y ≡ declaredOf s c
     pub capacity : ℕ
     pub types : List ℕ
-    pub declared : madeBy m y ≡ set-channel capacity types
+    pub declared : declaredBy m y ≡ set-channel capacity types
     pub held : y .held ≡ messagesAt s (length types) (channelAt c + 2) (waitingOf s c)
 
   queue : (c : ℕ) → c < channelsOf s → (y : Channel) × Queued c y
@@ -110,9 +111,9 @@ module _ (m : Model) (T : List ℕ) (X : Charted m T) (s : List ℤ) (st : stand
         let q : k < getD mine (o .0) noVar .size = subst (k <_) (l .size) g in
         (offsetOf mine v + k, (offset-reach mine v k (o .1 .0) q, l .slot p k q))
 
-    values-in : Values mine (me .variables)
+    values-in : Filled mine (me .variables)
     values-in =
-        subst (Values mine) (inv (R .variables))
+        subst (Filled mine) (inv (R .variables))
         (values-typed mine s (localAt p 0)
         (λ i k g q.
         let l = X .locals (me .unit) (R .bodied) i g .3 in
@@ -144,16 +145,16 @@ module _ (m : Model) (T : List ℕ) (X : Charted m T) (s : List ℤ) (st : stand
     held-long : length (it .held) ≡ waitingOf s c
     held-long = ap length (Q .held) ∙ messages-long s (length (Q .types)) (channelAt c + 2) (waitingOf s c)
 
-    held-get : (n : ℕ) → n < waitingOf s c → getD (it .held) n [] ≡ cells s (channelAt c + 2 + 4 * n) (length (Q .types))
+    held-get : (n : ℕ) → n < waitingOf s c → getD (it .held) n [] ≡ cells s (channelAt c + 2 + fieldsMost * n) (length (Q .types))
     held-get n g = ap (λ (l : List (List ℤ)). getD l n []) (Q .held) ∙ messages-get s (length (Q .types)) (channelAt c + 2) (waitingOf s c) n g
 
-    message-in : (n : ℕ) → n < waitingOf s c → Message (Q .types) (getD (it .held) n [])
+    message-in : (n : ℕ) → n < waitingOf s c → Fielded (Q .types) (getD (it .held) n [])
     message-in n g =
-        subst (Message (Q .types)) (inv (held-get n g))
+        subst (Fielded (Q .types)) (inv (held-get n g))
         record {
-          long = cells-long s (channelAt c + 2 + 4 * n) (length (Q .types));
+          long = cells-long s (channelAt c + 2 + fieldsMost * n) (length (Q .types));
           typed = λ f b.
-              let e = cells-get s (channelAt c + 2 + 4 * n) (length (Q .types)) f b in
+              let e = cells-get s (channelAt c + 2 + fieldsMost * n) (length (Q .types)) f b in
               subst (λ z. castOf (getD (Q .types) f 0) z ≡ z) (inv e)
               (subst (λ k. castOf k (cellOf s (fieldAt c n f)) ≡ cellOf s (fieldAt c n f)) (chart .types f b) (st .messages c n f h g (subst (f <_) (inv (chart .fields)) b)));
         }
@@ -190,7 +191,7 @@ module _ (m : Model) (T : List ℕ) (X : Charted m T) (s : List ℤ) (st : stand
   used-lies (field-number c n f h g b) = in-field c n f h g b refl
 
   -- so what lies nowhere is 0
-  nothing-there : (i : ℕ) → 2 ≤ i → i < 2048 → (Lies i → ⊥) → cellOf s i ≡ pos 0
+  nothing-there : (i : ℕ) → 2 ≤ i → i < stateRoom → (Lies i → ⊥) → cellOf s i ≡ pos 0
   nothing-there i h g n = go (st .unused i h g)
     where
       go : Used T s i ⊎ (cellOf s i ≡ pos 0) → cellOf s i ≡ pos 0
@@ -198,7 +199,7 @@ module _ (m : Model) (T : List ℕ) (X : Charted m T) (s : List ℤ) (st : stand
       go (inr e) = e
 
   -- ---- number by number
-  globals-shown : (k : ℕ) → k < 64 → cellOf s (globalAt k) ≡ getD (flat (valuesAt (globalsOf m) s (globalAt 0))) k (pos 0)
+  globals-shown : (k : ℕ) → k < globalsMost → cellOf s (globalAt k) ≡ getD (flat (valuesAt (globalsOf m) s (globalAt 0))) k (pos 0)
   globals-shown k h = go (decLt k (totalOf (globalsOf m))) ∙ ap (λ (l : List ℤ). getD l k (pos 0)) (inv (values-flat (globalsOf m) s (globalAt 0)))
     where
       outside : (totalOf (globalsOf m) ≤ k) → Lies (globalAt k) → ⊥
@@ -212,16 +213,16 @@ module _ (m : Model) (T : List ℕ) (X : Charted m T) (s : List ℤ) (st : stand
       go (yes b) = inv (cells-get s (globalAt 0) (totalOf (globalsOf m)) k b)
       go (no b) = nothing-there (globalAt k) (omega arith) (omega arith) (outside (omega arith)) ∙ inv (cells-past s (globalAt 0) (totalOf (globalsOf m)) k (omega arith))
 
-  head-shown : (p : ℕ) (h : p < processesOf s) (k : ℕ) → k < 34 → cellOf s (processAt p + k) ≡ getD (processRow m (me p h)) k (pos 0)
+  head-shown : (p : ℕ) (h : p < processesOf s) (k : ℕ) → k < processSize → cellOf s (processAt p + k) ≡ getD (processRow m (me p h)) k (pos 0)
   head-shown p h zero g =
       ap (cellOf s) (let z : processAt p + 0 ≡ processAt p = omega arith in z)
-      ∙ kept-count s (processAt p) (headOf m (me p h .unit)) 2147483647 (st .heads p h .0 .0) (let b = st .heads p h .0 .1 in omega arith) (omega arith) (R p h .unit)
-  head-shown p h (suc zero) g = kept-count s (processAt p + 1) (me p h .place) 2147483647 (st .heads p h .1 .0) (let b = st .heads p h .1 .1 in omega arith) (omega arith) (R p h .place)
+      ∙ kept-count s (processAt p) (headOf m (me p h .unit)) keptMost (st .heads p h .0 .0) (let b = st .heads p h .0 .1 in omega arith) (omega arith) (R p h .unit)
+  head-shown p h (suc zero) g = kept-count s (processAt p + 1) (me p h .place) keptMost (st .heads p h .1 .0) (let b = st .heads p h .1 .1 in omega arith) (omega arith) (R p h .place)
   head-shown p h (suc (suc k)) g =
       ap (cellOf s) (let z : processAt p + suc (suc k) ≡ localAt p k = omega arith in z) ∙ go (decLt k (totalOf (mine p h)))
       ∙ ap (λ (l : List ℤ). getD l k (pos 0)) (inv (ap flat (R p h .variables) ∙ values-flat (mine p h) s (localAt p 0)))
     where
-      few : processesOf s ≤ 16
+      few : processesOf s ≤ processesMost
       few = st .processes .1
 
       outside : totalOf (mine p h) ≤ k → Lies (localAt p k) → ⊥
@@ -241,20 +242,20 @@ module _ (m : Model) (T : List ℕ) (X : Charted m T) (s : List ℤ) (st : stand
       go (yes b) = ap (cellOf s) (let z : localAt p k ≡ localAt p 0 + k = omega arith in z) ∙ inv (cells-get s (localAt p 0) (totalOf (mine p h)) k b)
       go (no b) = nothing-there (localAt p k) (omega arith) (omega arith) (outside (omega arith)) ∙ inv (cells-past s (localAt p 0) (totalOf (mine p h)) k (omega arith))
 
-  record-shown : (c : ℕ) (h : c < channelsOf s) (k : ℕ) → k < 34 → cellOf s (channelAt c + k) ≡ getD (channelRow m (it c h)) k (pos 0)
+  record-shown : (c : ℕ) (h : c < channelsOf s) (k : ℕ) → k < channelSize → cellOf s (channelAt c + k) ≡ getD (channelRow m (it c h)) k (pos 0)
   record-shown c h zero g =
       ap (cellOf s) (let z : channelAt c + 0 ≡ channelAt c = omega arith in z)
-      ∙ kept-count s (channelAt c) (channelItem m (it c h)) 2147483647 (st .records c h .0 .0) (let b = st .records c h .0 .1 in omega arith) (omega arith) (Q c h .item)
-  record-shown c h (suc zero) g = kept-count s (channelAt c + 1) (length (it c h .held)) 2147483647 (st .records c h .1 .0) (let b = st .records c h .1 .1 in omega arith) (omega arith) (held-long c h)
+      ∙ kept-count s (channelAt c) (channelItem m (it c h)) keptMost (st .records c h .0 .0) (let b = st .records c h .0 .1 in omega arith) (omega arith) (Q c h .item)
+  record-shown c h (suc zero) g = kept-count s (channelAt c + 1) (length (it c h .held)) keptMost (st .records c h .1 .0) (let b = st .records c h .1 .1 in omega arith) (omega arith) (held-long c h)
   record-shown c h (suc (suc k)) g =
-      ap (cellOf s) (let z : channelAt c + suc (suc k) ≡ fieldAt c (k / 4) (k % 4) = omega arith in z) ∙ go (decLt (k / 4) (waitingOf s c)) (decLt (k % 4) (fieldsOf T (declaredOf s c)))
-      ∙ inv (row-any messageRow 4 8 (it c h .held) (k / 4) (k % 4) (omega arith) (omega arith))
-      ∙ ap (λ i. getD (rows messageRow 4 8 (it c h .held)) i (pos 0)) (let e = at-four messageRow (k / 4) in let z : off messageRow 4 (k / 4) + k % 4 ≡ k = omega arith in z)
+      ap (cellOf s) (let z : channelAt c + suc (suc k) ≡ fieldAt c (k / fieldsMost) (k % fieldsMost) = omega arith in z) ∙ go (decLt (k / fieldsMost) (waitingOf s c)) (decLt (k % fieldsMost) (fieldsOf T (declaredOf s c)))
+      ∙ inv (row-any messageRow fieldsMost capacityMost (it c h .held) (k / fieldsMost) (k % fieldsMost) (omega arith) (omega arith))
+      ∙ ap (λ i. getD (rows messageRow fieldsMost capacityMost (it c h .held)) i (pos 0)) (let e = at-four messageRow (k / fieldsMost) in let z : off messageRow fieldsMost (k / fieldsMost) + k % fieldsMost ≡ k = omega arith in z)
     where
-      few : channelsOf s ≤ 16
+      few : channelsOf s ≤ channelsMost
       few = st .channels .1
 
-      outside : (k / 4 < waitingOf s c → k % 4 < fieldsOf T (declaredOf s c) → ⊥) → Lies (fieldAt c (k / 4) (k % 4)) → ⊥
+      outside : (k / fieldsMost < waitingOf s c → k % fieldsMost < fieldsOf T (declaredOf s c) → ⊥) → Lies (fieldAt c (k / fieldsMost) (k % fieldsMost)) → ⊥
       outside b (in-global n o e) = let w = X .globals-few in omega arith
       outside b (in-head q n d o e) = let w = st .processes .1 in omega arith
       outside b (in-process q n d o e) = let w = X .locals-few (me q d .unit) (R q d .bodied) in let v = st .processes .1 in omega arith
@@ -263,49 +264,49 @@ module _ (m : Model) (T : List ℕ) (X : Charted m T) (s : List ℤ) (st : stand
           let w = chart q d .narrow in
           let z = chart q d .fields in
           let y = st .records q d .1 .1 in
-          let a = field-same c (k / 4) (k % 4) q n f (omega arith) (omega arith) (omega arith) (omega arith) e in
-          b (subst (λ i. k / 4 < waitingOf s i) (inv (a .0)) (subst (_< waitingOf s q) (inv (a .1)) o))
-          (subst (λ i. k % 4 < fieldsOf T (declaredOf s i)) (inv (a .0)) (subst (_< fieldsOf T (declaredOf s q)) (inv (a .2)) v))
+          let a = field-same c (k / fieldsMost) (k % fieldsMost) q n f (omega arith) (omega arith) (omega arith) (omega arith) e in
+          b (subst (λ i. k / fieldsMost < waitingOf s i) (inv (a .0)) (subst (_< waitingOf s q) (inv (a .1)) o))
+          (subst (λ i. k % fieldsMost < fieldsOf T (declaredOf s i)) (inv (a .0)) (subst (_< fieldsOf T (declaredOf s q)) (inv (a .2)) v))
 
-      row : getD (map messageRow (it c h .held)) (k / 4) [] ≡ getD (it c h .held) (k / 4) []
-      row = same (it c h .held) (k / 4)
+      row : getD (map messageRow (it c h .held)) (k / fieldsMost) [] ≡ getD (it c h .held) (k / fieldsMost) []
+      row = same (it c h .held) (k / fieldsMost)
         where
           same : (l : List (List ℤ)) (i : ℕ) → getD (map messageRow l) i [] ≡ getD l i []
           same [] i = refl
           same (x ∷ l) zero = refl
           same (x ∷ l) (suc i) = same l i
 
-      go : Dec (k / 4 < waitingOf s c) → Dec (k % 4 < fieldsOf T (declaredOf s c)) → cellOf s (fieldAt c (k / 4) (k % 4)) ≡ getD (getD (map messageRow (it c h .held)) (k / 4) []) (k % 4) (pos 0)
+      go : Dec (k / fieldsMost < waitingOf s c) → Dec (k % fieldsMost < fieldsOf T (declaredOf s c)) → cellOf s (fieldAt c (k / fieldsMost) (k % fieldsMost)) ≡ getD (getD (map messageRow (it c h .held)) (k / fieldsMost) []) (k % fieldsMost) (pos 0)
       go (yes a) (yes b) =
-          inv (ap (λ (l : List ℤ). getD l (k % 4) (pos 0)) (row ∙ held-get c h (k / 4) a)
-          ∙ cells-get s (channelAt c + 2 + 4 * (k / 4)) (length (Q c h .types)) (k % 4) (subst (k % 4 <_) (chart c h .fields) b))
+          inv (ap (λ (l : List ℤ). getD l (k % fieldsMost) (pos 0)) (row ∙ held-get c h (k / fieldsMost) a)
+          ∙ cells-get s (channelAt c + 2 + fieldsMost * (k / fieldsMost)) (length (Q c h .types)) (k % fieldsMost) (subst (k % fieldsMost <_) (chart c h .fields) b))
       go (yes a) (no b) =
-          nothing-there (fieldAt c (k / 4) (k % 4)) (omega arith) (omega arith) (outside (λ u v. b v))
-          ∙ inv (ap (λ (l : List ℤ). getD l (k % 4) (pos 0)) (row ∙ held-get c h (k / 4) a)
-          ∙ cells-past s (channelAt c + 2 + 4 * (k / 4)) (length (Q c h .types)) (k % 4) (let e = chart c h .fields in omega arith))
+          nothing-there (fieldAt c (k / fieldsMost) (k % fieldsMost)) (omega arith) (omega arith) (outside (λ u v. b v))
+          ∙ inv (ap (λ (l : List ℤ). getD l (k % fieldsMost) (pos 0)) (row ∙ held-get c h (k / fieldsMost) a)
+          ∙ cells-past s (channelAt c + 2 + fieldsMost * (k / fieldsMost)) (length (Q c h .types)) (k % fieldsMost) (let e = chart c h .fields in omega arith))
       go (no a) b =
-          nothing-there (fieldAt c (k / 4) (k % 4)) (omega arith) (omega arith) (outside (λ u v. a u))
-          ∙ inv (ap (λ (l : List ℤ). getD l (k % 4) (pos 0)) (row ∙ get-past (it c h .held) [] (k / 4) (let e = held-long c h in omega arith)) ∙ get-past [] (pos 0) (k % 4) (omega arith))
+          nothing-there (fieldAt c (k / fieldsMost) (k % fieldsMost)) (omega arith) (omega arith) (outside (λ u v. a u))
+          ∙ inv (ap (λ (l : List ℤ). getD l (k % fieldsMost) (pos 0)) (row ∙ get-past (it c h .held) [] (k / fieldsMost) (let e = held-long c h in omega arith)) ∙ get-past [] (pos 0) (k % fieldsMost) (omega arith))
 
   shown : Shown m σ s
   shown =
       record {
-        processes-count = kept-count s 0 (length (processes .list)) 16 (st .processes .0) (st .processes .1) (omega arith) (processes .long);
-        channels-count = kept-count s 1 (length (channels .list)) 16 (st .channels .0) (st .channels .1) (omega arith) (channels .long);
+        processes-count = kept-count s 0 (length (processes .list)) processesMost (st .processes .0) (st .processes .1) (omega arith) (processes .long);
+        channels-count = kept-count s 1 (length (channels .list)) channelsMost (st .channels .0) (st .channels .1) (omega arith) (channels .long);
         globals = globals-shown;
         processes = λ p k h g. process p k h g (decLt p (processesOf s));
         channels = λ c k h g. channel c k h g (decLt c (channelsOf s));
         rest = λ i h g. nothing-there i (omega arith) g (behind i h);
       }
     where
-      behind : (i : ℕ) → 1154 ≤ i → Lies i → ⊥
+      behind : (i : ℕ) → channelAt channelsMost ≤ i → Lies i → ⊥
       behind i h (in-global n o e) = let w = X .globals-few in omega arith
       behind i h (in-head p n d o e) = let w = st .processes .1 in omega arith
       behind i h (in-process p n d o e) = let w = st .processes .1 in let v = X .locals-few (me p d .unit) (R p d .bodied) in omega arith
       behind i h (in-record c n d o e) = let w = st .channels .1 in omega arith
       behind i h (in-field c n f d o v e) = let w = st .channels .1 in let x = chart c d .narrow in let y = chart c d .fields in let z = st .records c d .1 .1 in omega arith
 
-      process : (p k : ℕ) → p < 16 → k < 34 → Dec (p < processesOf s) → cellOf s (processAt p + k) ≡ getD (getD (map (processRow m) (processes .list)) p []) k (pos 0)
+      process : (p k : ℕ) → p < processesMost → k < processSize → Dec (p < processesOf s) → cellOf s (processAt p + k) ≡ getD (getD (map (processRow m) (processes .list)) p []) k (pos 0)
       process p k h g (yes b) =
           head-shown p b k g ∙ ap (λ (l : List ℤ). getD l k (pos 0)) (inv (get-map (processRow m) (processes .list) noProcess [] p (subst (p <_) (inv (processes .long)) b)))
       process p k h g (no b) =
@@ -320,7 +321,7 @@ module _ (m : Model) (T : List ℕ) (X : Charted m T) (s : List ℤ) (st : stand
           outside (in-record c n d o e) = omega arith
           outside (in-field c n f d o v e) = omega arith
 
-      channel : (c k : ℕ) → c < 16 → k < 34 → Dec (c < channelsOf s) → cellOf s (channelAt c + k) ≡ getD (getD (map (channelRow m) (channels .list)) c []) k (pos 0)
+      channel : (c k : ℕ) → c < channelsMost → k < channelSize → Dec (c < channelsOf s) → cellOf s (channelAt c + k) ≡ getD (getD (map (channelRow m) (channels .list)) c []) k (pos 0)
       channel c k h g (yes b) =
           record-shown c b k g ∙ ap (λ (l : List ℤ). getD l k (pos 0)) (inv (get-map (channelRow m) (channels .list) noChannel [] c (subst (c <_) (inv (channels .long)) b)))
       channel c k h g (no b) =
@@ -351,5 +352,5 @@ module _ (m : Model) (T : List ℕ) (X : Charted m T) (s : List ℤ) (st : stand
       }
 
   -- NUMBERS THAT STAND hold a state that fits, and what lies behind them
-  pub stands-holds : (τ : State) × (Fits (Belongs m) m τ × (s ≡ encode m τ ++ drop 2048 s))
+  pub stands-holds : (τ : State) × (Fits (Belongs m) m τ × (s ≡ encode m τ ++ drop stateRoom s))
   stands-holds = (σ, (fits, shown-same m σ s (st .long) shown))

@@ -8,10 +8,11 @@ use mathlib.Core.Option.{Option, none, some}
 use mathlib.Core.Logic.{_⊎_, inl, inr}
 use mathlib.Core.List.{List, [], _∷_, _++_}
 use lib.ListN.{length, getD, length-append}
-use Rattle.base_codes.specs.Codes.{c-active, c-active-many, c-body, c-channel, c-declared, c-end-body, c-false, c-field, c-global, c-group, c-init, c-local, c-message, c-minus, c-mtypes, c-named, c-parameter, c-proctype, c-size, c-true, c-value}
+use Rattle.base_codes.specs.Codes.{c-active, c-active-many, c-body, c-channel, c-declared, c-end-body, c-false, c-field, c-global, c-group, c-init, c-local, c-message, c-minus, c-mtypes, c-name, c-named, c-number, c-parameter, c-proctype, c-size, c-true, c-value}
 use Rattle.spec_grammar.specs.Tree.{Name, Value, unset, set-number, set-minus, set-true, set-false, set-name, set-channel, Variable, variable, Declaration, declare, Group, group, Body, body, Activity, idle, once, times, Part, mtypes, global, process, init, Model}
-use Rattle.spec_grammar.specs.Code.{Item, i-name, i-number, i-true, i-false, i-declared, i-size, i-value, i-minus, i-named, i-channel, i-field, i-mtypes, i-message, i-group, i-parameter, i-proctype, i-active, i-active-many, i-type, i-local, i-global, i-init, i-body, i-end-body, each, code-tree, code-field, code-size, code-value, code-variable, code-declaration, code-parameter, code-group, code-body, code-activity, code-message, code-part, code}
-use Rattle.table_entries.specs.Items as items
+use Rattle.base_codes.specs.Items.{Item, i-active, i-active-many, i-body, i-channel, i-declared, i-end-body, i-false, i-field, i-global, i-group, i-init, i-local, i-message, i-minus, i-mtypes, i-name, i-named, i-number, i-parameter, i-proctype, i-size, i-true, i-type, i-value}
+use Rattle.parse_code.specs.Code.{each, code-tree, code-field, code-size, code-value, code-variable, code-declaration, code-parameter, code-group, code-body, code-activity, code-message, code-part, code}
+use Rattle.base_codes.specs.Items as items
 use Rattle.table_entries.specs.Items.{AllKnown}
 use Rattle.table_layout.specs.Access.{codeOf}
 use Rattle.agree_eval.specs.Held.{Held}
@@ -141,20 +142,20 @@ module _ (T : List ℕ) where
 
   value-seen : (L : List Site) (v : Value) (i : ℕ) → (chan v ≡ true → Makes L (suc i)) → AllKnown (code-value v) → Held T i (code-value v) → Seen L (code-value v) i
   value-seen L unset i m k h = seen-none L i
-  value-seen L (set-number n) i m k h = two-seen L (i-number n) i-value i 71 c-value (h .0) (omega arith) (h .2 .0) (λ z. omega arith) (λ z. omega arith) (λ z. omega arith)
-  value-seen L (set-minus n) i m k h = two-seen L (i-number n) i-minus i 71 c-minus (h .0) (omega arith) (h .2 .0) (λ z. omega arith) (λ z. omega arith) (λ z. omega arith)
+  value-seen L (set-number n) i m k h = two-seen L (i-number n) i-value i c-number c-value (h .0) (omega arith) (h .2 .0) (λ z. omega arith) (λ z. omega arith) (λ z. omega arith)
+  value-seen L (set-minus n) i m k h = two-seen L (i-number n) i-minus i c-number c-minus (h .0) (omega arith) (h .2 .0) (λ z. omega arith) (λ z. omega arith) (λ z. omega arith)
   value-seen L set-true i m k h = two-seen L i-true i-value i c-true c-value (h .0) (omega arith) (h .2 .0) (λ z. omega arith) (λ z. omega arith) (λ z. omega arith)
   value-seen L set-false i m k h = two-seen L i-false i-value i c-false c-value (h .0) (omega arith) (h .2 .0) (λ z. omega arith) (λ z. omega arith) (λ z. omega arith)
-  value-seen L (set-name w) i m k h = two-seen L (i-name w) i-named i 70 c-named (h .0) (omega arith) (h .2 .0) (λ z. omega arith) (λ z. omega arith) (λ z. omega arith)
+  value-seen L (set-name w) i m k h = two-seen L (i-name w) i-named i c-name c-named (h .0) (omega arith) (h .2 .0) (λ z. omega arith) (λ z. omega arith) (λ z. omega arith)
   value-seen L (set-channel n ks) i m k h =
       let c = h .2 .0 in
-      seen-first L (i-number n) (i-channel ∷ each code-field ks) i (low L i 71 (h .0) (omega arith))
+      seen-first L (i-number n) (i-channel ∷ each code-field ks) i (low L i c-number (h .0) (omega arith))
       (seen-first L i-channel (each code-field ks) (suc i) record { channel = λ e. m refl; declared = λ e. absurd (omega arith); parameter = λ e. absurd (omega arith) }
       (fields-seen L ks (suc (suc i)) (k .1 .1) (h .2 .2)))
 
   size-seen : (L : List Site) (z : Option ℕ) (i : ℕ) → Held T i (code-size z) → Seen L (code-size z) i
   size-seen L none i h = seen-none L i
-  size-seen L (some n) i h = two-seen L (i-number n) i-size i 71 c-size (h .0) (omega arith) (h .2 .0) (λ z. omega arith) (λ z. omega arith) (λ z. omega arith)
+  size-seen L (some n) i h = two-seen L (i-number n) i-size i c-number c-size (h .0) (omega arith) (h .2 .0) (λ z. omega arith) (λ z. omega arith) (λ z. omega arith)
 
   one-seen : (k : ℕ) (x : Variable) (i : ℕ) → AllKnown (code-variable x) → Held T i (code-variable x) → Seen (siteOf k x i ∷ []) (code-variable x) i
   one-seen c (variable w z v) i k h =
@@ -162,7 +163,7 @@ module _ (T : List ℕ) where
       let Z = code-size z in
       let d = h .2 .0 in
       let e = suc (suc i) + length (code-size z) in
-      seen-first L (i-name w) (i-declared ∷ (Z ++ code-value v)) i (low L i 70 (h .0) (omega arith))
+      seen-first L (i-name w) (i-declared ∷ (Z ++ code-value v)) i (low L i c-name (h .0) (omega arith))
       (seen-first L i-declared (Z ++ code-value v) (suc i)
       record {
         channel = λ q. absurd (omega arith);
@@ -208,7 +209,7 @@ module _ (T : List ℕ) where
       let d = h .2 .0 in
       let q : suc (suc i) ≡ i + 2 = omega arith in
       seen-both L (nameSites c ws (i + 2)) (code-parameter w) R i
-      (seen-first L (i-name w) (i-parameter ∷ []) i (low L i 70 (h .0) (omega arith))
+      (seen-first L (i-name w) (i-parameter ∷ []) i (low L i c-name (h .0) (omega arith))
       (seen-first L i-parameter [] (suc i)
       record {
         channel = λ e. absurd (omega arith);
@@ -256,15 +257,15 @@ module _ (T : List ℕ) where
       (seen-first L i-end-body [] (i + length (A ++ Q)) (plain L (i + length (A ++ Q)) c-end-body (hE .0) (λ z. omega arith) (λ z. omega arith) (λ z. omega arith)) (seen-none L (suc (i + length (A ++ Q)))))
 
   activity-seen : (L : List Site) (a : Activity) (w : Name) (i : ℕ) → Held T i (code-activity a w) → Seen L (code-activity a w) i
-  activity-seen L idle w i h = two-seen L (i-name w) i-proctype i 70 c-proctype (h .0) (omega arith) (h .2 .0) (λ z. omega arith) (λ z. omega arith) (λ z. omega arith)
-  activity-seen L once w i h = two-seen L (i-name w) i-active i 70 c-active (h .0) (omega arith) (h .2 .0) (λ z. omega arith) (λ z. omega arith) (λ z. omega arith)
+  activity-seen L idle w i h = two-seen L (i-name w) i-proctype i c-name c-proctype (h .0) (omega arith) (h .2 .0) (λ z. omega arith) (λ z. omega arith) (λ z. omega arith)
+  activity-seen L once w i h = two-seen L (i-name w) i-active i c-name c-active (h .0) (omega arith) (h .2 .0) (λ z. omega arith) (λ z. omega arith) (λ z. omega arith)
   activity-seen L (times n) w i h =
-      seen-first L (i-number n) (i-name w ∷ i-active-many ∷ []) i (low L i 71 (h .0) (omega arith)) (two-seen L (i-name w) i-active-many (suc i) 70 c-active-many (h .2 .0) (omega arith) (h .2 .2 .0) (λ z. omega arith) (λ z. omega arith) (λ z. omega arith))
+      seen-first L (i-number n) (i-name w ∷ i-active-many ∷ []) i (low L i c-number (h .0) (omega arith)) (two-seen L (i-name w) i-active-many (suc i) c-name c-active-many (h .2 .0) (omega arith) (h .2 .2 .0) (λ z. omega arith) (λ z. omega arith) (λ z. omega arith))
 
   messages-seen : (L : List Site) (ws : List Name) (i : ℕ) → Held T i (each code-message ws) → Seen L (each code-message ws) i
   messages-seen L [] i h = seen-none L i
   messages-seen L (w ∷ ws) i h =
-      seen-first L (i-name w) (i-message ∷ each code-message ws) i (low L i 70 (h .0) (omega arith))
+      seen-first L (i-name w) (i-message ∷ each code-message ws) i (low L i c-name (h .0) (omega arith))
       (seen-first L i-message (each code-message ws) (suc i) (plain L (suc i) c-message (h .2 .0) (λ z. omega arith) (λ z. omega arith) (λ z. omega arith)) (messages-seen L ws (suc (suc i)) (h .2 .2)))
 
   pub unit-seen : (u : Part) (i : ℕ) → AllKnown (code-part u) → Held T i (code-part u) → Seen (unitSites u i) (code-part u) i

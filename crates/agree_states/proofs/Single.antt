@@ -13,7 +13,7 @@ use Rattle.spec_machine.specs.Names.{Var, variablesOf, globalsOf, unitAt}
 use Rattle.spec_machine.specs.Plain.{noVar}
 use Rattle.state_encode.specs.Encode.{flat, channelItem, encode}
 use Rattle.spec_machine.specs.Places.{Belongs}
-use Rattle.spec_machine.specs.Fits.{Values, Fits}
+use Rattle.spec_machine.specs.Fits.{Filled, Fits}
 use Rattle.state_encode.specs.Tabled.{offsetOf, totalOf}
 use Rattle.agree_states.specs.Charted.{Charted}
 use Rattle.agree_states.proofs.Slices.{offset-reach}
@@ -27,7 +27,7 @@ lists-same d [] (y ∷ k) e h = absurd (omega arith)
 lists-same d (x ∷ l) [] e h = absurd (omega arith)
 lists-same d (x ∷ l) (y ∷ k) e h = ap₂ (λ a b. a ∷ b) (h 0 (omega arith)) (lists-same d l k (omega arith) (λ i g. h (suc i) (omega arith)))
 
-values-same : (xs : List Var) (l k : List (List ℤ)) → Values xs l → Values xs k → ((n : ℕ) → n < totalOf xs → getD (flat l) n (pos 0) ≡ getD (flat k) n (pos 0)) → l ≡ k
+values-same : (xs : List Var) (l k : List (List ℤ)) → Filled xs l → Filled xs k → ((n : ℕ) → n < totalOf xs → getD (flat l) n (pos 0) ≡ getD (flat k) n (pos 0)) → l ≡ k
 values-same xs l k v w h =
     lists-same [] l k (v .all ∙ inv (w .all))
     (λ i g.
@@ -78,7 +78,7 @@ module _ (m : Model) (T : List ℕ) (X : Charted m T) (σ τ : State) (F : Fits 
     same-process =
         process-same x y same-unit (inv (place-is m T X σ F t p h) ∙ ap (λ s. placeOf s p) e ∙ place-is m T X τ G u p g)
         (values-same (variablesOf (unitAt m (x .unit))) (x .variables) (y .variables) (F .each p h .values)
-        (subst (λ k. Values (variablesOf (unitAt m k)) (y .variables)) (inv same-unit) (G .each p g .values))
+        (subst (λ k. Filled (variablesOf (unitAt m k)) (y .variables)) (inv same-unit) (G .each p g .values))
         (λ n q.
         let w = X .locals-few (x .unit) (bodied m T X σ F t p h) in
         inv (local-cell m T X σ F t p h n (omega arith)) ∙ ap (λ s. cellOf s (localAt p n)) e ∙ local-cell m T X τ G u p g n (omega arith)))

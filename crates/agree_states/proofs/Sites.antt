@@ -11,11 +11,12 @@ use lib.Dec.{ltb}
 use Rattle.base_bytes.specs.Choice.{pick}
 use Rattle.base_bytes.proofs.Tests.{true-false}
 use Rattle.spec_grammar.specs.Tree.{Name, Value, unset, set-number, set-minus, set-true, set-false, set-name, set-channel, Variable, variable, Declaration, declare, Group, group, Body, body, Activity, idle, once, times, Part, mtypes, global, process, init, Model}
-use Rattle.spec_grammar.specs.Code.{Item, i-local, i-global, i-end-body, each, code-tree, code-size, code-value, code-variable, code-declaration, code-group, code-body, code-activity, code-part}
+use Rattle.base_codes.specs.Items.{Item, i-end-body, i-global, i-local}
+use Rattle.parse_code.specs.Code.{each, code-tree, code-size, code-value, code-variable, code-declaration, code-group, code-body, code-activity, code-part}
 use Rattle.spec_machine.specs.State.{Channel}
 use Rattle.spec_machine.specs.Names.{Var, ofVariable, ofDeclaration, ofDeclarations, ofParameter, ofGroup, ofGroups, localsOf, variablesOf, unitAt}
 use Rattle.spec_machine.specs.Begins.{itemsBefore, bodyIn}
-use Rattle.spec_machine.specs.Plain.{noVar, madeBy}
+use Rattle.spec_machine.specs.Plain.{noVar, declaredBy}
 use Rattle.state_encode.specs.Encode.{headIn, headOf, variableAt, variablesIn, declaredAt, countGroups, bodyAt, channelItemIn, channelItem}
 use Rattle.spec_machine.specs.Places.{Bodied}
 use Rattle.state_encode.proofs.Rows.{get-left, get-right}
@@ -331,7 +332,7 @@ sited-unit m k i h = go (decLt k (length m))
     go (no g) = let e : length (sitesAt m k) ≡ 0 = ap (λ u. length (unitSites u (itemsBefore m k))) (past-last m k (omega arith)) in absurd (omega arith)
 
 -- NO TWO CHANNEL DECLARATIONS have one item
-module _ (m : Model) (c : Channel) (n : ℕ) (ks : List ℕ) (made : madeBy m c ≡ set-channel n ks) where
+module _ (m : Model) (c : Channel) (n : ℕ) (ks : List ℕ) (made : declaredBy m c ≡ set-channel n ks) where
   abbrev L : List Site
   L = sitesAt m (c .unit)
 
@@ -373,7 +374,7 @@ module _ (m : Model) (c : Channel) (n : ℕ) (ks : List ℕ) (made : madeBy m c 
       let e = made-item in
       (omega arith, omega arith)
 
-pub channel-one : (m : Model) (c d : Channel) (n k : ℕ) (ks js : List ℕ) → madeBy m c ≡ set-channel n ks → madeBy m d ≡ set-channel k js → channelItem m c ≡ channelItem m d
+pub channel-one : (m : Model) (c d : Channel) (n k : ℕ) (ks js : List ℕ) → declaredBy m c ≡ set-channel n ks → declaredBy m d ≡ set-channel k js → channelItem m c ≡ channelItem m d
     → (c .unit ≡ d .unit) × (c .variable ≡ d .variable)
 channel-one m c d n k ks js a b e =
     let x = made-inside m c n ks a in

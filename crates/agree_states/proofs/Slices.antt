@@ -6,12 +6,13 @@ use mathlib.Core.Path.{_≡_, refl, sym as inv, ap, ap₂, _∙_, subst}
 use mathlib.Core.List.{List, [], _∷_, _++_, map}
 use lib.ListN.{length, getD}
 use lib.IntN.{ℤ, pos}
+use Rattle.base_ceilings.specs.Ceilings.{fieldsMost}
 use Rattle.base_values.specs.Types.{castOf}
 use Rattle.state_layout.specs.Layout.{cellOf}
 use Rattle.spec_machine.specs.Names.{Var}
 use Rattle.spec_machine.specs.Plain.{noVar}
 use Rattle.state_encode.specs.Encode.{flat}
-use Rattle.spec_machine.specs.Fits.{Values}
+use Rattle.spec_machine.specs.Fits.{Filled}
 use Rattle.state_encode.specs.Tabled.{offsetOf, totalOf}
 
 -- ---- lists
@@ -116,7 +117,7 @@ find (x ∷ xs) n h = go (decLt n (x .size)) (λ a. find xs (n - x .size) (omega
         record { variable = suc (r .variable); element = r .element; here = (let h = r .here in omega arith); inside = r .inside; is = (let e = r .is in omega arith) }
 
 pub values-typed : (xs : List Var) (s : List ℤ) (at : ℕ)
-    → ((i k : ℕ) → i < length xs → k < getD xs i noVar .size → castOf (getD xs i noVar .type) (cellOf s (at + (offsetOf xs i + k))) ≡ cellOf s (at + (offsetOf xs i + k))) → Values xs (valuesAt xs s at)
+    → ((i k : ℕ) → i < length xs → k < getD xs i noVar .size → castOf (getD xs i noVar .type) (cellOf s (at + (offsetOf xs i + k))) ≡ cellOf s (at + (offsetOf xs i + k))) → Filled xs (valuesAt xs s at)
 values-typed xs s at h =
     record {
       all = values-long xs s at;
@@ -132,13 +133,13 @@ values-typed xs s at h =
 -- ---- n messages of w numbers, one every four places
 abbrev pub messagesAt : List ℤ → ℕ → ℕ → ℕ → List (List ℤ)
 messagesAt s w at zero = []
-messagesAt s w at (suc n) = cells s at w ∷ messagesAt s w (at + 4) n
+messagesAt s w at (suc n) = cells s at w ∷ messagesAt s w (at + fieldsMost) n
 
 pub messages-long : (s : List ℤ) (w at n : ℕ) → length (messagesAt s w at n) ≡ n
 messages-long s w at zero = refl
-messages-long s w at (suc n) = ap suc (messages-long s w (at + 4) n)
+messages-long s w at (suc n) = ap suc (messages-long s w (at + fieldsMost) n)
 
-pub messages-get : (s : List ℤ) (w at n i : ℕ) → i < n → getD (messagesAt s w at n) i [] ≡ cells s (at + 4 * i) w
+pub messages-get : (s : List ℤ) (w at n i : ℕ) → i < n → getD (messagesAt s w at n) i [] ≡ cells s (at + fieldsMost * i) w
 messages-get s w at zero i h = absurd (omega arith)
-messages-get s w at (suc n) zero h = ap (λ k. cells s k w) (let z : at ≡ at + 4 * 0 = omega arith in z)
-messages-get s w at (suc n) (suc i) h = messages-get s w (at + 4) n i (omega arith) ∙ ap (λ k. cells s k w) (let z : at + 4 + 4 * i ≡ at + 4 * suc i = omega arith in z)
+messages-get s w at (suc n) zero h = ap (λ k. cells s k w) (let z : at ≡ at + fieldsMost * 0 = omega arith in z)
+messages-get s w at (suc n) (suc i) h = messages-get s w (at + fieldsMost) n i (omega arith) ∙ ap (λ k. cells s k w) (let z : at + fieldsMost + fieldsMost * i ≡ at + fieldsMost * suc i = omega arith in z)

@@ -6,8 +6,10 @@ use mathlib.Core.Bool.{true}
 use mathlib.Core.List.{List, [], _∷_, _++_}
 use lib.ListN.{length, drop}
 use lib.IntN.{ℤ}
+use Rattle.base_ceilings.specs.Ceilings.{channelsMost, processesMost, stateRoom}
 use Rattle.spec_grammar.specs.Tree.{Group, mtypes, global, process, init, Model}
-use Rattle.spec_grammar.specs.Code.{i-init, each, code-group, code-body, code-activity, code-part, code}
+use Rattle.base_codes.specs.Items.{i-init}
+use Rattle.parse_code.specs.Code.{each, code-group, code-body, code-activity, code-part, code}
 use Rattle.read_passes.specs.Judging.{tablesText}
 use Rattle.read_accepts_proof.specs.Meaning.{Accepts}
 use Rattle.state_check.specs.Standing.{isStateOf}
@@ -86,7 +88,7 @@ module _ (t : List ℕ) (a : Accepts t) (small : modest (a .tree) ≡ true) (S :
   X = text-charted t a small S
 
   -- WHAT REFUSAL 9 LETS THROUGH: exactly the numbers that hold a state that fits, and each holds one only
-  pub text-holds : (s : List ℤ) → isStateOf (tablesText t) s ≡ true → (σ : State) × (Fits (Belongs (a .tree)) (a .tree) σ × (s ≡ encode (a .tree) σ ++ drop 2048 s))
+  pub text-holds : (s : List ℤ) → isStateOf (tablesText t) s ≡ true → (σ : State) × (Fits (Belongs (a .tree)) (a .tree) σ × (s ≡ encode (a .tree) σ ++ drop stateRoom s))
   text-holds s h = state-holds m T X s h
 
   pub text-held-state : (σ : State) (rest : List ℤ) → Fits (Belongs (a .tree)) (a .tree) σ → isStateOf (tablesText t) (encode (a .tree) σ ++ rest) ≡ true
@@ -96,15 +98,15 @@ module _ (t : List ℕ) (a : Accepts t) (small : modest (a .tree) ≡ true) (S :
   text-single s σ τ x y f g p q = state-single m T X s σ τ x y f g p q
 
   -- THE INITIAL STATE
-  pub text-starts : (s : List ℤ) → 2048 ≤ length s → initialOf (tablesText t) s ≡ encode (a .tree) (initial (a .tree)) ++ drop 2048 s
+  pub text-starts : (s : List ℤ) → stateRoom ≤ length s → initialOf (tablesText t) s ≡ encode (a .tree) (initial (a .tree)) ++ drop stateRoom s
   text-starts s h = text-initial t a s ∙ initial-is m T X small s h
 
   pub text-initially : Fits (Belongs (a .tree)) (a .tree) (initial (a .tree))
   text-initially = initially m T X small
 
   -- ONE MORE PROCESS of unit k, with arguments
-  pub text-begins : (k : ℕ) → Bodied (unitAt (a .tree) k) → (vs : List ℤ) (σ : State) (rest : List ℤ) → Fits (Belongs (a .tree)) (a .tree) σ → length (σ .processes) < 16
-      → length (σ .channels) + madeByBody (bodyOf (unitAt (a .tree) k)) ≤ 16
+  pub text-begins : (k : ℕ) → Bodied (unitAt (a .tree) k) → (vs : List ℤ) (σ : State) (rest : List ℤ) → Fits (Belongs (a .tree)) (a .tree) σ → length (σ .processes) < processesMost
+      → length (σ .channels) + madeByBody (bodyOf (unitAt (a .tree) k)) ≤ channelsMost
       → (called (tablesText t) (headOf (a .tree) k) vs (encode (a .tree) σ ++ rest) ≡ encode (a .tree) (begins (a .tree) k vs σ) ++ rest) × Fits (Belongs (a .tree)) (a .tree) (begins (a .tree) k vs σ)
   text-begins k b vs σ rest F few room =
       let r = unit-between m k 0 (itemsBefore m k) (omega arith) b in (

@@ -1,3 +1,4 @@
+-- Bridge, for `demand2` (crate `demands`).
 -- WHAT TABLES MUST SAY OF A MODEL'S STATES: the one seam to tables here. `T` are tables, m the model.
 use Prim.Native.Nat.{ℕ, _+_, _≤_, _<_}
 use mathlib.Core.Path.{_≡_}
@@ -6,22 +7,24 @@ use mathlib.Core.List.{List}
 use mathlib.Core.Logic.{_⊎_}
 use lib.ListN.{length, getD}
 use lib.IntN.{pos}
+use Rattle.base_ceilings.specs.Ceilings.{capacityMost, fieldsMost, globalsMost, itemsMost, numbersMost}
 use Rattle.base_codes.specs.Codes.{c-channel, c-init, c-proctype}
 use Rattle.table_layout.specs.Access.{itemsOf, codeOf, linkOf}
 use Rattle.state_layout.specs.Layout.{kept, globalAt, localAt}
 use Rattle.state_start.specs.Starting.{unitLength, scanned}
 use Rattle.step_ready.specs.Channels.{capacityOf, fieldsOf}
-use Rattle.state_types.specs.Fits.{isGlobal, isLocal, fieldType}
+use Rattle.state_types.specs.Fits.{isGlobal, isLocal}
 use Rattle.state_check.specs.Standing.{placeAt}
 use Rattle.agree_start.specs.Beginnings.{valueIn}
 use Rattle.spec_grammar.specs.Tree.{Name, set-name, set-channel, Model}
 use Rattle.spec_machine.specs.State.{Channel}
 use Rattle.spec_machine.specs.Names.{variablesOf, globalsOf, messagesOf, unitAt, messageFrom, numberOf}
 use Rattle.spec_machine.specs.Begins.{valueOf}
-use Rattle.spec_machine.specs.Plain.{noVar, madeBy}
+use Rattle.spec_machine.specs.Plain.{noVar, declaredBy}
 use Rattle.state_encode.specs.Encode.{headOf, channelItem}
 use Rattle.spec_machine.specs.Places.{Bodied, Belongs}
 use Rattle.state_encode.specs.Tabled.{offsetOf, totalOf, Linked}
+use Rattle.step_messages.specs.Messages.{fieldType}
 use Rattle.agree_states.specs.Sites.{chan, noSite, globalSites, sitesAt}
 
 -- the item of variable i of the globals
@@ -41,22 +44,22 @@ pub record Channelled (T : List ℕ) (d n : ℕ) (ks : List ℕ) : Type 0 where
   pub capacity : capacityOf T d ≡ n
   pub fields : fieldsOf T d ≡ length ks
   pub types : (f : ℕ) → f < length ks → fieldType T d f ≡ getD ks f 0
-  pub room : n ≤ 8
-  pub narrow : length ks ≤ 4
+  pub room : n ≤ capacityMost
+  pub narrow : length ks ≤ fieldsMost
 
 -- the channel of d is made by a declaration of the model
 pub record Made (m : Model) (d : ℕ) : Type 0 where
   pub channel : Channel
   pub capacity : ℕ
   pub types : List ℕ
-  pub declared : madeBy m channel ≡ set-channel capacity types
+  pub declared : declaredBy m channel ≡ set-channel capacity types
   pub is : channelItem m channel ≡ d
 
 pub record Charted (m : Model) (T : List ℕ) : Type 0 where
   -- ## ceilings
-  pub few : itemsOf T ≤ 8192
-  pub globals-few : totalOf (globalsOf m) ≤ 64
-  pub locals-few : (k : ℕ) → Bodied (unitAt m k) → totalOf (variablesOf (unitAt m k)) ≤ 32
+  pub few : itemsOf T ≤ itemsMost
+  pub globals-few : totalOf (globalsOf m) ≤ globalsMost
+  pub locals-few : (k : ℕ) → Bodied (unitAt m k) → totalOf (variablesOf (unitAt m k)) ≤ numbersMost
   -- ## variables: the items that declare them, and no others
   pub globals : (i : ℕ) → i < length (globalsOf m)
       → (globalItem m i < scanned T) × (isGlobal T (globalItem m i) ≡ true) × Linked (linkOf T (globalItem m i)) (getD (globalsOf m) i noVar) (λ p n. globalAt n) (offsetOf (globalsOf m) i)
@@ -76,8 +79,8 @@ pub record Charted (m : Model) (T : List ℕ) : Type 0 where
   pub places : (k j : ℕ) → Belongs m k j → Placed T (headOf m k) j × (j < itemsOf T)
   pub places-only : (k j : ℕ) → Bodied (unitAt m k) → Placed T (headOf m k) j → Belongs m k j
   -- ## channels by their declarations
-  pub channels : (c : Channel) (n : ℕ) (ks : List ℕ) → madeBy m c ≡ set-channel n ks → Channelled T (channelItem m c) n ks
-  pub channel-codes : (c : Channel) (n : ℕ) (ks : List ℕ) → madeBy m c ≡ set-channel n ks → codeOf T (channelItem m c) ≡ c-channel
+  pub channels : (c : Channel) (n : ℕ) (ks : List ℕ) → declaredBy m c ≡ set-channel n ks → Channelled T (channelItem m c) n ks
+  pub channel-codes : (c : Channel) (n : ℕ) (ks : List ℕ) → declaredBy m c ≡ set-channel n ks → codeOf T (channelItem m c) ≡ c-channel
   pub channels-only : (d : ℕ) → codeOf T d ≡ c-channel → Made m d
 
 -- what of it is said by names and links; of this the rest follows for accepted texts (`text-charted`, proofs/Charts.antt)
@@ -89,4 +92,4 @@ pub record Surveyed (m : Model) (T : List ℕ) : Type 0 where
   pub messages : (k i : ℕ) (w : Name) → i < length (sitesAt m k) → getD (sitesAt m k) i noSite .var .value ≡ set-name w
       → kept (linkOf T (linkOf T (getD (sitesAt m k) i noSite .worth + 1))) ≡ pos (numberOf (messageFrom 1 (messagesOf m) w))
   pub places : (k j : ℕ) → Belongs m k j → Placed T (headOf m k) j × (j < itemsOf T)
-  pub channels : (c : Channel) (n : ℕ) (ks : List ℕ) → madeBy m c ≡ set-channel n ks → Channelled T (channelItem m c) n ks
+  pub channels : (c : Channel) (n : ℕ) (ks : List ℕ) → declaredBy m c ≡ set-channel n ks → Channelled T (channelItem m c) n ks

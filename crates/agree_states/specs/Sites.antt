@@ -1,3 +1,4 @@
+-- Bridge, for `demand2` (crate `demands`).
 -- WHERE VARIABLES ARE DECLARED: each variable of a unit with the item that declares it and the item at which its value begins, in the order of the plain state's variables. One list, so that what
 -- tables say of variables and what is done with them in turn are both said along it.
 use Prim.Native.Nat.{ℕ, _+_}
@@ -5,7 +6,8 @@ use mathlib.Core.Bool.{Bool, true, false}
 use mathlib.Core.List.{List, [], _∷_, _++_}
 use lib.ListN.{length}
 use Rattle.spec_grammar.specs.Tree.{Name, Value, unset, set-number, set-minus, set-true, set-false, set-name, set-channel, Variable, variable, Declaration, declare, Group, group, Body, body, Part, mtypes, global, process, init, Model}
-use Rattle.spec_grammar.specs.Code.{i-local, code-size, code-variable, code-declaration, code-group, code-activity, code-part}
+use Rattle.base_codes.specs.Items.{i-local}
+use Rattle.parse_code.specs.Code.{code-size, code-variable, code-declaration, code-group, code-activity, code-part}
 use Rattle.spec_machine.specs.Names.{Var, ofVariable, ofParameter, unitAt}
 use Rattle.spec_machine.specs.Begins.{itemsBefore, bodyIn}
 use Rattle.spec_machine.specs.Plain.{noVar}

@@ -9,13 +9,14 @@ use lib.ListN.{length, getD, set, drop, length-append, length-set}
 use lib.Seq.{getD-set-same}
 use lib.IntN.{ℤ, pos}
 use lib.Dec.{eqb, ltb, leb}
+use Rattle.base_ceilings.specs.Ceilings.{capacityMost, channelsMost, fieldsMost, globalsMost, itemsMost, numbersMost, processesMost}
 use Rattle.base_bytes.specs.Choice.{pick, both}
 use Rattle.base_bytes.specs.Lists.{same}
 use Rattle.spec_text.specs.Names.{pid}
 use Rattle.base_bytes.proofs.Tests.{true-false, both-true}
 use Rattle.table_layout.specs.Access.{linkOf}
 use Rattle.base_values.specs.Types.{castOf}
-use Rattle.state_layout.specs.Layout.{kept, cellOf, localAt, globalAt, channelAt, fieldAt, declaredOf, waitingOf, fieldOf}
+use Rattle.state_layout.specs.Layout.{kept, cellOf, localAt, globalAt, channelAt, fieldAt, declaredOf, waitingOf, fieldOf, keptMost}
 use Rattle.base_bytes.specs.Numbers.{nat}
 use Rattle.step_eval.specs.Variables.{typeOf, sizeOf, slotOf, madeOf}
 use Rattle.step_ready.specs.Channels.{capacityOf, fieldsOf}
@@ -28,15 +29,15 @@ use Rattle.spec_rules.specs.Expressions.{operand, usable}
 use Rattle.spec_rules.specs.Ceilings.{madeByBody}
 use Rattle.spec_rules.specs.Statements.{Place, sense, runs}
 use Rattle.agree_stage.specs.Scenes.{numberAt}
-use Rattle.agree_stage.specs.Tables.{stageOf}
+use Rattle.agree_stage.specs.Tables.{stageIn}
 use Rattle.agree_transfer.specs.Agrees.{Agrees}
 use Rattle.spec_machine.specs.State.{Channel, Process, State, noChannel, noProcess}
 use Rattle.spec_machine.specs.Names.{Var, Meaning, local, global, self, variablesOf, parametersOf, localsOf, globalsOf, unitAt, proctypeOf, meant}
 use Rattle.spec_machine.specs.Begins.{itemsBefore, bodyIn, bodyOf, firstIn, makesAll, given, begins}
 use Rattle.spec_machine.specs.Plain as plain
-use Rattle.spec_machine.specs.Plain.{noVar, madeBy, capacityIn, typesIn, castAll, withChannel, numbersOf, isVariable, stored, goes, plainStage}
+use Rattle.spec_machine.specs.Plain.{noVar, declaredBy, capacityIn, typesIn, castAll, withChannel, numbersOf, isVariable, stored, goes, plainStage}
 use Rattle.state_encode.specs.Encode.{rows, flat, channelItem, messageRow, channelRow, encode}
-use Rattle.spec_machine.specs.Fits.{Values, Message, ChannelFits, Fits}
+use Rattle.spec_machine.specs.Fits.{Filled, Fielded, ChannelFits, Fits}
 use Rattle.state_encode.specs.Tabled.{offsetOf, Item, of-local, of-global, of-message, Tabled}
 use Rattle.state_encode.proofs.Rows.{get-left, ahead, get-rows}
 use Rattle.state_encode.proofs.Numbers.{processes-are, channels-are, local-is, local-stored, global-is, global-stored, go-is, channel-cell, declared-is, waiting-is}
@@ -68,14 +69,14 @@ module _ (P : ℕ → ℕ → Type 0) (m : Model) (u : ℕ) (at : Place) (T : Li
     abbrev me : Process
     me = getD (σ .processes) p noProcess
 
-    own : Values (variablesOf (unitAt m u)) (me .variables)
-    own = subst (λ n. Values (variablesOf (unitAt m n)) (me .variables)) (k .unit) (k .fits .each p (k .here) .values)
+    own : Filled (variablesOf (unitAt m u)) (me .variables)
+    own = subst (λ n. Filled (variablesOf (unitAt m n)) (me .variables)) (k .unit) (k .fits .each p (k .here) .values)
 
     local-there : (i : ℕ) (x : Var) (n : ℕ) → i < length Vs → getD Vs i noVar ≡ x → n < x .size → n < length (getD (me .variables) i [])
     local-there i x n h e g = subst (n <_) (inv (own .sized i h ∙ ap (λ (y : Var). y .size) e)) g
 
-    local-few : length (flat (me .variables)) ≤ 32
-    local-few = subst (_≤ 32) (inv (flat-long Vs (me .variables) (own .all) (own .sized))) (X .locals)
+    local-few : length (flat (me .variables)) ≤ numbersMost
+    local-few = subst (_≤ numbersMost) (inv (flat-long Vs (me .variables) (own .all) (own .sized))) (X .locals)
 
     local-at : (i : ℕ) → ahead (me .variables) i ≡ offsetOf Vs i
     local-at i = ahead-is Vs (me .variables) (own .all) (own .sized) i
@@ -83,14 +84,14 @@ module _ (P : ℕ → ℕ → Type 0) (m : Model) (u : ℕ) (at : Place) (T : Li
     global-there : (i : ℕ) (x : Var) (n : ℕ) → i < length Gs → getD Gs i noVar ≡ x → n < x .size → n < length (getD (σ .globals) i [])
     global-there i x n h e g = subst (n <_) (inv (k .fits .globals .sized i h ∙ ap (λ (y : Var). y .size) e)) g
 
-    global-few : length (flat (σ .globals)) ≤ 64
-    global-few = subst (_≤ 64) (inv (flat-long Gs (σ .globals) (k .fits .globals .all) (k .fits .globals .sized))) (X .globals)
+    global-few : length (flat (σ .globals)) ≤ globalsMost
+    global-few = subst (_≤ globalsMost) (inv (flat-long Gs (σ .globals) (k .fits .globals .all) (k .fits .globals .sized))) (X .globals)
 
     global-at : (i : ℕ) → ahead (σ .globals) i ≡ offsetOf Gs i
     global-at i = ahead-is Gs (σ .globals) (k .fits .globals .all) (k .fits .globals .sized) i
 
     -- number n of what a name means
-    element-is : (d : ℕ) (q : Meaning) → Item T m u d q → isVariable m 0 q ≡ true → (n : ℕ) → n < plain.sizeOf m 0 q → getD (numbersOf m p σ q) n (pos 0) ≡ cellOf S (slotOf (linkOf T d) p n)
+    element-is : (d : ℕ) (q : Meaning) → Item T m u d q → isVariable m 0 q ≡ true → (n : ℕ) → n < plain.sizeMeant m 0 q → getD (numbersOf m p σ q) n (pos 0) ≡ cellOf S (slotOf (linkOf T d) p n)
     element-is d _ (of-local {i = i} {x = x} h e g a b l) z n r =
         inv (local-is m t σ p (k .here) (k .fits .processes) i n (subst (i <_) (inv (own .all)) h) (local-there i x n h e r) local-few)
         ∙ ap (λ j. cellOf S (localAt p (j + n))) (local-at i) ∙ ap (cellOf S) (inv (l .slot p n r))
@@ -103,7 +104,7 @@ module _ (P : ℕ → ℕ → Type 0) (m : Model) (u : ℕ) (at : Place) (T : Li
     unfolding numberAt
     number-is d _ (of-local {i = i} {x = x} h e g a b l) = rw (a, b) (element-is d (local i x) (of-local h e g a b l) refl 0 (omega arith))
     number-is d _ (of-global {i = i} {x = x} h e g a b l) = rw (a, b) (element-is d (global i x) (of-global h e g a b l) refl 0 (omega arith))
-    number-is d _ (of-message {n = n} a b c) = rw (a, b) (ap pos (let z : n ≡ min 2147483647 n = omega arith in z))
+    number-is d _ (of-message {n = n} a b c) = rw (a, b) (ap pos (let z : n ≡ min keptMost n = omega arith in z))
 
     -- `_pid` is the number of the process
     pid-means : (w : Name) → same w pid ≡ true → meant m (unitAt m u) w ≡ self
@@ -118,7 +119,7 @@ module _ (P : ℕ → ℕ → Type 0) (m : Model) (u : ℕ) (at : Place) (T : Li
         go false e = number-is (decl w) (meant m (unitAt m u) w) (X .names w e h)
 
     -- a value stored in it
-    store-is : (d : ℕ) (q : Meaning) → Item T m u d q → isVariable m 0 q ≡ true → (n : ℕ) (v : ℤ) → n < plain.sizeOf m 0 q
+    store-is : (d : ℕ) (q : Meaning) → Item T m u d q → isVariable m 0 q ≡ true → (n : ℕ) (v : ℤ) → n < plain.sizeMeant m 0 q
         → Kept (stored m p q n v σ) (set S (slotOf (linkOf T d) p n) (castOf (typeOf (linkOf T d)) v))
     store-is d _ (of-local {i = i} {x = x} h e g a b l) z n v r =
         let y : Process = record { unit = me .unit; place = me .place; variables = plain.oneStored (me .variables) i n (castOf (x .type) v) } in
@@ -126,8 +127,8 @@ module _ (P : ℕ → ℕ → Type 0) (m : Model) (u : ℕ) (at : Place) (T : Li
           fits = process-fits P m σ (k .fits) p y
               record {
                 place = k .fits .each p (k .here) .place;
-                values = subst (λ w. Values (variablesOf (unitAt m w)) (plain.oneStored (me .variables) i n (castOf (x .type) v))) (inv (k .unit))
-                    (subst (λ (w : Var). Values Vs (plain.oneStored (me .variables) i n (castOf (w .type) v))) e (values-stored Vs (me .variables) i n v h own));
+                values = subst (λ w. Filled (variablesOf (unitAt m w)) (plain.oneStored (me .variables) i n (castOf (x .type) v))) (inv (k .unit))
+                    (subst (λ (w : Var). Filled Vs (plain.oneStored (me .variables) i n (castOf (w .type) v))) e (values-stored Vs (me .variables) i n v h own));
               };
           is = ap₂ (λ j ty. set S j (castOf ty v)) (l .slot p n r ∙ ap (λ j. localAt p (j + n)) (inv (local-at i))) (l .type)
               ∙ local-stored m t σ p (k .here) (k .fits .processes) i n (castOf (x .type) v) (subst (i <_) (inv (own .all)) h) (local-there i x n h e r) local-few;
@@ -137,7 +138,7 @@ module _ (P : ℕ → ℕ → Type 0) (m : Model) (u : ℕ) (at : Place) (T : Li
     store-is d _ (of-global {i = i} {x = x} h e g a b l) z n v r =
         record {
           fits = globals-fit P m σ (k .fits) (plain.oneStored (σ .globals) i n (castOf (x .type) v))
-              (subst (λ (w : Var). Values Gs (plain.oneStored (σ .globals) i n (castOf (w .type) v))) e (values-stored Gs (σ .globals) i n v h (k .fits .globals)));
+              (subst (λ (w : Var). Filled Gs (plain.oneStored (σ .globals) i n (castOf (w .type) v))) e (values-stored Gs (σ .globals) i n v h (k .fits .globals)));
           is = ap₂ (λ j ty. set S j (castOf ty v)) (l .slot p n r ∙ ap (λ j. globalAt (j + n)) (inv (global-at i))) (l .type)
               ∙ global-stored m t σ i n (castOf (x .type) v) (subst (i <_) (inv (k .fits .globals .all)) h) (global-there i x n h e r) global-few;
           here = k .here;
@@ -173,40 +174,40 @@ module _ (P : ℕ → ℕ → Type 0) (m : Model) (u : ℕ) (at : Place) (T : Li
       H : ChannelFits m (getD (σ .channels) (nat v - 1) noChannel)
       H = k .fits .queues (nat v - 1) there
 
-      told : (channelItem m ch ≤ 8192) × (capacityOf T (channelItem m ch) ≡ H .capacity) × (fieldsOf T (channelItem m ch) ≡ length (H .types)) × (H .capacity ≤ 8) × (length (H .types) ≤ 4)
+      told : (channelItem m ch ≤ itemsMost) × (capacityOf T (channelItem m ch) ≡ H .capacity) × (fieldsOf T (channelItem m ch) ≡ length (H .types)) × (H .capacity ≤ capacityMost) × (length (H .types) ≤ fieldsMost)
       told = X .channels ch (H .capacity) (H .types) (H .declared)
 
       item-is : declaredOf S (nat v - 1) ≡ channelItem m ch
       item-is = declared-is m t σ (nat v - 1) there (k .fits .channels) (let e = told .0 in omega arith)
 
-      held-few : length (ch .held) ≤ 8
+      held-few : length (ch .held) ≤ capacityMost
       held-few = let a = H .room in let b = told .3 in omega arith
 
       waits-is : length (ch .held) ≡ waitingOf S (nat v - 1)
       waits-is = inv (waiting-is m t σ (nat v - 1) there (k .fits .channels) held-few)
 
-      capacity-is : capacityIn (madeBy m ch) ≡ capacityOf T (declaredOf S (nat v - 1))
+      capacity-is : capacityIn (declaredBy m ch) ≡ capacityOf T (declaredOf S (nat v - 1))
       capacity-is = ap capacityIn (H .declared) ∙ inv (told .1) ∙ ap (capacityOf T) (inv item-is)
 
-      fields-are : length (typesIn (madeBy m ch)) ≡ fieldsOf T (declaredOf S (nat v - 1))
+      fields-are : length (typesIn (declaredBy m ch)) ≡ fieldsOf T (declaredOf S (nat v - 1))
       fields-are = ap (λ w. length (typesIn w)) (H .declared) ∙ inv (told .2) ∙ ap (fieldsOf T) (inv item-is)
 
-      oldest-is : (f : ℕ) → eqb (length (ch .held)) 0 ≡ false → ltb f (length (typesIn (madeBy m ch))) ≡ true → getD (getD (ch .held) 0 []) f (pos 0) ≡ fieldOf S (nat v - 1) 0 f
+      oldest-is : (f : ℕ) → eqb (length (ch .held)) 0 ≡ false → ltb f (length (typesIn (declaredBy m ch))) ≡ true → getD (getD (ch .held) 0 []) f (pos 0) ≡ fieldOf S (nat v - 1) 0 f
       oldest-is f w l =
           let a = eqb-false (length (ch .held)) 0 w in
-          let b : f < length (H .types) = subst (f <_) (ap (λ w. length (typesIn w)) (H .declared)) (ltb-true f (length (typesIn (madeBy m ch))) l) in
+          let b : f < length (H .types) = subst (f <_) (ap (λ w. length (typesIn w)) (H .declared)) (ltb-true f (length (typesIn (declaredBy m ch))) l) in
           let c = told .4 in
-          inv (get-rows messageRow 4 8 (ch .held) [] 0 f (omega arith) (omega arith) (omega arith))
-          ∙ ap (λ j. getD (rows messageRow 4 8 (ch .held)) j (pos 0)) (let z : 0 + f ≡ f = omega arith in z)
+          inv (get-rows messageRow fieldsMost capacityMost (ch .held) [] 0 f (omega arith) (omega arith) (omega arith))
+          ∙ ap (λ j. getD (rows messageRow fieldsMost capacityMost (ch .held)) j (pos 0)) (let z : 0 + f ≡ f = omega arith in z)
           ∙ ap (λ j. getD (channelRow m ch) j (pos 0)) (let z : suc (suc f) ≡ 2 + f = omega arith in z)
           ∙ inv (channel-cell m t σ (nat v - 1) there (k .fits .channels) (2 + f) (omega arith))
           ∙ ap (cellOf S) (let z : channelAt (nat v - 1) + (2 + f) ≡ fieldAt (nat v - 1) 0 f = omega arith in z)
 
-      put-kept : (vs : List ℤ) → ltb (length (ch .held)) (capacityIn (madeBy m ch)) ≡ true → length vs ≡ length (typesIn (madeBy m ch))
-          → Kept (withChannel (nat v - 1) (ch .held ++ castAll (typesIn (madeBy m ch)) vs ∷ []) σ) (appended T (nat v - 1) vs S)
+      put-kept : (vs : List ℤ) → ltb (length (ch .held)) (capacityIn (declaredBy m ch)) ≡ true → length vs ≡ length (typesIn (declaredBy m ch))
+          → Kept (withChannel (nat v - 1) (ch .held ++ castAll (typesIn (declaredBy m ch)) vs ∷ []) σ) (appended T (nat v - 1) vs S)
       put-kept vs r l =
-          let room : length (ch .held) < H .capacity = subst (length (ch .held) <_) (ap capacityIn (H .declared)) (ltb-true (length (ch .held)) (capacityIn (madeBy m ch)) r) in
-          let same : typesIn (madeBy m ch) ≡ H .types = ap typesIn (H .declared) in
+          let room : length (ch .held) < H .capacity = subst (length (ch .held) <_) (ap capacityIn (H .declared)) (ltb-true (length (ch .held)) (capacityIn (declaredBy m ch)) r) in
+          let same : typesIn (declaredBy m ch) ≡ H .types = ap typesIn (H .declared) in
           let long : length vs ≡ length (H .types) = l ∙ ap length same in
           let e : Kept (withChannel (nat v - 1) (ch .held ++ castAll (H .types) vs ∷ []) σ) (appended T (nat v - 1) vs S) =
           record {
@@ -216,7 +217,7 @@ module _ (P : ℕ → ℕ → Type 0) (m : Model) (u : ℕ) (at : Place) (T : Li
                   types = H .types;
                   declared = H .declared;
                   room = subst (_≤ H .capacity) (inv (length-append (ch .held) (castAll (H .types) vs ∷ []))) (omega arith);
-                  messages = at-more (Message (H .types)) (ch .held) (castAll (H .types) vs) [] (H .messages) (cast-message (H .types) vs long);
+                  messages = at-more (Fielded (H .types)) (ch .held) (castAll (H .types) vs) [] (H .messages) (cast-message (H .types) vs long);
                 };
             is = put-is m t σ (nat v - 1) there (k .fits .channels) T (H .types) vs long (told .4) (let b = told .3 in omega arith)
                 (ap (fieldsOf T) item-is ∙ told .2) (λ i g. ap (λ d. fieldType T d i) item-is ∙ X .fields ch (H .capacity) (H .types) (H .declared) i g);
@@ -242,7 +243,7 @@ module _ (P : ℕ → ℕ → Type 0) (m : Model) (u : ℕ) (at : Place) (T : Li
                       types = H .types;
                       declared = H .declared;
                       room = let a = H .room in omega arith;
-                      messages = λ i g. subst (λ (l : List (List ℤ)). Message (H .types) (getD l (suc i) [])) e (H .messages (suc i) (omega arith));
+                      messages = λ i g. subst (λ (l : List (List ℤ)). Fielded (H .types) (getD l (suc i) [])) e (H .messages (suc i) (omega arith));
                     };
                 is = take-is m t σ (nat v - 1) there (k .fits .channels) msg rest e (omega arith);
                 here = k .here;
@@ -251,10 +252,10 @@ module _ (P : ℕ → ℕ → Type 0) (m : Model) (u : ℕ) (at : Place) (T : Li
 
     -- ---- room for a process
     room-is : (w : Name) (n : ℕ) → runs at w n ≡ true
-        → both (ltb (length (σ .processes)) 16) (leb (length (σ .channels) + madeByBody (bodyOf (unitAt m (proctypeOf m w)))) 16) ≡ fitsOf T S (head w)
+        → both (ltb (length (σ .processes)) processesMost) (leb (length (σ .channels) + madeByBody (bodyOf (unitAt m (proctypeOf m w)))) channelsMost) ≡ fitsOf T S (head w)
     unfolding fitsOf
     room-is w n h =
-        ap₂ (λ a b. both (ltb a 16) (leb b 16)) (inv (processes-are m t σ (k .fits .processes)))
+        ap₂ (λ a b. both (ltb a processesMost) (leb b channelsMost)) (inv (processes-are m t σ (k .fits .processes)))
         (ap₂ _+_ (inv (channels-are m t σ (k .fits .channels))) (inv (X .makes w n h)))
 
     begins-before : (n : ℕ) (vs : List ℤ) → (p < length (begins m n vs σ .processes)) × (getD (begins m n vs σ .processes) p noProcess .unit ≡ getD (σ .processes) p noProcess .unit)
@@ -268,11 +269,11 @@ module _ (P : ℕ → ℕ → Type 0) (m : Model) (u : ℕ) (at : Place) (T : Li
         } (k .here)
 
     begin-kept : (w : Name) (vs : List ℤ) → runs at w (length vs) ≡ true
-        → both (ltb (length (σ .processes)) 16) (leb (length (σ .channels) + madeByBody (bodyOf (unitAt m (proctypeOf m w)))) 16) ≡ true
+        → both (ltb (length (σ .processes)) processesMost) (leb (length (σ .channels) + madeByBody (bodyOf (unitAt m (proctypeOf m w)))) channelsMost) ≡ true
         → Kept (begins m (proctypeOf m w) vs σ) (called T (head w) vs S)
     begin-kept w vs h r =
-        let b = both-true (ltb (length (σ .processes)) 16) (leb (length (σ .channels) + madeByBody (bodyOf (unitAt m (proctypeOf m w)))) 16) r in
-        let e = X .begins w vs h σ t (k .fits) (ltb-true (length (σ .processes)) 16 (b .0)) (leb-true (length (σ .channels) + madeByBody (bodyOf (unitAt m (proctypeOf m w)))) 16 (b .1)) in
+        let b = both-true (ltb (length (σ .processes)) processesMost) (leb (length (σ .channels) + madeByBody (bodyOf (unitAt m (proctypeOf m w)))) channelsMost) r in
+        let e = X .begins w vs h σ t (k .fits) (ltb-true (length (σ .processes)) processesMost (b .0)) (leb-true (length (σ .channels) + madeByBody (bodyOf (unitAt m (proctypeOf m w)))) channelsMost (b .1)) in
         let f = begins-before (proctypeOf m w) vs in
         record { fits = e .1; is = e .0; here = f .0; unit = f .1 ∙ k .unit }
 
@@ -280,12 +281,12 @@ module _ (P : ℕ → ℕ → Type 0) (m : Model) (u : ℕ) (at : Place) (T : Li
   kept-same : (σ : State) (a b : List ℤ) → a ≡ b → Kept σ b → Kept σ a
   kept-same σ a b e q = record { fits = q .fits; is = e ∙ q .is; here = q .here; unit = q .unit }
 
-  some-number : (d : ℕ) (q : Meaning) → Item T m u d q → isVariable m 0 q ≡ true → ltb 0 (plain.sizeOf m 0 q) ≡ true
+  some-number : (d : ℕ) (q : Meaning) → Item T m u d q → isVariable m 0 q ≡ true → ltb 0 (plain.sizeMeant m 0 q) ≡ true
   some-number d _ (of-local {x = x} h e g a b l) z = lt-ltb 0 (x .size) (omega arith)
   some-number d _ (of-global {x = x} h e g a b l) z = lt-ltb 0 (x .size) (omega arith)
   some-number d _ (of-message a b c) z = refl
 
-  same-size : (d : ℕ) (q : Meaning) → Item T m u d q → isVariable m 0 q ≡ true → plain.sizeOf m 0 q ≡ sizeOf (linkOf T d)
+  same-size : (d : ℕ) (q : Meaning) → Item T m u d q → isVariable m 0 q ≡ true → plain.sizeMeant m 0 q ≡ sizeOf (linkOf T d)
   same-size d _ (of-local h e g a b l) z = inv (l .size)
   same-size d _ (of-global h e g a b l) z = inv (l .size)
   same-size d _ (of-message a b c) z = absurd (true-false (inv z))
@@ -294,14 +295,14 @@ module _ (P : ℕ → ℕ → Type 0) (m : Model) (u : ℕ) (at : Place) (T : Li
   mean w = meant m (unitAt m u) w
 
   pub stages-agree : (σ : State) → Kept σ (encode m σ ++ t)
-      → Agrees Kept (P u) at (plainStage m p (unitAt m u) σ) σ (stageOf T (encode m σ ++ t) p decl head) (encode m σ ++ t)
+      → Agrees Kept (P u) at (plainStage m p (unitAt m u) σ) σ (stageIn T (encode m σ ++ t) p decl head) (encode m σ ++ t)
   stages-agree σ k =
       record {
         together = k;
         number = λ w h. number-of σ k w h;
         some = λ w h. let q = X .stores w h in some-number (decl w) (mean w) (q .0) (q .1);
         size = λ w h. let q = X .stores w h in same-size (decl w) (mean w) (q .0) (q .1);
-        element = λ w n h l. let q = X .stores w h in element-is σ k (decl w) (mean w) (q .0) (q .1) n (ltb-true n (plain.sizeOf m 0 (mean w)) l);
+        element = λ w n h l. let q = X .stores w h in element-is σ k (decl w) (mean w) (q .0) (q .1) n (ltb-true n (plain.sizeMeant m 0 (mean w)) l);
         made = λ v. made-is σ k v;
         waiting = λ v h. waits-is σ k v h;
         constant = λ w i h. X .constants w i h;
@@ -309,11 +310,11 @@ module _ (P : ℕ → ℕ → Type 0) (m : Model) (u : ℕ) (at : Place) (T : Li
         fields = λ v h. fields-are σ k v h;
         oldest = λ v f h w l. oldest-is σ k v h f w l;
         room = λ w n h. room-is σ k w n h;
-        newest = ap pos (let z : length (σ .processes) ≡ min 2147483647 (length (σ .processes)) = (let h = k .fits .processes in omega arith) in z)
+        newest = ap pos (let z : length (σ .processes) ≡ min keptMost (length (σ .processes)) = (let h = k .fits .processes in omega arith) in z)
             ∙ ap kept (inv (processes-are m t σ (k .fits .processes)));
         store = λ {a} {b} r w n v h l.
             let q = X .stores w h in
-            let e = store-is a (kept-same a (encode m a ++ t) b (inv (r .is)) r) (decl w) (mean w) (q .0) (q .1) n v (ltb-true n (plain.sizeOf m 0 (mean w)) l) in
+            let e = store-is a (kept-same a (encode m a ++ t) b (inv (r .is)) r) (decl w) (mean w) (q .0) (q .1) n v (ltb-true n (plain.sizeMeant m 0 (mean w)) l) in
             kept-same (stored m p (mean w) n v a) (set b (slotOf (linkOf T (decl w)) p n) (castOf (typeOf (linkOf T (decl w))) v))
             (set (encode m a ++ t) (slotOf (linkOf T (decl w)) p n) (castOf (typeOf (linkOf T (decl w))) v))
             (ap (λ (x : List ℤ). set x (slotOf (linkOf T (decl w)) p n) (castOf (typeOf (linkOf T (decl w))) v)) (r .is)) e;

@@ -7,13 +7,14 @@ use mathlib.Core.List.{List, [], _∷_, _++_}
 use lib.ListN.{length, getD}
 use lib.IntN.{ℤ}
 use lib.Dec.{eqb, leb}
+use Rattle.base_ceilings.specs.Ceilings.{processesMost}
 use Rattle.base_codes.specs.Codes.{c-end-body}
 use Rattle.base_bytes.specs.Choice.{both}
 use Rattle.base_bytes.proofs.Tests.{true-false, both-true}
 use Rattle.spec_grammar.specs.Tree.{action, Tree, Body, body, Model}
 use Rattle.read_passes.specs.Judging.{tablesText}
 use Rattle.read_accepts_proof.specs.Meaning.{Accepts}
-use Rattle.state_layout.specs.Layout.{processesOf, placeOf}
+use Rattle.state_layout.specs.Layout.{processesOf, placeOf, keptMost}
 use Rattle.table_layout.specs.Access.{codeOf}
 use borrow.Author.Tests.{eq-eqb, ne-eqb}
 use Rattle.step_offers.specs.Offers.{offersOf}
@@ -22,8 +23,8 @@ use Rattle.spec_rules.specs.Statements.{has, allowed}
 use Rattle.spec_rules.specs.Units.{ofModel, partsLawful, mtypesIn, initsIn, tally, modelLawful}
 use Rattle.spec_machine.specs.Stage.{Ways}
 use Rattle.spec_machine.specs.Effect.{effect}
-use Rattle.spec_machine.specs.Program.{sizeIn, startIn, endIn, labelIn, statementsOf, Statement}
-use Rattle.agree_stage.specs.Tables.{stageOf}
+use Rattle.spec_machine.specs.Program.{sizeIn, startIn, endIn, labelIn, sequenceOf, Statement}
+use Rattle.agree_stage.specs.Tables.{stageIn}
 use Rattle.agree_eval.specs.Names.{declAt}
 use Rattle.agree_offers.proofs.Main.{text-ended, text-ends}
 use Rattle.agree_effects.specs.Stages as doing
@@ -35,7 +36,7 @@ use Rattle.spec_machine.specs.Begins.{itemsBefore, bodyOf}
 use Rattle.spec_machine.specs.Plain.{plainStage}
 use Rattle.agree_transfer.specs.Alike.{In, first, behind, Alike}
 use Rattle.agree_effects.specs.Few.{Few}
-use Rattle.agree_tables.specs.Tables.{machineIn}
+use Rattle.step_all.specs.Moving.{machineIn}
 use Rattle.spec_machine.specs.Steps.{stepsBy, takeBy, stepsOf, endedOf, takeOf, machineOf}
 use Rattle.state_encode.specs.Encode.{headOf, encode}
 use Rattle.spec_machine.specs.Places.{Bodied, bodyAt, startOf, endOf, At, Belongs, ends, stands, settingOf}
@@ -66,7 +67,7 @@ module _ (t : List ℕ) (a : Accepts t) (legal : modelLawful (a .tree) ≡ true)
   abbrev Told : Type 0
   Told = (k : ℕ) → Bodied (unitAt m k) → Tabled (Belongs m) m k (settingOf m k) T (declAt t a (startOf m k)) (doing.unitAt t a)
 
-  lawful : (k : ℕ) → Bodied (unitAt m k) → allowed (settingOf m k) false false (statementsOf (bodyOf (unitAt m k))) ≡ true
+  lawful : (k : ℕ) → Bodied (unitAt m k) → allowed (settingOf m k) false false (sequenceOf (bodyOf (unitAt m k))) ≡ true
   unfolding modelLawful
   lawful k b =
       unit-allowed (ofModel m) [] m k (both-true (both (leb (tally mtypesIn m) 1) (leb (tally initsIn m) 1)) (partsLawful (ofModel m) [] m) legal .1) b
@@ -79,7 +80,7 @@ module _ (t : List ℕ) (a : Accepts t) (legal : modelLawful (a .tree) ≡ true)
   abbrev Spare : Type 0
   Spare = (k : ℕ) → Bodied (unitAt m k) → (x : Tree action) (j n o : ℕ) → At m k x j n o → Few x
 
-  module _ (X : Told) (small : (k j : ℕ) → Belongs m k j → j ≤ 2147483647) (begun : Begun) (few : Spare) (rest : List ℤ) where
+  module _ (X : Told) (small : (k j : ℕ) → Belongs m k j → j ≤ keptMost) (begun : Begun) (few : Spare) (rest : List ℤ) where
     -- the numbers s hold the state σ
     pub record Holding (σ : State) (s : List ℤ) : Type 0 where
       pub fits : Fits (Belongs m) m σ
@@ -96,7 +97,7 @@ module _ (t : List ℕ) (a : Accepts t) (legal : modelLawful (a .tree) ≡ true)
       j = getD (σ .processes) p noProcess .place
 
       abbrev ways : ℕ → ℕ → Ways
-      ways n o = record { next = n; out = o; label = λ w. labelIn w (statementsOf (bodyOf (unitAt m k))) (startOf m k) 0 }
+      ways n o = record { next = n; out = o; label = λ w. labelIn w (sequenceOf (bodyOf (unitAt m k))) (startOf m k) 0 }
 
       abbrev stated : Bodied (unitAt m k) → (x : Tree action) (i n o : ℕ) → At m k x i n o → Statement m (headOf m k) x i (ways n o)
       stated b x i n o w = record { own = bodyOf (unitAt m k); at = bodyAt m k; held = unit-holds m k 0 (itemsBefore m k) (omega arith) b; inside = w; labels = λ v. refl }
@@ -106,7 +107,7 @@ module _ (t : List ℕ) (a : Accepts t) (legal : modelLawful (a .tree) ≡ true)
         kept = record { fits = f; is = refl; here = g; unit = refl }
 
         agree : Agrees (Kept (Belongs m) m k (settingOf m k) T (declAt t a (startOf m k)) (doing.unitAt t a) (X k b) p rest) (Belongs m k) (settingOf m k)
-            (plainStage m p (unitAt m k) σ) σ (stageOf T S p (declAt t a (startOf m k)) (doing.unitAt t a)) S
+            (plainStage m p (unitAt m k) σ) σ (stageIn T S p (declAt t a (startOf m k)) (doing.unitAt t a)) S
         agree = stages-agree (Belongs m) m k (settingOf m k) T (declAt t a (startOf m k)) (doing.unitAt t a) (X k b) p rest σ kept
 
         law-at : (x : Tree action) (i n o : ℕ) → At m k x i n o → Lawful (Belongs m k) (settingOf m k) x o
@@ -116,10 +117,10 @@ module _ (t : List ℕ) (a : Accepts t) (legal : modelLawful (a .tree) ≡ true)
       place-there : placeOf S p ≡ j
       place-there = place-is m rest σ p g (f .processes) (small k j (f .each p g .place))
 
-      end-past : j ≡ endOf m k → startOf m k + sizeIn (statementsOf (bodyOf (unitAt m k))) ≤ j
-      end-past e = subst (λ z. startOf m k + sizeIn (statementsOf (bodyOf (unitAt m k))) ≤ z) (inv e) (end-is (bodyOf (unitAt m k)) (bodyAt m k))
+      end-past : j ≡ endOf m k → startOf m k + sizeIn (sequenceOf (bodyOf (unitAt m k))) ≤ j
+      end-past e = subst (λ z. startOf m k + sizeIn (sequenceOf (bodyOf (unitAt m k))) ≤ z) (inv e) (end-is (bodyOf (unitAt m k)) (bodyAt m k))
         where
-          end-is : (b : Body) (i : ℕ) → startIn b i + sizeIn (statementsOf b) ≤ endIn b i
+          end-is : (b : Body) (i : ℕ) → startIn b i + sizeIn (sequenceOf b) ≤ endIn b i
           end-is (body ds q) i = omega arith
 
       -- WHAT IS OFFERED
@@ -129,13 +130,13 @@ module _ (t : List ℕ) (a : Accepts t) (legal : modelLawful (a .tree) ≡ true)
         where
           go : Belongs m k j → stepsOf m σ p late ≡ offersOf T S p late j
           go (ends b e) =
-              ap (stepsBy m σ p late j) (end-nothing (statementsOf (bodyOf (unitAt m k))) (startOf m k) (endOf m k) 0 j (end-past e))
+              ap (stepsBy m σ p late j) (end-nothing (sequenceOf (bodyOf (unitAt m k))) (startOf m k) (endOf m k) 0 j (end-past e))
               ∙ inv (text-ended t a S p late j (text-ends t a record { own = bodyOf (unitAt m k); at = bodyAt m k; held = unit-holds m k 0 (itemsBefore m k) (omega arith) b; ends = e }))
           go (stands {x = x} {n = n} {o = o} b w) =
               let l = law-at b x j n o w in
               ap (stepsBy m σ p late j) (within-found w)
               ∙ offers-same (Kept (Belongs m) m k (settingOf m k) T (declAt t a (startOf m k)) (doing.unitAt t a) (X k b) p rest) (Belongs m k) (settingOf m k)
-              (plainStage m p (unitAt m k) σ) σ (stageOf T S p (declAt t a (startOf m k)) (doing.unitAt t a)) S (agree b) late (l .loops) (l .first) x j (l .law)
+              (plainStage m p (unitAt m k) σ) σ (stageIn T S p (declAt t a (startOf m k)) (doing.unitAt t a)) S (agree b) late (l .loops) (l .first) x j (l .law)
               ∙ inv (statement-offers t a (stated b x j n o w) S p late)
 
       -- WHAT IS DONE by a step that is offered
@@ -145,17 +146,17 @@ module _ (t : List ℕ) (a : Accepts t) (legal : modelLawful (a .tree) ≡ true)
         where
           go : Belongs m k j → In q (stepsOf m σ p late) → Related Holding (takeOf m σ p q) (takenOf T p q S)
           go (ends b e) h =
-              none-in (subst (λ z. In q (stepsBy m σ p late j z)) (end-nothing (statementsOf (bodyOf (unitAt m k))) (startOf m k) (endOf m k) 0 j (end-past e)) h)
+              none-in (subst (λ z. In q (stepsBy m σ p late j z)) (end-nothing (sequenceOf (bodyOf (unitAt m k))) (startOf m k) (endOf m k) 0 j (end-past e)) h)
           go (stands {x = x} {n = n} {o = o} b w) h =
               let r = offers-there (plainStage m p (unitAt m k) σ) late x j n o q (subst (λ z. In q (stepsBy m σ p late j z)) (within-found w) h) in
               let v : At m k (r .act) q (r .next) (r .out) = within-within w (r .within) in
               let l = law-at b (r .act) q (r .next) (r .out) v in
               let c = effect-same (Kept (Belongs m) m k (settingOf m k) T (declAt t a (startOf m k)) (doing.unitAt t a) (X k b) p rest) (Belongs m k) (settingOf m k)
-              (plainStage m p (unitAt m k) σ) σ (stageOf T S p (declAt t a (startOf m k)) (doing.unitAt t a)) S (agree b) (l .loops) (l .first) (ways (r .next) (r .out))
+              (plainStage m p (unitAt m k) σ) σ (stageIn T S p (declAt t a (startOf m k)) (doing.unitAt t a)) S (agree b) (l .loops) (l .first) (ways (r .next) (r .out))
               record {
                 next = leads (Belongs m k) v (λ y c d e z. stands b z) (ends b refl);
                 out = l .out;
-                label = λ z e. label (Belongs m k) z (statementsOf (bodyOf (unitAt m k))) (startOf m k) (endOf m k) 0 0 (λ y c d i u. stands b u)
+                label = λ z e. label (Belongs m k) z (sequenceOf (bodyOf (unitAt m k))) (startOf m k) (endOf m k) 0 0 (λ y c d i u. stands b u)
                     (λ i. absurd (true-false (inv e ∙ ap (λ l. has l z) (setting-labels (ofModel m) [] m k b) ∙ i)));
               }
               (r .act) (l .law) (r .takes) in
@@ -177,7 +178,7 @@ module _ (t : List ℕ) (a : Accepts t) (legal : modelLawful (a .tree) ≡ true)
               let e = end-most (bodyOf (unitAt m k)) (bodyAt m k) in
               ne-eqb j (endOf m k) (λ z. omega arith) ∙ inv (begun k b x j n o w)
             where
-              end-most : (b : Body) (i : ℕ) → startIn b i + sizeIn (statementsOf b) ≤ endIn b i
+              end-most : (b : Body) (i : ℕ) → startIn b i + sizeIn (sequenceOf b) ≤ endIn b i
               end-most (body ds q) i = omega arith
 
     -- THE TWO MACHINES ARE ALIKE
@@ -186,7 +187,7 @@ module _ (t : List ℕ) (a : Accepts t) (legal : modelLawful (a .tree) ≡ true)
         record {
           processes = λ {x} {y} r.
               let n = r .fits .processes in
-              inv (ap (λ s. min 16 (processesOf s)) (r .is) ∙ ap (min 16) (processes-are m rest x n) ∙ (let z : min 16 (length (x .processes)) ≡ length (x .processes) = omega arith in z));
+              inv (ap (λ s. min processesMost (processesOf s)) (r .is) ∙ ap (min processesMost) (processes-are m rest x n) ∙ (let z : min processesMost (length (x .processes)) ≡ length (x .processes) = omega arith in z));
           steps = λ {x} {y} r late p h. steps-same x (r .fits) p h late ∙ ap (λ s. offersOf T s p late (placeOf s p)) (inv (r .is));
           ended = λ {x} {y} r p h. ended-same x (r .fits) p h ∙ ap (λ s. eqb (codeOf T (placeOf s p)) c-end-body) (inv (r .is));
           take = λ {x} {y} r late p q h i. subst (λ s. Related Holding (takeOf m x p q) (takenOf T p q s)) (inv (r .is)) (take-same x (r .fits) p h late q i);

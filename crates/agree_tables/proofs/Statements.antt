@@ -26,7 +26,7 @@ use Rattle.agree_effects.proofs.Takes.{text-takes}
 use Rattle.agree_effects.proofs.Prints.{text-prints}
 use Rattle.agree_effects.proofs.Bodies.{text-stage}
 use Rattle.agree_places.proofs.Jumps.{text-label}
-use Rattle.agree_tables.specs.Stages.{stageOf}
+use Rattle.agree_tables.specs.Stages.{stageHere}
 
 -- a statement inside of a statement
 pub within-within : {k : Sort} {b : Tree k} {i n o : ℕ} {x : Tree action} {j m u : ℕ} {y : Tree action} {l v w : ℕ} → Within k b i n o x j m u → Within action x j m u y l v w → Within k b i n o y l v w
@@ -47,15 +47,15 @@ module _ (t : List ℕ) (a : Accepts t) where
   -- ---- a statement of the tree, in any numbers for a state
   module _ {u j : ℕ} {x : Tree action} {h : Ways} (f : Statement (a .tree) u x j h) (s : List ℤ) (p : ℕ) where
     -- it is executable exactly where the tree says so
-    pub statement-ready : (late : Bool) → readyOf T s p late j ≡ ready (stageOf t a s p u f) late x
+    pub statement-ready : (late : Bool) → readyOf T s p late j ≡ ready (stageHere t a s p u f) late x
     statement-ready late = text-ready t a x (statement-lies f) s p late ∙ ap (λ c. ready c late x) (text-stage t a f s p)
 
     -- what is done and printed is what the tree says
-    pub statement-takes : Few x → takenOf T p j s ≡ effect (stageOf t a s p u f) h s x
+    pub statement-takes : Few x → takenOf T p j s ≡ effect (stageHere t a s p u f) h s x
     statement-takes few =
         text-takes t a x (statement-lies f) few h (text-leads t a f (λ w e. text-label t a (subst (λ y. Statement (a .tree) u y j h) e f))) s p ∙ ap (λ c. effect c h s x) (text-stage t a f s p)
 
-    pub statement-prints : Few x → printedAt T s p j ≡ prints (stageOf t a s p u f) x
+    pub statement-prints : Few x → printedAt T s p j ≡ prints (stageHere t a s p u f) x
     statement-prints few = text-prints t a x (statement-lies f) few s p ∙ ap (λ c. prints c x) (text-stage t a f s p)
 
   module _ {u j : ℕ} {x : Tree action} {h : Ways} (f : Statement (a .tree) u x j h) (s : List ℤ) (p : ℕ) where
@@ -64,7 +64,7 @@ module _ (t : List ℕ) (a : Accepts t) where
     inner y i m v w = record { own = f .own; at = f .at; held = f .held; inside = within-within (f .inside) w; labels = f .labels }
 
     -- the steps that it offers are those that the tree says
-    pub statement-offers : (late : Bool) → offersOf T s p late j ≡ offers (λ y i. ready (stageOf t a s p u f) late y) x j
+    pub statement-offers : (late : Bool) → offersOf T s p late j ≡ offers (λ y i. ready (stageHere t a s p u f) late y) x j
     statement-offers late =
         text-offers t a f s p late
-        ∙ offers-same (λ y i. readyOf T s p late i) (λ y i. ready (stageOf t a s p u f) late y) x j (h .next) (h .out) (λ y i m v w. statement-ready (inner y i m v w) s p late)
+        ∙ offers-same (λ y i. readyOf T s p late i) (λ y i. ready (stageHere t a s p u f) late y) x j (h .next) (h .out) (λ y i m v w. statement-ready (inner y i m v w) s p late)

@@ -9,7 +9,8 @@ use lib.ListN.{length, length-append}
 use Rattle.base_bytes.specs.Choice.{pick}
 use mathlib.Core.Logic.{_⊎_, inl, inr}
 use Rattle.spec_grammar.specs.Tree.{Name, Sort, action, statement, sequence, options, Tree, express, assign, increment, decrement, send, receive, assert, print, skip, goto, break, timeout, else, run, set-run, select, loop, bare, labelled, end, then, over, option}
-use Rattle.spec_grammar.specs.Code.{i-name, i-text, i-end, i-express, i-target, i-assign, i-increment, i-decrement, i-send, i-receive, i-assert, i-run, i-set-run, i-fi, i-od, i-end-option, each, code-exp, code-argument, code-received, code-tree}
+use Rattle.base_codes.specs.Items.{i-assert, i-assign, i-decrement, i-end, i-end-option, i-express, i-fi, i-increment, i-name, i-od, i-receive, i-run, i-send, i-set-run, i-target, i-text}
+use Rattle.parse_code.specs.Code.{each, code-exp, code-argument, code-received, code-tree}
 use Rattle.spec_machine.specs.Program.{sizeIn, enter, Within, itself, in-if, in-do, unlabelled, behind-label, in-first, in-rest, in-option, in-others}
 use Rattle.spec_machine.specs.Stage.{Stage}
 use Rattle.spec_machine.specs.Ready.{ready}
@@ -26,7 +27,7 @@ long-if os = let e = length-append (code-tree os) (i-fi ∷ []) in omega arith
 long-do : (os : Tree options) → sizeIn (loop os) ≡ sizeIn os + 2
 long-do os = let e = length-append (code-tree os) (i-od ∷ []) in omega arith
 
-long-then : (s : Tree statement) (q : Tree sequence) → sizeIn (then s q) ≡ sizeIn s + sizeIn q
+pub long-then : (s : Tree statement) (q : Tree sequence) → sizeIn (then s q) ≡ sizeIn s + sizeIn q
 long-then s q = length-append (code-tree s) (code-tree q)
 
 long-option : (q : Tree sequence) (os : Tree options) → sizeIn (option q os) ≡ sizeIn q + sizeIn os + 2

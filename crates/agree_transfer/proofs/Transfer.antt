@@ -7,11 +7,12 @@ use mathlib.Core.List.{List, [], _∷_, _++_}
 use lib.ListN.{length}
 use lib.IntN.{ℤ, pos, negsuc, _+ℤ_}
 use lib.Dec.{eqb, ltb}
+use Rattle.base_ceilings.specs.Ceilings.{heightMost}
 use Rattle.base_bytes.specs.Choice.{pick, both}
 use Rattle.base_bytes.specs.Lists.{same, orElse}
 use Rattle.base_bytes.proofs.Tests.{true-false, both-true}
 use Rattle.spec_text.specs.Names.{pid}
-use Rattle.base_values.specs.Operators.{isTrue}
+use Rattle.base_values.specs.Operators.{isTrue, equalBy}
 use Rattle.base_values.specs.declared.Fault.{Fault}
 use Rattle.base_values.specs.declared.Fault.the-variants.{Index, Channel, Fields}
 use Rattle.base_values.specs.declared.Answer.{Answer}
@@ -26,7 +27,7 @@ use Rattle.spec_rules.specs.Expressions.{Role, operand, channel, target, receiv
 use Rattle.spec_rules.specs.Statements.{Place, all, isElse, sense, runs, receives, formats, allowed}
 use Rattle.spec_machine.specs.Eval.{elementBy, lengthBy, signBy, operateBy, chooseBy, eval}
 use Rattle.spec_machine.specs.Stage.{Stage, Ways}
-use Rattle.spec_machine.specs.Arguments.{nameOf, Aim, hit, miss, aimBy, aim, Reach, astray, reachBy, reachAt, reach, Values, stopped, valuesBy, values, equalBy, agree, agreeBy, agrees, Aims, hits, missed, aimsBy, targets}
+use Rattle.spec_machine.specs.Arguments.{nameOf, Aim, hit, miss, aimBy, aim, Reach, astray, reachBy, reachAt, reach, WorkedOut, stopped, valuesBy, values, agree, agreeBy, agrees, Aims, hits, missed, aimsBy, targets}
 use Rattle.spec_machine.specs.Arguments as args
 use Rattle.spec_machine.specs.Ready.{passes, sendable, receivable, ready}
 use Rattle.spec_machine.specs.Effect.{fault, delivery, deliveries, goOn, expressedBy, assertedBy, assignedBy, steppedBy, sentBy, receivedAt, receivedIf, receivedBy, printedBy, ranBy, setBy, setRunBy, effect, textBy, prints}
@@ -154,7 +155,7 @@ module _ {S T : Type 0} (R : S → T → Type 0) (P : ℕ → Type 0) (at : Plac
   -- a whole expression, or a reference that stands alone
   lawful-same : {k : Shape} (e : Exp k) (r : Role) → lawful (sense at) r e ≡ true → eval (c .scene) e ≡ eval (d .scene) e
   unfolding lawful
-  lawful-same e r h = eval-same e r (both-true (leb (height e) 32) (named (sense at) r e) h .1)
+  lawful-same e r h = eval-same e r (both-true (leb (height e) heightMost) (named (sense at) r e) h .1)
 
   -- ---- references
   -- a role in which no mtype name and no `_pid` stands
@@ -163,16 +164,16 @@ module _ {S T : Type 0} (R : S → T → Type 0) (P : ℕ → Type 0) (at : Plac
 
   target-named : (r : Ref) → lawful (sense at) target r ≡ true → Storable r
   unfolding lawful named
-  target-named (plain w) h = target-storable (sense at) false w (both-true (leb (height (plain w)) 32) (usable (sense at) target false w) h .1)
+  target-named (plain w) h = target-storable (sense at) false w (both-true (leb (height (plain w)) heightMost) (usable (sense at) target false w) h .1)
   target-named (indexed w e) h =
-      let p = both-true (leb (height (indexed w e)) 32) (both (usable (sense at) target true w) (named (sense at) operand e)) h in
+      let p = both-true (leb (height (indexed w e)) heightMost) (both (usable (sense at) target true w) (named (sense at) operand e)) h in
       target-storable (sense at) true w (both-true (usable (sense at) target true w) (named (sense at) operand e) (p .1) .0)
 
   channel-named : (r : Ref) → lawful (sense at) channel r ≡ true → Storable r
   unfolding lawful named
-  channel-named (plain w) h = channel-storable (sense at) false w (both-true (leb (height (plain w)) 32) (usable (sense at) channel false w) h .1)
+  channel-named (plain w) h = channel-storable (sense at) false w (both-true (leb (height (plain w)) heightMost) (usable (sense at) channel false w) h .1)
   channel-named (indexed w e) h =
-      let p = both-true (leb (height (indexed w e)) 32) (both (usable (sense at) channel true w) (named (sense at) operand e)) h in
+      let p = both-true (leb (height (indexed w e)) heightMost) (both (usable (sense at) channel true w) (named (sense at) operand e)) h in
       channel-storable (sense at) true w (both-true (usable (sense at) channel true w) (named (sense at) operand e) (p .1) .0)
 
   -- the number of its variable is there
@@ -193,7 +194,7 @@ module _ {S T : Type 0} (R : S → T → Type 0) (P : ℕ → Type 0) (at : Plac
   unfolding lawful named
   aim-same (plain w) o h g = (refl, a .some w g)
   aim-same (indexed w e) o h g =
-      let p = both-true (leb (height (indexed w e)) 32) (both (usable (sense at) o true w) (named (sense at) operand e)) h in
+      let p = both-true (leb (height (indexed w e)) heightMost) (both (usable (sense at) o true w) (named (sense at) operand e)) h in
       let q = both-true (usable (sense at) o true w) (named (sense at) operand e) (p .1) in
       let k = aimed-same w g (eval (c .scene) e) in
       (k .0 ∙ ap (aimBy (d .scene) w) (eval-same e operand (q .1)), k .1)
@@ -238,7 +239,7 @@ module _ {S T : Type 0} (R : S → T → Type 0) (P : ℕ → Type 0) (at : Plac
       ap₂ valuesBy (lawful-same e operand (p .0)) (values-same es (p .1))
 
   -- as many values as arguments
-  abbrev Counted : ℕ → Values → Type 0
+  abbrev Counted : ℕ → WorkedOut → Type 0
   Counted n (args.all vs) = length vs ≡ n
   Counted n (stopped f) = Unit {0}
 
@@ -247,23 +248,23 @@ module _ {S T : Type 0} (R : S → T → Type 0) (P : ℕ → Type 0) (at : Plac
   values-counted [] = refl
   values-counted (e ∷ es) = go (eval (c .scene) e) (values (c .scene) es) (values-counted es)
     where
-      go : (v : Answer) (vs : Values) → Counted (length es) vs → Counted (suc (length es)) (valuesBy v vs)
+      go : (v : Answer) (vs : WorkedOut) → Counted (length es) vs → Counted (suc (length es)) (valuesBy v vs)
       go (Value v) (args.all vs) k = ap suc k
       go (Value v) (stopped f) k = tt
       go (Fails f) vs k = tt
 
   into-usable : (r : Ref) → lawful (sense at) received r ≡ true → (c .constant (nameOf r) ≡ isConstant (sense at (nameOf r))) × (d .constant (nameOf r) ≡ isConstant (sense at (nameOf r)))
   unfolding lawful named
-  into-usable (plain n) h = a .constant n false (both-true (leb (height (plain n)) 32) (usable (sense at) received false n) h .1)
+  into-usable (plain n) h = a .constant n false (both-true (leb (height (plain n)) heightMost) (usable (sense at) received false n) h .1)
   into-usable (indexed n e) h =
-      let p = both-true (leb (height (indexed n e)) 32) (both (usable (sense at) received true n) (named (sense at) operand e)) h in
+      let p = both-true (leb (height (indexed n e)) heightMost) (both (usable (sense at) received true n) (named (sense at) operand e)) h in
       a .constant n true (both-true (usable (sense at) received true n) (named (sense at) operand e) (p .1) .0)
 
   received-named : (r : Ref) → lawful (sense at) received r ≡ true → isConstant (sense at (nameOf r)) ≡ false → Storable r
   unfolding lawful named
-  received-named (plain n) h k = received-storable (sense at) false n (both-true (leb (height (plain n)) 32) (usable (sense at) received false n) h .1) k
+  received-named (plain n) h k = received-storable (sense at) false n (both-true (leb (height (plain n)) heightMost) (usable (sense at) received false n) h .1) k
   received-named (indexed n e) h k =
-      let p = both-true (leb (height (indexed n e)) 32) (both (usable (sense at) received true n) (named (sense at) operand e)) h in
+      let p = both-true (leb (height (indexed n e)) heightMost) (both (usable (sense at) received true n) (named (sense at) operand e)) h in
       received-storable (sense at) true n (both-true (usable (sense at) received true n) (named (sense at) operand e) (p .1) .0) k
 
   -- each target that is stored to is there
@@ -508,7 +509,7 @@ module _ {S T : Type 0} (R : S → T → Type 0) (P : ℕ → Type 0) (at : Plac
         (a .store (a .together) w k (wrap32 (c .scene .element w k +ℤ e)) s t))
     stepped-same w s e (miss f) t = failed f
 
-    sent-same : (n : ℕ) (vs : Values) → Counted n vs → (q : Reach) → Made n q → sendable c q ≡ true → Related R (sentBy c (h .next) x vs q) (sentBy d (h .next) y vs q)
+    sent-same : (n : ℕ) (vs : WorkedOut) → Counted n vs → (q : Reach) → Made n q → sendable c q ≡ true → Related R (sentBy c (h .next) x vs q) (sentBy d (h .next) y vs q)
     sent-same n (args.all vs) k (args.channel v) m e = on (a .put v vs (m .0) e (k ∙ inv (m .1)))
     sent-same n (stopped f) k (args.channel v) m e = failed f
     sent-same n vs k (astray f) m e = failed f
@@ -534,19 +535,19 @@ module _ {S T : Type 0} (R : S → T → Type 0) (P : ℕ → Type 0) (at : Plac
             subst (λ l. Related R (receivedIf c (h .next) x v rs (agrees c v 0 rs)) (receivedIf d (h .next) y v rs l)) (agrees-same v (m .0) w rs 0 g (from-0 (m .1))) (tested w (agrees c v 0 rs))
     received-same rs g (astray f) m e = failed f
 
-    printed-same : (vs : Values) → Related R (printedBy c (h .next) x vs) (printedBy d (h .next) y vs)
+    printed-same : (vs : WorkedOut) → Related R (printedBy c (h .next) x vs) (printedBy d (h .next) y vs)
     printed-same (args.all vs) = on (a .together)
     printed-same (stopped f) = failed f
 
-    ran-same : (w : Name) (n : ℕ) → runs at w n ≡ true → c .room w ≡ true → (vs : Values) → Counted n vs → Related R (ranBy c (h .next) x w vs) (ranBy d (h .next) y w vs)
+    ran-same : (w : Name) (n : ℕ) → runs at w n ≡ true → c .room w ≡ true → (vs : WorkedOut) → Counted n vs → Related R (ranBy c (h .next) x w vs) (ranBy d (h .next) y w vs)
     ran-same w n g e (args.all vs) k = on (a .begin w vs (subst (λ l. runs at w l ≡ true) (inv k) g) e)
     ran-same w n g e (stopped f) k = failed f
 
-    set-ran-same : (r : Name) → storable (sense at) r ≡ true → (w : Name) (n : ℕ) → runs at w n ≡ true → (vs : Values) → Counted n vs → (k : Aim) → There r k
+    set-ran-same : (r : Name) → storable (sense at) r ≡ true → (w : Name) (n : ℕ) → runs at w n ≡ true → (vs : WorkedOut) → Counted n vs → (k : Aim) → There r k
         → Related R (setRunBy c (h .next) x r w vs k) (setRunBy d (h .next) y r w vs k)
     set-ran-same r s w n g vs l (hit k) t = room (c .room w) refl
       where
-        set : c .room w ≡ true → (vs : Values) → Counted n vs → Related R (setBy c (h .next) x r k w vs) (setBy d (h .next) y r k w vs)
+        set : c .room w ≡ true → (vs : WorkedOut) → Counted n vs → Related R (setBy c (h .next) x r k w vs) (setBy d (h .next) y r k w vs)
         set e (args.all vs) l =
             on (subst (λ z. R (c .store r k (c .newest) (c .begin w vs x)) (d .store r k z (d .begin w vs y))) (a .newest)
             (a .store (a .begin w vs (subst (λ l. runs at w l ≡ true) (inv l) g) e) r k (c .newest) s t))

@@ -1,3 +1,4 @@
+-- Bridge, for `demand2` (crate `demands`).
 -- WHEN TWO STAGES AGREE: c over states of the type S, d over states of the type T, for the statements of a body in which names stand for what `at` says. R says which states belong together,
 -- P which places the process may go on at; x and y are the states before the step. Each observation is the same, each change leads from states that belong together to such states; each under
 -- just the condition under which a lawful statement that is executable makes it.

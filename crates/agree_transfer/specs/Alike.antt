@@ -1,3 +1,4 @@
+-- Bridge, for `demand2` (crate `demands`).
 -- WHEN TWO MACHINES ARE ALIKE, where R says which states belong together.
 use Prim.Native.Nat.{ℕ, _<_}
 use mathlib.Core.Path.{_≡_}

@@ -1,3 +1,4 @@
+-- Mechanism, held to the specification by `code-injective` (crate `parse_code`).
 -- The codes of a tree's items: the one place where they are numbered.
 use Prim.Native.Nat.{ℕ}
 

@@ -1,4 +1,9 @@
-// The codes of a tree's items, as numbers; specs/Codes.antt is the one place that says so.
+// The items' codes and the sets that they are in, for code; specs/Codes.antt and specs/Sets.antt say so for definitions.
+ghost use mathlib.Core.Path.{_≡_};
+ghost use Rattle.base_codes.specs.Sets as sets;
+use base_bytes::both;
+use base_bytes::either;
+
 pub const NAME: u8 = 70;
 
 pub const NUMBER: u8 = 71;
@@ -170,3 +175,59 @@ pub const BODY: u8 = 227;
 pub const END_BODY: u8 = 228;
 
 pub const END_CLOSED: u8 = 229;
+
+pub fn within(lo: u8, hi: u8, c: u8) -> bool
+    ensures { λ r. ⌜ r ≡ sets.within lo hi c ⌝ }
+{
+    both(lo <= c, c <= hi)
+}
+
+// Is an item part of an expression?
+pub fn is_part(c: u8) -> bool
+    ensures { λ r. ⌜ r ≡ sets.isPart c ⌝ }
+{
+    either(
+        within(NAME, NUMBER, c),
+        either(within(OR_ELSE, COMPLEMENT, c), within(PLAIN, CHOICE, c)),
+    )
+}
+
+// Does a statement begin with this mark of its own?
+pub fn is_alone(c: u8) -> bool
+    ensures { λ r. ⌜ r ≡ sets.isAlone c ⌝ }
+{
+    either(
+        either(c == TEXT, c == SKIP),
+        either(within(BREAK, ELSE, c), either(c == IF, c == DO)),
+    )
+}
+
+// Is this the mark of a statement that begins with a phrase?
+pub fn is_lead(c: u8) -> bool
+    ensures { λ r. ⌜ r ≡ sets.isLead c ⌝ }
+{
+    either(
+        within(EXPRESS, TARGET, c),
+        either(within(INCREMENT, ASSERT, c), either(c == GOTO, c == RUN)),
+    )
+}
+
+// Does it begin a list of arguments?
+pub fn is_opener(c: u8) -> bool
+    ensures { λ r. ⌜ r ≡ sets.isOpener c ⌝ }
+{
+    either(
+        c == TEXT,
+        either(within(SEND, RECEIVE, c), within(RUN, SET_RUN, c)),
+    )
+}
+
+// Is it the one item that each statement has of its own?
+pub fn is_statement(c: u8) -> bool
+    ensures { λ r. ⌜ r ≡ sets.isStatement c ⌝ }
+{
+    either(
+        either(c == TEXT, c == EXPRESS),
+        either(within(ASSIGN, IF, c), c == DO),
+    )
+}

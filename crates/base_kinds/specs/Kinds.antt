@@ -6,10 +6,12 @@
 --   38 to 45 the types, so that ranges give the widths that storing keeps
 --   46 to 69 the other keywords; 66 to 69 have no use yet
 --   70, 71, 72 a name, a number, a string
+use mathlib.Core.Bool.{cond}
 use mathlib.Core.List.{List, [], _∷_}
 use Prim.Native.Nat.{ℕ}
 use Prim.Native.Char.{code}
 use Prim.Native.String.{String}
+use lib.Dec.{ltb}
 
 -- the bytes of a text of plain characters
 abbrev pub bytes : String → List ℕ
@@ -55,3 +57,9 @@ kindOf (sym k) = k
 kindOf (name w) = name-kind
 kindOf (number n) = number-kind
 kindOf (text w) = string-kind
+
+-- the level of a binary operator by table 3.2 of 002, 1 the loosest: 1 ||, 2 &&, 3 |, 4 ^, 5 &, 6 == !=, 7 < <= > >=, 8 << >>, 9 + -, 10 * / %; 0 for what is none
+abbrev pub level : ℕ → ℕ
+level o =
+    cond (ltb o 1) 0 (cond (ltb o 2) 1 (cond (ltb o 3) 2 (cond (ltb o 4) 3 (cond (ltb o 5) 4 (cond (ltb o 6) 5
+    (cond (ltb o 8) 6 (cond (ltb o 12) 7 (cond (ltb o 14) 8 (cond (ltb o 16) 9 (cond (ltb o 19) 10 0))))))))))

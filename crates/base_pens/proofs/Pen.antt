@@ -52,3 +52,10 @@ puts-full vs l h =
     ∙ puts-append (take n vs) (getD vs n 0 ∷ drop (suc n) vs) (pen l 0)
     ∙ rw (puts-fit (take n vs) l (omega arith), t, drop-length l, append-nil)
     (over (take n vs) (getD vs n 0) (drop (suc n) vs) l (drop (length vs) l) t (drop-of-length-le l {i = length vs} (omega arith)))
+
+-- equal pens have equal lists and stand at equal places
+pub list-of : {x y : Pen} → x ≡ y → x .list ≡ y .list
+list-of e = ap (λ (w : Pen). w .list) e
+
+pub at-of : {x y : Pen} → x ≡ y → x .at ≡ y .at
+at-of e = ap (λ (w : Pen). w .at) e

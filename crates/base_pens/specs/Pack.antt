@@ -1,3 +1,4 @@
+-- Mechanism, held to the specification by `tree-tables`, `tables-tree` (crate `read_accepts_proof`).
 -- Bytes packed four to a number, the first lowest, zeros at the end; the same written as the bytes come; and a byte read out again.
 use Prim.Native.Nat.{ℕ, _+_, _*_, _/_, _%_, _<_}
 use mathlib.Core.List.{List, [], _∷_}

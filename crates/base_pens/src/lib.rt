@@ -1,7 +1,6 @@
 // Writing numbers, and bytes packed four to a number, one after the other to a lent slice that may end too soon.
 ghost use mathlib.Core.Path.{_≡_};
 ghost use Prim.Native.Nat.{_+_, _<_};
-ghost use lib.ListN.{getD};
 ghost use Rattle.base_pens.specs.Pen.{pen, write};
 ghost use Rattle.base_pens.specs.Pack as pack;
 ghost use Rattle.base_pens.specs.Pack.{well};
@@ -13,28 +12,6 @@ pub struct Ink {
     pub a: u8,
     pub b: u8,
     pub c: u8,
-}
-
-// The number at a place, 0 where there is none.
-pub fn word_at(s: &[u32], i: usize) -> usize
-    ensures { λ r. ⌜ r ≡ getD (now (s .entry)) i 0 ⌝ }
-    ensures { λ r. ⌜ r < 4294967296 ⌝ }
-{
-    if i < s.len() { s[i] as usize } else { 0 }
-}
-
-// The number k places on.
-pub fn word_on(s: &[u32], i: usize, k: usize) -> usize
-    ensures { λ r. ⌜ r ≡ getD (now (s .entry)) (i + k) 0 ⌝ }
-    ensures { λ r. ⌜ r < 4294967296 ⌝ }
-{
-    if s.len() <= i {
-        return 0;
-    }
-    if s.len() - i <= k {
-        return 0;
-    }
-    word_at(s, i + k)
 }
 
 // Writes a number; past the end nothing, and the pen stands one past the end.

@@ -10,8 +10,9 @@ use lib.Dec.{eqb, lit<}
 use borrow.Author.Tests.{eq-eqb, ne-eqb, eqb-false}
 use mir.Syntax.{w32}
 use mir.Val.{toZ, ofZ, SFits}
+use Rattle.base_bytes.proofs.Tests.{true-false}
 use Rattle.base_values.specs.Operators.{same}
-use Rattle.base_values.proofs.Tests.{both, clash}
+use Rattle.base_values.proofs.Tests.{both}
 use Rattle.base_values.proofs.Laws.{same-eq}
 use Rattle.base_values.proofs.Machine.{small, back, same-bits, zero-bits}
 use Rattle.base_values.proofs.Wrapping.{mag-neg}
@@ -29,7 +30,7 @@ quot-fits (negsuc a) (pos b) f e = omega (arith, f .sfits, mag-neg (suc a / b) a
 quot-fits (negsuc a) (negsuc zero) f e = go (eqb a 2147483647) refl e
   where
     go : (t : Bool) → eqb a 2147483647 ≡ t → (t && true) ≡ false → suc a / 1 < 2 ^ 31
-    go true g e = absurd (clash e)
+    go true g e = absurd (true-false e)
     go false g e = omega (arith, f .sfits, div-le-self (suc a) 1, eqb-false a 2147483647 g)
 quot-fits (negsuc a) (negsuc (suc b)) f e = div-lt-iff-lt-mul {k = suc (suc b)} (omega arith) .1 (omega (arith, f .sfits))
 

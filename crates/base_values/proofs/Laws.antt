@@ -1,21 +1,20 @@
 -- Laws of values that callers cite: a stored value is one of its type, a value of the type is stored as it is, and the operators stay in range.
 -- Those of `wrap` are in Wrap.antt, over the number of bits: at 31 they are of `wrap32`.
-use mathlib.Core.Path.{_≡_, refl, sym, ap, _∙_}
+use mathlib.Core.Path.{_≡_, ap, _∙_}
 use mathlib.Core.Bool.{Bool, true, false, cond, _&&_, _||_, not}
-use Prim.Native.Nat.{ℕ, suc, _^_, _≤_, _<_}
-use native.Mathlib.Nat.{lt-of-lt-of-le, lt-of-le-of-lt, mod-eq-of-lt}
+use Prim.Native.Nat.{ℕ, suc, _^_, _<_}
+use native.Mathlib.Nat.{lt-of-le-of-lt, mod-eq-of-lt}
 use lib.IntN.{ℤ, pos, negsuc, negℤ, _+ℤ_, _-ℤ_, _*ℤ_}
 use lib.Signed.{mag, ltZ, leZ, quotZ, remZ, shrZ, mag-rem, mag-shr}
 use lib.Bits.{bitAnd, bitOr, bitXor, and-lt, or-lt, xor-lt}
-use lib.Dec.{ltb, eqb, lit<, lit≤}
-use borrow.Author.Tests.{lt-ltb, eq-eqb, ltb-true, eqb-true}
+use lib.Dec.{ltb, eqb, lit<}
+use borrow.Author.Tests.{lt-ltb, ltb-true, eqb-true}
 use Rattle.base_values.specs.Bits.{low, wrap, wrap32}
 use Rattle.base_values.specs.Types.{widthOf, signedWidth, keep, castOf, within, inType}
 use Rattle.base_values.specs.Operators.{same, isTrue, oneIf, onBits, shiftBy, complement, divideOf, remainderOf, shiftLeftOf, shiftRightOf, applyOf, unaryOf}
 use Rattle.base_values.specs.declared.Answer.{Answer}
 use Rattle.base_values.specs.declared.Answer.the-variants.{Value, Fails}
 use Rattle.base_values.specs.declared.Fault.the-variants.{Divide, Shift}
-use Rattle.base_values.proofs.Tests.{clash}
 use Rattle.base_values.proofs.Wrap.{low-lt, signed-fits, wrap-fits, wrap-id, half}
 
 -- ---- what is kept of a number, once over its bits
@@ -63,35 +62,7 @@ same-eq (negsuc a) (negsuc b) e = ap negsuc (eqb-true a b e)
 same-eq (pos a) (negsuc b) e = cc
 same-eq (negsuc a) (pos b) e = cc
 
-pub same-refl : (a : ℤ) → same a a ≡ true
-same-refl (pos a) = eq-eqb a a refl
-same-refl (negsuc a) = eq-eqb a a refl
-
--- the values of a type are those that storing leaves as they are
-pub stays : (t : ℕ) (v : ℤ) → same (castOf t v) v ≡ inType t v
-stays t v = go (inType t v) refl (same (castOf t v) v) refl
-  where
-    go : (s : Bool) → inType t v ≡ s → (r : Bool) → same (castOf t v) v ≡ r → r ≡ s
-    go true e r g = sym g ∙ rw (cast-id t v e) (same-refl v)
-    go false e false g = refl
-    go false e true g = sym (cast-in-range t v) ∙ ap (inType t) (same-eq (castOf t v) v g) ∙ e
-
 -- ---- 32 bits
-within-small : (s : Bool) (j : ℕ) (z : ℤ) → 2 ^ cond s j (suc j) ≤ 2 ^ 31 → within s (suc j) z ≡ true → mag z < 2 ^ 31
-within-small true j z h e = lt-of-lt-of-le (ltb-true (mag z) (2 ^ j) (rw (half j) at e)) h
-within-small false j (pos n) h e = lt-of-lt-of-le (ltb-true n (2 ^ suc j) e) h
-within-small false j (negsuc n) h e = absurd (clash (sym e))
-
--- a value of a type is a 32-bit one
-pub in-type-small : (t : ℕ) (v : ℤ) → inType t v ≡ true → mag v < 2 ^ 31
-unfolding inType
-in-type-small t v =
-    at-width (λ k. within (signedWidth k) k v ≡ true → mag v < 2 ^ 31)
-    (within-small false 0 v (lit≤ tt)) (within-small false 7 v (lit≤ tt)) (within-small true 15 v (lit≤ tt)) (within-small true 31 v (lit≤ tt)) t
-
-pub cast-small : (t : ℕ) (v : ℤ) → mag (castOf t v) < 2 ^ 31
-cast-small t v = in-type-small t (castOf t v) (cast-in-range t v)
-
 -- ---- operators
 abbrev pub Small : Answer → Type 0
 Small (Value r) = mag r < 2 ^ 31

@@ -9,10 +9,10 @@ use lib.Dec.{ltb}
 use borrow.Author.Tests.{lt-ltb, le-ltb, ltb-true, ltb-false}
 use mir.Syntax.{w32}
 use mir.Val.{toZ, ofZ, SFits}
+use Rattle.base_bytes.proofs.Tests.{true-false}
 use Rattle.base_values.specs.Operators.{shiftBy}
 use Rattle.base_values.specs.declared.Fault.the-variants.{Shift}
 use Rattle.base_values.specs.declared.Answer.the-variants.{Value, Fails}
-use Rattle.base_values.proofs.Tests.{clash}
 use Rattle.base_values.proofs.Machine.{back}
 
 abbrev outside : ℤ → Bool
@@ -27,7 +27,7 @@ shift-out f (negsuc n) e = refl
 
 shift-in : (b : ℤ) → outside b ≡ false → (b ≡ pos (ofZ w32 b)) × (ofZ w32 b < 32)
 shift-in (pos n) e = (refl, omega (arith, ltb-false 31 n (sym (outside-pos n) ∙ e)))
-shift-in (negsuc n) e = absurd (clash e)
+shift-in (negsuc n) e = absurd (true-false e)
 
 module _ {b : ℤ} (fb : SFits w32 b) where
   tested : outside (toZ w32 (ofZ w32 b)) ≡ outside b

@@ -113,16 +113,5 @@ module _ (j : ℕ) where
       let f : n < 2 ^ suc j = omega (arith, double) in
       rw (half, mod-eq-of-lt f, le-ltb (2 ^ suc j - suc n) (2 ^ j) (omega (arith, double)), comp-comp f)
 
-  signed-low : (u : ℕ) → u < 2 ^ suc j → low (suc j) (signed (suc j) u) ≡ u
-  signed-low u h = go (ltb u (2 ^ (suc j - 1)))
-    where
-      go : (t : Bool) → low (suc j) (cond t (pos u) (negsuc (2 ^ suc j - suc u))) ≡ u
-      go true = mod-eq-of-lt h
-      go false = rw (mod-eq-of-lt {n = 2 ^ suc j - suc u} {m = 2 ^ suc j} (omega arith), comp-comp h)
-
-  -- wrapping keeps the low bits
-  pub wrap-low : (z : ℤ) → low (suc j) (wrap (suc j) z) ≡ low (suc j) z
-  wrap-low z = signed-low (low (suc j) z) (low-lt (suc j) z)
-
   pub wrap-period : (z : ℤ) → wrap (suc j) (z +ℤ pos (2 ^ suc j)) ≡ wrap (suc j) z
   wrap-period z = ap (signed (suc j)) (low-period (suc j) z)

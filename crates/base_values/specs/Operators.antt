@@ -7,25 +7,15 @@ use lib.IntN.{ℤ, pos, negsuc, negℤ, _+ℤ_, _-ℤ_, _*ℤ_}
 use lib.Signed.{ltZ, leZ, quotZ, remZ, shrZ}
 use lib.Bits.{bitAnd, bitOr, bitXor}
 use lib.Dec.{eqb, ltb}
+use Rattle.base_kinds.specs.Kinds.{level}
 use Rattle.base_values.specs.Bits.{low, signed, wrap32}
 use Rattle.base_values.specs.declared.Fault.the-variants.{Divide, Shift}
 use Rattle.base_values.specs.declared.Answer.{Answer}
 use Rattle.base_values.specs.declared.Answer.the-variants.{Value, Fails}
 
--- the binding levels of table 3.2, loosest first: 1 ||, 2 &&, 3 |, 4 ^, 5 &, 6 == !=, 7 < <= > >=, 8 << >>, 9 + -, 10 * / %; 0 for no binary operator
+-- the binding levels, which unfold only where a proof asks
 unfoldable pub levelOf : ℕ → ℕ
-levelOf op =
-    cond (ltb op 1) 0
-    (cond (ltb op 2) 1
-    (cond (ltb op 3) 2
-    (cond (ltb op 4) 3
-    (cond (ltb op 5) 4
-    (cond (ltb op 6) 5
-    (cond (ltb op 8) 6
-    (cond (ltb op 12) 7
-    (cond (ltb op 14) 8
-    (cond (ltb op 16) 9
-    (cond (ltb op 19) 10 0))))))))))
+levelOf op = level op
 
 abbrev pub same : ℤ → ℤ → Bool
 same (pos a) (pos b) = eqb a b
@@ -40,6 +30,16 @@ isTrue a = not (same a (pos 0))
 abbrev pub oneIf : Bool → ℤ
 oneIf true = pos 1
 oneIf false = pos 0
+
+-- what was worked out as 0 or 1
+abbrev pub truth : Answer → Answer
+truth (Value v) = Value (oneIf (isTrue v))
+truth (Fails f) = Fails f
+
+-- 1 where what was worked out is w, else 0
+abbrev pub equalBy : Answer → ℤ → Answer
+equalBy (Value v) w = Value (oneIf (same v w))
+equalBy (Fails f) w = Fails f
 
 -- toward zero; the least value by -1 is the one quotient that leaves the range, and gives the least value
 unfoldable pub divideOf : ℤ → ℤ → Answer

@@ -7,48 +7,33 @@ use lib.ListN.{length, drop}
 use lib.IntN.{ℤ}
 use Rattle.base_outcome.specs.declared.Taken.{Taken}
 use Rattle.base_outcome.specs.declared.Taken.the-variants.{Done, Refuted, Faulted, Idle}
-use Rattle.step_all.specs.Moving.{nthIn}
+use Rattle.step_all.specs.Moving.{nthIn, verdictAs}
 use Rattle.step_entry.specs.Entries.{Outcome, tookBy, standingOf, offerBy}
 use Rattle.step_entry.specs.declared.Listed.the-variants as listed
 use Rattle.step_entry.specs.declared.Stepped.{Stepped}
 use Rattle.step_entry.specs.declared.Stepped.the-variants as stepped
 use Rattle.spec_machine.specs.Machine.{Step, Verdict, finished, blocked, «open»}
-use Rattle.spec_trails.specs.Runs.{Ending, stood, refuted, faulted}
-use Rattle.spec_trails.specs.Replays.{Replayed, accepted, refused}
-use Rattle.spec_trails.specs.Trails.{Recorded}
-use Rattle.agree_machine.proofs.Moves.{verdictAs, endingAs, choicesOf}
-use Rattle.agree_machine.proofs.Replays.{Still, answerAs}
+use Rattle.step_take.proofs.Still.{Still}
 use Rattle.agree_machine.proofs.Step.{Silent}
-use Rattle.demands.specs.Answers.{standingBy, listedBy, doneBy, endingBy, replayedBy}
+use Rattle.demands.specs.Answers.{standingBy, listedBy, doneBy}
 
 pub as-standing : (v : Verdict) → standingOf (verdictAs v) ≡ standingBy v
 as-standing finished = refl
 as-standing blocked = refl
 as-standing «open» = refl
 
-pub as-ending : (e : Ending) → endingAs e ≡ endingBy e
-as-ending (stood finished) = refl
-as-ending (stood blocked) = refl
-as-ending (stood «open») = refl
-as-ending refuted = refl
-as-ending (faulted f) = refl
-
-pub as-answer : (claim : ℕ) (r : Replayed) → answerAs claim r ≡ replayedBy claim r
-as-answer claim accepted = refl
-as-answer claim (refused x line) = refl
-
 -- the n-th of the steps, behind k others
-nth-listed : (l : List Step) (k n : ℕ) → offerBy (nthIn n (choicesOf l)) (k + n) ≡ listedBy (k + length l) n l
+nth-listed : (l : List Step) (k n : ℕ) → offerBy (nthIn n l) (k + n) ≡ listedBy (k + length l) n l
 unfolding nthIn
 nth-listed [] k n = ap listed.Only (let z : k + n - n ≡ k + 0 = omega arith in z)
 nth-listed (x ∷ l) k zero = refl
 nth-listed (x ∷ l) k (suc n) =
-    ap (offerBy (nthIn n (choicesOf l))) (let z : k + suc n ≡ suc k + n = omega arith in z) ∙ nth-listed l (suc k) n
+    ap (offerBy (nthIn n l)) (let z : k + suc n ≡ suc k + n = omega arith in z) ∙ nth-listed l (suc k) n
     ∙ ap (λ i. listedBy i n l) (let z : suc k + length l ≡ k + suc (length l) = omega arith in z)
 
-pub as-listed : (l : List Step) (n : ℕ) → offerBy (nthIn n (choicesOf l)) n ≡ listedBy (length l) n l
+pub as-listed : (l : List Step) (n : ℕ) → offerBy (nthIn n l) n ≡ listedBy (length l) n l
 as-listed l n =
-    ap (offerBy (nthIn n (choicesOf l))) (let z : n ≡ 0 + n = omega arith in z) ∙ nth-listed l 0 n ∙ ap (λ i. listedBy i n l) (let z : 0 + length l ≡ length l = omega arith in z)
+    ap (offerBy (nthIn n l)) (let z : n ≡ 0 + n = omega arith in z) ∙ nth-listed l 0 n ∙ ap (λ i. listedBy i n l) (let z : 0 + length l ≡ length l = omega arith in z)
 
 -- a step that is not done leaves the numbers as they were, and prints nothing
 module _ {S : Type 0} (numbers : S → List ℤ) (σ : S) (out : List ℕ) where

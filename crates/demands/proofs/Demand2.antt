@@ -1,9 +1,9 @@
 -- DEMAND 2, proved.
-use Prim.Native.Nat.{ℕ, _+_, _≤_}
+use Prim.Native.Nat.{ℕ, _≤_}
 use mathlib.Core.Path.{_≡_, refl, sym as inv, ap, ap₂, _∙_}
 use mathlib.Core.Bool.{Bool, true, false}
 use mathlib.Core.Option.{Option, none, some}
-use mathlib.Core.List.{List, _++_}
+use mathlib.Core.List.{List}
 use lib.ListN.{length, drop}
 use lib.IntN.{ℤ}
 use lib.Dec.{eqb, ltb}
@@ -11,38 +11,35 @@ use borrow.Author.Tests.{le-ltb, ltb-false}
 use Rattle.base_bytes.specs.Choice.{pick}
 use Rattle.spec_grammar.specs.Tree.{Model}
 use Rattle.table_genuine.specs.Genuine.{written}
-use Rattle.state_layout.specs.Layout.{stateSize}
 use Rattle.state_start.specs.Starting.{initialOf}
-use Rattle.step_all.specs.Moving.{stepAt, nthOf, verdictOf}
-use Rattle.step_entry.specs.Entries.{foreignOf, refusalOf, startLeft, standingOf, offerBy, offeredOf, verdictFor, refusedBy, outcomeBy, printRoom, stepRefusal, outcomeOf}
-use Rattle.step_entry.specs.declared.Listed.the-variants as listed
-use Rattle.step_entry.specs.declared.Standing.the-variants as standing
-use Rattle.run_entry.specs.Runs as runs
-use Rattle.run_entry.specs.declared.Ran.the-variants as ran
+use Rattle.step_all.specs.Moving.{machineIn, nthIn, verdictAs}
+use Rattle.step_entry.specs.Entries.{foreignOf, refusalOf, startLeft, standingOf, offerBy, offeredOf, verdictFor, refusedBy, outcomeBy, askedIn, stepRefusal, outcomeOf}
+use Rattle.run_entry.specs.Runs.{shown, runIn}
 use Rattle.run_entry.specs.Entries.{ranOf}
 use Rattle.trail_form.specs.Forms.{Form, form, spoiled, formFrom, formOf}
-use Rattle.spec_trails.specs.Trails.{trail-most, steps-most}
-use Rattle.trail_replay.specs.Entries as trails
+use Rattle.spec_trails.specs.Trails.{Recorded}
+use Rattle.trail_replay.specs.Replay.{replayedAs}
 use Rattle.trail_replay.specs.Entries.{replayedOf}
-use Rattle.trail_replay.specs.declared.Replayed.the-variants as replayed
 use Rattle.spec_machine.specs.State.{State}
 use Rattle.spec_machine.specs.Begins.{initial}
-use Rattle.state_encode.specs.Encode.{encode}
 use Rattle.spec_machine.specs.Machine.{Machine, Step, offered, verdict, asked}
-use Rattle.spec_trails.specs.Replays.{Replayed, replayFrom}
-use Rattle.spec_trails.specs.Trails.{Recorded}
+use Rattle.spec_trails.specs.Replays.{claimBy, replayFrom}
 use Rattle.spec_trails.specs.Runs.{runFrom}
 use Rattle.spec_machine.specs.Steps.{machineOf}
-use Rattle.agree_machine.proofs.Entries as entries
-use Rattle.agree_machine.proofs.Replays.{answerAs}
 use Rattle.agree_machine.proofs.Step.{step-still, step-none, step-some, take-silent}
 use Rattle.demands.specs.Lent.{Rooms, Tables, of-text, Numbers, Lent, no-room, no-model, no-state, a-state}
-use Rattle.demands.specs.Answers.{standingBy, listedBy, doneBy, claimBy, replayedBy}
+use Rattle.demands.specs.Answers.{standingBy, listedBy, doneBy}
 use Rattle.demands.specs.Entries.{leaves, takenBy, ranBy, formedBy, startBy, offeredBy, verdictBy, steppedBy, stepBy, runBy, replayBy}
 use Rattle.demands.specs.Demand2.{Demand2}
 use Rattle.demands.proofs.Lent.{tables-genuine, foreign-room, foreign-is, foreign-none, refusal-is, cases}
-use Rattle.demands.proofs.Answers.{as-standing, as-ending, as-answer, as-listed, as-done}
-use Rattle.demands.proofs.Claims.{verdict-claimed}
+use Rattle.demands.proofs.Answers.{as-standing, as-listed, as-done}
+use Rattle.base_ceilings.specs.Ceilings.{printRoom, stateRoom, stepsMost, trailMost}
+use Rattle.step_entry.specs.declared.Listed.the-variants as listed
+use Rattle.step_entry.specs.declared.Standing.the-variants as standing
+use Rattle.run_entry.specs.declared.Ran.the-variants as ran
+use Rattle.trail_replay.specs.Entries as trails
+use Rattle.trail_replay.specs.declared.Replayed.the-variants as replayed
+use Rattle.agree_machine.proofs.Entries as entries
 
 module _ (ts : List ℕ) (s : List ℤ) where
   -- ---- by the number of the refusal
@@ -52,33 +49,33 @@ module _ (ts : List ℕ) (s : List ℤ) where
 
   refused-offered : (i n : ℕ) → eqb i 0 ≡ false → refusalOf ts s ≡ i → offeredOf ts s n ≡ listed.Refused i
   unfolding offeredOf
-  refused-offered i n z e = ap (λ j. pick (eqb j 0) (offerBy (nthOf (written ts) s n) n) (listed.Refused j)) e ∙ ap (λ b. pick b (offerBy (nthOf (written ts) s n) n) (listed.Refused i)) z
+  refused-offered i n z e = ap (λ j. pick (eqb j 0) (offerBy (nthIn n (offered (machineIn (written ts)) s)) n) (listed.Refused j)) e ∙ ap (λ b. pick b (offerBy (nthIn n (offered (machineIn (written ts)) s)) n) (listed.Refused i)) z
 
   refused-verdict : (i : ℕ) → eqb i 0 ≡ false → refusalOf ts s ≡ i → verdictFor ts s ≡ standing.Refused i
   unfolding verdictFor
   refused-verdict i z e =
-      ap (λ j. pick (eqb j 0) (standingOf (verdictOf (written ts) s)) (standing.Refused j)) e ∙ ap (λ b. pick b (standingOf (verdictOf (written ts) s)) (standing.Refused i)) z
+      ap (λ j. pick (eqb j 0) (standingOf (verdictAs (verdict (machineIn (written ts)) s))) (standing.Refused j)) e ∙ ap (λ b. pick b (standingOf (verdictAs (verdict (machineIn (written ts)) s))) (standing.Refused i)) z
 
   refused-run : (i n : ℕ) → eqb i 0 ≡ false → refusalOf ts s ≡ i → ranOf ts s n ≡ (ran.Refused i, s)
   unfolding ranOf
   refused-run i n z e =
-      ap (λ j. pick (eqb j 0) (runs.shown (runs.runFrom (written ts) n s)) (ran.Refused j, s)) e ∙ ap (λ b. pick b (runs.shown (runs.runFrom (written ts) n s)) (ran.Refused i, s)) z
+      ap (λ j. pick (eqb j 0) (shown (runIn (written ts) n s)) (ran.Refused j, s)) e ∙ ap (λ b. pick b (shown (runIn (written ts) n s)) (ran.Refused i, s)) z
 
   refused-step : (i p k : ℕ) (out : List ℕ) → eqb i 0 ≡ false → stepRefusal ts s out ≡ i → outcomeOf ts s p k out ≡ refusedBy i s out
   unfolding outcomeOf
   refused-step i p k out z e =
-      ap (λ j. pick (eqb j 0) (outcomeBy (stepAt (written ts) s p k) (written ts) s p out) (refusedBy j s out)) e
-      ∙ ap (λ b. pick b (outcomeBy (stepAt (written ts) s p k) (written ts) s p out) (refusedBy i s out)) z
+      ap (λ j. pick (eqb j 0) (outcomeBy (askedIn (written ts) s p k) (written ts) s out) (refusedBy j s out)) e
+      ∙ ap (λ b. pick b (outcomeBy (askedIn (written ts) s p k) (written ts) s out) (refusedBy i s out)) z
 
   printed-room : (out : List ℕ) (b : Bool) → ltb (length out) printRoom ≡ b → stepRefusal ts s out ≡ pick b 7 (refusalOf ts s)
   unfolding stepRefusal
   printed-room out b e = ap (λ c. pick c 7 (refusalOf ts s)) e
 
   replay-by : (i : ℕ) (trail : List ℕ) → foreignOf ts s ≡ i → replayedOf ts trail s
-      ≡ pick (eqb i 7) (replayed.Refused 7 0, s) (pick (ltb trail-most (length trail)) (replayed.Refused 2 0, s) (pick (eqb i 0) (trails.replayedBy (formOf trail) (written ts) s) (replayed.Refused 8 0, s)))
+      ≡ pick (eqb i 7) (replayed.Refused 7 0, s) (pick (ltb trailMost (length trail)) (replayed.Refused 2 0, s) (pick (eqb i 0) (trails.replayedBy (formOf trail) (written ts) s) (replayed.Refused 8 0, s)))
   unfolding replayedOf
   replay-by i trail e =
-      ap (λ j. pick (eqb j 7) (replayed.Refused 7 0, s) (pick (ltb trail-most (length trail)) (replayed.Refused 2 0, s) (pick (eqb j 0) (trails.replayedBy (formOf trail) (written ts) s) (replayed.Refused 8 0, s)))) e
+      ap (λ j. pick (eqb j 7) (replayed.Refused 7 0, s) (pick (ltb trailMost (length trail)) (replayed.Refused 2 0, s) (pick (eqb j 0) (trails.replayedBy (formOf trail) (written ts) s) (replayed.Refused 8 0, s)))) e
 
   -- ---- where nothing is refused
   starts : (m : Model) → Rooms ts s → Tables ts m → startLeft ts s ≡ leaves s m (initial m)
@@ -87,12 +84,12 @@ module _ (ts : List ℕ) (s : List ℤ) where
 
   lists : (m : Model) (σ : State) → Rooms ts s → Tables ts m → Numbers m s σ → (n : ℕ) → offeredOf ts s n ≡ listedBy (length (offered (machineOf m) σ)) n (offered (machineOf m) σ)
   lists m σ r (of-text t a e) h n =
-      ap (λ x. offeredOf ts x n) (h .are) ∙ entries.lists ts (r .tables) (tables-genuine ts (a .tree) (of-text t a e)) t a e σ (drop stateSize s) (h .fits) n
+      ap (λ x. offeredOf ts x n) (h .are) ∙ entries.lists ts (r .tables) (tables-genuine ts (a .tree) (of-text t a e)) t a e σ (drop stateRoom s) (h .fits) n
       ∙ as-listed (offered (machineOf (a .tree)) σ) n
 
   judges : (m : Model) (σ : State) → Rooms ts s → Tables ts m → Numbers m s σ → verdictFor ts s ≡ standingBy (verdict (machineOf m) σ)
   judges m σ r (of-text t a e) h =
-      ap (verdictFor ts) (h .are) ∙ entries.judges ts (r .tables) (tables-genuine ts (a .tree) (of-text t a e)) t a e σ (drop stateSize s) (h .fits)
+      ap (verdictFor ts) (h .are) ∙ entries.judges ts (r .tables) (tables-genuine ts (a .tree) (of-text t a e)) t a e σ (drop stateRoom s) (h .fits)
       ∙ as-standing (verdict (machineOf (a .tree)) σ)
 
   takes : (m : Model) (σ : State) → Rooms ts s → Tables ts m → Numbers m s σ → (p k : ℕ) (out : List ℕ) → printRoom ≤ length out
@@ -105,52 +102,46 @@ module _ (ts : List ℕ) (s : List ℤ) where
 
       go : (o : Option Step) → asked (machineOf (a .tree)) p k (offered (machineOf (a .tree)) σ) ≡ o → outcomeOf ts s p k out ≡ takenBy s (a .tree) σ out o
       go none q =
-          ap (λ x. outcomeOf ts x p k out) (h .are) ∙ step-none ts (r .tables) (tables-genuine ts (a .tree) (of-text t a e)) t a e σ (drop stateSize s) (h .fits) p k out long q
+          ap (λ x. outcomeOf ts x p k out) (h .are) ∙ step-none ts (r .tables) (tables-genuine ts (a .tree) (of-text t a e)) t a e σ (drop stateRoom s) (h .fits) p k out long q
           ∙ ap (λ x. refusedBy 11 x out) (inv (h .are))
       go (some x) q =
           let N = machineOf (a .tree) in
           let real = tables-genuine ts (a .tree) (of-text t a e) in
           let after = N .take σ (x .process) (x .place) in
-          ap (λ y. outcomeOf ts y p k out) (h .are) ∙ step-some ts (r .tables) real t a e σ (drop stateSize s) (h .fits) p k out long x q
+          ap (λ y. outcomeOf ts y p k out) (h .are) ∙ step-some ts (r .tables) real t a e σ (drop stateRoom s) (h .fits) p k out long x q
           ∙ as-done (leaves s (a .tree)) σ out (after .0) (after .1) (N .printed σ (x .process) (x .place))
-          (step-still ts (r .tables) real t a e σ (drop stateSize s) (h .fits) p k x q) (take-silent (a .tree) σ (x .process) (x .place))
+          (step-still ts (r .tables) real t a e σ (drop stateRoom s) (h .fits) p k x q) (take-silent (a .tree) σ (x .process) (x .place))
           ∙ ap (λ y. doneBy y out (after .0) (leaves s (a .tree) (after .1)) (N .printed σ (x .process) (x .place))) (inv (h .are))
 
   runs-so : (m : Model) (σ : State) → Rooms ts s → Tables ts m → Numbers m s σ → (n : ℕ) → ranOf ts s n ≡ ranBy s m (runFrom (machineOf m) n σ)
   unfolding leaves
   runs-so m σ r (of-text t a e) h n =
-      let R = runFrom (machineOf (a .tree)) n σ in
-      ap (λ x. ranOf ts x n) (h .are) ∙ entries.runs-so ts (r .tables) (tables-genuine ts (a .tree) (of-text t a e)) t a e σ (drop stateSize s) (h .fits) n
-      ∙ ap (λ z. (ran.Ended z (R .count), leaves s (a .tree) (R .state))) (as-ending (R .ending))
+      ap (λ x. ranOf ts x n) (h .are) ∙ entries.runs-so ts (r .tables) (tables-genuine ts (a .tree) (of-text t a e)) t a e σ (drop stateRoom s) (h .fits) n
 
-  replays-records : (m : Model) → Rooms ts s → Tables ts m → (trail : List ℕ) (l : List Recorded) (v : ℕ) → length trail ≤ trail-most → formOf trail ≡ form l v
+  replays-records : (m : Model) → Rooms ts s → Tables ts m → (trail : List ℕ) (l : List Recorded) (v : ℕ) → length trail ≤ trailMost → formOf trail ≡ form l v
       → replayedOf ts trail s
-      ≡ (replayedBy v (replayFrom (machineOf m) (claimBy v) l 1 none (initial m) .0), leaves s m (replayFrom (machineOf m) (claimBy v) l 1 none (initial m) .1))
+      ≡ (replayedAs v (replayFrom (machineOf m) (claimBy v) l 1 none (initial m) .0), leaves s m (replayFrom (machineOf m) (claimBy v) l 1 none (initial m) .1))
   unfolding leaves
   replays-records m r (of-text t a e) trail l v h q =
-      let c = verdict-claimed trail l v q in
-      let W : List Recorded → Replayed × State = λ x. replayFrom (machineOf (a .tree)) (claimBy v) x 1 none (initial (a .tree)) in
-      entries.replays ts (r .tables) (tables-genuine ts (a .tree) (of-text t a e)) t a e s (r .state) trail l (claimBy v) h (q ∙ ap (form l) (inv c))
-      ∙ ap (λ (i : ℕ). (answerAs i (W l .0), encode (a .tree) (W l .1) ++ drop stateSize s)) c
-      ∙ ap (λ z. (z, encode (a .tree) (W l .1) ++ drop stateSize s)) (as-answer v (W l .0))
+      entries.replays ts (r .tables) (tables-genuine ts (a .tree) (of-text t a e)) t a e s (r .state) trail l v h q
 
   pub replays : (m : Model) → Rooms ts s → Tables ts m → (trail : List ℕ) → replayedOf ts trail s ≡ formedBy s m (formOf trail)
-  replays m r h trail = by-length (ltb trail-most (length trail)) refl
+  replays m r h trail = by-length (ltb trailMost (length trail)) refl
     where
-      let-through : replayedOf ts trail s ≡ pick (ltb trail-most (length trail)) (replayed.Refused 2 0, s) (trails.replayedBy (formOf trail) (written ts) s)
+      let-through : replayedOf ts trail s ≡ pick (ltb trailMost (length trail)) (replayed.Refused 2 0, s) (trails.replayedBy (formOf trail) (written ts) s)
       let-through = replay-by 0 trail (foreign-none ts s m r h)
 
-      by-form : length trail ≤ trail-most → (f : Form) → formOf trail ≡ f → replayedOf ts trail s ≡ formedBy s m f
+      by-form : length trail ≤ trailMost → (f : Form) → formOf trail ≡ f → replayedOf ts trail s ≡ formedBy s m f
       by-form g (spoiled x line) q =
-          let-through ∙ ap (λ b. pick b (replayed.Refused 2 0, s) (trails.replayedBy (formOf trail) (written ts) s)) (le-ltb trail-most (length trail) g)
+          let-through ∙ ap (λ b. pick b (replayed.Refused 2 0, s) (trails.replayedBy (formOf trail) (written ts) s)) (le-ltb trailMost (length trail) g)
           ∙ ap (λ (f : Form). trails.replayedBy f (written ts) s) q
       by-form g (form l v) q = replays-records m r h trail l v g q
 
-      by-length : (b : Bool) → ltb trail-most (length trail) ≡ b → replayedOf ts trail s ≡ formedBy s m (formOf trail)
+      by-length : (b : Bool) → ltb trailMost (length trail) ≡ b → replayedOf ts trail s ≡ formedBy s m (formOf trail)
       by-length true q =
           let-through ∙ ap (λ b. pick b (replayed.Refused 2 0, s) (trails.replayedBy (formOf trail) (written ts) s)) q
-          ∙ ap (λ b. formedBy s m (pick b (spoiled 2 0) (formFrom 1 steps-most 0 trail))) (inv q)
-      by-length false q = by-form (ltb-false trail-most (length trail) q) (formOf trail) refl
+          ∙ ap (λ b. formedBy s m (pick b (spoiled 2 0) (formFrom 1 stepsMost 0 trail))) (inv q)
+      by-length false q = by-form (ltb-false trailMost (length trail) q) (formOf trail) refl
 
   -- ---- each entry in each case
   start-is : (x : Lent ts s) → (foreignOf ts s, startLeft ts s) ≡ startBy x

@@ -8,11 +8,12 @@ use mathlib.Core.Bool.{true}
 use lib.ListN.{length}
 use lib.IntN.{ℤ}
 use borrow.Author.Tests.{le-ltb}
+use Rattle.base_ceilings.specs.Ceilings.{printRoom}
 use Rattle.base_bytes.specs.Choice.{pick}
 use Rattle.spec_grammar.specs.Tree.{Model}
 use Rattle.base_outcome.specs.declared.Taken.{Taken}
 use Rattle.base_outcome.specs.declared.Taken.the-variants.{Done, Refuted, Faulted, Idle}
-use Rattle.step_entry.specs.Entries.{Outcome, refusedBy, printRoom, outcomeOf}
+use Rattle.step_entry.specs.Entries.{Outcome, refusedBy, outcomeOf}
 use Rattle.step_entry.specs.declared.Stepped.{Stepped}
 use Rattle.step_entry.specs.declared.Stepped.the-variants as stepped
 use Rattle.spec_machine.specs.State.{State}

@@ -8,14 +8,14 @@ use mathlib.Core.List.{List, []}
 use lib.ListN.{length, drop}
 use lib.IntN.{ℤ}
 use lib.Dec.{ltb}
+use Rattle.base_ceilings.specs.Ceilings.{printRoom, stateRoom}
 use Rattle.base_bytes.specs.Choice.{pick}
 use Rattle.spec_grammar.specs.Tree.{Model}
 use Rattle.table_genuine.specs.Genuine.{written}
-use Rattle.state_layout.specs.Layout.{stateSize}
 use Rattle.state_check.specs.Standing.{isStateOf}
 use Rattle.base_outcome.specs.declared.Taken.{Taken}
 use Rattle.base_outcome.specs.declared.Taken.the-variants.{Done, Refuted, Faulted, Idle}
-use Rattle.step_entry.specs.Entries.{foreignOf, startLeft, Outcome, refusedBy, printRoom, outcomeOf}
+use Rattle.step_entry.specs.Entries.{foreignOf, startLeft, Outcome, refusedBy, outcomeOf}
 use Rattle.step_entry.specs.declared.Stepped.the-variants as stepped
 use Rattle.run_entry.specs.Entries.{ranOf}
 use Rattle.trail_form.specs.Forms.{form, formOf}
@@ -25,13 +25,13 @@ use Rattle.spec_machine.specs.Begins.{initial}
 use Rattle.spec_machine.specs.Places.{Belongs}
 use Rattle.spec_machine.specs.Fits.{Fits}
 use Rattle.spec_machine.specs.Machine.{Step, offered, asked}
-use Rattle.spec_trails.specs.Replays.{Claim, replayFrom}
+use Rattle.spec_trails.specs.Replays.{Claim, claimBy, replayFrom}
 use Rattle.spec_trails.specs.Trails.{Recorded}
 use Rattle.spec_trails.specs.Runs.{runFrom}
 use Rattle.spec_machine.specs.Steps.{machineOf}
 use Rattle.agree_machine.proofs.Entries as entries
 use Rattle.demands.specs.Lent.{Rooms, Tables, of-text, Holds, Lent, no-room, no-model, no-state, a-state}
-use Rattle.demands.specs.Answers.{doneBy, claimBy}
+use Rattle.demands.specs.Answers.{doneBy}
 use Rattle.demands.specs.Entries.{leaves, takenBy, formedBy, refusalBy, steppedBy}
 use Rattle.demands.specs.InWords.{Unchanged, Leaves}
 use Rattle.demands.proofs.Lent.{tables-genuine, numbers-state, state-is, foreign-room, foreign-is}
@@ -77,7 +77,7 @@ module _ (ts : List ℕ) (s : List ℤ) where
 
   left : (m : Model) → Tables ts m → (τ : State) → Fits (Belongs m) m τ → Stands (leaves s m τ)
   unfolding leaves
-  left m h τ f = numbers-state ts m τ (drop stateSize s) h f
+  left m h τ f = numbers-state ts m τ (drop stateRoom s) h f
 
   pub initial-fits : (m : Model) → Rooms ts s → Tables ts m → Fits (Belongs m) m (initial m)
   initial-fits m r (of-text t a e) = entries.initially ts (r .tables) (tables-genuine ts (a .tree) (of-text t a e)) t a e

@@ -9,16 +9,15 @@ use lib.ListN.{length, drop}
 use lib.IntN.{ℤ}
 use lib.Dec.{eqb, ltb}
 use borrow.Author.Tests.{lt-ltb, le-ltb, ltb-true, ltb-false}
+use Rattle.base_ceilings.specs.Ceilings.{stateRoom, tablesRoom}
 use Rattle.base_bytes.specs.Choice.{pick}
 use Rattle.base_bytes.proofs.Tests.{true-false}
 use Rattle.spec_grammar.specs.Tree.{Model}
-use Rattle.read_entry.specs.Entries.{room}
 use Rattle.read_accepts_proof.specs.Meaning.{Accepts}
 use Rattle.read_accepts_proof.proofs.Main.{accepted-means, means-accepted}
 use Rattle.read_accepts_proof.proofs.Tables.{tables-tree}
 use Rattle.table_genuine.specs.Genuine.{written, genuine}
 use Rattle.normal_proof.proofs.Owners.{genuine-owned, owned-genuine}
-use Rattle.state_layout.specs.Layout.{stateSize}
 use Rattle.state_check.specs.Standing.{isStateOf}
 use Rattle.step_entry.specs.Entries.{foreignOf, refusalOf}
 use Rattle.spec_machine.specs.State.{State}
@@ -27,7 +26,7 @@ use Rattle.spec_machine.specs.Places.{Belongs}
 use Rattle.spec_machine.specs.Fits.{Fits}
 use Rattle.agree_states.proofs.Texts.{text-holds, text-held-state, text-single}
 use Rattle.agree_machine.proofs.Survey.{text-modest, text-surveyed}
-use Rattle.demands.specs.Lent.{Rooms, Tables, of-text, Numbers, Lent, no-room, no-model, no-state, a-state, Case, seven, eight, nine, holds, caseOf}
+use Rattle.demands.specs.Lent.{Rooms, Tables, of-text, Numbers, Lent, no-room, no-model, no-state, a-state, nine, holds, caseOf}
 use Rattle.demands.specs.Entries.{refusalBy}
 use Rattle.demands.specs.Demand2.{OneCase}
 
@@ -62,11 +61,11 @@ pub numbers-state : (ts : List ℕ) (m : Model) (σ : State) (rest : List ℤ) �
 numbers-state ts m σ rest (of-text t a e) f = ap (λ w. isStateOf w (encode (a .tree) σ ++ rest)) e ∙ text-held-state t a (text-modest t a) (text-surveyed t a) σ rest f
 
 pub state-is : (ts : List ℕ) (m : Model) (s : List ℤ) (σ : State) → Tables ts m → Numbers m s σ → isStateOf (written ts) s ≡ true
-state-is ts m s σ h n = ap (isStateOf (written ts)) (n .are) ∙ numbers-state ts m σ (drop stateSize s) h (n .fits)
+state-is ts m s σ h n = ap (isStateOf (written ts)) (n .are) ∙ numbers-state ts m σ (drop stateRoom s) h (n .fits)
 
 one-state : (ts : List ℕ) (m : Model) (s : List ℤ) (σ τ : State) → Tables ts m → Numbers m s σ → Numbers m s τ → σ ≡ τ
 one-state ts m s σ τ (of-text t a e) p q =
-    text-single t a (text-modest t a) (text-surveyed t a) s σ τ (drop stateSize s) (drop stateSize s) (p .fits) (q .fits) (p .are) (q .are)
+    text-single t a (text-modest t a) (text-surveyed t a) s σ τ (drop stateRoom s) (drop stateRoom s) (p .fits) (q .fits) (p .are) (q .are)
 
 -- ---- every pair is in some case
 module _ (ts : List ℕ) (s : List ℤ) where
@@ -79,26 +78,26 @@ module _ (ts : List ℕ) (s : List ℤ) where
   by-tables r false e = no-model r (λ m h. true-false (inv (tables-genuine ts m h) ∙ e))
 
   some-case : Lent ts s
-  some-case = go (ltb (length ts) room) (ltb (length s) stateSize) refl refl
+  some-case = go (ltb (length ts) tablesRoom) (ltb (length s) stateRoom) refl refl
     where
-      go : (b c : Bool) → ltb (length ts) room ≡ b → ltb (length s) stateSize ≡ c → Lent ts s
-      go true c e f = no-room (inl (ltb-true (length ts) room e))
-      go false true e f = no-room (inr (ltb-true (length s) stateSize f))
-      go false false e f = by-tables (record { tables = ltb-false (length ts) room e; state = ltb-false (length s) stateSize f }) (genuine ts) refl
+      go : (b c : Bool) → ltb (length ts) tablesRoom ≡ b → ltb (length s) stateRoom ≡ c → Lent ts s
+      go true c e f = no-room (inl (ltb-true (length ts) tablesRoom e))
+      go false true e f = no-room (inr (ltb-true (length s) stateRoom f))
+      go false false e f = by-tables (record { tables = ltb-false (length ts) tablesRoom e; state = ltb-false (length s) stateRoom f }) (genuine ts) refl
 
   -- ---- the refusals
-  pub foreign-room : (length ts < room) ⊎ (length s < stateSize) → foreignOf ts s ≡ 7
+  pub foreign-room : (length ts < tablesRoom) ⊎ (length s < stateRoom) → foreignOf ts s ≡ 7
   unfolding foreignOf
-  foreign-room (inl h) = rw (lt-ltb (length ts) room h)
-  foreign-room (inr h) = go (ltb (length ts) room)
+  foreign-room (inl h) = rw (lt-ltb (length ts) tablesRoom h)
+  foreign-room (inr h) = go (ltb (length ts) tablesRoom)
     where
-      go : (b : Bool) → _≡_ {A = ℕ} (pick b 7 (pick (ltb (length s) stateSize) 7 (pick (genuine ts) 0 8))) 7
+      go : (b : Bool) → _≡_ {A = ℕ} (pick b 7 (pick (ltb (length s) stateRoom) 7 (pick (genuine ts) 0 8))) 7
       go true = refl
-      go false = rw (lt-ltb (length s) stateSize h)
+      go false = rw (lt-ltb (length s) stateRoom h)
 
   foreign-by : Rooms ts s → (b : Bool) → genuine ts ≡ b → foreignOf ts s ≡ pick b 0 8
   unfolding foreignOf
-  foreign-by r b e = rw (le-ltb (length ts) room (r .tables), le-ltb (length s) stateSize (r .state), e)
+  foreign-by r b e = rw (le-ltb (length ts) tablesRoom (r .tables), le-ltb (length s) stateRoom (r .state), e)
 
   not-genuine : ((m : Model) → Tables ts m → ⊥) → (b : Bool) → genuine ts ≡ b → b ≡ false
   not-genuine h true e = let o = owner ts e in absurd (h (o .tree) (o .tables))
@@ -124,12 +123,6 @@ module _ (ts : List ℕ) (s : List ℤ) where
       ap (λ i. pick (eqb i 0) (pick (isStateOf (written ts) s) 0 9) i) (foreign-none m (h .rooms) (h .tables)) ∙ ap (λ b. pick b 0 9) (state-is ts m s σ (h .tables) (h .numbers))
 
   -- ---- no pair is in two
-  abbrev numberOf : Case → ℕ
-  numberOf seven = 7
-  numberOf eight = 8
-  numberOf (nine m) = 9
-  numberOf (holds m σ) = 0
-
   one-case : (x y : Lent ts s) → caseOf x ≡ caseOf y
   one-case x y = go x y (inv (refusal-is x) ∙ refusal-is y)
     where

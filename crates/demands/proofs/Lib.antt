@@ -1,6 +1,5 @@
 pub mod Lent
 pub mod Answers
-pub mod Claims
 pub mod Demand2
 pub mod Offers
 pub mod TextOrder

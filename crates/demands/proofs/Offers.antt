@@ -3,12 +3,11 @@ use Prim.Native.Nat.{ℕ, zero, suc, _+_, _-_, _<_}
 use native.Mathlib.Omega.{arith}
 use mathlib.Core.Path.{_≡_, refl, sym as inv, ap, _∙_, subst}
 use mathlib.Core.Bool.{Bool, true, false}
-use mathlib.Core.Option.{Option, none, some}
+use mathlib.Core.Option.{some}
 use mathlib.Core.Logic.{_⊎_, inl, inr, _↔_}
 use mathlib.Core.List.{List, [], _∷_, _++_}
 use lib.ListN.{length}
 use lib.Dec.{eqb}
-use borrow.Author.Tests.{eqb-true, ne-eqb}
 use Rattle.base_bytes.specs.Choice.{pick}
 use Rattle.step_offers.specs.Offers.{pickAt}
 use Rattle.step_offers.specs.declared.Walk.{Walk}
@@ -16,7 +15,8 @@ use Rattle.step_offers.specs.declared.Walk.the-variants.{Found, Left}
 use Rattle.step_entry.specs.declared.Listed.{Listed}
 use Rattle.step_entry.specs.declared.Listed.the-variants as listed
 use Rattle.spec_machine.specs.Machine.{Machine, Step, numbered, late, listFrom, offered, asked}
-use Rattle.agree_machine.proofs.Asked.{Met, there}
+use Rattle.step_all.specs.Moving.{stepAs}
+use Rattle.step_all.proofs.Asked.{one-asked, asked-given}
 use Rattle.demands.specs.Answers.{listedBy}
 use Rattle.demands.specs.Walks.{Nth, here, later, Offers}
 
@@ -118,73 +118,37 @@ module _ {S : Type 0} (M : Machine S) (s : S) where
   among-offers x h = let r = list-among (late M s) 0 (M .processes s) x h in let z = r .0 in record { there = omega arith; listed = r .1 }
 
   -- ---- asked for
-  record Own (p k : ℕ) (x : Step) (l : List Step) : Type 0 where
-    process : x .process ≡ p
-    number : x .number ≡ k
-    among : Among x l
-
-  abbrev theStep : Option Step → Step
-  theStep none = record { process = 0; number = 0; place = 0 }
-  theStep (some x) = x
-
-  abbrev isSome : Option Step → ℕ
-  isSome none = 0
-  isSome (some x) = 1
-
-  asked-own : (p k : ℕ) (x : Step) (l : List Step) → asked M p k l ≡ some x → Own p k x l
-  unfolding asked
-  asked-own p k x [] e = let z : _≡_ {A = ℕ} 0 1 = ap isSome e in absurd (omega arith)
-  asked-own p k x (y ∷ l) e = go (eqb (y .process) p) (eqb (y .number) k) refl refl e (λ f. asked-own p k x l f)
-    where
-      on : Own p k x l → Own p k x (y ∷ l)
-      on r = record { process = r .process; number = r .number; among = back (r .among) }
-
-      go : (b c : Bool) → eqb (y .process) p ≡ b → eqb (y .number) k ≡ c → pick b (pick c (some y) (asked M p k l)) (asked M p k l) ≡ some x
-          → (asked M p k l ≡ some x → Own p k x l) → Own p k x (y ∷ l)
-      go true true u v e f =
-          subst (λ z. Own p k z (y ∷ l)) (ap theStep e) (record { process = eqb-true (y .process) p u; number = eqb-true (y .number) k v; among = front })
-      go true false u v e f = on (f e)
-      go false c u v e f = on (f e)
-
   pub asked-offers : (p k : ℕ) (x : Step) → asked M p k (offered M s) ≡ some x → (x .process ≡ p) × (x .number ≡ k) × Offers M s p k (x .place)
   asked-offers p k x e =
-      let r = asked-own p k x (offered M s) e in
-      (r .process, r .number, subst (λ i. Offers M s p i (x .place)) (r .number) (subst (λ i. Offers M s i (x .number) (x .place)) (r .process) (among-offers x (r .among))))
-
-  found-there : (p k q : ℕ) → Offers M s p k q → Met M p (Found q) (asked M p k (offered M s))
-  unfolding offered
-  found-there p k q h =
-      let r = nth-place (h .listed) in
-      let l = h .there in
-      let n = r .number in
-      let i : k - 1 ≡ r .before = omega arith in
-      subst (λ w. Met M p w (asked M p k (listFrom M s (late M s) 0 (M .processes s))))
-      (ap (λ b. pick b (Left 0) (pickAt (k - 1) (M .steps s (late M s) p))) (ne-eqb k 0 (λ e. omega arith)) ∙ ap (λ j. pickAt j (M .steps s (late M s) p)) i ∙ r .found)
-      (there M s (late M s) p k 0 (M .processes s) (omega arith) (omega arith))
-
-  same-step : (p k q : ℕ) (x : Step) → x .process ≡ p → x .number ≡ k → x .place ≡ q → x ≡ record { process = p; number = k; place = q }
-  same-step p k q x a b c =
-      ap (λ (i : ℕ). record { process = i; number = x .number; place = x .place }) a
-      ∙ ap (λ (i : ℕ). record { process = p; number = i; place = x .place }) b
-      ∙ ap (λ (i : ℕ). record { process = p; number = k; place = i }) c
+      let g = asked-given M s p k x e in (
+        ap (λ (y : Step). y .process) (g .is),
+        ap (λ (y : Step). y .number) (g .is),
+        record { there = g .there; listed = subst (λ i. Nth (x .place) i (M .steps s (late M s) p)) (inv (g .number)) (place-nth (x .place) (g .before) (M .steps s (late M s) p) (g .found)) },
+      )
 
   pub offers-asked : (p k q : ℕ) → Offers M s p k q → asked M p k (offered M s) ≡ some (record { process = p; number = k; place = q })
-  offers-asked p k q h = go (asked M p k (offered M s)) refl (found-there p k q h)
+  offers-asked p k q h = let r = nth-place (h .listed) in inv (one-asked M s p k (r .before) (r .number) (h .there)) ∙ ap (stepAs p k) (r .found)
+
+  asked-among : (p k : ℕ) (x : Step) (l : List Step) → asked M p k l ≡ some x → Among x l
+  unfolding asked
+  asked-among p k x [] e = absurd (let z : _≡_ {A = ℕ} 0 1 = cc in omega arith)
+  asked-among p k x (y ∷ l) e = go (eqb (y .process) p) (eqb (y .number) k) e (λ f. asked-among p k x l f)
     where
-      go : (o : Option Step) → asked M p k (offered M s) ≡ o → Met M p (Found q) o → asked M p k (offered M s) ≡ some (record { process = p; number = k; place = q })
-      go none e m = absurd m
-      go (some x) e m = e ∙ ap some (same-step p k q x (m .0) (asked-own p k x (offered M s) e .number) (m .1))
+      go : (b c : Bool) → pick b (pick c (some y) (asked M p k l)) (asked M p k l) ≡ some x → (asked M p k l ≡ some x → Among x l) → Among x (y ∷ l)
+      go true true e f = let z : y ≡ x = cc in subst (λ w. Among x (w ∷ l)) (inv z) front
+      go true false e f = back (f e)
+      go false c e f = back (f e)
 
   -- ---- listed
   pub listed-exactly : (all p k q : ℕ) → ((n : ℕ) × (listedBy all n (offered M s) ≡ listed.Step p k q)) ↔ Offers M s p k q
   listed-exactly all p k q = (
     (λ r. among-offers (record { process = p; number = k; place = q }) (listed-among all (r .0) (record { process = p; number = k; place = q }) (offered M s) (r .1))),
-    (λ h. let r = among-listed all (asked-own p k (record { process = p; number = k; place = q }) (offered M s) (offers-asked p k q h) .among) in (r .at, r .is)),
+    (λ h. let r = among-listed all (asked-among p k (record { process = p; number = k; place = q }) (offered M s) (offers-asked p k q h)) in (r .at, r .is)),
   )
 
   pub none-listed : offered M s ≡ [] → (p k q : ℕ) → Offers M s p k q → ⊥
   none-listed e p k q h =
-      in-nothing (subst (Among (record { process = p; number = k; place = q })) e (asked-own p k (record { process = p; number = k; place = q }) (offered M s) (offers-asked p k q h) .among))
+      in-nothing (subst (Among (record { process = p; number = k; place = q })) e (asked-among p k (record { process = p; number = k; place = q }) (offered M s) (offers-asked p k q h)))
 
   pub first-offers : (x : Step) (l : List Step) → offered M s ≡ x ∷ l → Offers M s (x .process) (x .number) (x .place)
   first-offers x l e = among-offers x (subst (Among x) (inv e) front)

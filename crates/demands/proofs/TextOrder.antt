@@ -1,5 +1,5 @@
 -- THE STEPS OF A PROCESS ARE IN TEXT ORDER: of what a statement offers, each place lies behind the one before.
-use Prim.Native.Nat.{ℕ, zero, suc, _+_, _≤_, _<_}
+use Prim.Native.Nat.{ℕ, suc, _+_, _≤_, _<_}
 use native.Mathlib.Omega.{arith}
 use mathlib.Core.Path.{_≡_, refl, ap}
 use mathlib.Core.Bool.{Bool, true, false}
@@ -7,8 +7,9 @@ use mathlib.Core.List.{List, [], _∷_, _++_}
 use lib.ListN.{length, getD, length-append}
 use Rattle.base_bytes.specs.Choice.{pick}
 use Rattle.base_bytes.specs.Lists.{orElse}
-use Rattle.spec_grammar.specs.Tree.{Model, Sort, action, statement, sequence, options, Tree, express, assign, increment, decrement, send, receive, assert, print, skip, goto, break, timeout, else, run, set-run, select, loop, bare, labelled, end, then, over, option}
-use Rattle.spec_grammar.specs.Code.{Item, each, code-exp, code-argument, code-received, code-tree, i-express, i-target, i-assign, i-increment, i-decrement, i-send, i-end, i-receive, i-assert, i-fi, i-od, i-end-option, i-name, i-set-run}
+use Rattle.spec_grammar.specs.Tree.{Model, Sort, action, sequence, options, Tree, express, assign, increment, decrement, send, receive, assert, print, skip, goto, break, timeout, else, run, set-run, select, loop, bare, labelled, end, then, over, option}
+use Rattle.base_codes.specs.Items.{Item, i-assert, i-assign, i-decrement, i-end, i-end-option, i-express, i-fi, i-increment, i-name, i-od, i-receive, i-send, i-set-run, i-target}
+use Rattle.parse_code.specs.Code.{each, code-exp, code-argument, code-received, code-tree}
 use Rattle.spec_machine.specs.Program.{sizeIn}
 use Rattle.spec_machine.specs.Offers.{elseOf, itself, offers}
 use Rattle.spec_machine.specs.Ready.{ready}
@@ -16,6 +17,7 @@ use Rattle.spec_machine.specs.State.{State, noProcess}
 use Rattle.spec_machine.specs.Machine.{late}
 use Rattle.spec_machine.specs.Steps.{Found, nothing, found, stageOf, standing, stepsBy, stepsOf, machineOf}
 use Rattle.demands.specs.Walks.{Nth, here, later as further, Offers}
+use Rattle.agree_transfer.proofs.Statements.{long-then}
 
 -- all places lie from i on and before e, each behind the one before
 abbrev pub Ascends : ℕ → List ℕ → ℕ → Type 0
@@ -44,9 +46,6 @@ behind l x k = omega (arith, length-append l (x ∷ k))
 
 size-option : (q : Tree sequence) (os : Tree options) → sizeIn (option q os) ≡ 2 + sizeIn q + sizeIn os
 size-option q os = omega (arith, length-append (code-tree q) (i-end-option ∷ code-tree os))
-
-size-then : (s : Tree statement) (q : Tree sequence) → sizeIn (then s q) ≡ sizeIn s + sizeIn q
-size-then s q = length-append (code-tree s) (code-tree q)
 
 size-select : (os : Tree options) → sizeIn (select os) ≡ 2 + sizeIn os
 size-select os = omega (arith, length-append (code-tree os) (i-fi ∷ []))
@@ -84,7 +83,7 @@ elses-ascend (loop os) i = none-there i (sizeIn (loop os))
 elses-ascend (bare a) i = elses-ascend a i
 elses-ascend (labelled w a) i = wider i (elseOf a (i + 2)) (i + 2 + sizeIn a) (i + sizeIn (labelled w a)) (omega arith) (later i (i + 2) (elseOf a (i + 2)) (i + 2 + sizeIn a) (omega arith) (elses-ascend a (i + 2)))
 elses-ascend end i = none-there i 0
-elses-ascend (then s q) i = wider i (elseOf s i) (i + sizeIn s) (i + sizeIn (then s q)) (omega (arith, size-then s q)) (elses-ascend s i)
+elses-ascend (then s q) i = wider i (elseOf s i) (i + sizeIn s) (i + sizeIn (then s q)) (omega (arith, long-then s q)) (elses-ascend s i)
 elses-ascend over i = none-there i 0
 elses-ascend (option q os) i =
     joined i (elseOf q (i + 1)) (i + 2 + sizeIn q) (elseOf os (i + 2 + sizeIn q)) (i + sizeIn (option q os))
@@ -126,7 +125,7 @@ module _ (can : Tree action → ℕ → Bool) where
   offers-ascend (labelled w a) i =
       wider i (offers can a (i + 2)) (i + 2 + sizeIn a) (i + sizeIn (labelled w a)) (omega arith) (later i (i + 2) (offers can a (i + 2)) (i + 2 + sizeIn a) (omega arith) (offers-ascend a (i + 2)))
   offers-ascend end i = none-there i 0
-  offers-ascend (then s q) i = wider i (offers can s i) (i + sizeIn s) (i + sizeIn (then s q)) (omega (arith, size-then s q)) (offers-ascend s i)
+  offers-ascend (then s q) i = wider i (offers can s i) (i + sizeIn s) (i + sizeIn (then s q)) (omega (arith, long-then s q)) (offers-ascend s i)
   offers-ascend over i = none-there i 0
   offers-ascend (option q os) i =
       joined i (offers can q (i + 1)) (i + 2 + sizeIn q) (offers can os (i + 2 + sizeIn q)) (i + sizeIn (option q os))

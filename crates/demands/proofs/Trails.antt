@@ -1,7 +1,7 @@
 -- A TRAIL IS ACCEPTED exactly when it is well formed and its records, each offered in its turn, lead to the claimed verdict; every walk, written as a trail, is.
-use Prim.Native.Nat.{ℕ, suc}
+use Prim.Native.Nat.{ℕ, suc, _≤_}
 use native.Mathlib.Omega.{arith}
-use mathlib.Core.Path.{_≡_, refl, sym as inv, ap, ap₂, _∙_}
+use mathlib.Core.Path.{_≡_, refl, sym as inv, ap, ap₂, _∙_, subst}
 use mathlib.Core.Bool.{Bool, true, false}
 use mathlib.Core.Option.{none}
 use mathlib.Core.List.{List}
@@ -10,30 +10,29 @@ use lib.IntN.{ℤ}
 use lib.Dec.{ltb}
 use Rattle.base_bytes.specs.Choice.{pick}
 use Rattle.spec_grammar.specs.Tree.{Model}
-use Rattle.step_all.specs.declared.Verdict.the-variants as verdicts
 use Rattle.trail_form.specs.Forms.{Form, form, spoiled, formOf}
-use Rattle.spec_trails.specs.Trails.{trail-most}
+use Rattle.spec_trails.specs.Trails.{Recorded, trailOf, Small}
+use Rattle.spec_trails.specs.Texts.{TextOf}
+use Rattle.trail_replay.specs.Replay.{replayedAs}
 use Rattle.trail_replay.specs.Entries.{replayedOf}
-use Rattle.trail_replay.specs.declared.Replayed as trails
-use Rattle.trail_replay.specs.declared.Replayed.the-variants as replayed
-use Rattle.trail_form.proofs.Written.{trail-formed}
+use Rattle.trail_form.proofs.Exact.{claim-back, form-exact}
 use Rattle.spec_machine.specs.State.{State}
 use Rattle.spec_machine.specs.Begins.{initial}
 use Rattle.spec_machine.specs.Places.{Belongs}
 use Rattle.spec_machine.specs.Fits.{Fits}
-use Rattle.spec_machine.specs.Machine.{finished, blocked, «open»}
-use Rattle.spec_trails.specs.Replays.{Claim, assertion, fault, standing, claimed, Replayed, accepted, refused, replayFrom}
+use Rattle.spec_trails.specs.Replays.{Claim, claimed, claimBy, Replayed, accepted, refused, replayFrom}
 use Rattle.spec_machine.specs.Steps.{machineOf}
 use Rattle.demands.specs.Lent.{Rooms, Tables, Lent, no-room, no-model, no-state, a-state}
-use Rattle.demands.specs.Answers.{claimBy, replayedBy}
 use Rattle.demands.specs.Entries.{leaves, answeredBy, formedBy, replayBy}
-use Rattle.demands.specs.Walks.{Stops}
+use Rattle.demands.specs.Walks.{Walks, Stops}
 use Rattle.demands.specs.Trails.{Acceptable, Acceptance, Stopping, WalksAccepted, OnTrails}
-use Rattle.demands.proofs.Claims.{verdict-claimed}
-use Rattle.demands.proofs.Walks.{claim-back, walk-accepted, stop-refused, accepted-walk, refused-stop}
-use Rattle.demands.proofs.Good.{good-step}
+use Rattle.demands.proofs.Walks.{walk-accepted, stop-refused, accepted-walk, refused-stop}
+use Rattle.demands.proofs.Good.{good-step, walk-small}
 use Rattle.demands.proofs.Leaves.{initial-fits}
 use Rattle.demands.proofs.Demand2.{replays, demand2}
+use Rattle.base_ceilings.specs.Ceilings.{stepsMost, trailMost}
+use Rattle.trail_replay.specs.declared.Replayed as trails
+use Rattle.trail_replay.specs.declared.Replayed.the-variants as replayed
 
 -- answers by numbers, to tell them apart
 abbrev verdictIn : trails.Replayed → ℕ
@@ -54,27 +53,27 @@ module _ (ts trail : List ℕ) (s : List ℤ) (v : ℕ) (left : List ℤ) where
       R : Replayed × State
       R = replayFrom (machineOf m) (claimBy w) l 1 none (initial m)
 
-      go : (a : Replayed) (τ : State) → replayFrom (machineOf m) (claimBy w) l 1 none (initial m) ≡ (a, τ) → Ends (replayedBy w a, leaves s m τ) → Acceptable ts trail s v left
+      go : (a : Replayed) (τ : State) → replayFrom (machineOf m) (claimBy w) l 1 none (initial m) ≡ (a, τ) → Ends (replayedAs w a, leaves s m τ) → Acceptable ts trail s v left
       go (refused x line) τ d e = absurd (not-refused x line (leaves s m τ) e)
       go accepted τ d e =
           let z : suc w ≡ suc v = ap (λ r. verdictIn (r .0)) e in
           let y : w ≡ v = omega arith in
+          let text : TextOf stepsMost trail l v = form-exact trail l v .0 (q ∙ ap (form l) y) in
           record {
             rooms = r;
             model = m;
             tables = h;
             records = l;
-            claim = claimBy w;
-            verdict = inv (verdict-claimed trail l w q ∙ y);
-            formed = q ∙ ap (form l) y;
+            formed = text;
             reached = τ;
-            walk = accepted-walk (machineOf m) (Fits (Belongs m) m) (good-step ts s m r h) (claimBy w) l 1 (initial m) τ (initial-fits ts s m r h) d;
+            walk = subst (λ c. Walks (machineOf m) l (initial m) c τ) (ap claimBy (y ∙ text .verdict) ∙ claim-back (text .claim))
+                (accepted-walk (machineOf m) (Fits (Belongs m) m) (good-step ts s m r h) (claimBy w) l 1 (initial m) τ (initial-fits ts s m r h) d);
             is-left = inv (ap (λ p. p .1) e);
           }
 
   from-answer : (x : Lent ts s) → Ends (replayBy x trail) → Acceptable ts trail s v left
   from-answer (no-room h) e = absurd (not-refused 7 0 s e)
-  from-answer (no-model r h) e = go (ltb trail-most (length trail)) e
+  from-answer (no-model r h) e = go (ltb trailMost (length trail)) e
     where
       go : (b : Bool) → Ends (pick b (replayed.Refused 2 0, s) (replayed.Refused 8 0, s)) → Acceptable ts trail s v left
       go true e = absurd (not-refused 2 0 s e)
@@ -85,8 +84,8 @@ module _ (ts trail : List ℕ) (s : List ℤ) (v : ℕ) (left : List ℤ) where
   to-answer : Acceptable ts trail s v left → replayedOf ts trail s ≡ (replayed.Accepted v, left)
   to-answer a =
       let m = a .model in
-      let c : claimBy v ≡ a .claim = ap claimBy (a .verdict) ∙ claim-back (a .claim) in
-      replays ts s m (a .rooms) (a .tables) trail ∙ ap (formedBy s m) (a .formed)
+      let c : claimBy v ≡ a .formed .claim = ap claimBy (a .formed .verdict) ∙ claim-back (a .formed .claim) in
+      replays ts s m (a .rooms) (a .tables) trail ∙ ap (formedBy s m) (form-exact trail (a .records) v .1 (a .formed))
       ∙ ap (λ d. answeredBy s m v (replayFrom (machineOf m) d (a .records) 1 none (initial m))) c
       ∙ ap (answeredBy s m v) (walk-accepted (machineOf m) (a .walk) 1)
       ∙ ap (λ (l : List ℤ). (replayed.Accepted v, l)) (inv (a .is-left))
@@ -106,8 +105,11 @@ abbrev lineIn : trails.Replayed → ℕ
 lineIn (replayed.Accepted v) = 0
 lineIn (replayed.Refused x line) = line
 
+abbrev written-text : (l : List Recorded) (c : Claim) → Small l → length l ≤ stepsMost → TextOf stepsMost (trailOf l (claimed c)) l (claimed c)
+written-text l c small few = record { claim = c; verdict = refl; text = refl; small = small; few = few }
+
 pub stopping : Stopping
-stopping ts trail s m l c r h q x line left = (
+stopping ts s m l c r h small few x line left = (
   (λ e. go (R .0) (R .1) refl (inv answer ∙ e)),
   (λ w. answer ∙ ap (answeredBy s m (claimed c)) (stop-refused (machineOf m) (w .1)) ∙ ap (λ (y : List ℤ). (replayed.Refused x line, y)) (inv (w .2))),
 )
@@ -115,12 +117,12 @@ stopping ts trail s m l c r h q x line left = (
     R : Replayed × State
     R = replayFrom (machineOf m) c l 1 none (initial m)
 
-    answer : replayedOf ts trail s ≡ answeredBy s m (claimed c) (replayFrom (machineOf m) c l 1 none (initial m))
+    answer : replayedOf ts (trailOf l (claimed c)) s ≡ answeredBy s m (claimed c) (replayFrom (machineOf m) c l 1 none (initial m))
     answer =
-        replays ts s m r h trail ∙ ap (formedBy s m) q
+        replays ts s m r h (trailOf l (claimed c)) ∙ ap (formedBy s m) (form-exact (trailOf l (claimed c)) l (claimed c) .1 (written-text l c small few))
         ∙ ap (λ d. answeredBy s m (claimed c) (replayFrom (machineOf m) d l 1 none (initial m))) (claim-back c)
 
-    go : (a : Replayed) (τ : State) → replayFrom (machineOf m) c l 1 none (initial m) ≡ (a, τ) → _≡_ {A = trails.Replayed × List ℤ} (replayedBy (claimed c) a, leaves s m τ) (replayed.Refused x line, left)
+    go : (a : Replayed) (τ : State) → replayFrom (machineOf m) c l 1 none (initial m) ≡ (a, τ) → _≡_ {A = trails.Replayed × List ℤ} (replayedAs (claimed c) a, leaves s m τ) (replayed.Refused x line, left)
         → (τ : State) × Stops (machineOf m) c l 1 (initial m) x line τ × (left ≡ leaves s m τ)
     go accepted τ d e = absurd (let z : _≡_ {A = ℕ} 0 (suc x) = ap (λ p. numberIn (p .0)) e in omega arith)
     go (refused y n) τ d e =
@@ -134,20 +136,18 @@ stopping ts trail s m l c r h q x line left = (
         )
 
 pub walks-accepted : WalksAccepted
-walks-accepted ts s m l c τ r h small few w =
+walks-accepted ts s m l c τ r h few w =
     to-answer ts _ s (claimed c) (leaves s m τ)
     (record {
       rooms = r;
       model = m;
       tables = h;
       records = l;
-      claim = c;
-      verdict = refl;
-      formed = trail-formed l c small few .1;
+      formed = written-text l c (walk-small ts s m r h (initial-fits ts s m r h) w) few;
       reached = τ;
       walk = w;
       is-left = refl;
     })
 
 pub on-trails : OnTrails
-on-trails = record { acceptance = acceptance; stopping = stopping; walks-accepted = walks-accepted }
+on-trails = record { forming = form-exact; acceptance = acceptance; stopping = stopping; walks-accepted = walks-accepted }

@@ -13,13 +13,13 @@ use Rattle.base_bytes.proofs.Tests.{true-false}
 use Rattle.base_outcome.specs.declared.Taken.{Taken}
 use Rattle.base_outcome.specs.declared.Taken.the-variants.{Done, Refuted, Faulted, Idle}
 use Rattle.spec_machine.specs.Effect.{Outcome}
-use Rattle.spec_machine.specs.Machine.{Machine, Step, finished, blocked, «open», offered, verdict, asked}
+use Rattle.spec_machine.specs.Machine.{Machine, Step, offered, verdict, asked}
 use Rattle.spec_trails.specs.Runs.{Ending, refuted, faulted, Ran, oneMore, still, firstTaken, runBy, runFrom}
-use Rattle.spec_trails.specs.Replays.{Claim, assertion, fault, standing, claimed, Replayed, accepted, refused, judged, followed, recorded, replayFrom}
+use Rattle.spec_trails.specs.Replays.{Claim, assertion, fault, standing, claimed, claimBy, Replayed, accepted, refused, judged, followed, recorded, replayFrom}
 use Rattle.spec_trails.specs.Trails.{Recorded}
-use Rattle.agree_machine.proofs.Replays.{Still}
+use Rattle.step_take.proofs.Still.{Still}
 use Rattle.agree_machine.proofs.Busy.{Busy}
-use Rattle.demands.specs.Answers.{claimBy}
+use Rattle.trail_form.proofs.Exact.{claim-back}
 use Rattle.demands.specs.Walks.{Offers, Runs, limit-met, none-offered, assertion-failed, at-fault, one-more, Fails, asserted, faulty, Walks, stands, fails, goes-on, Stops, not-offered, after-failure, other-verdict, later}
 use Rattle.demands.proofs.Offers.{asked-offers, offers-asked, first-offers}
 
@@ -29,13 +29,6 @@ pub record Good {S : Type 0} (M : Machine S) (I : S → Type 0) (s : S) (p q : �
   pub kept : I (M .take s p q .1)
 
 -- ---- claims
-pub claim-back : (c : Claim) → claimBy (claimed c) ≡ c
-claim-back assertion = refl
-claim-back fault = refl
-claim-back (standing finished) = refl
-claim-back (standing blocked) = refl
-claim-back (standing «open») = refl
-
 one-claim : (c d : Claim) → eqb (claimed c) (claimed d) ≡ true → c ≡ d
 one-claim c d e = inv (claim-back c) ∙ ap claimBy (eqb-true (claimed c) (claimed d) e) ∙ claim-back d
 

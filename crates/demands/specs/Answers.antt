@@ -1,10 +1,10 @@
--- WHAT THE ENTRIES ANSWER, by what the machine says: each answer of the code by the case of document 01 that it stands for.
+-- Top: a statement about the entries, over the specification.
+-- WHAT THE ENTRIES ANSWER, by what the machine says: each answer of the code by the case of document 01 that it stands for; those of `run` and `replay` beside their enums (`endingAs`, crate
+-- `run_entry`; `replayedAs`, crate `trail_replay`).
 use Prim.Native.Nat.{ℕ, zero, suc}
 use mathlib.Core.List.{List, [], _∷_, _++_}
 use lib.ListN.{length, drop}
 use lib.IntN.{ℤ}
-use lib.Dec.{eqb}
-use Rattle.base_bytes.specs.Choice.{pick}
 use Rattle.base_outcome.specs.declared.Taken.{Taken}
 use Rattle.base_outcome.specs.declared.Taken.the-variants.{Done, Refuted, Faulted, Idle}
 use Rattle.step_entry.specs.Entries.{Outcome, refusedBy}
@@ -13,14 +13,7 @@ use Rattle.step_entry.specs.declared.Listed.the-variants as listed
 use Rattle.step_entry.specs.declared.Standing.{Standing}
 use Rattle.step_entry.specs.declared.Standing.the-variants as standing
 use Rattle.step_entry.specs.declared.Stepped.the-variants as stepped
-use Rattle.run_entry.specs.declared.Ending as runs
-use Rattle.run_entry.specs.declared.Ending.the-variants as ending
-use Rattle.trail_replay.specs.declared.Replayed as trails
-use Rattle.trail_replay.specs.declared.Replayed.the-variants as replayed
 use Rattle.spec_machine.specs.Machine.{Step, Verdict, finished, blocked, «open»}
-use Rattle.spec_trails.specs.Runs.{Ending, stood, refuted, faulted}
-use Rattle.spec_trails.specs.Replays.{Claim, assertion, fault, standing, Replayed, accepted, refused}
-use Rattle.spec_trails.specs.Trails.{Recorded}
 
 -- "`finished` (all ended), `blocked`, `open` (some step offered)"
 abbrev pub standingBy : Verdict → Standing
@@ -42,20 +35,3 @@ doneBy s out Refuted after text = record { answer = stepped.Assert; state = s; p
 doneBy s out (Faulted f) after text = record { answer = stepped.Fault f; state = s; printed = out }
 -- nothing came of it: no offered step is such (`Taking`, specs/InWords.antt)
 doneBy s out Idle after text = refusedBy 11 s out
-
--- "`assert`, `fault`, `finished`, `blocked`, `open`": how a run ends
-abbrev pub endingBy : Ending → runs.Ending
-endingBy (stood finished) = ending.Finished
-endingBy (stood blocked) = ending.Blocked
-endingBy (stood «open») = ending.Open
-endingBy refuted = ending.Assert
-endingBy (faulted f) = ending.Fault f
-
--- "`V` and a verdict": the claim, by the number that the form of a trail gives, 1 to 5
-abbrev pub claimBy : ℕ → Claim
-claimBy v = pick (eqb v 1) assertion (pick (eqb v 2) fault (pick (eqb v 3) (standing finished) (pick (eqb v 4) (standing blocked) (standing «open»))))
-
--- accepted with the claimed verdict's number, or refused with a number at a line
-abbrev pub replayedBy : ℕ → Replayed → trails.Replayed
-replayedBy claim accepted = replayed.Accepted claim
-replayedBy claim (refused x line) = replayed.Refused x line

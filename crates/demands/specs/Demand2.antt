@@ -1,3 +1,4 @@
+-- Top: a statement about the entries, over the specification.
 -- DEMAND 2: steps are offered exactly when executable and give exactly the defined state; blocked, verdicts and trail acceptance exactly as defined. Whatever numbers and bytes are lent, each entry
 -- of the stepper answers and leaves what the machine over plain states (crate `spec_machine`) says. Proved as one theorem, `demand2` (proofs/Demand2.antt).
 use Prim.Native.Nat.{ℕ}

@@ -1,3 +1,4 @@
+-- Top: a statement about the entries, over the specification.
 -- WHAT EACH ENTRY ANSWERS AND LEAVES, by the cases of what is lent: "Every public entry states one answer and one content of lent memory per input". "A refusal changes no lent number or byte".
 use Prim.Native.Nat.{ℕ}
 use mathlib.Core.Option.{Option, none, some}
@@ -7,33 +8,34 @@ use lib.IntN.{ℤ}
 use lib.Dec.{ltb}
 use Rattle.base_bytes.specs.Choice.{pick}
 use Rattle.spec_grammar.specs.Tree.{Model}
-use Rattle.state_layout.specs.Layout.{stateSize}
-use Rattle.step_entry.specs.Entries.{Outcome, refusedBy, printRoom}
+use Rattle.step_entry.specs.Entries.{Outcome, refusedBy}
 use Rattle.step_entry.specs.declared.Listed.{Listed}
-use Rattle.step_entry.specs.declared.Listed.the-variants as listed
 use Rattle.step_entry.specs.declared.Standing.{Standing}
-use Rattle.step_entry.specs.declared.Standing.the-variants as standing
+use Rattle.run_entry.specs.Runs.{endingAs}
 use Rattle.run_entry.specs.declared.Ran.{Ran}
-use Rattle.run_entry.specs.declared.Ran.the-variants as ran
 use Rattle.trail_form.specs.Forms.{Form, form, spoiled, formOf}
-use Rattle.spec_trails.specs.Trails.{trail-most}
-use Rattle.trail_replay.specs.declared.Replayed as trails
-use Rattle.trail_replay.specs.declared.Replayed.the-variants as replayed
+use Rattle.trail_replay.specs.Replay.{replayedAs}
 use Rattle.spec_machine.specs.State.{State}
 use Rattle.spec_machine.specs.Begins.{initial}
 use Rattle.state_encode.specs.Encode.{encode}
 use Rattle.spec_machine.specs.Machine.{Step, offered, verdict, asked}
 use Rattle.spec_trails.specs.Runs.{Ran as Run, runFrom}
-use Rattle.spec_trails.specs.Replays.{Replayed, replayFrom}
+use Rattle.spec_trails.specs.Replays.{claimBy, Replayed, replayFrom}
 use Rattle.spec_machine.specs.Steps.{machineOf}
 use Rattle.demands.specs.Lent.{Lent, no-room, no-model, no-state, a-state}
-use Rattle.demands.specs.Answers.{standingBy, listedBy, doneBy, endingBy, claimBy, replayedBy}
+use Rattle.demands.specs.Answers.{standingBy, listedBy, doneBy}
+use Rattle.base_ceilings.specs.Ceilings.{printRoom, stateRoom, trailMost}
+use Rattle.step_entry.specs.declared.Listed.the-variants as listed
+use Rattle.step_entry.specs.declared.Standing.the-variants as standing
+use Rattle.run_entry.specs.declared.Ran.the-variants as ran
+use Rattle.trail_replay.specs.declared.Replayed as trails
+use Rattle.trail_replay.specs.declared.Replayed.the-variants as replayed
 
 -- ## where nothing is refused, `s` being the lent numbers
 module _ (s : List ℤ) where
   -- "A state is always written whole"; "What lies beyond the written part stays"
   unfoldable pub leaves : Model → State → List ℤ
-  leaves m σ = encode m σ ++ drop stateSize s
+  leaves m σ = encode m σ ++ drop stateRoom s
 
   -- `step`: 11 where the step that is asked for is not offered
   abbrev pub takenBy : Model → State → List ℕ → Option Step → Outcome
@@ -43,11 +45,11 @@ module _ (s : List ℤ) where
 
   -- `run`: the machine's run with its count
   abbrev pub ranBy : Model → Run State → Ran × List ℤ
-  ranBy m r = (ran.Ended (endingBy (r .ending)) (r .count), leaves m (r .state))
+  ranBy m r = (ran.Ended (endingAs (r .ending)) (r .count), leaves m (r .state))
 
   -- `replay`: the machine's replay of the records, and the state that it leaves
   abbrev pub answeredBy : Model → ℕ → Replayed × State → trails.Replayed × List ℤ
-  answeredBy m claim r = (replayedBy claim (r .0), leaves m (r .1))
+  answeredBy m claim r = (replayedAs claim (r .0), leaves m (r .1))
 
   -- by the form of the trail, whose refusals begin with that of length
   abbrev pub formedBy : Model → Form → trails.Replayed × List ℤ
@@ -105,6 +107,6 @@ module _ {ts : List ℕ} {s : List ℤ} where
   -- `replay`, whose lent numbers are room alone: "7, length, 8, form .., then steps"
   abbrev pub replayBy : Lent ts s → List ℕ → trails.Replayed × List ℤ
   replayBy (no-room h) trail = (replayed.Refused 7 0, s)
-  replayBy (no-model r h) trail = pick (ltb trail-most (length trail)) (replayed.Refused 2 0, s) (replayed.Refused 8 0, s)
+  replayBy (no-model r h) trail = pick (ltb trailMost (length trail)) (replayed.Refused 2 0, s) (replayed.Refused 8 0, s)
   replayBy (no-state m r h g) trail = formedBy s m (formOf trail)
   replayBy (a-state m σ h) trail = formedBy s m (formOf trail)

@@ -1,3 +1,4 @@
+-- Top: a statement about the entries, over the specification.
 -- DEMAND 2 IN DOCUMENT 01'S WORDS: what follows from specs/Demand2.antt, each with its sentence. `m` is the model of the lent tables, σ the state of the lent numbers.
 use Prim.Native.Nat.{ℕ, _≤_, _<_}
 use mathlib.Core.Path.{_≡_}
@@ -6,16 +7,18 @@ use mathlib.Core.Logic.{_⊎_, _↔_}
 use mathlib.Core.List.{List, _++_}
 use lib.ListN.{length, drop}
 use lib.IntN.{ℤ}
+use Rattle.base_ceilings.specs.Ceilings.{printRoom}
 use Rattle.base_values.specs.declared.Fault.{Fault}
 use Rattle.spec_grammar.specs.Tree.{Model}
 use Rattle.table_genuine.specs.Genuine.{written}
 use Rattle.state_check.specs.Standing.{isStateOf}
 use Rattle.base_outcome.specs.declared.Taken.the-variants.{Done, Refuted, Faulted}
-use Rattle.step_entry.specs.Entries.{foreignOf, refusalOf, startLeft, offeredOf, verdictFor, printRoom, outcomeOf}
+use Rattle.step_entry.specs.Entries.{foreignOf, refusalOf, startLeft, offeredOf, verdictFor, outcomeOf}
 use Rattle.step_entry.specs.declared.Listed.the-variants as listed
 use Rattle.step_entry.specs.declared.Standing.the-variants as standing
 use Rattle.step_entry.specs.declared.Stepped.the-variants as stepped
 use Rattle.run_entry.specs.Entries.{ranOf}
+use Rattle.run_entry.specs.Runs.{endingAs}
 use Rattle.run_entry.specs.declared.Ran.the-variants as ran
 use Rattle.trail_form.specs.Forms.{form, formOf}
 use Rattle.trail_replay.specs.Entries.{replayedOf}
@@ -24,7 +27,6 @@ use Rattle.spec_machine.specs.Machine.{Step}
 use Rattle.spec_trails.specs.Runs.{Ending}
 use Rattle.spec_machine.specs.Steps.{machineOf}
 use Rattle.demands.specs.Lent.{Rooms, Tables, Numbers, Holds}
-use Rattle.demands.specs.Answers.{endingBy}
 use Rattle.demands.specs.Entries.{leaves}
 use Rattle.demands.specs.Walks.{Offers, Runs}
 use Rattle.spec_trails.specs.Trails.{Recorded}
@@ -68,7 +70,7 @@ module _ (ts : List ℕ) (s : List ℤ) (m : Model) (σ : State) where
     pub ending : Ending
     pub state : State
     pub runs : Runs (machineOf m) limit σ steps ending state
-    pub answer : (l : List Step) (e : Ending) (τ : State) → Runs (machineOf m) limit σ l e τ → ranOf ts s limit ≡ (ran.Ended (endingBy e) (length l), leaves s m τ)
+    pub answer : (l : List Step) (e : Ending) (τ : State) → Runs (machineOf m) limit σ l e τ → ranOf ts s limit ≡ (ran.Ended (endingAs e) (length l), leaves s m τ)
 
 -- ## whatever is lent
 -- "A refusal changes no lent number or byte", "A failed assertion or fault changes no state and prints nothing": only a step that was taken changes anything

@@ -1,3 +1,4 @@
+-- Top: a statement about the entries, over the specification.
 -- WHAT IS LENT, by cases: document 01, "What is answered": "Stepping: 7, 8, 9". `ts` are the lent tables, `s` the lent numbers of a state.
 use Prim.Native.Nat.{ℕ, _≤_, _<_}
 use mathlib.Core.Path.{_≡_}
@@ -5,12 +6,11 @@ use mathlib.Core.Logic.{_⊎_}
 use mathlib.Core.List.{List, _++_}
 use lib.ListN.{length, drop}
 use lib.IntN.{ℤ}
+use Rattle.base_ceilings.specs.Ceilings.{stateRoom, tablesRoom}
 use Rattle.spec_grammar.specs.Tree.{Model}
-use Rattle.read_entry.specs.Entries.{room}
 use Rattle.read_passes.specs.Judging.{tablesText}
 use Rattle.read_accepts_proof.specs.Meaning.{Accepts}
 use Rattle.table_genuine.specs.Genuine.{written}
-use Rattle.state_layout.specs.Layout.{stateSize}
 use Rattle.spec_machine.specs.State.{State}
 use Rattle.state_encode.specs.Encode.{encode}
 use Rattle.spec_machine.specs.Places.{Belongs}
@@ -18,8 +18,8 @@ use Rattle.spec_machine.specs.Fits.{Fits}
 
 -- "tables are lent as 16,384 unsigned 32-bit numbers, a state as 2,048 signed ones"
 pub record Rooms (ts : List ℕ) (s : List ℤ) : Type 0 where
-  pub tables : room ≤ length ts
-  pub state : stateSize ≤ length s
+  pub tables : tablesRoom ≤ length ts
+  pub state : stateRoom ≤ length s
 
 -- the tables are those of an accepted text, and this is its tree; "they are compared over their written part"
 pub data Tables (ts : List ℕ) : Model → Type 0 where
@@ -28,7 +28,7 @@ pub data Tables (ts : List ℕ) : Model → Type 0 where
 -- the numbers are those of σ, which is a state of the model; anything may lie behind them
 pub record Numbers (m : Model) (s : List ℤ) (σ : State) : Type 0 where
   pub fits : Fits (Belongs m) m σ
-  pub are : s ≡ encode m σ ++ drop stateSize s
+  pub are : s ≡ encode m σ ++ drop stateRoom s
 
 -- tables of the model m, and numbers of its state σ
 pub record Holds (ts : List ℕ) (s : List ℤ) (m : Model) (σ : State) : Type 0 where
@@ -38,7 +38,7 @@ pub record Holds (ts : List ℕ) (s : List ℤ) (m : Model) (σ : State) : Type 
 
 pub data Lent (ts : List ℕ) (s : List ℤ) : Type 0 where
   -- 7: "a lent buffer shorter than its room"
-  no-room : (length ts < room) ⊎ (length s < stateSize) → Lent ts s
+  no-room : (length ts < tablesRoom) ⊎ (length s < stateRoom) → Lent ts s
   -- 8: "tables are those of no accepted text"
   no-model : Rooms ts s → ((m : Model) → Tables ts m → ⊥) → Lent ts s
   -- 9: "numbers are no state of the model"

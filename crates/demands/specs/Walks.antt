@@ -1,3 +1,4 @@
+-- Top: a statement about the entries, over the specification.
 -- WALKS OF A MACHINE, as relations that do not know how anything is worked out: which steps are offered, which ones a run takes, where the records of a trail lead or stop. Document 01, "How it moves", "Trail lines".
 use Prim.Native.Nat.{ℕ, zero, suc, _+_, _<_}
 use mathlib.Core.Path.{_≡_}

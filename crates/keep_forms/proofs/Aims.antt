@@ -12,14 +12,14 @@ use borrow.Author.Tests.{eqb-true, leb-true}
 use Rattle.base_codes.specs.Codes.{c-argument, c-decrement, c-increment, c-into, c-target}
 use Rattle.base_bytes.specs.Choice.{either}
 use Rattle.base_bytes.proofs.Tests.{both-true, either-true, true-false}
-use Rattle.rule_search.specs.Sets.{within}
 use Rattle.base_kinds.specs.Kinds.{Token}
 use Rattle.spec_grammar.specs.Tree.{Ref, Shape, Exp, Expr, Received, Sort, sequence, Tree, Name, Value, Variable, Declaration, Group, Body, body, Activity, idle, once, times, Part, Model}
 use Rattle.spec_grammar.specs.Grammar.{Is-type, is-bit, is-bool, is-byte, is-mtype, is-pid, is-chan, is-short, is-int, An-expression, A-received, r-into, r-eval, r-number, r-true, r-false, D, s-express, s-assign, s-increment, s-decrement, s-send, s-receive, s-assert, s-print-alone, s-print, s-skip, s-goto, s-break, s-timeout, s-else, s-run, s-set-run, s-if, s-do, s-bare, s-label, q-last, q-then, o-last, o-also, A-name, A-type, a-type, A-value, v-number, v-minus, v-true, v-false, v-name, A-variable, x-bare, x-set, x-array, x-array-set, x-channel, A-declaration, declaration, A-group, a-group, Items, statements, declared, A-body, a-body, A-unit, u-mtypes, u-global, u-process, u-init, Gram, g-last, g-more}
-use Rattle.spec_grammar.specs.Code.{Item, each, code-exp, code-argument, code-received, code-tree, code-field, code-value, code-variable, code-declaration, code-parameter, code-group, code-body, code-activity, code-message, code-part, code, i-name, i-number, i-text, i-type, i-true, i-false, i-argument, i-into, i-equal, i-constant, i-end, i-label, i-express, i-target, i-assign, i-increment, i-decrement, i-send, i-receive, i-assert, i-skip, i-goto, i-break, i-timeout, i-else, i-run, i-set-run, i-if, i-fi, i-do, i-od, i-option, i-end-option, i-local, i-global, i-declared, i-size, i-minus, i-named, i-channel, i-field, i-mtypes, i-message, i-group, i-parameter, i-proctype, i-active, i-active-many, i-init, i-body, i-end-body}
-use Rattle.spec_grammar.specs.Code as items
-use Rattle.table_entries.specs.Items.{codeOf}
-use Rattle.link_phrases_proof.specs.Phrases.{Proper, At, inExpression}
+use Rattle.base_codes.specs.Items.{Item, codeOf, i-active, i-active-many, i-argument, i-assert, i-assign, i-body, i-break, i-channel, i-constant, i-declared, i-decrement, i-do, i-else, i-end, i-end-body, i-end-option, i-equal, i-express, i-false, i-fi, i-field, i-global, i-goto, i-group, i-if, i-increment, i-init, i-into, i-label, i-local, i-message, i-minus, i-mtypes, i-name, i-named, i-number, i-od, i-option, i-parameter, i-proctype, i-receive, i-run, i-send, i-set-run, i-size, i-skip, i-target, i-text, i-timeout, i-true, i-type}
+use Rattle.parse_code.specs.Code.{each, code-exp, code-argument, code-received, code-tree, code-field, code-value, code-variable, code-declaration, code-parameter, code-group, code-body, code-activity, code-message, code-part, code}
+use Rattle.base_codes.specs.Items as items
+use Rattle.base_codes.specs.Sets.{within, isPart}
+use Rattle.link_phrases_proof.specs.Phrases.{Proper, At}
 use Rattle.link_phrases_proof.proofs.Inside.{all-inside, phrase-inside, mark-outside}
 use Rattle.link_phrases_proof.proofs.Proper.{grammar-proper}
 use Rattle.link_phrases_proof.proofs.Starts.{at-front, at-back}
@@ -57,7 +57,7 @@ aims-most c e = go (either-true (eqb c c-into) (either (eqb c c-target) (within 
     go (inl x) = let z = eqb-true c c-into x in omega arith
     go (inr x) = more (either-true (eqb c c-target) (within c-increment c-decrement c) x)
 
-inside-aims : (c : ℕ) → inExpression c ≡ true → aims c ≡ false
+inside-aims : (c : ℕ) → isPart c ≡ true → aims c ≡ false
 inside-aims c e = go (aims c) refl
   where
     go : (b : Bool) → aims c ≡ b → b ≡ false

@@ -1,19 +1,15 @@
 -- What stands before an item, and which mark comes next.
 use Prim.Native.Nat.{ℕ, zero, suc, _<_}
 use mathlib.Core.Path.{_≡_, refl, sym, _∙_}
-use mathlib.Core.Bool.{Bool, true, false}
+use mathlib.Core.Bool.{true, false}
 use mathlib.Core.List.{List}
 use lib.ListN.{length, getD}
 use lib.Dec.{eqb}
 use Rattle.base_codes.specs.Codes.{c-label}
-use Rattle.base_bytes.specs.Choice.{either}
-use Rattle.base_bytes.proofs.Tests.{true-false}
-use Rattle.keep_forms.specs.Forms.{isPart, joins, step, formAt, Formed}
+use Rattle.base_codes.specs.Sets.{isPart}
+use Rattle.base_bytes.proofs.Tests.{true-false, left-holds}
+use Rattle.keep_forms.specs.Forms.{joins, step, formAt, Formed}
 use Rattle.keep_forms.proofs.Spans.{said}
-
-left-holds : (a b : Bool) → a ≡ true → either a b ≡ true
-left-holds true b e = refl
-left-holds false b e = absurd (true-false (sym e))
 
 module _ (cs : List ℕ) where
   pub part-next : (j : ℕ) → formAt cs (suc j) .part ≡ isPart (getD cs j 0)

@@ -2,8 +2,7 @@
 use mathlib.Core.Path.{_≡_}
 use mathlib.Core.Bool.{true}
 use mathlib.Core.List.{List, [], _∷_, _++_}
-use Rattle.spec_grammar.specs.Code.{Item}
-use Rattle.table_entries.specs.Items.{codeOf}
+use Rattle.base_codes.specs.Items.{Item, codeOf}
 use Rattle.keep_forms.specs.Forms.{Form, step, fits}
 
 -- from s on each item fits, and K holds behind them

@@ -6,8 +6,9 @@ use mathlib.Core.List.{[], _∷_, _++_}
 use native.Mathlib.Omega.{arith}
 use Rattle.spec_grammar.specs.Tree.{Shape, expression, reference, Exp, plain, indexed, num, tru, fls, get, len, unary, binary, choice}
 use Rattle.spec_grammar.specs.Grammar.{Is-unary, is-minus, is-not, is-flip}
-use Rattle.spec_grammar.specs.Code.{Item, i-index, i-len, i-unary, i-binary, i-otherwise, i-choice, code-exp}
-use Rattle.table_entries.specs.Items.{codeOf}
+use Rattle.base_codes.specs.Items.{Item, codeOf, i-binary, i-choice, i-index, i-len, i-otherwise, i-unary}
+use Rattle.base_codes.specs.Sets.{isPart, isAlone, isLead}
+use Rattle.parse_code.specs.Code.{code-exp}
 use Rattle.link_phrases_proof.specs.Phrases.{Proper}
 use Rattle.keep_forms.specs.Forms.{Form, form, step, fits}
 use Rattle.keep_forms.proofs.Passes.{Passes, join}
@@ -48,12 +49,12 @@ by-eighteen P p1 p2 p3 p4 p5 p6 p7 p8 p9 p10 p11 p12 p13 p14 p15 p16 p17 p18 o a
     go (suc (suc (suc (suc (suc (suc (suc (suc (suc (suc (suc (suc (suc (suc (suc (suc (suc (suc (suc o))))))))))))))))))) a b = absurd (omega arith)
 
 joined-binary : (o : ℕ) → 1 ≤ o → o ≤ 18 → Joined (146 + o)
-unfolding fits step
+unfolding fits step isPart isAlone isLead
 joined-binary =
     by-eighteen (λ o. Joined (146 + o)) (λ o l r m a g n. (refl, (_, _, refl))) (λ o l r m a g n. (refl, (_, _, refl))) (λ o l r m a g n. (refl, (_, _, refl))) (λ o l r m a g n. (refl, (_, _, refl))) (λ o l r m a g n. (refl, (_, _, refl))) (λ o l r m a g n. (refl, (_, _, refl))) (λ o l r m a g n. (refl, (_, _, refl))) (λ o l r m a g n. (refl, (_, _, refl))) (λ o l r m a g n. (refl, (_, _, refl))) (λ o l r m a g n. (refl, (_, _, refl))) (λ o l r m a g n. (refl, (_, _, refl))) (λ o l r m a g n. (refl, (_, _, refl))) (λ o l r m a g n. (refl, (_, _, refl))) (λ o l r m a g n. (refl, (_, _, refl))) (λ o l r m a g n. (refl, (_, _, refl))) (λ o l r m a g n. (refl, (_, _, refl))) (λ o l r m a g n. (refl, (_, _, refl))) (λ o l r m a g n. (refl, (_, _, refl)))
 
 joined-unary : {o : ℕ} → Is-unary o → Joined (codeOf (i-unary o))
-unfolding fits step
+unfolding fits step isPart isAlone isLead
 joined-unary is-minus = λ o l r m a g n. (refl, (_, _, refl))
 joined-unary is-not = λ o l r m a g n. (refl, (_, _, refl))
 joined-unary is-flip = λ o l r m a g n. (refl, (_, _, refl))
@@ -68,7 +69,7 @@ module _ (o l : ℕ) (m a : Bool) where
   one i r g n K j k = let q = j o l r m a g n in (q .0, subst K (sym (q .1 .2)) (k (q .1 .0) (q .1 .1) 0))
 
   pub phrase : {s : Shape} (e : Exp s) → Proper e → (p r : Bool) (g n : ℕ) (K : Form → Type 0) → ((r : Bool) (g n : ℕ) → Ends s r → K (after r g n)) → Passes (code-exp e) (form 2 o l p r m a g n) K
-  unfolding fits step
+  unfolding fits step isPart isAlone isLead
   phrase (plain w) h p r g n K k = (refl, (refl, k _ _ _ refl))
   phrase (indexed w e) h p r g n K k = (refl, join (code-exp e) (i-index ∷ []) _ K (phrase e h true false _ _ _ (λ r g n z. (refl, k _ _ _ refl))))
   phrase (num v) h p r g n K k = (refl, k _ _ _ tt)

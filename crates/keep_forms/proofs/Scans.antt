@@ -9,80 +9,20 @@ use lib.ListN.{length, getD}
 use Rattle.base_kinds.specs.Kinds.{Token}
 use Rattle.spec_grammar.specs.Tree.{Model}
 use Rattle.spec_grammar.specs.Grammar.{Gram}
-use Rattle.spec_grammar.specs.Code.{Item, i-active, i-active-many, i-argument, i-assert, i-assign, i-binary, i-body, i-break, i-channel, i-choice, i-constant, i-declared, i-decrement, i-do, i-else, i-end, i-end-body, i-end-option, i-equal, i-express, i-false, i-fi, i-field, i-global, i-goto, i-group, i-if, i-increment, i-index, i-init, i-into, i-label, i-len, i-local, i-message, i-minus, i-mtypes, i-name, i-named, i-number, i-od, i-option, i-otherwise, i-parameter, i-plain, i-proctype, i-receive, i-run, i-send, i-set-run, i-size, i-skip, i-target, i-text, i-timeout, i-true, i-type, i-unary, i-value, code}
+use Rattle.base_codes.specs.Items.{Item, codeOf}
+use Rattle.parse_code.specs.Code.{code}
 use Rattle.table_entries.specs.Entry.{nothing}
-use Rattle.table_entries.specs.Items.{codeOf, entryOf}
+use Rattle.table_entries.specs.Items.{entryOf}
 use Rattle.link_phrases_proof.specs.Phrases.{At}
 use Rattle.keep_forms.specs.Forms.{Form, step, fits, fresh, formAt, Formed}
 use Rattle.keep_forms.proofs.Passes.{Passes}
 use Rattle.keep_forms.proofs.Units.{model-passes}
 
-entry-code : (i : Item) → entryOf i .code ≡ codeOf i
-entry-code (i-name w) = refl
-entry-code (i-number n) = refl
-entry-code (i-text w) = refl
-entry-code (i-binary o) = refl
-entry-code (i-unary o) = refl
-entry-code (i-type k) = refl
-entry-code i-plain = refl
-entry-code i-index = refl
-entry-code i-true = refl
-entry-code i-false = refl
-entry-code i-len = refl
-entry-code i-otherwise = refl
-entry-code i-choice = refl
-entry-code i-argument = refl
-entry-code i-into = refl
-entry-code i-equal = refl
-entry-code i-constant = refl
-entry-code i-end = refl
-entry-code i-label = refl
-entry-code i-express = refl
-entry-code i-target = refl
-entry-code i-assign = refl
-entry-code i-increment = refl
-entry-code i-decrement = refl
-entry-code i-send = refl
-entry-code i-receive = refl
-entry-code i-assert = refl
-entry-code i-skip = refl
-entry-code i-goto = refl
-entry-code i-break = refl
-entry-code i-timeout = refl
-entry-code i-else = refl
-entry-code i-run = refl
-entry-code i-set-run = refl
-entry-code i-if = refl
-entry-code i-fi = refl
-entry-code i-do = refl
-entry-code i-od = refl
-entry-code i-option = refl
-entry-code i-end-option = refl
-entry-code i-local = refl
-entry-code i-global = refl
-entry-code i-declared = refl
-entry-code i-size = refl
-entry-code i-value = refl
-entry-code i-minus = refl
-entry-code i-named = refl
-entry-code i-channel = refl
-entry-code i-field = refl
-entry-code i-mtypes = refl
-entry-code i-message = refl
-entry-code i-group = refl
-entry-code i-parameter = refl
-entry-code i-proctype = refl
-entry-code i-active = refl
-entry-code i-active-many = refl
-entry-code i-init = refl
-entry-code i-body = refl
-entry-code i-end-body = refl
-
 -- items whose entries have the codes of a list stand in it
 pub codes-stand : (l : List Item) (cs : List ℕ) (i : ℕ) → ((k : ℕ) → k < length l → getD (map entryOf l) k nothing .code ≡ getD cs (i + k) 0) → At cs i l
 codes-stand [] cs i h = tt
 codes-stand (x ∷ l) cs i h = (
-  ap (λ k. getD cs k 0) (let e : i ≡ i + 0 = omega arith in e) ∙ sym (h 0 (omega arith)) ∙ entry-code x,
+  ap (λ k. getD cs k 0) (let e : i ≡ i + 0 = omega arith in e) ∙ sym (h 0 (omega arith)),
   codes-stand l cs (suc i) (λ k g. h (suc k) (omega arith) ∙ ap (λ k. getD cs k 0) (let e : i + suc k ≡ suc i + k = omega arith in e)),
 )
 

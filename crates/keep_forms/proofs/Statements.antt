@@ -10,7 +10,9 @@ use Rattle.base_bytes.specs.Choice.{pick}
 use Rattle.base_kinds.specs.Kinds.{Token}
 use Rattle.spec_grammar.specs.Tree.{Expr, Ref, Received, into, equal, exactly, exactly-true, exactly-false, Sort, action, statement, sequence, options, Tree}
 use Rattle.spec_grammar.specs.Grammar.{Listed, one, more, Maybe-listed, no-list, a-list, Message, commas, call, An-expression, A-received, r-into, r-eval, r-number, r-true, r-false, D, s-express, s-assign, s-increment, s-decrement, s-send, s-receive, s-assert, s-print-alone, s-print, s-skip, s-goto, s-break, s-timeout, s-else, s-run, s-set-run, s-if, s-do, s-bare, s-label, q-last, q-then, o-last, o-also}
-use Rattle.spec_grammar.specs.Code.{Item, each, code-exp, code-argument, code-received, code-tree, i-name, i-argument, i-into, i-equal, i-end, i-label, i-express, i-target, i-assign, i-increment, i-decrement, i-send, i-receive, i-assert, i-set-run, i-fi, i-od, i-end-option}
+use Rattle.base_codes.specs.Items.{Item, i-argument, i-assert, i-assign, i-decrement, i-end, i-end-option, i-equal, i-express, i-fi, i-increment, i-into, i-label, i-name, i-od, i-receive, i-send, i-set-run, i-target}
+use Rattle.base_codes.specs.Sets.{isPart, isAlone, isLead}
+use Rattle.parse_code.specs.Code.{each, code-exp, code-argument, code-received, code-tree}
 use Rattle.link_phrases_proof.specs.Phrases.{Proper}
 use Rattle.link_phrases_proof.proofs.Proper.{grammar-proper}
 use Rattle.keep_forms.specs.Forms.{Form, form, step, fits}
@@ -55,7 +57,7 @@ asking o l = form 2 o l false false false true 0 0
 -- the item behind a phrase
 module _ (o l : ℕ) where
   argument : (e : Expr) → Proper e → (K : Form → Type 0) → K (asking o l) → Passes (code-argument e) (asking o l) K
-  unfolding fits step
+  unfolding fits step isPart isAlone isLead
   argument e p K k = join (code-exp e) (i-argument ∷ []) _ K (phrase o l false true e p false false 0 0 _ (λ r g n z. (refl, k)))
 
   arguments : (es : List Expr) → All Proper es → (K : Form → Type 0) → K (asking o l) → Passes (each code-argument es) (asking o l) K
@@ -78,7 +80,7 @@ module _ (o l : ℕ) where
   received-proper _ _ r-false = tt
 
   receiving : (x : Received) → ProperIn x → (K : Form → Type 0) → K (asking o l) → Passes (code-received x) (asking o l) K
-  unfolding fits step
+  unfolding fits step isPart isAlone isLead
   receiving (into r) p K k = join (code-exp r) (i-into ∷ []) _ K (phrase o l false true r p false false 0 0 _ (λ r g n z. subst (λ r. Passes (i-into ∷ []) (form 2 o l true r false true g n) K) (sym z) (refl, k)))
   receiving (equal e) p K k = join (code-exp e) (i-equal ∷ []) _ K (phrase o l false true e p false false 0 0 _ (λ r g n z. (refl, k)))
   receiving (exactly n) p K k = (refl, (refl, k))
@@ -92,7 +94,7 @@ module _ (o l : ℕ) where
 
   -- arguments and their end
   asked : (es : List Expr) → All Proper es → (K : Form → Type 0) → K (calm o l 0) → Passes (each code-argument es ++ i-end ∷ []) (asking o l) K
-  unfolding fits step
+  unfolding fits step isPart isAlone isLead
   asked es h K k = join (each code-argument es) (i-end ∷ []) _ K (arguments es h _ (refl, k))
 
   -- a reference and what stands behind it
@@ -101,15 +103,15 @@ module _ (o l : ℕ) where
 
 -- ---- selections
 close-fits : (o l : ℕ) → (fits (calm (o + 1) l 0) c-fi ≡ true) × (fits (calm (o + 1) (l + 1) 0) c-od ≡ true) × (fits (calm (o + 1) l 0) c-end-option ≡ true)
-unfolding fits
+unfolding fits isPart isAlone isLead
 close-fits o l = (rw (lt-ltb 0 (o + 1) (omega arith)), rw (lt-ltb 0 (o + 1) (omega arith), lt-ltb 0 (l + 1) (omega arith)), rw (lt-ltb 0 (o + 1) (omega arith)))
 
 fi-step : (o l : ℕ) → step (calm (o + 1) l 0) c-fi ≡ calm o l 0
-unfolding step
+unfolding step isPart isAlone isLead
 fi-step o l = ap (λ o. calm o l 0) (let e : o + 1 - 1 ≡ o = omega arith in e)
 
 od-step : (o l : ℕ) → step (calm (o + 1) (l + 1) 0) c-od ≡ calm o l 0
-unfolding step
+unfolding step isPart isAlone isLead
 od-step o l = (λ i. calm ((let e : o + 1 - 1 ≡ o = omega arith in e) i) ((let e : l + 1 - 1 ≡ l = omega arith in e) i) 0)
 
 -- what holds of each sort of tree: an action behind an option, a label or neither; a statement and a sequence behind an option or not; options in a selection
@@ -124,12 +126,12 @@ proper-expression ts e x = grammar-proper x
 
 -- a label and what it stands before
 label-passes : (o l : ℕ) (b : Bool) (n : ℕ) (w : List ℕ) (i : List Item) (K : Form → Type 0) → Passes i (calm o l 2) K → Passes (i-name w ∷ i-label ∷ i) (calmer o l (pick b 1 0) n) K
-unfolding fits step
+unfolding fits step isPart isAlone isLead
 label-passes o l true n w i K k = (refl, (refl, k))
 label-passes o l false n w i K k = (refl, (refl, k))
 
 pub fine : {k : Sort} {ts : List Token} {t : Tree k} → D k ts t → Fine k t
-unfolding fits step
+unfolding fits step isPart isAlone isLead
 fine (s-express {e = e} x) = λ o l g n K k. join (code-exp e) (i-express ∷ []) _ K (phrase o l false false e (grammar-proper x) false false g n _ (λ r g n z. (refl, k)))
 fine (s-assign {r = r} {e = e} x y) = λ o l g n K k.
     join (code-exp r ++ i-target ∷ code-exp e) (i-assign ∷ []) _ K

@@ -1,3 +1,4 @@
+-- Bridge, for `demand2` (crate `demands`).
 -- What stands before a mark that stores: a reference, all of it. Document 01, "Grammar", of assignments, `v++`, `v--`, `v = run` and received arguments; the marks are 184 into,
 -- 190 target, 192 increment and 193 decrement.
 use Prim.Native.Nat.{ℕ, _+_}
@@ -7,10 +8,10 @@ use mathlib.Core.List.{List}
 use lib.ListN.{length}
 use lib.Dec.{eqb}
 use Rattle.base_codes.specs.Codes.{c-decrement, c-increment, c-into, c-target}
+use Rattle.base_codes.specs.Sets.{within}
 use Rattle.base_bytes.specs.Choice.{either}
-use Rattle.rule_search.specs.Sets.{within}
 use Rattle.spec_grammar.specs.Tree.{Ref}
-use Rattle.spec_grammar.specs.Code.{code-exp}
+use Rattle.parse_code.specs.Code.{code-exp}
 use Rattle.link_phrases_proof.specs.Phrases.{Proper, At}
 
 abbrev pub aims : ℕ → Bool

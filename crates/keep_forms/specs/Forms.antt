@@ -1,14 +1,15 @@
+-- Bridge, for `demand2` (crate `demands`).
 -- How the items of a model follow one another, over their codes alone: a scan from the first to the last that knows, before each item, in which part of a unit it stands, how
--- many selections and loops are open, and what the items just before it were. Document 01, "Grammar"; the items and their order are those of specs/Code.antt of `spec_grammar`.
+-- many selections and loops are open, and what the items just before it were. Document 01, "Grammar"; the items and their order are those of specs/Code.antt of `parse_code`.
 use Prim.Native.Nat.{ℕ, zero, suc, _+_, _-_, _<_}
 use mathlib.Core.Path.{_≡_}
 use mathlib.Core.Bool.{Bool, true, false, not}
 use mathlib.Core.List.{List}
 use lib.ListN.{length, getD}
 use lib.Dec.{eqb, ltb}
-use Rattle.base_codes.specs.Codes.{c-active-many, c-argument, c-assert, c-assign, c-body, c-break, c-channel, c-choice, c-complement, c-constant, c-declared, c-do, c-else, c-end, c-end-body, c-end-option, c-express, c-false, c-fi, c-goto, c-if, c-increment, c-index, c-init, c-into, c-label, c-len, c-od, c-option, c-or-else, c-parameter, c-plain, c-proctype, c-receive, c-run, c-send, c-set-run, c-skip, c-target, c-true}
+use Rattle.base_codes.specs.Codes.{c-active-many, c-argument, c-assign, c-body, c-channel, c-choice, c-complement, c-constant, c-declared, c-do, c-end, c-end-body, c-end-option, c-false, c-fi, c-if, c-increment, c-index, c-into, c-label, c-len, c-name, c-number, c-od, c-option, c-or-else, c-parameter, c-plain, c-receive, c-set-run, c-target, c-text, c-true}
+use Rattle.base_codes.specs.Sets.{within, isUnit, isPart, isAlone, isLead, isOpener}
 use Rattle.base_bytes.specs.Choice.{pick, both, either}
-use Rattle.rule_search.specs.Sets.{within}
 
 pub record Form : Type 0 where
   -- 0 in no unit with a body, 1 behind the item that begins one, 2 in its body
@@ -30,56 +31,39 @@ abbrev pub form : ℕ → ℕ → ℕ → Bool → Bool → Bool → Bool → �
 form z o l p r m a g n = record { zone = z; depth = o; loops = l; part = p; ref = r; aim = m; args = a; stage = g; near = n }
 
 -- ## sets of codes
-abbrev pub begins : ℕ → Bool
-begins c = within c-proctype c-init c
-
 -- name, number, true, false: what a phrase begins with
 abbrev pub leaf : ℕ → Bool
-leaf c = either (within 70 71 c) (within c-true c-false c)
+leaf c = either (within c-name c-number c) (within c-true c-false c)
 
 -- the other parts of expressions stand behind a part
 abbrev pub joins : ℕ → Bool
 joins c = either (within c-or-else c-complement c) (either (within c-plain c-index c) (within c-len c-choice c))
 
-abbrev pub isPart : ℕ → Bool
-isPart c = either (within 70 71 c) (either (within c-or-else c-complement c) (within c-plain c-choice c))
-
 -- what stands behind a reference: len, into, target, increment, decrement, send, receive
 abbrev pub refers : ℕ → Bool
 refers c = either (either (eqb c c-len) (eqb c c-into)) (either (eqb c c-target) (within c-increment c-receive c))
 
--- a statement that begins with its own mark; the mark of one that begins with a phrase
-abbrev pub alone : ℕ → Bool
-alone c = either (either (eqb c 72) (eqb c c-skip)) (either (within c-break c-else c) (either (eqb c c-if) (eqb c c-do)))
-
-abbrev pub lead : ℕ → Bool
-lead c = either (within c-express c-target c) (either (within c-increment c-assert c) (either (eqb c c-goto) (eqb c c-run)))
-
--- what begins arguments
-abbrev pub opens : ℕ → Bool
-opens c = either (eqb c 72) (either (within c-send c-receive c) (within c-run c-set-run c))
-
 -- what stands in bodies alone, but for names, numbers, true and false
 abbrev pub inner : ℕ → Bool
-inner c = either (eqb c 72) (either (within c-or-else c-complement c) (either (within c-plain c-index c) (within c-len c-end-option c)))
+inner c = either (eqb c c-text) (either (within c-or-else c-complement c) (either (within c-plain c-index c) (within c-len c-end-option c)))
 
 -- ## one item more
 unfoldable pub step : Form → ℕ → Form
 step s c =
-    form (pick (begins c) 1 (pick (eqb c c-body) 2 (pick (eqb c c-end-body) 0 (s .zone))))
+    form (pick (isUnit c) 1 (pick (eqb c c-body) 2 (pick (eqb c c-end-body) 0 (s .zone))))
     (pick (either (eqb c c-if) (eqb c c-do)) (s .depth + 1) (pick (either (eqb c c-fi) (eqb c c-od)) (s .depth - 1) (s .depth)))
     (pick (eqb c c-do) (s .loops + 1) (pick (eqb c c-od) (s .loops - 1) (s .loops)))
     (isPart c) (within c-plain c-index c)
     (pick (isPart c) (s .aim) (eqb c c-target))
-    (pick (opens c) true (pick (eqb c c-end) false (s .args)))
-    (pick (eqb c c-option) 1 (pick (eqb c c-label) 2 (pick (isPart c) (pick (eqb (s .stage) 1) (pick (eqb c 70) 3 4) (pick (eqb (s .stage) 0) 0 4)) 0)))
-    (pick (eqb c c-declared) 1 (pick (eqb c 71) (pick (eqb (s .near) 1) 2 3) (pick (both (eqb c 70) (within 2 3 (s .near))) 4 0)))
+    (pick (isOpener c) true (pick (eqb c c-end) false (s .args)))
+    (pick (eqb c c-option) 1 (pick (eqb c c-label) 2 (pick (isPart c) (pick (eqb (s .stage) 1) (pick (eqb c c-name) 3 4) (pick (eqb (s .stage) 0) 0 4)) 0)))
+    (pick (eqb c c-declared) 1 (pick (eqb c c-number) (pick (eqb (s .near) 1) 2 3) (pick (both (eqb c c-name) (within 2 3 (s .near))) 4 0)))
 
 -- may it stand there?
 unfoldable pub fits : Form → ℕ → Bool
 fits s c =
     -- units, bodies and their ends; an end with nothing open; statements in bodies; parameters before them
-    both (pick (begins c) (eqb (s .zone) 0) true)
+    both (pick (isUnit c) (eqb (s .zone) 0) true)
     (both (pick (eqb c c-body) (eqb (s .zone) 1) true)
     (both (pick (eqb c c-end-body) (both (eqb (s .zone) 2) (both (eqb (s .depth) 0) (eqb (s .loops) 0))) true)
     (both (pick (inner c) (eqb (s .zone) 2) true)
@@ -97,8 +81,8 @@ fits s c =
     -- active-many behind its number and its name
     (both (pick (eqb c c-active-many) (eqb (s .near) 4) true)
     -- an option begins with a statement, which may have one label
-    (both (pick (either (alone c) (either (leaf c) (s .part))) true (not (within 1 2 (s .stage))))
-    (both (pick (either (either (isPart c) (lead c)) (either (not (s .part)) (either (s .args) (s .aim)))) true (pick (ltb 2 (s .stage)) (both (eqb c c-label) (eqb (s .stage) 3)) true))
+    (both (pick (either (isAlone c) (either (leaf c) (s .part))) true (not (within 1 2 (s .stage))))
+    (both (pick (either (either (isPart c) (isLead c)) (either (not (s .part)) (either (s .args) (s .aim)))) true (pick (ltb 2 (s .stage)) (both (eqb c c-label) (eqb (s .stage) 3)) true))
     -- arguments, each a phrase and its mark, and then their end
     (pick (isPart c) true (pick (s .args) (pick (eqb c c-end) (not (s .part)) (both (within c-argument c-constant c) (s .part))) true)))))))))))))))
 

@@ -8,50 +8,27 @@ use native.Mathlib.Decide.{ℕ-discrete}
 use lib.ListN.{length, getD, replicate, length-replicate}
 use lib.Dec.{eqb, ltb, leb}
 use borrow.Author.Tests.{ne-eqb, ltb-true, lt-ltb, le-leb, leb-true}
+use Rattle.base_ceilings.specs.Ceilings.{itemsMost}
 use Rattle.base_codes.specs.Codes.{c-body, c-end-body, c-init, c-parameter, c-proctype}
-use Rattle.base_bytes.specs.Choice.{pick, both}
-use Rattle.base_bytes.proofs.Tests.{both-true, true-false}
-use Rattle.rule_sheets.specs.Homes.{heads, insideOf, homeOf}
+use Rattle.base_codes.specs.Sets.{isUnit}
+use Rattle.base_bytes.specs.Choice.{pick}
+use Rattle.base_bytes.proofs.Tests.{both-true, true-false, both-hold}
+use Rattle.rule_sheets.specs.Homes.{insideOf, homeOf}
 use Rattle.rule_sheets.proofs.Meaning.{home-at}
-use Rattle.keep_forms.specs.Forms.{begins, Formed}
+use Rattle.keep_forms.specs.Forms.{Formed}
 use Rattle.keep_forms.proofs.Spans.{Closed}
 use Rattle.keep_tables.specs.Facts.{homes}
 
-pub both-hold : (a b : Bool) → a ≡ true → b ≡ true → both a b ≡ true
-both-hold true b e f = f
-both-hold false b e f = e
-
-heads-begins : (c : ℕ) → heads c ≡ true → begins c ≡ true
-heads-begins c e =
-    let a = both-true (ltb c-parameter c) (ltb c c-body) e in
-    let x = ltb-true c-parameter c (a .0) in
-    let y = ltb-true c c-body (a .1) in
-    both-hold (leb c-proctype c) (leb c c-init) (le-leb c-proctype c (omega arith)) (le-leb c c-init (omega arith))
-
-begins-heads : (c : ℕ) → begins c ≡ true → heads c ≡ true
-begins-heads c e =
-    let a = both-true (leb c-proctype c) (leb c c-init) e in
-    let x = leb-true c-proctype c (a .0) in
-    let y = leb-true c c-init (a .1) in
-    both-hold (ltb c-parameter c) (ltb c c-body) (lt-ltb c-parameter c (omega arith)) (lt-ltb c c-body (omega arith))
-
-pub no-heads : (c : ℕ) → begins c ≡ false → heads c ≡ false
-no-heads c e = go (heads c) refl
-  where
-    go : (b : Bool) → heads c ≡ b → b ≡ false
-    go true h = absurd (true-false (sym (heads-begins c h) ∙ e))
-    go false h = refl
-
 module _ (cs : List ℕ) where
-  inside-next : (j : ℕ) → insideOf cs (suc j) ≡ pick (heads (getD cs j 0)) (j + 1) (pick (eqb (getD cs j 0) c-end-body) 0 (insideOf cs j))
+  inside-next : (j : ℕ) → insideOf cs (suc j) ≡ pick (isUnit (getD cs j 0)) (j + 1) (pick (eqb (getD cs j 0) c-end-body) 0 (insideOf cs j))
   unfolding insideOf
   inside-next j = refl
 
-  home-plain : (j : ℕ) → heads (getD cs j 0) ≡ false → homeOf cs j ≡ insideOf cs j
+  home-plain : (j : ℕ) → isUnit (getD cs j 0) ≡ false → homeOf cs j ≡ insideOf cs j
   unfolding homeOf
   home-plain j e = rw e
 
-  home-head : (j : ℕ) → heads (getD cs j 0) ≡ true → homeOf cs j ≡ 0
+  home-head : (j : ℕ) → isUnit (getD cs j 0) ≡ true → homeOf cs j ≡ 0
   unfolding homeOf
   home-head j e = rw e
 
@@ -59,31 +36,31 @@ module _ (cs : List ℕ) where
   unfolding insideOf
   inside-none = refl
 
-  module _ (F : Formed cs) (few : length cs ≤ 8192) where
+  module _ (F : Formed cs) (few : length cs ≤ itemsMost) where
     pub home-is : (j : ℕ) → j < length cs → getD (homes cs) j 0 ≡ homeOf cs j
-    home-is j h = home-at cs (replicate 8192 0) j h few (omega (arith, length-replicate {A = ℕ} 8192 0))
+    home-is j h = home-at cs (replicate itemsMost 0) j h few (omega (arith, length-replicate {A = ℕ} itemsMost 0))
 
-    module _ (u e : ℕ) (b : begins (getD cs u 0) ≡ true) (c : Closed cs F (suc u) e) where
+    module _ (u e : ℕ) (b : isUnit (getD cs u 0) ≡ true) (c : Closed cs F (suc u) e) where
       inside-up : (n j : ℕ) → j ≡ suc u + n → j ≤ e → insideOf cs j ≡ u + 1
-      inside-up zero j q h = ap (insideOf cs) (let z : j ≡ suc u = omega arith in z) ∙ inside-next u ∙ rw (begins-heads (getD cs u 0) b)
+      inside-up zero j q h = ap (insideOf cs) (let z : j ≡ suc u = omega arith in z) ∙ inside-next u ∙ rw b
       inside-up (suc n) j q h =
           let i = suc u + n in
           let x = c .3 i (omega arith) (omega arith) in
-          ap (insideOf cs) (let z : j ≡ suc i = omega arith in z) ∙ inside-next i ∙ rw (no-heads (getD cs i 0) (x .0), ne-eqb (getD cs i 0) c-end-body (x .1)) (inside-up n i refl (omega arith))
+          ap (insideOf cs) (let z : j ≡ suc i = omega arith in z) ∙ inside-next i ∙ rw (x .0, ne-eqb (getD cs i 0) c-end-body (x .1)) (inside-up n i refl (omega arith))
 
       -- what stands in the unit, before its end
       pub inside-home : (j : ℕ) → u < j → j < e → getD (homes cs) j 0 ≡ u + 1
       inside-home j h g =
           let x = c .3 j h g in
           let l = c .1 in
-          home-is j (omega arith) ∙ home-plain j (no-heads (getD cs j 0) (x .0)) ∙ inside-up (j - suc u) j (omega arith) (omega arith)
+          home-is j (omega arith) ∙ home-plain j (x .0) ∙ inside-up (j - suc u) j (omega arith) (omega arith)
 
       -- what is in its body stands there, or is its end
       home-inside : (j : ℕ) → insideOf cs j ≡ u + 1 → (u < j) × (j ≤ e)
       home-inside zero q = absurd (let z = inside-none in omega arith)
-      home-inside (suc j) q = go (heads (getD cs j 0)) refl (ℕ-discrete (getD cs j 0) c-end-body) (home-inside j)
+      home-inside (suc j) q = go (isUnit (getD cs j 0)) refl (ℕ-discrete (getD cs j 0) c-end-body) (home-inside j)
         where
-          go : (b : Bool) → heads (getD cs j 0) ≡ b → Dec (getD cs j 0 ≡ c-end-body) → (insideOf cs j ≡ u + 1 → (u < j) × (j ≤ e)) → (u < suc j) × (suc j ≤ e)
+          go : (b : Bool) → isUnit (getD cs j 0) ≡ b → Dec (getD cs j 0 ≡ c-end-body) → (insideOf cs j ≡ u + 1 → (u < j) × (j ≤ e)) → (u < suc j) × (suc j ≤ e)
           go true h d r = let z : j + 1 ≡ u + 1 = sym (inside-next j ∙ rw h) ∙ q in let l = c .0 in (omega arith, omega arith)
           go false h (yes d) r = absurd (let z : 0 ≡ u + 1 = sym (inside-next j ∙ rw (h, d)) ∙ q in omega arith)
           go false h (no d) r =
@@ -97,9 +74,9 @@ module _ (cs : List ℕ) where
               before (no z) m = omega arith
 
       pub body-inside : (j : ℕ) → j < length cs → (getD cs j 0 ≡ c-end-body → ⊥) → getD (homes cs) j 0 ≡ u + 1 → (u < j) × (j < e)
-      body-inside j h n q = go (heads (getD cs j 0)) refl
+      body-inside j h n q = go (isUnit (getD cs j 0)) refl
         where
-          go : (b : Bool) → heads (getD cs j 0) ≡ b → (u < j) × (j < e)
+          go : (b : Bool) → isUnit (getD cs j 0) ≡ b → (u < j) × (j < e)
           go true g = absurd (let z : 0 ≡ u + 1 = sym (home-is j h ∙ home-head j g) ∙ q in omega arith)
           go false g =
               let r = home-inside j (sym (home-is j h ∙ home-plain j g) ∙ q) in

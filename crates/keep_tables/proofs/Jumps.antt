@@ -8,15 +8,16 @@ use lib.ListN.{length, getD}
 use lib.Dec.{eqb, ltb}
 use borrow.Author.Tests.{eqb-true, ltb-true}
 use Rattle.base_codes.specs.Codes.{c-end-body, c-goto, c-label}
+use Rattle.base_codes.specs.Sets.{ruleOf, classOf}
 use Rattle.base_bytes.specs.Choice.{pick, both}
 use Rattle.base_bytes.proofs.Tests.{both-true, true-false}
 use Rattle.rule_sheets.specs.Walks.{first}
 use Rattle.rule_search.specs.Sets.{among}
 use Rattle.rule_search.specs.Search.{declares, find}
-use Rattle.rule_item.specs.Rules.{badGoto, ruleOf, badBy}
+use Rattle.rule_item.specs.Rules.{badGoto, badBy}
 use Rattle.table_layout.specs.Access.{linkOf}
 use Rattle.link_places.specs.Places.{placeFrom}
-use Rattle.link_items.specs.Links.{classOf, linkBy}
+use Rattle.link_items.specs.Links.{linkBy}
 use Rattle.keep_tables.specs.Well.{Unit, Inside}
 use Rattle.keep_tables.specs.Held.{Held}
 use Rattle.keep_tables.specs.Facts.{homes, starts, heights, linksIn, Facts}

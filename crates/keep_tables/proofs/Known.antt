@@ -8,9 +8,10 @@ use native.Mathlib.Decide.{ℕ-discrete}
 use lib.ListN.{length, getD, length-map}
 use lib.Dec.{eqb, ltb}
 use borrow.Author.Tests.{eqb-true, le-ltb}
+use Rattle.base_ceilings.specs.Ceilings.{itemsMost}
 use Rattle.base_bytes.specs.Choice.{pick}
 use Rattle.text_spacing_proof.specs.Writing.{tokensIn}
-use Rattle.spec_grammar.specs.Code.{code}
+use Rattle.parse_code.specs.Code.{code}
 use Rattle.table_entries.specs.Entry.{nothing}
 use Rattle.table_entries.specs.Items.{entryOf}
 use Rattle.rule_item.specs.Rules.{bad}
@@ -64,7 +65,7 @@ checked-free cs vs toks e j h = free-at cs vs (homes cs) (starts cs) (heights cs
 
 pub passed-none : (cs vs : List ℕ) → passed cs vs ≡ false → anyPassed cs vs (homes cs) ≡ false
 unfolding passed
-passed-none cs vs e = let f = few-items cs vs e in sym (ap (λ b. pick b true (anyPassed cs vs (homes cs))) (le-ltb 8192 (length cs) f)) ∙ e
+passed-none cs vs e = let f = few-items cs vs e in sym (ap (λ b. pick b true (anyPassed cs vs (homes cs))) (le-ltb itemsMost (length cs) f)) ∙ e
 
 -- ---- the whole
 module _ (t : List ℕ) (a : Accepts t) where

@@ -7,8 +7,10 @@ use native.Mathlib.Decide.{ℕ-discrete}
 use lib.ListN.{length, getD, set, replicate, length-set, length-replicate}
 use lib.Seq.{getD-set-same, getD-set-other}
 use borrow.Author.Tests.{le-ltb}
-use Rattle.link_items.specs.Links.{classOf, linkBy, linkAt, filledBack, linksOf}
+use Rattle.base_ceilings.specs.Ceilings.{itemsMost}
+use Rattle.link_items.specs.Links.{linkBy, linkAt, filledBack, linksOf}
 use Rattle.keep_tables.specs.Facts.{homes, starts, linksIn}
+use Rattle.base_codes.specs.Sets.{classOf}
 
 module _ (cs vs hs ss : List ℕ) where
   pub back-keeps : (n : ℕ) (l : List ℕ) (k : ℕ) → n ≤ k → getD (filledBack cs vs hs ss n l) k 0 ≡ getD l k 0
@@ -36,7 +38,7 @@ module _ (cs vs hs ss : List ℕ) where
           getD′ y j = getD y j 0
       go (no d) r = r (omega arith)
 
-pub link-is : (cs vs : List ℕ) (k : ℕ) → length cs ≤ 8192 → k < length cs
+pub link-is : (cs vs : List ℕ) (k : ℕ) → length cs ≤ itemsMost → k < length cs
     → (m : List ℕ) × (getD (linksIn cs vs) k 0 ≡ min 4294967295 (linkBy cs vs (homes cs) (starts cs) (classOf (getD cs k 0)) m k)) × ((i : ℕ) → k < i → getD m i 0 ≡ getD (linksIn cs vs) i 0)
 unfolding linksOf linkAt
-link-is cs vs k f h = rw (le-ltb 8192 (length cs) f) (back-at cs vs (homes cs) (starts cs) (length cs) (replicate 8192 0) k h (omega (arith, length-replicate {A = ℕ} 8192 0)))
+link-is cs vs k f h = rw (le-ltb itemsMost (length cs) f) (back-at cs vs (homes cs) (starts cs) (length cs) (replicate itemsMost 0) k h (omega (arith, length-replicate {A = ℕ} itemsMost 0)))

@@ -9,14 +9,14 @@ use native.Mathlib.Decide.{ℕ-discrete}
 use lib.ListN.{length, getD}
 use lib.Dec.{leb}
 use borrow.Author.Tests.{eq-eqb, ne-eqb, le-leb, leb-true}
-use Rattle.base_codes.specs.Codes.{c-choice, c-complement, c-end-body, c-false, c-index, c-len, c-or-else, c-plain, c-true}
+use Rattle.base_codes.specs.Codes.{c-choice, c-complement, c-end-body, c-false, c-index, c-len, c-name, c-number, c-or-else, c-plain, c-true}
+use Rattle.base_codes.specs.Sets.{isPart, isAlone, isLead, within, classOf}
 use Rattle.base_bytes.specs.Choice.{pick, both, either}
-use Rattle.base_bytes.proofs.Tests.{both-true, either-true, true-false}
+use Rattle.base_bytes.proofs.Tests.{both-true, either-true, true-false, left-holds, right-holds}
 use Rattle.rule_sheets.specs.Walks.{first}
-use Rattle.rule_search.specs.Sets.{within}
 use Rattle.table_layout.specs.Access.{codeOf, linkOf}
-use Rattle.link_places.specs.Places.{isPart, isMark, markFrom, markOf, isAlone, isLead, isPlace, isStop, placeFrom}
-use Rattle.link_items.specs.Links.{classOf, linkBy}
+use Rattle.link_places.specs.Places.{isMark, markFrom, markOf, isPlace, isStop, placeFrom}
+use Rattle.link_items.specs.Links.{linkBy}
 use Rattle.state_check.specs.Standing.{placeAt}
 use Rattle.keep_forms.specs.Forms.{joins}
 use Rattle.keep_forms.proofs.Nears.{before-part}
@@ -34,14 +34,6 @@ within-true a b c e = let x = both-true (leb a c) (leb c b) e in (leb-true a c (
 within-holds : (a b c : ℕ) → a ≤ c → c ≤ b → within a b c ≡ true
 within-holds a b c h g = rw (le-leb a c h, le-leb c b g)
 
-right-holds : (a b : Bool) → b ≡ true → either a b ≡ true
-right-holds true b e = refl
-right-holds false b e = e
-
-left-holds : (a b : Bool) → a ≡ true → either a b ≡ true
-left-holds true b e = refl
-left-holds false b e = absurd (true-false (sym e))
-
 joined-part : (c : ℕ) → c-or-else ≤ c → c ≤ c-complement → joins c ≡ true
 joined-part c h g = left-holds (within c-or-else c-complement c) _ (within-holds c-or-else c-complement c h g)
 
@@ -53,7 +45,7 @@ joined-last c h g = right-holds (within c-or-else c-complement c) _ (right-holds
 
 pub leaf-class : (c : ℕ) → isPart c ≡ true → joins c ≡ false → classOf c ≡ 5
 unfolding isPart classOf
-leaf-class c e f = go (ℕ-discrete c 70) (ℕ-discrete c 71) (ℕ-discrete c c-true) (ℕ-discrete c c-false)
+leaf-class c e f = go (ℕ-discrete c c-name) (ℕ-discrete c c-number) (ℕ-discrete c c-true) (ℕ-discrete c c-false)
   where
     no-join : joins c ≡ true → ⊥
     no-join j = true-false (sym j ∙ f)
@@ -63,20 +55,20 @@ leaf-class c e f = go (ℕ-discrete c 70) (ℕ-discrete c 71) (ℕ-discrete c c-
     last n m b (no x) (yes y) = no-join (joined-ref c (omega arith) (omega arith))
     last n m b (no x) (no y) = let p = b .0 in let q = b .1 in no-join (joined-last c (omega arith) (omega arith))
 
-    none : (c ≡ 70 → ⊥) → (c ≡ 71 → ⊥) → (c ≡ c-true → ⊥) → (c ≡ c-false → ⊥) → (within 70 71 c ≡ true) ⊎ (either (within c-or-else c-complement c) (within c-plain c-choice c) ≡ true) → ⊥
-    none n m o p (inl x) = let b = within-true 70 71 c x in let y = b .0 in let z = b .1 in omega arith
+    none : (c ≡ c-name → ⊥) → (c ≡ c-number → ⊥) → (c ≡ c-true → ⊥) → (c ≡ c-false → ⊥) → (within c-name c-number c ≡ true) ⊎ (either (within c-or-else c-complement c) (within c-plain c-choice c) ≡ true) → ⊥
+    none n m o p (inl x) = let b = within-true c-name c-number c x in let y = b .0 in let z = b .1 in omega arith
     none n m o p (inr x) = more (either-true (within c-or-else c-complement c) (within c-plain c-choice c) x)
       where
         more : (within c-or-else c-complement c ≡ true) ⊎ (within c-plain c-choice c ≡ true) → ⊥
         more (inl y) = let b = within-true c-or-else c-complement c y in no-join (joined-part c (b .0) (b .1))
         more (inr y) = last o p (within-true c-plain c-choice c y) (ℕ-discrete c c-plain) (ℕ-discrete c c-index)
 
-    go : Dec (c ≡ 70) → Dec (c ≡ 71) → Dec (c ≡ c-true) → Dec (c ≡ c-false) → classOf c ≡ 5
+    go : Dec (c ≡ c-name) → Dec (c ≡ c-number) → Dec (c ≡ c-true) → Dec (c ≡ c-false) → classOf c ≡ 5
     go (yes z) b g d = rw z
     go (no a) (yes z) g d = rw z
     go (no a) (no b) (yes z) d = rw z
     go (no a) (no b) (no g) (yes z) = rw z
-    go (no a) (no b) (no g) (no d) = absurd (none a b g d (either-true (within 70 71 c) (either (within c-or-else c-complement c) (within c-plain c-choice c)) e))
+    go (no a) (no b) (no g) (no d) = absurd (none a b g d (either-true (within c-name c-number c) (either (within c-or-else c-complement c) (within c-plain c-choice c)) e))
 
 -- an end of a body is a mark
 end-mark : isMark c-end-body ≡ true

@@ -2,11 +2,12 @@
 use Prim.Native.Nat.{ℕ, zero, suc, _+_, _≤_, _<_, min}
 use mathlib.Core.Path.{_≡_, refl, sym, ap, subst, _∙_}
 use mathlib.Core.Bool.{Bool, true, false}
-use mathlib.Core.List.{List, [], _∷_, _++_, map}
+use mathlib.Core.List.{List, [], map, append-nil}
 use native.Mathlib.Omega.{arith}
 use lib.ListN.{length, getD, replicate, length-replicate}
 use lib.Dec.{ltb}
 use borrow.Author.Tests.{le-ltb, ltb-false}
+use Rattle.base_ceilings.specs.Ceilings.{itemsMost, textMost}
 use Rattle.base_bytes.specs.Choice.{pick}
 use Rattle.base_bytes.proofs.Tests.{true-false}
 use Rattle.text_tokens.specs.Reading.{Placed}
@@ -30,29 +31,21 @@ use Rattle.read_passes.specs.Judging.{payload, tablesFrom, tablesAt, tablesText
 use Rattle.read_accepts_proof.specs.Meaning.{Accepts, linksAt}
 use Rattle.read_accepts_proof.proofs.Alike.{parsed-done}
 use Rattle.keep_tables.specs.Held.{Held}
-
-no-more : (l : List ℕ) → l ++ [] ≡ l
-no-more [] = refl
-no-more (a ∷ l) = ap (a ∷_) (no-more l)
+use Rattle.base_codes.specs.Codes.{c-number}
+use Rattle.table_entries.proofs.Runs.{runs-at}
 
 runs-length : (f : ℕ → Entry) (i k : ℕ) → length (runs f i k) ≡ k
 unfolding runs
 runs-length f i zero = refl
 runs-length f i (suc k) = ap suc (runs-length f (i + 1) k)
 
-runs-at : (f : ℕ → Entry) (i k j : ℕ) → j < k → getD (runs f i k) j nothing ≡ f (i + j)
-unfolding runs
-runs-at f i zero j h = absurd (omega arith)
-runs-at f i (suc k) zero h = ap f (let e : i ≡ i + 0 = omega arith in e)
-runs-at f i (suc k) (suc j) h = runs-at f (i + 1) k j (omega arith) ∙ ap f (let e : i + 1 + j ≡ i + suc j = omega arith in e)
-
-pub few-items : (cs vs : List ℕ) → passed cs vs ≡ false → length cs ≤ 8192
+pub few-items : (cs vs : List ℕ) → passed cs vs ≡ false → length cs ≤ itemsMost
 unfolding passed
-few-items cs vs e = go (ltb 8192 (length cs)) refl (anyPassed cs vs (homesOf cs (replicate 8192 0))) e
+few-items cs vs e = go (ltb itemsMost (length cs)) refl (anyPassed cs vs (homesOf cs (replicate itemsMost 0))) e
   where
-    go : (b : Bool) → ltb 8192 (length cs) ≡ b → (x : Bool) → pick b true x ≡ false → length cs ≤ 8192
+    go : (b : Bool) → ltb itemsMost (length cs) ≡ b → (x : Bool) → pick b true x ≡ false → length cs ≤ itemsMost
     go true h x q = absurd (true-false q)
-    go false h x q = ltb-false 8192 (length cs) h
+    go false h x q = ltb-false itemsMost (length cs) h
 
 module _ (t : List ℕ) (a : Accepts t) where
   abbrev pub ss : List ℕ
@@ -70,12 +63,12 @@ module _ (t : List ℕ) (a : Accepts t) where
   abbrev pub saidAt : List ℕ
   saidAt = payload t ss es codesAt ks
 
-  few : length codesAt ≤ 8192
+  few : length codesAt ≤ itemsMost
   few = few-items codesAt saidAt (a .within)
 
   pub entries-are : entriesOf t ss es codesAt ks ≡ entriesIn (a .tree)
   entries-are =
-      rw (← no-more ss, ← no-more es, ← no-more ks) (accepted-entries t (a .parts) (a .tree) (a .reads) (a .gram) [] [] [] symbol-of place-of (a .numbers)
+      rw (← append-nil ss, ← append-nil es, ← append-nil ks) (accepted-entries t (a .parts) (a .tree) (a .reads) (a .gram) [] [] [] symbol-of place-of (a .numbers)
       (machine-right (a .parts) (a .numbers) (reading-exact t (a .parts) .0 (a .reads) .2) (parsed-done (map Placed.kind (a .parts)) (a .numbers) (a .written))) (a .coded))
 
   entries-fair : AllFair (entriesOf t ss es codesAt ks)
@@ -87,11 +80,11 @@ module _ (t : List ℕ) (a : Accepts t) where
 
   pub entries-length : length (entriesOf t ss es codesAt ks) ≡ length codesAt
   unfolding entriesOf
-  entries-length = runs-length (entryAt t ss es codesAt ks) 0 (min 8192 (length codesAt)) ∙ (let f = few in let e : min 8192 (length codesAt) ≡ length codesAt = omega arith in e)
+  entries-length = runs-length (entryAt t ss es codesAt ks) 0 (min itemsMost (length codesAt)) ∙ (let f = few in let e : min itemsMost (length codesAt) ≡ length codesAt = omega arith in e)
 
   pub entry-is : (i : ℕ) → i < length codesAt → getD (entriesOf t ss es codesAt ks) i nothing ≡ entryAt t ss es codesAt ks i
   unfolding entriesOf
-  entry-is i h = let f = few in runs-at (entryAt t ss es codesAt ks) 0 (min 8192 (length codesAt)) i (omega arith) ∙ ap (entryAt t ss es codesAt ks) (let e : 0 + i ≡ i = omega arith in e)
+  entry-is i h = let f = few in runs-at (entryAt t ss es codesAt ks) 0 (min itemsMost (length codesAt)) i (omega arith) ∙ ap (entryAt t ss es codesAt ks) (let e : 0 + i ≡ i = omega arith in e)
 
   pub entry-code : (i : ℕ) → entryAt t ss es codesAt ks i .code ≡ getD codesAt i 0
   unfolding entryAt
@@ -102,10 +95,10 @@ module _ (t : List ℕ) (a : Accepts t) where
   said i h =
       let l = reading-exact t (a .parts) .0 (a .reads) .1 in
       let f = few in
-      rw (le-ltb 8192 (length t) l, le-ltb 8192 (length codesAt) f)
-      (filled-at (argOf t ss es codesAt ks) 0 (length codesAt) (replicate 8192 0) i (omega arith) (omega arith) (omega (arith, length-replicate {A = ℕ} 8192 0)))
+      rw (le-ltb textMost (length t) l, le-ltb itemsMost (length codesAt) f)
+      (filled-at (argOf t ss es codesAt ks) 0 (length codesAt) (replicate itemsMost 0) i (omega arith) (omega arith) (omega (arith, length-replicate {A = ℕ} itemsMost 0)))
 
-  entry-value : (i : ℕ) → getD codesAt i 0 ≡ 71 → entryAt t ss es codesAt ks i .value ≡ argOf t ss es codesAt ks i
+  entry-value : (i : ℕ) → getD codesAt i 0 ≡ c-number → entryAt t ss es codesAt ks i .value ≡ argOf t ss es codesAt ks i
   unfolding entryAt valueOf argOf spelled
   entry-value i e = rw e
 

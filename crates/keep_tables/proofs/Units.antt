@@ -8,17 +8,17 @@ use native.Mathlib.Decide.{ℕ-discrete}
 use lib.ListN.{length, getD}
 use borrow.Author.Tests.{eq-eqb, ne-eqb}
 use Rattle.base_codes.specs.Codes.{c-active, c-active-many, c-end-body, c-init, c-proctype}
+use Rattle.base_codes.specs.Sets.{isOpening, isClosing, classOf, isUnit}
 use Rattle.table_layout.specs.Access.{itemsOf, codeOf, linkOf}
-use Rattle.link_places.specs.Places.{isOpening, isClosing, deeper, closeFrom, closeOf}
-use Rattle.link_items.specs.Links.{classOf, linkBy}
-use Rattle.keep_forms.specs.Forms.{begins}
+use Rattle.link_places.specs.Places.{deeper, closeFrom, closeOf}
+use Rattle.link_items.specs.Links.{linkBy}
 use Rattle.keep_forms.proofs.Spans.{Closed, unit-closed}
 use Rattle.keep_tables.specs.Well.{Unit}
 use Rattle.keep_tables.specs.Held.{Held}
 use Rattle.keep_tables.specs.Facts.{homes, starts, linksIn, Facts}
 use Rattle.keep_tables.proofs.Links.{link-is}
 
--- each of the four codes of what begins a unit
+-- each of the four codes of what isUnit a unit
 by-four : (P : ℕ → Type 0) → P c-proctype → P c-active → P c-active-many → P c-init → (c : ℕ) → c-proctype ≤ c → c ≤ c-init → P c
 by-four P a b d e c h g = subst P (let z : c-proctype + (c - c-proctype) ≡ c = omega arith in z) (go (c - c-proctype) (omega arith))
   where
@@ -29,8 +29,8 @@ by-four P a b d e c h g = subst P (let z : c-proctype + (c - c-proctype) ≡ c =
     go (suc (suc (suc zero))) h = e
     go (suc (suc (suc (suc k)))) h = absurd (omega arith)
 
-begins-holds : (c : ℕ) → c-proctype ≤ c → c ≤ c-init → begins c ≡ true
-begins-holds = by-four (λ c. begins c ≡ true) refl refl refl refl
+begins-holds : (c : ℕ) → c-proctype ≤ c → c ≤ c-init → isUnit c ≡ true
+begins-holds = by-four (λ c. isUnit c ≡ true) refl refl refl refl
 
 unit-class : (c : ℕ) → c-proctype ≤ c → c ≤ c-init → classOf c ≡ 12
 unfolding classOf
@@ -58,7 +58,7 @@ module _ (t cs vs : List ℕ) (H : Held t cs vs (linksIn cs vs)) (K : Facts cs v
   -- what the tables and the items say of a unit
   pub record Span (u : ℕ) : Type 0 where
     pub before : u < length cs
-    pub head : begins (getD cs u 0) ≡ true
+    pub head : isUnit (getD cs u 0) ≡ true
     pub closed : Closed cs (K .formed) (suc u) (linkOf t u)
 
   unit-link : (m : List ℕ) (u : ℕ) → c-proctype ≤ getD cs u 0 → getD cs u 0 ≤ c-init → linkBy cs vs (homes cs) (starts cs) (classOf (getD cs u 0)) m u ≡ closeOf cs 3 (u + 1)

@@ -9,13 +9,14 @@ use native.Mathlib.Decide.{decLt}
 use lib.ListN.{length, getD}
 use lib.Dec.{eqb, ltb, leb}
 use borrow.Author.Tests.{eq-eqb, ne-eqb, eqb-true, ltb-true, ltb-false, leb-true}
-use Rattle.base_codes.specs.Codes.{c-declared, c-parameter, c-size}
+use Rattle.base_ceilings.specs.Ceilings.{arrayMost, channelsMost, globalsMost, itemsMost, mtypesMost, processesMost, proctypesMost, statementsMost}
+use Rattle.base_codes.specs.Codes.{c-declared, c-parameter, c-size, c-number}
 use Rattle.base_bytes.specs.Choice.{pick, both, either}
 use Rattle.base_bytes.proofs.Tests.{either-false, true-false}
 use Rattle.rule_sheets.specs.Walks.{sum}
-use Rattle.rule_item.specs.Rules.{isArray, badSize, ruleOf, badBy}
+use Rattle.rule_item.specs.Rules.{isArray, badSize, badBy}
 use Rattle.rule_ceilings.specs.Ceilings.{numbers, weight, total, anyPassed}
-use Rattle.link_items.specs.Links.{typeAt, sizeAt, localAt, offsetAt, slotAt, classOf, linkBy}
+use Rattle.link_items.specs.Links.{typeAt, sizeAt, localAt, offsetAt, slotAt, linkBy, sizeKept}
 use Rattle.table_layout.specs.Access.{itemsOf, codeOf, linkOf}
 use Rattle.step_eval.specs.Variables.{sizeOf}
 use Rattle.state_types.specs.Fits.{isLocal}
@@ -26,42 +27,43 @@ use Rattle.keep_tables.specs.Facts.{homes, starts, heights, linksIn, Fac
 use Rattle.keep_tables.proofs.Links.{link-is}
 use Rattle.keep_tables.proofs.Units.{span-of}
 use Rattle.keep_tables.proofs.Homes.{inside-home}
+use Rattle.base_codes.specs.Sets.{ruleOf, classOf}
 
 -- ---- four numbers in one
-unpacked : (a b c d : ℕ) → a ≤ 7 → b ≤ 1 → c ≤ 63
+unpacked : (a b c d : ℕ) → a ≤ 7 → b ≤ 1 → c ≤ sizeKept
     → ((a + 8 * b + 16 * c + 1024 * d) / 1024 ≡ d) × ((a + 8 * b + 16 * c + 1024 * d) / 16 % 64 ≡ c) × ((a + 8 * b + 16 * c + 1024 * d) / 8 % 2 ≡ b)
 unpacked a b c d ha hb hc = (omega arith, omega arith, omega arith)
 
 -- ---- ceilings
 module _ (cs vs hs : List ℕ) (e : anyPassed cs vs hs ≡ false) where
   pub record Within : Type 0 where
-    pub globals : numbers cs vs hs 0 ≤ 64
+    pub globals : numbers cs vs hs 0 ≤ globalsMost
     pub heavy : total cs vs hs 7 ≤ 0
     pub wide : total cs vs hs 6 ≤ 0
     pub some : total cs vs hs 4 ≡ 0 → ⊥
-    pub channels : total cs vs hs 5 ≤ 16
+    pub channels : total cs vs hs 5 ≤ channelsMost
 
   pub within : Within
   unfolding anyPassed
   within =
       let n = total cs vs hs in
-      let p = either (ltb 512 (n 1)) (ltb 64 (n 2)) in
-      let q = either (ltb 16 (n 3)) (ltb 64 (numbers cs vs hs 0)) in
+      let p = either (ltb statementsMost (n 1)) (ltb mtypesMost (n 2)) in
+      let q = either (ltb proctypesMost (n 3)) (ltb globalsMost (numbers cs vs hs 0)) in
       let r = either (ltb 0 (n 7)) (ltb 0 (n 6)) in
-      let s = either (ltb 16 (n 4)) (eqb (n 4) 0) in
-      let a = either-false (either p q) (either r (either s (ltb 16 (n 5)))) e in
+      let s = either (ltb processesMost (n 4)) (eqb (n 4) 0) in
+      let a = either-false (either p q) (either r (either s (ltb channelsMost (n 5)))) e in
       let b = either-false p q (a .0) in
-      let c = either-false (ltb 16 (n 3)) (ltb 64 (numbers cs vs hs 0)) (b .1) in
-      let d = either-false r (either s (ltb 16 (n 5))) (a .1) in
+      let c = either-false (ltb proctypesMost (n 3)) (ltb globalsMost (numbers cs vs hs 0)) (b .1) in
+      let d = either-false r (either s (ltb channelsMost (n 5))) (a .1) in
       let f = either-false (ltb 0 (n 7)) (ltb 0 (n 6)) (d .0) in
-      let g = either-false s (ltb 16 (n 5)) (d .1) in
-      let h = either-false (ltb 16 (n 4)) (eqb (n 4) 0) (g .0) in
+      let g = either-false s (ltb channelsMost (n 5)) (d .1) in
+      let h = either-false (ltb processesMost (n 4)) (eqb (n 4) 0) (g .0) in
       record {
-        globals = ltb-false 64 (numbers cs vs hs 0) (c .1);
+        globals = ltb-false globalsMost (numbers cs vs hs 0) (c .1);
         heavy = ltb-false 0 (total cs vs hs 7) (f .0);
         wide = ltb-false 0 (total cs vs hs 6) (f .1);
         some = λ z. true-false (sym (eq-eqb (total cs vs hs 4) 0 z) ∙ h .1);
-        channels = ltb-false 16 (total cs vs hs 5) (g .1);
+        channels = ltb-false channelsMost (total cs vs hs 5) (g .1);
       }
 
 -- ---- what is an item is there
@@ -79,21 +81,21 @@ item-there cs j c h e = go (decLt j (length cs))
 
 -- ---- the size of an array
 module _ (cs vs : List ℕ) (K : Facts cs vs) where
-  size-rule : (j : ℕ) → j < length cs → getD cs j 0 ≡ c-size → (0 < getD vs (j - 1) 0) × (getD vs (j - 1) 0 ≤ 32)
+  size-rule : (j : ℕ) → j < length cs → getD cs j 0 ≡ c-size → (0 < getD vs (j - 1) 0) × (getD vs (j - 1) 0 ≤ arrayMost)
   unfolding ruleOf badBy badSize
-  size-rule j h e = go (ltb 0 (getD vs (j - 1) 0)) (leb (getD vs (j - 1) 0) 32) refl refl (sym (ap (λ c. badBy cs vs (homes cs) (starts cs) (heights cs) (ruleOf c) j) e) ∙ K .ruled j h)
+  size-rule j h e = go (ltb 0 (getD vs (j - 1) 0)) (leb (getD vs (j - 1) 0) arrayMost) refl refl (sym (ap (λ c. badBy cs vs (homes cs) (starts cs) (heights cs) (ruleOf c) j) e) ∙ K .ruled j h)
     where
-      go : (a b : Bool) → ltb 0 (getD vs (j - 1) 0) ≡ a → leb (getD vs (j - 1) 0) 32 ≡ b → pick {A = ℕ} (both a b) 0 5 ≡ 0 → (0 < getD vs (j - 1) 0) × (getD vs (j - 1) 0 ≤ 32)
-      go true true p q z = (ltb-true 0 (getD vs (j - 1) 0) p, leb-true (getD vs (j - 1) 0) 32 q)
+      go : (a b : Bool) → ltb 0 (getD vs (j - 1) 0) ≡ a → leb (getD vs (j - 1) 0) arrayMost ≡ b → pick {A = ℕ} (both a b) 0 5 ≡ 0 → (0 < getD vs (j - 1) 0) × (getD vs (j - 1) 0 ≤ arrayMost)
+      go true true p q z = (ltb-true 0 (getD vs (j - 1) 0) p, leb-true (getD vs (j - 1) 0) arrayMost q)
       go true false p q z = absurd (omega arith)
       go false b p q z = absurd (omega arith)
 
   -- an array has the number that its declaration says, 1 to 32, and a scalar 1
   pub size-is : (d : ℕ) → (1 ≤ sizeAt cs vs d) × (sizeAt cs vs d ≡ pick (isArray cs d) (getD vs (d + 1) 0) 1)
   unfolding sizeAt isArray
-  size-is d = go (eqb (getD cs (d + 1) 0) 71) (eqb (getD cs (d + 2) 0) c-size) refl
+  size-is d = go (eqb (getD cs (d + 1) 0) c-number) (eqb (getD cs (d + 2) 0) c-size) refl
     where
-      go : (a b : Bool) → eqb (getD cs (d + 2) 0) c-size ≡ b → (1 ≤ pick (both a b) (min 63 (getD vs (d + 1) 0)) 1) × (pick (both a b) (min 63 (getD vs (d + 1) 0)) 1 ≡ pick (both a b) (getD vs (d + 1) 0) 1)
+      go : (a b : Bool) → eqb (getD cs (d + 2) 0) c-size ≡ b → (1 ≤ pick (both a b) (min sizeKept (getD vs (d + 1) 0)) 1) × (pick (both a b) (min sizeKept (getD vs (d + 1) 0)) 1 ≡ pick (both a b) (getD vs (d + 1) 0) 1)
       go true true e =
           let c = eqb-true (getD cs (d + 2) 0) c-size e in
           let r = size-rule (d + 2) (item-there cs (d + 2) c-size (omega arith) c) c in
@@ -104,11 +106,11 @@ module _ (cs vs : List ℕ) (K : Facts cs vs) where
       go true false e = (omega arith, refl)
       go false b e = (omega arith, refl)
 
-size-most : (cs vs : List ℕ) (d : ℕ) → sizeAt cs vs d ≤ 63
+size-most : (cs vs : List ℕ) (d : ℕ) → sizeAt cs vs d ≤ sizeKept
 unfolding sizeAt
 size-most cs vs d = go (isArray cs d)
   where
-    go : (b : Bool) → pick b (min 63 (getD vs (d + 1) 0)) 1 ≤ 63
+    go : (b : Bool) → pick b (min sizeKept (getD vs (d + 1) 0)) 1 ≤ sizeKept
     go true = omega arith
     go false = omega arith
 
@@ -198,5 +200,5 @@ module _ (t cs vs : List ℕ) (H : Held t cs vs (linksIn cs vs)) (K : Facts cs v
       go zero e = absurd (within cs vs hs (K .ceiled) .some (ap (sum (weight cs vs hs 4) 0) e))
       go (suc n) e = omega arith
 
-  pub text-few : (1 ≤ itemsOf t) × (itemsOf t ≤ 8192)
+  pub text-few : (1 ≤ itemsOf t) × (itemsOf t ≤ itemsMost)
   text-few = let e = H .items in let a = some-item in let b = K .few in (omega arith, omega arith)

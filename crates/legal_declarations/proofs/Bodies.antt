@@ -9,20 +9,22 @@ use mathlib.Core.Logic.{_⊎_, inl, inr}
 use mathlib.Core.List.{List, [], _∷_, _++_}
 use lib.ListN.{length, getD, length-append, length-map}
 use borrow.Author.Tests.{ne-eqb, eq-eqb, lt-ltb, lt-leb}
-use Rattle.base_codes.specs.Codes.{c-argument, c-body, c-declared, c-end-body, c-end-option, c-field, c-len, c-local, c-message, c-option, c-parameter, c-proctype, c-size}
+use Rattle.base_codes.specs.Codes.{c-argument, c-body, c-declared, c-end-body, c-end-option, c-field, c-len, c-local, c-message, c-name, c-option, c-parameter, c-proctype, c-size}
 use Rattle.base_bytes.specs.Choice.{pick, both}
 use Rattle.base_bytes.proofs.Tests.{true-false}
 use Rattle.spec_text.specs.Names.{pid}
 use Rattle.rule_sheets.specs.Walks.{sum}
-use Rattle.rule_sheets.specs.Homes.{heads, insideOf}
+use Rattle.rule_sheets.specs.Homes.{insideOf}
 use Rattle.rule_search.specs.Sets.{among}
 use Rattle.rule_search.specs.Search.{find, one, count}
-use Rattle.rule_item.specs.Rules.{ruleOf, globalOf, bodyOf}
+use Rattle.rule_item.specs.Rules.{globalOf, bodyOf}
 use Rattle.spec_grammar.specs.Tree.{Name, Model, sequence, Tree, Declaration, Group, group, body}
-use Rattle.spec_grammar.specs.Code.{Item, i-name, i-type, i-group, i-parameter, i-local, i-body, i-end-body, each, code-tree, code-declaration, code-parameter, code-group, code-body, code}
+use Rattle.base_codes.specs.Items.{Item, i-body, i-end-body, i-group, i-local, i-name, i-parameter, i-type}
+use Rattle.base_codes.specs.Sets.{ruleOf, isUnit}
+use Rattle.parse_code.specs.Code.{each, code-tree, code-declaration, code-parameter, code-group, code-body, code}
 use Rattle.spec_rules.specs.Senses.{Sense, variable, constant, procedure, unknown, Scope, senseIn}
 use Rattle.spec_rules.specs.Statements.{Place, labelsOf, apart, allowed}
-use Rattle.spec_rules.specs.Units.{ofParameter, ofGroup, ofGroups, ofDeclarations, declarations, bodyLawful}
+use Rattle.spec_rules.specs.Units.{senseOfParameter, scopeOfGroup, scopeOfGroups, scopeOfDeclarations, declarations, bodyLawful}
 use Rattle.legal_terms.specs.Says.{itemAt, Says}
 use Rattle.legal_terms.specs.Setting.{Runs, Setting}
 use Rattle.spec_machine.specs.Program.{sizeIn}
@@ -30,11 +32,12 @@ use Rattle.agree_stage.proofs.Stands.{Lying}
 use Rattle.keep_tables.proofs.Sums.{sum-split, sum-nones}
 use Rattle.legal_declarations.proofs.Items.{spoken, settled, declaring, Calm, all-tree, all-declarations, all-groups}
 use Rattle.legal_declarations.proofs.Standing.{Lies, lies-front, lies-back, lies-all, long, code-is, spoken-at, declaring-at, settled-at}
-use Rattle.legal_declarations.proofs.Homes.{no-head, inside-head, inside-end, inside-over, home-inside, home-most, home-later}
+use Rattle.legal_declarations.proofs.Homes.{inside-head, inside-end, inside-over, home-inside, home-most, home-later}
 use Rattle.legal_declarations.proofs.Scopes.{Out, Scoped, out-known, scoped-over, lookup-finds}
 use Rattle.legal_declarations.proofs.Judging.{hs, fault-mark, Clean, Judges, clean-one, judges-both, judges-skip, judges-trail}
 use Rattle.legal_declarations.proofs.Variables.{Pidless, is-unknown, After}
 use Rattle.legal_declarations.proofs.Declarations.{type-low, declarations-judged}
+use Rattle.rule_sheets.proofs.Meaning.{no-head}
 
 spoken-one : (c : ℕ) → c ≤ c-end-option → among 1 c ≡ false
 unfolding among
@@ -88,7 +91,7 @@ module _ (m : Model) (cs vs : List ℕ) (S : Says m cs vs) where
 
   -- a unit: its head is item u, its body begins at item b, the statements at item f, and the body ends at item t
   pub record Frame (u b f t : ℕ) : Type 0 where
-    pub head : heads (getD cs u 0) ≡ true
+    pub head : isUnit (getD cs u 0) ≡ true
     pub parts : suc u ≤ b
     pub inner : suc b ≤ f
     pub last : f ≤ t
@@ -100,13 +103,13 @@ module _ (m : Model) (cs vs : List ℕ) (S : Says m cs vs) where
     pub ends : getD cs t 0 ≡ c-end-body
 
   module _ (u b f t : ℕ) (F : Frame u b f t) where
-    plain-in : (j : ℕ) → suc u ≤ j → j < t → (heads (getD cs j 0) ≡ false) × (getD cs j 0 ≡ c-end-body → ⊥)
+    plain-in : (j : ℕ) → suc u ≤ j → j < t → (isUnit (getD cs j 0) ≡ false) × (getD cs j 0 ≡ c-end-body → ⊥)
     plain-in j g h = go (decLt j b) (ℕ-discrete j b) (decLt j f)
       where
-        low : getD cs j 0 ≤ c-parameter → (heads (getD cs j 0) ≡ false) × (getD cs j 0 ≡ c-end-body → ⊥)
+        low : getD cs j 0 ≤ c-parameter → (isUnit (getD cs j 0) ≡ false) × (getD cs j 0 ≡ c-end-body → ⊥)
         low l = (no-head (getD cs j 0) l, λ z. omega arith)
 
-        go : Dec (j < b) → Dec (j ≡ b) → Dec (j < f) → (heads (getD cs j 0) ≡ false) × (getD cs j 0 ≡ c-end-body → ⊥)
+        go : Dec (j < b) → Dec (j ≡ b) → Dec (j < f) → (isUnit (getD cs j 0) ≡ false) × (getD cs j 0 ≡ c-end-body → ⊥)
         go (yes x) y z = low (F .before j g x .most)
         go (no x) (yes y) z = let c : getD cs j 0 ≡ c-body = ap (λ n. getD cs n 0) y ∙ F .begin in (rw c refl, λ z. omega arith)
         go (no x) (no y) (yes z) = low (F .own j (omega arith) z .1 .most)
@@ -118,7 +121,7 @@ module _ (m : Model) (cs vs : List ℕ) (S : Says m cs vs) where
     pub home-in : (j : ℕ) → suc u ≤ j → j ≤ t → getD H j 0 ≡ suc u
     home-in j g h = let a = F .top in home-inside cs (S .few) j (omega arith) (go (ℕ-discrete j t)) ∙ inside-unit j g h
       where
-        go : Dec (j ≡ t) → heads (getD cs j 0) ≡ false
+        go : Dec (j ≡ t) → isUnit (getD cs j 0) ≡ false
         go (yes z) = let c : getD cs j 0 ≡ c-end-body = ap (λ n. getD cs n 0) z ∙ F .ends in rw c refl
         go (no z) = plain-in j g (omega arith) .0
 
@@ -188,7 +191,7 @@ module _ (m : Model) (cs vs : List ℕ) (S : Says m cs vs) where
         omega arith
 
     count-groups : (gs : List Group) (k : ℕ) → Lies xs k (each code-group gs) → suc u ≤ k → k + length (each code-group gs) ≤ b
-        → sum unit k (length (each code-group gs)) ≡ length (ofGroups gs)
+        → sum unit k (length (each code-group gs)) ≡ length (scopeOfGroups gs)
     unfolding sum
     count-groups [] k y g h = refl
     count-groups (group n ws ∷ gs) k y g h =
@@ -209,11 +212,11 @@ module _ (m : Model) (cs vs : List ℕ) (S : Says m cs vs) where
         (let z : length (i-type n ∷ i-group ∷ P ++ G) ≡ suc (suc (length P + length G)) = omega arith in z) in
         let cut : sum unit (k + 1 + 1) (length P + length G) ≡ sum unit (suc (suc k)) (length P) + sum unit k3 (length G) =
         ap (λ i. sum unit i (length P + length G)) (let z : k + 1 + 1 ≡ suc (suc k) = omega arith in z) ∙ sum-split unit (length P) (length G) (suc (suc k)) in
-        let l1 : length (ofGroup (group n ws) ++ ofGroups gs) ≡ length (ofGroup (group n ws)) + length (ofGroups gs) = length-append (ofGroup (group n ws)) (ofGroups gs) in
-        let l2 : length (ofGroup (group n ws)) ≡ length ws = length-map ws (ofParameter n) in
-        whole ∙ (let z : unit k + (unit (k + 1) + sum unit (k + 1 + 1) (length P + length G)) ≡ length (ofGroup (group n ws) ++ ofGroups gs) = omega arith in z)
+        let l1 : length (scopeOfGroup (group n ws) ++ scopeOfGroups gs) ≡ length (scopeOfGroup (group n ws)) + length (scopeOfGroups gs) = length-append (scopeOfGroup (group n ws)) (scopeOfGroups gs) in
+        let l2 : length (scopeOfGroup (group n ws)) ≡ length ws = length-map ws (senseOfParameter n) in
+        whole ∙ (let z : unit k + (unit (k + 1) + sum unit (k + 1 + 1) (length P + length G)) ≡ length (scopeOfGroup (group n ws) ++ scopeOfGroups gs) = omega arith in z)
 
-    pub parameters-counted : (gs : List Group) → Lies xs (suc u) (each code-group gs) → b ≡ suc u + length (each code-group gs) → count cs H 6 (u + 1) 0 (length cs) ≡ length (ofGroups gs)
+    pub parameters-counted : (gs : List Group) → Lies xs (suc u) (each code-group gs) → b ≡ suc u + length (each code-group gs) → count cs H 6 (u + 1) 0 (length cs) ≡ length (scopeOfGroups gs)
     unfolding count
     parameters-counted gs y e =
         let n = length cs in
@@ -270,7 +273,7 @@ module _ (m : Model) (cs vs : List ℕ) (S : Says m cs vs) where
         after-mark : (c : ℕ) → (c-len ≤ c → c-local ≤ c) → c-argument ≤ c → c ≤ c-end-option → ⊥
         after-mark c z x y = let a = z (omega arith) in omega arith
 
-        name : (j : ℕ) (w : Name) → j < length cs → itemAt (code m) j ≡ i-name w → getD cs j 0 ≡ 70
+        name : (j : ℕ) (w : Name) → j < length cs → itemAt (code m) j ≡ i-name w → getD cs j 0 ≡ c-name
         name j w x q = code-is m cs vs S j (i-name w) (let z = long m cs vs S in omega arith) q
 
         locals : (j : ℕ) → f ≤ j → j < t → Scoped m cs vs (hs m cs vs S) S l (suc u) j
@@ -302,7 +305,7 @@ module _ (m : Model) (cs vs : List ℕ) (S : Says m cs vs) where
       → (Clean m cs vs S from to → both (apart (labelsOf q)) (allowed at false false q) ≡ true) × (both (apart (labelsOf q)) (allowed at false false q) ≡ true → Clean m cs vs S from to)
 
   -- the frame of a unit, by its items
-  pub frame-made : (gs : List Group) (ds : List Declaration) (q : Tree sequence) (u b f t : ℕ) → heads (getD cs u 0) ≡ true → b ≡ suc u + length (each code-group gs)
+  pub frame-made : (gs : List Group) (ds : List Declaration) (q : Tree sequence) (u b f t : ℕ) → isUnit (getD cs u 0) ≡ true → b ≡ suc u + length (each code-group gs)
       → f ≡ suc b + length (each (code-declaration i-local) ds) → t ≡ f + sizeIn q → Lies xs (suc u) (each code-group gs) → Lies xs b (code-body (body ds q)) → u < length xs → Frame u b f t
   frame-made gs ds q u b f t h eb ef et yg yb bu =
       let D = each (code-declaration i-local) ds in
@@ -338,11 +341,11 @@ module _ (m : Model) (cs vs : List ℕ) (S : Says m cs vs) where
         let top = F .top in
         let D = declarations-judged m cs vs S g (suc u) (suc u) (suc t) (λ j x z. home-in u b f t F j x (omega arith)) (omega arith) (λ j x z. globals j x (omega arith)) ng ds l
         (suc b) f ef (omega arith) (omega arith) y (frame-behind u b f t F after) sl2 in
-        let W : Place = record { locals = l ++ ofDeclarations ds; globals = g; model = M; labels = labelsOf q } in
+        let W : Place = record { locals = l ++ scopeOfDeclarations ds; globals = g; model = M; labels = labelsOf q } in
         let B = both (apart (labelsOf q)) (allowed W false false q) in
         judges-skip m cs vs S b (suc b) (suc t) (both (declarations g l ds) B) (omega arith) (omega arith) (clean-one m cs vs S b (fault-mark m cs vs S b c-body (marks .0) (F .begin)))
         (judges-both m cs vs S (suc b) f (suc t) (declarations g l ds) B (omega arith) (omega arith) (D .judged nl)
-        (λ e. (let R = ruled q f t (suc u) W lying et (setting u b f t F (l ++ ofDeclarations ds) g M (labelsOf q) (D .scope) sg sm (D .pidless nl e) nm) refl before in
+        (λ e. (let R = ruled q f t (suc u) W lying et (setting u b f t F (l ++ scopeOfDeclarations ds) g M (labelsOf q) (D .scope) sg sm (D .pidless nl e) nm) refl before in
         judges-trail m cs vs S f t (suc t) B (omega arith) (omega arith) (record { sound = R .0; complete = R .1 })
         (clean-one m cs vs S t (fault-mark m cs vs S t c-end-body (marks .1) (F .ends))))))
       where

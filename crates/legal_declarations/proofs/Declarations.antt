@@ -8,7 +8,7 @@ use mathlib.Core.Logic.{inl}
 use mathlib.Core.List.{List, [], _∷_, _++_, map, append-assoc, append-nil}
 use lib.ListN.{length, getD, length-append}
 use lib.Dec.{eqb}
-use Rattle.base_codes.specs.Codes.{c-global, c-group, c-local, c-message, c-parameter, c-size}
+use Rattle.base_codes.specs.Codes.{c-global, c-group, c-local, c-message, c-name, c-parameter, c-size}
 use Rattle.base_bytes.specs.Choice.{both}
 use Rattle.base_bytes.specs.Lists.{same}
 use Rattle.base_bytes.proofs.Tests.{both-true}
@@ -16,15 +16,17 @@ use Rattle.base_bytes.proofs.Lists.{same-eq}
 use Rattle.spec_text.specs.Names.{pid}
 use Rattle.rule_search.specs.Sets.{among}
 use Rattle.rule_search.specs.Search.{lookup, last}
-use Rattle.rule_item.specs.Rules.{ruleOf}
 use Rattle.spec_grammar.specs.Tree.{Name, Model, Value, Variable, Declaration, declare, Group, group}
 use Rattle.spec_grammar.specs.Tree as tree
-use Rattle.spec_grammar.specs.Code.{Item, i-name, i-type, i-local, i-global, i-group, i-parameter, each, code-declaration, code-parameter, code-group, code}
-use Rattle.table_entries.specs.Items.{codeOf, Known}
+use Rattle.base_codes.specs.Items.{Item, codeOf, i-global, i-group, i-local, i-name, i-parameter, i-type}
+use Rattle.base_codes.specs.Sets.{ruleOf}
+use Rattle.parse_code.specs.Code.{each, code-declaration, code-parameter, code-group, code}
+use Rattle.table_entries.specs.Items.{Known}
 use Rattle.spec_rules.specs.Senses.{Sense, variable, constant, procedure, unknown, declared, Scope, senseIn, senseOf, isUnknown, isConstant, fresh, hides}
-use Rattle.spec_rules.specs.Units.{ofVariable, ofDeclaration, ofDeclarations, ofGroup, ofGroups, sized, valued, joins, localLawful, globalLawful, variables, declarations}
+use Rattle.spec_rules.specs.Units.{senseOfVariable, scopeOfDeclaration, scopeOfDeclarations, scopeOfGroup, scopeOfGroups, sized, valued, joins, localLawful, globalLawful, variables, declarations}
 use Rattle.legal_terms.specs.Says.{itemAt, Says}
-use Rattle.legal_declarations.proofs.Items.{Low, type-code}
+use Rattle.legal_declarations.proofs.Items.{Low}
+use Rattle.table_entries.proofs.Items.{type-code}
 use Rattle.legal_declarations.proofs.Standing.{Lies, lies-front, lies-back, long, known-at, code-is}
 use Rattle.legal_declarations.proofs.Scopes.{Out, Scoped, scoped-over, scoped-more, lookup-finds, lookup-pid, finds-constant}
 use Rattle.legal_declarations.proofs.Judging.{hs, Judges, clean-join, clean-empty, judges-true, judges-both, judges-skip, rule-fresh, last-here, last-skip}
@@ -50,15 +52,15 @@ sense-pid : (l g : Scope) → Pidless l → Pidless g → senseOf l g pid ≡ un
 unfolding senseOf
 sense-pid l g n o = ap (λ s. hides s (senseIn g pid)) (is-unknown (senseIn l pid) n) ∙ is-unknown (senseIn g pid) o
 
-name-set : among 1 70 ≡ false
+name-set : among 1 c-name ≡ false
 unfolding among
 name-set = refl
 
-name-three : among 3 70 ≡ false
+name-three : among 3 c-name ≡ false
 unfolding among
 name-three = refl
 
-marks : (ruleOf 70 ≡ 0) × (ruleOf c-local ≡ 0) × (ruleOf c-global ≡ 0) × (ruleOf c-group ≡ 0)
+marks : (ruleOf c-name ≡ 0) × (ruleOf c-local ≡ 0) × (ruleOf c-global ≡ 0) × (ruleOf c-group ≡ 0)
 unfolding ruleOf
 marks = (refl, refl, refl, refl)
 
@@ -82,7 +84,7 @@ module _ (m : Model) (cs vs : List ℕ) (S : Says m cs vs) where
 
   pub type-low : (k t : ℕ) → k < length xs → itemAt xs k ≡ i-type t → Low (getD cs k 0)
   type-low k t h q =
-      let a = type-code t (subst Known q (known-at m cs vs S k h)) in
+      let a = type-code (subst Known q (known-at m cs vs S k h)) in
       let x = a .0 in
       let y = a .1 in
       let z = code-is m cs vs S k (i-type t) h q in
@@ -132,7 +134,7 @@ module _ (m : Model) (cs vs : List ℕ) (S : Says m cs vs) where
         record {
           scope = subst (λ i. Sc i h e) join (rest .scope);
           kind = rest .kind;
-          judged = judges-skip m cs vs S k (suc k) e (both (fresh l w) B) (omega arith) (omega arith) (mark-clean m cs vs S k 70 (i-name w) (y .0) (y .1) refl (marks .0))
+          judged = judges-skip m cs vs S k (suc k) e (both (fresh l w) B) (omega arith) (omega arith) (mark-clean m cs vs S k c-name (i-name w) (y .0) (y .1) refl (marks .0))
               (judges-both m cs vs S (suc k) k2 e (fresh l w) B (omega arith) (omega arith) (rule-fresh m cs vs S l h k w bk (y .1) am hx s1) (λ f. rest .judged));
           pidless = λ n v. (let g = both-true (fresh l w) B v in subst Pidless join (rest .pidless (fresh-pidless l w t (sc .sure) (g .0) n) (g .1)));
         }
@@ -154,14 +156,14 @@ module _ (m : Model) (cs vs : List ℕ) (S : Says m cs vs) where
   after-groups (group t ws ∷ gs) k y a =
       let l = type-low k t (y .0) (y .1) in
       let c = code-is m cs vs S (suc k) i-group (y .2 .0) (y .2 .1) in
-      let b = type-code t (subst Known (y .1) (known-at m cs vs S k (y .0))) in
+      let b = type-code (subst Known (y .1) (known-at m cs vs S k (y .0))) in
       let b1 = b .1 in
       let d = code-is m cs vs S k (i-type t) (y .0) (y .1) in
       (λ z. omega arith, λ z. omega arith)
 
   pub groups-judged : (h lo hi : ℕ) → ((j : ℕ) → lo ≤ j → j < hi → getD H j 0 ≡ h) → hi ≤ length cs → (gs : List Group) (l : Scope) (k e : ℕ) → e ≡ k + length (each code-group gs)
       → lo ≤ k → e ≤ hi
-      → Lies xs k (each code-group gs) → After m cs vs S e → Sc l h k → (p : ℕ) × Named l h p (joins l (ofGroups gs)) k e (l ++ ofGroups gs)
+      → Lies xs k (each code-group gs) → After m cs vs S e → Sc l h k → (p : ℕ) × Named l h p (joins l (scopeOfGroups gs)) k e (l ++ scopeOfGroups gs)
   unfolding joins
   groups-judged h lo hi home top [] l k e q b d y a sc =
       let z : k ≡ e = omega arith in (
@@ -193,9 +195,9 @@ module _ (m : Model) (cs vs : List ℕ) (S : Says m cs vs) where
       names-judged i-parameter c-parameter h lo hi (suc (suc k)) (variable (eqb t 43) false) refl (opens .6) (opens .7) (λ z. omega arith) refl home top
       (λ i u v r. parameter-out t k i ct u v r) ws l k2 k3 refl (omega arith)
       (omega arith) (front .2 .2) (last-here m cs vs S 3 (suc k) (ap (among 3) cg ∙ opens .5)) aft s2 in
-      let rest = groups-judged h lo hi home top gs (l ++ ofGroup (group t ws)) k3 e (omega arith) (omega arith) d back a (ps .scope) in
-      let join : (l ++ ofGroup (group t ws)) ++ ofGroups gs ≡ l ++ (ofGroup (group t ws) ++ ofGroups gs) = append-assoc l (ofGroup (group t ws)) (ofGroups gs) in
-      let cut = joins-append (ofGroup (group t ws)) (ofGroups gs) l in (
+      let rest = groups-judged h lo hi home top gs (l ++ scopeOfGroup (group t ws)) k3 e (omega arith) (omega arith) d back a (ps .scope) in
+      let join : (l ++ scopeOfGroup (group t ws)) ++ scopeOfGroups gs ≡ l ++ (scopeOfGroup (group t ws) ++ scopeOfGroups gs) = append-assoc l (scopeOfGroup (group t ws)) (scopeOfGroups gs) in
+      let cut = joins-append (scopeOfGroup (group t ws)) (scopeOfGroups gs) l in (
         rest .0,
         record {
           scope = subst (λ i. Sc i h e) join (rest .1 .scope);
@@ -203,9 +205,9 @@ module _ (m : Model) (cs vs : List ℕ) (S : Says m cs vs) where
           judged = subst (λ i. J k e i) (sym cut)
               (judges-skip m cs vs S k k2 e _ (omega arith) (omega arith)
               (clean-join m cs vs S k (suc k) k2 (type-clean m cs vs S k t (y .0) (y .1)) (mark-clean m cs vs S (suc k) c-group i-group (y .2 .0) (y .2 .1) refl (marks .3)))
-              (judges-both m cs vs S k2 k3 e (joins l (ofGroup (group t ws))) (joins (l ++ ofGroup (group t ws)) (ofGroups gs)) (omega arith) (omega arith) (ps .judged)
+              (judges-both m cs vs S k2 k3 e (joins l (scopeOfGroup (group t ws))) (joins (l ++ scopeOfGroup (group t ws)) (scopeOfGroups gs)) (omega arith) (omega arith) (ps .judged)
               (λ u. rest .1 .judged)));
-          pidless = λ n v. (let g = both-true (joins l (ofGroup (group t ws))) (joins (l ++ ofGroup (group t ws)) (ofGroups gs)) (sym cut ∙ v) in
+          pidless = λ n v. (let g = both-true (joins l (scopeOfGroup (group t ws))) (joins (l ++ scopeOfGroup (group t ws)) (scopeOfGroups gs)) (sym cut ∙ v) in
               subst Pidless join (rest .1 .pidless (ps .pidless n (g .0)) (g .1)));
         },
       )
@@ -216,7 +218,7 @@ module _ (m : Model) (cs vs : List ℕ) (S : Says m cs vs) where
       → eqb (getD cs (lookup cs vs H (getD vs j 0) h j) 0) c-message ≡ isConstant (senseOf l g w)
   named-local g l h j w b q s r n o = go (same w pid) refl
     where
-      cn : getD cs j 0 ≡ 70
+      cn : getD cs j 0 ≡ c-name
       cn = code-is m cs vs S j (i-name w) (let z = long m cs vs S in omega arith) q
 
       go : (x : Bool) → same w pid ≡ x → eqb (getD cs (lookup cs vs H (getD vs j 0) h j) 0) c-message ≡ isConstant (senseOf l g w)
@@ -236,7 +238,7 @@ module _ (m : Model) (cs vs : List ℕ) (S : Says m cs vs) where
   module _ (x : Item) (c t h lo hi : ℕ) (sense : Scope → Name → Sense) (f : Scope → Variable → Bool) (coded : codeOf x ≡ c) (one : among 1 c ≡ false) (three : among 3 c ≡ true)
       (ruled : ruleOf c ≡ 0)
       (F : (l : Scope) (w : Name) (s : Option ℕ) (v : Value) → f l (tree.variable w s v)
-      ≡ both (fresh l w) (both (sized s) (valued (sense (l ++ ofVariable t (tree.variable w s v) ∷ [])) v)))
+      ≡ both (fresh l w) (both (sized s) (valued (sense (l ++ senseOfVariable t (tree.variable w s v) ∷ [])) v)))
       (home : (j : ℕ) → lo ≤ j → j < hi → getD H j 0 ≡ h) (top : hi ≤ length cs)
       (look : (l : Scope) (j : ℕ) (w : Name) → lo ≤ j → j < hi → itemAt xs j ≡ i-name w → Sc l h j → Pidless l → eqb (getD cs (lookup cs vs H (getD vs j 0) h j) 0) c-message ≡ isConstant
       (sense l w)) where
@@ -247,7 +249,7 @@ module _ (m : Model) (cs vs : List ℕ) (S : Says m cs vs) where
 
     pub declaration-judged : (us : List Variable) (l : Scope) (k e : ℕ) → e ≡ k + length (code-declaration x (declare t us)) → lo ≤ k → e ≤ hi
         → Lies xs k (code-declaration x (declare t us)) → After m cs vs S e → Sc l h k
-        → Declares l (variables f t l us) k e (l ++ ofDeclaration (declare t us))
+        → Declares l (variables f t l us) k e (l ++ scopeOfDeclaration (declare t us))
     declaration-judged us l k e q b d y a sc =
         let k2 = suc (suc k) in
         let low = type-low k t (y .0) (y .1) in
@@ -274,7 +276,7 @@ module _ (m : Model) (cs vs : List ℕ) (S : Says m cs vs) where
   after-declarations [] k y a = subst (After m cs vs S) (let z : k + 0 ≡ k = omega arith in z) a
   after-declarations (declare t us ∷ ds) k y a =
       let c = code-is m cs vs S (suc k) i-local (y .2 .0) (y .2 .1) in
-      let b = type-code t (subst Known (y .1) (known-at m cs vs S k (y .0))) in
+      let b = type-code (subst Known (y .1) (known-at m cs vs S k (y .0))) in
       let b1 = b .1 in
       let d = code-is m cs vs S k (i-type t) (y .0) (y .1) in
       (λ z. omega arith, λ z. omega arith)
@@ -287,7 +289,7 @@ module _ (m : Model) (cs vs : List ℕ) (S : Says m cs vs) where
 
     pub declarations-judged : (ds : List Declaration) (l : Scope) (k e : ℕ) → e ≡ k + length (each (code-declaration i-local) ds) → lo ≤ k → e ≤ hi
         → Lies xs k (each (code-declaration i-local) ds) → After m cs vs S e → Sc l h k
-        → Lists l (declarations g l ds) k e (l ++ ofDeclarations ds)
+        → Lists l (declarations g l ds) k e (l ++ scopeOfDeclarations ds)
     unfolding declarations
     declarations-judged [] l k e q b d y a sc =
         let z : k ≡ e = omega arith in
@@ -307,9 +309,9 @@ module _ (m : Model) (cs vs : List ℕ) (S : Says m cs vs) where
         declaration-judged i-local c-local t h lo hi (λ l. senseOf l g) f refl (opens .0) (opens .3) (marks .1) (λ l w s v. refl) home top
         (λ l j w i u v s n. named-local g l h j w (omega arith) v s (globals j i u) n outer) us l k k2 refl b
         (omega arith) (lies-front xs k X E y) (after-declarations ds k2 back (subst (After m cs vs S) (let z : e ≡ k2 + length E = omega arith in z) a)) sc in
-        let l2 = l ++ ofDeclaration (declare t us) in
+        let l2 = l ++ scopeOfDeclaration (declare t us) in
         let rest = declarations-judged ds l2 k2 e (omega arith) (omega arith) d back a (one .scope) in
-        let join : l2 ++ ofDeclarations ds ≡ l ++ (ofDeclaration (declare t us) ++ ofDeclarations ds) = append-assoc l (ofDeclaration (declare t us)) (ofDeclarations ds) in
+        let join : l2 ++ scopeOfDeclarations ds ≡ l ++ (scopeOfDeclaration (declare t us) ++ scopeOfDeclarations ds) = append-assoc l (scopeOfDeclaration (declare t us)) (scopeOfDeclarations ds) in
         record {
           scope = subst (λ i. Sc i h e) join (rest .scope);
           judged = λ n. judges-both m cs vs S k k2 e (variables f t l us) (declarations g l2 ds) (omega arith) (omega arith) (one .judged n) (λ u. rest .judged (one .pidless n u));
@@ -320,8 +322,8 @@ module _ (m : Model) (cs vs : List ℕ) (S : Says m cs vs) where
   pub global-judged : (t lo hi : ℕ) → ((j : ℕ) → lo ≤ j → j < hi → getD H j 0 ≡ 0) → hi ≤ length cs → (us : List Variable) (l : Scope) (k e : ℕ)
       → e ≡ k + length (code-declaration i-global (declare t us)) → lo ≤ k → e ≤ hi
       → Lies xs k (code-declaration i-global (declare t us)) → After m cs vs S e → Sc l 0 k
-      → Sc (l ++ ofDeclaration (declare t us)) 0 e × (Pidless l → J k e (variables (λ l x. globalLawful l t x) t l us)) × (Pidless l
-      → variables (λ l x. globalLawful l t x) t l us ≡ true → Pidless (l ++ ofDeclaration (declare t us)))
+      → Sc (l ++ scopeOfDeclaration (declare t us)) 0 e × (Pidless l → J k e (variables (λ l x. globalLawful l t x) t l us)) × (Pidless l
+      → variables (λ l x. globalLawful l t x) t l us ≡ true → Pidless (l ++ scopeOfDeclaration (declare t us)))
   global-judged t lo hi home top us l k e q b d y a sc =
       let f : Scope → Variable → Bool = λ l x. globalLawful l t x in
       let r =

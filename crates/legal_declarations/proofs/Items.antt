@@ -1,5 +1,5 @@
 -- What items of a model stand where, and what their classes say of their codes: items of statements, of declarations, of values.
-use Prim.Native.Nat.{ℕ, zero, suc, _+_, _-_, _≤_}
+use Prim.Native.Nat.{ℕ, _+_, _-_, _≤_}
 use native.Mathlib.Omega.{arith}
 use mathlib.Core.Path.{_≡_, refl, sym, ap, _∙_}
 use mathlib.Core.Bool.{Bool, true}
@@ -8,14 +8,15 @@ use mathlib.Core.Logic.{_⊎_, inl, inr}
 use mathlib.Core.List.{List, [], _∷_, _++_}
 use lib.Dec.{eqb, ltb, leb}
 use borrow.Author.Tests.{ltb-true, leb-true}
-use Rattle.base_codes.specs.Codes.{c-bit, c-end-option, c-false, c-field, c-group, c-int, c-len, c-local, c-message, c-mtypes, c-or-else, c-parameter, c-size, c-true}
+use Rattle.base_codes.specs.Codes.{c-bit, c-end-option, c-false, c-field, c-group, c-int, c-len, c-local, c-message, c-mtypes, c-parameter, c-size, c-text, c-true}
 use Rattle.base_bytes.specs.Choice.{pick, both, either}
 use Rattle.base_bytes.proofs.Tests.{both-true, either-true}
 use Rattle.spec_grammar.specs.Tree.{Name, Shape, Exp, plain, indexed, num, tru, fls, get, len, unary, binary, choice, Expr, Received, into, equal, exactly, exactly-true, exactly-false, Sort, Tree, express, assign, increment, decrement, send, receive, assert, print, skip, goto, break, timeout, else, run, set-run, select, loop, bare, labelled, end, then, over, option, Value, unset, set-number, set-minus, set-true, set-false, set-name, set-channel, Variable, variable, Declaration, declare, Group, group}
-use Rattle.spec_grammar.specs.Code.{Item, i-name, i-number, i-text, i-binary, i-unary, i-type, i-plain, i-index, i-true, i-false, i-len, i-otherwise, i-choice, i-argument, i-into, i-equal, i-constant, i-end, i-label, i-express, i-target, i-assign, i-increment, i-decrement, i-send, i-receive, i-assert, i-skip, i-goto, i-break, i-timeout, i-else, i-run, i-set-run, i-if, i-fi, i-do, i-od, i-option, i-end-option, i-local, i-global, i-declared, i-size, i-value, i-minus, i-named, i-channel, i-field, i-mtypes, i-message, i-group, i-parameter, i-proctype, i-active, i-active-many, i-init, i-body, i-end-body, each, code-exp, code-argument, code-received, code-tree, code-field, code-size, code-value, code-variable, code-declaration, code-parameter, code-group}
-use Rattle.parse_tables.specs.Numbering.{nth, items}
-use Rattle.rule_search.specs.Sets.{within}
-use Rattle.table_entries.specs.Items.{codeOf, Known, is-name, is-text, is-number, is-mark}
+use Rattle.base_codes.specs.Items.{Item, codeOf, i-argument, i-assert, i-assign, i-binary, i-choice, i-decrement, i-end, i-end-option, i-equal, i-express, i-fi, i-global, i-increment, i-index, i-into, i-len, i-local, i-name, i-number, i-od, i-otherwise, i-receive, i-send, i-set-run, i-target, i-text, i-type, i-unary, i-mark}
+use Rattle.base_codes.specs.Sets.{within}
+use Rattle.parse_code.specs.Code.{each, code-exp, code-argument, code-received, code-tree, code-field, code-size, code-value, code-variable, code-declaration, code-parameter, code-group}
+use Rattle.table_entries.specs.Items.{Known}
+use Rattle.table_entries.proofs.Items.{known-passes}
 
 -- ---- classes: 0 what stands in values of declarations, and 5 types there; 1 in statements alone; 2 in both; 3 other marks of declarations, and 6 of parameters; 4 the others
 unfoldable pub class : Item → ℕ
@@ -25,59 +26,11 @@ class (i-text w) = 1
 class (i-binary o) = 1
 class (i-unary o) = 1
 class (i-type k) = 5
-class i-plain = 1
-class i-index = 1
-class i-true = 2
-class i-false = 2
-class i-len = 1
-class i-otherwise = 1
-class i-choice = 1
-class i-argument = 1
-class i-into = 1
-class i-equal = 1
-class i-constant = 1
-class i-end = 1
-class i-label = 1
-class i-express = 1
-class i-target = 1
-class i-assign = 1
-class i-increment = 1
-class i-decrement = 1
-class i-send = 1
-class i-receive = 1
-class i-assert = 1
-class i-skip = 1
-class i-goto = 1
-class i-break = 1
-class i-timeout = 1
-class i-else = 1
-class i-run = 1
-class i-set-run = 1
-class i-if = 1
-class i-fi = 1
-class i-do = 1
-class i-od = 1
-class i-option = 1
-class i-end-option = 1
-class i-local = 3
-class i-global = 3
-class i-declared = 3
-class i-size = 0
-class i-value = 0
-class i-minus = 0
-class i-named = 0
-class i-channel = 0
-class i-field = 0
-class i-mtypes = 4
-class i-message = 4
-class i-group = 6
-class i-parameter = 6
-class i-proctype = 4
-class i-active = 4
-class i-active-many = 4
-class i-init = 4
-class i-body = 4
-class i-end-body = 4
+class (i-mark c) =
+    pick (ltb c c-local) (pick (within c-true c-false c) 2 1)
+    (pick (ltb c c-size) 3
+    (pick (ltb c c-mtypes) 0
+    (pick (within c-group c-parameter c) 6 4)))
 
 unfoldable pub spoken : Item → Bool
 spoken x = within 1 2 (class x)
@@ -93,10 +46,10 @@ declaring x = either (settled x) (eqb (class x) 6)
 
 -- ---- what a class says of a code
 abbrev low : ℕ → Bool
-low c = either (ltb c 72) (either (within c-bit c-int c) (either (within c-true c-false c) (within c-size c-field c)))
+low c = either (ltb c c-text) (either (within c-bit c-int c) (either (within c-true c-false c) (within c-size c-field c)))
 
 abbrev calm : ℕ → Bool
-calm c = either (ltb c 72) (either (within c-bit c-int c) (either (within c-true c-false c) (either (within c-local c-field c) (within c-group c-parameter c))))
+calm c = either (ltb c c-text) (either (within c-bit c-int c) (either (within c-true c-false c) (either (within c-local c-field c) (within c-group c-parameter c))))
 
 unfoldable fair : Item → Bool
 fair x =
@@ -104,38 +57,13 @@ fair x =
     (both (pick (valued x) (low (codeOf x)) true) (both (pick (declaring x) (calm (codeOf x)) true) (both (pick (eqb (class x) 5) (within c-bit c-int (codeOf x)) true)
     (pick (settled x) (leb (codeOf x) c-field) true))))
 
-unfoldable fairs : List Item → Bool
-fairs [] = true
-fairs (x ∷ l) = both (fair x) (fairs l)
-
-fair-nth : (l : List Item) (n : ℕ) (d : Item) → fairs l ≡ true → fair d ≡ true → fair (nth l n d) ≡ true
-unfolding fairs
-fair-nth [] n d e h = h
-fair-nth (x ∷ l) zero d e h = both-true (fair x) (fairs l) e .0
-fair-nth (x ∷ l) (suc n) d e h = fair-nth l n d (both-true (fair x) (fairs l) e .1) h
-
-table-fair : fairs items ≡ true
-unfolding fairs fair spoken valued settled declaring class
-table-fair = refl
-
 known-fair : {x : Item} → Known x → fair x ≡ true
 unfolding fair spoken valued settled declaring class
-known-fair (is-name a b) = refl
-known-fair (is-text a b) = refl
-known-fair is-number = refl
-known-fair (is-mark x a b) = fair-nth items (x - c-or-else) i-plain table-fair refl
+known-fair k = known-passes fair (λ w. refl) (λ w. refl) (λ n. refl) refl k
 
 pub spoken-code : (x : Item) → Known x → spoken x ≡ true → codeOf x ≤ c-end-option
 unfolding fair
 spoken-code x k e = leb-true (codeOf x) c-end-option (sym (ap (λ b. pick b (leb (codeOf x) c-end-option) true) e) ∙ both-true (pick (spoken x) (leb (codeOf x) c-end-option) true) _ (known-fair k) .0)
-
-pub type-code : (k : ℕ) → Known (i-type k) → (c-bit ≤ codeOf (i-type k)) × (codeOf (i-type k) ≤ c-int)
-unfolding fair class spoken valued settled declaring
-type-code k kn =
-    let a = both-true (low (130 + k)) _ (known-fair kn) .1 in
-    let b = both-true (calm (130 + k)) _ a .1 in
-    let c = both-true (leb c-bit (130 + k)) (leb (130 + k) c-int) (both-true (within c-bit c-int (130 + k)) _ b .0) in
-    (leb-true c-bit (130 + k) (c .0), leb-true (130 + k) c-int (c .1))
 
 within-true : (a b c : ℕ) → within a b c ≡ true → (a ≤ c) × (c ≤ b)
 within-true a b c e = let h = both-true (leb a c) (leb c b) e in (leb-true a c (h .0), leb-true c b (h .1))
@@ -143,17 +71,17 @@ within-true a b c e = let h = both-true (leb a c) (leb c b) e in (leb-true a c (
 -- codes of values, and of what stands in declarations and parameters
 pub record Low (c : ℕ) : Type 0 where
   pub most : c ≤ c-field
-  pub string : c ≡ 72 → ⊥
+  pub string : c ≡ c-text → ⊥
   pub high : c-len ≤ c → c-size ≤ c
 
 pub record Calm (c : ℕ) : Type 0 where
   pub most : c ≤ c-parameter
-  pub string : c ≡ 72 → ⊥
+  pub string : c ≡ c-text → ⊥
   pub high : c-len ≤ c → c-local ≤ c
   pub mtypes : c ≡ c-mtypes → ⊥
 
 low-is : (c : ℕ) → low c ≡ true → Low c
-low-is c e = first (either-true (ltb c 72) _ e)
+low-is c e = first (either-true (ltb c c-text) _ e)
   where
     fourth : ((c-true ≤ c) × (c ≤ c-false)) ⊎ ((c-size ≤ c) × (c ≤ c-field)) → Low c
     fourth (inl h) = let a = h .0 in let b = h .1 in record { most = omega arith; string = λ z. omega arith; high = λ z. omega arith }
@@ -167,12 +95,12 @@ low-is c e = first (either-true (ltb c 72) _ e)
     second (inl h) = let a = within-true c-bit c-int c h .0 in let b = within-true c-bit c-int c h .1 in record { most = omega arith; string = λ z. omega arith; high = λ z. omega arith }
     second (inr h) = third (either-true (within c-true c-false c) (within c-size c-field c) h)
 
-    first : (ltb c 72 ≡ true) ⊎ (either (within c-bit c-int c) (either (within c-true c-false c) (within c-size c-field c)) ≡ true) → Low c
-    first (inl h) = let a = ltb-true c 72 h in record { most = omega arith; string = λ z. omega arith; high = λ z. omega arith }
+    first : (ltb c c-text ≡ true) ⊎ (either (within c-bit c-int c) (either (within c-true c-false c) (within c-size c-field c)) ≡ true) → Low c
+    first (inl h) = let a = ltb-true c c-text h in record { most = omega arith; string = λ z. omega arith; high = λ z. omega arith }
     first (inr h) = second (either-true (within c-bit c-int c) _ h)
 
 calm-is : (c : ℕ) → calm c ≡ true → Calm c
-calm-is c e = first (either-true (ltb c 72) _ e)
+calm-is c e = first (either-true (ltb c c-text) _ e)
   where
     by : (a b : ℕ) → a ≤ c → c ≤ b → b ≤ c-parameter → 73 ≤ a → (c-len ≤ b → c-local ≤ a) → (b ≤ c-field) ⊎ (c-message ≤ a) → Calm c
     by a b h g u v w (inl z) = record { most = omega arith; string = λ y. omega arith; high = λ y. (let t = w (omega arith) in omega arith); mtypes = λ y. omega arith }
@@ -190,8 +118,8 @@ calm-is c e = first (either-true (ltb c 72) _ e)
     second (inl h) = let z = within-true c-bit c-int c h in by c-bit c-int (z .0) (z .1) (omega arith) (omega arith) (λ y. omega arith) (inl (omega arith))
     second (inr h) = third (either-true (within c-true c-false c) _ h)
 
-    first : (ltb c 72 ≡ true) ⊎ (either (within c-bit c-int c) (either (within c-true c-false c) (either (within c-local c-field c) (within c-group c-parameter c))) ≡ true) → Calm c
-    first (inl h) = let a = ltb-true c 72 h in record { most = omega arith; string = λ z. omega arith; high = λ z. omega arith; mtypes = λ z. omega arith }
+    first : (ltb c c-text ≡ true) ⊎ (either (within c-bit c-int c) (either (within c-true c-false c) (either (within c-local c-field c) (within c-group c-parameter c))) ≡ true) → Calm c
+    first (inl h) = let a = ltb-true c c-text h in record { most = omega arith; string = λ z. omega arith; high = λ z. omega arith; mtypes = λ z. omega arith }
     first (inr h) = second (either-true (within c-bit c-int c) _ h)
 
 pub valued-code : (x : Item) → Known x → valued x ≡ true → Low (codeOf x)

@@ -9,7 +9,8 @@ use mathlib.Core.List.{List}
 use lib.ListN.{length, getD, replicate}
 use lib.Dec.{eqb, ltb, leb}
 use borrow.Author.Tests.{lt-ltb, ne-eqb, eq-eqb, le-leb, lt-leb, leb-true, eqb-true}
-use Rattle.base_codes.specs.Codes.{c-active-many, c-argument, c-assert, c-break, c-channel, c-declared, c-else, c-end, c-equal, c-express, c-field, c-goto, c-init, c-into, c-label, c-message, c-mtypes, c-named, c-parameter, c-plain, c-receive, c-run, c-size}
+use Rattle.base_ceilings.specs.Ceilings.{arrayLeast, arrayMost, capacityLeast, capacityMost, fieldsMost, itemsMost}
+use Rattle.base_codes.specs.Codes.{c-active-many, c-argument, c-assert, c-break, c-channel, c-declared, c-else, c-end, c-equal, c-express, c-field, c-goto, c-init, c-into, c-label, c-message, c-mtypes, c-named, c-parameter, c-plain, c-receive, c-run, c-size, c-text}
 use Rattle.base_bytes.specs.Choice.{pick, both, either}
 use Rattle.base_bytes.specs.Lists.{same}
 use Rattle.base_bytes.proofs.Tests.{true-false, both-true, either-true}
@@ -17,14 +18,16 @@ use Rattle.spec_text.specs.Names.{pid}
 use Rattle.rule_sheets.specs.Walks.{after}
 use Rattle.rule_sheets.specs.Homes.{homesOf}
 use Rattle.rule_sheets.specs.Spans.{startsOf, heightsOf}
-use Rattle.rule_search.specs.Sets.{within, among}
+use Rattle.rule_search.specs.Sets.{among}
 use Rattle.rule_search.specs.Search.{find, lookup, last, count}
-use Rattle.rule_item.specs.Rules.{badTwice, badNamed, badSecond, badSize, badField, ruleOf, badBy, bad}
+use Rattle.rule_item.specs.Rules.{badTwice, badNamed, badSecond, badSize, badField, badBy, bad}
 use Rattle.spec_grammar.specs.Tree.{Name, Model}
-use Rattle.spec_grammar.specs.Code.{i-name, i-number, code}
 use Rattle.spec_rules.specs.Senses.{Scope, senseIn, isUnknown, fresh}
 use Rattle.legal_terms.specs.Says.{itemAt, Says}
 use Rattle.legal_declarations.proofs.Scopes.{Scoped, out-known}
+use Rattle.base_codes.specs.Items.{i-name, i-number}
+use Rattle.base_codes.specs.Sets.{within, ruleOf}
+use Rattle.parse_code.specs.Code.{code}
 
 -- ---- which rule an item has
 declaring-codes : (c : ℕ) → among 1 c ≡ true → (c-declared ≤ c) × (c ≤ c-active-many) × (c ≡ c-mtypes → ⊥)
@@ -46,7 +49,7 @@ rule-declaring c e =
     let x = a .0 in
     let y = a .1 in
     rw (
-      ne-eqb c 72 (λ z. omega arith),
+      ne-eqb c c-text (λ z. omega arith),
       le-leb c-argument c (omega arith),
       lt-leb c c-into (omega arith),
       le-leb c-express c (omega arith),
@@ -62,11 +65,11 @@ rule-declaring c e =
     rest true n e = refl
     rest false n e = absurd (true-false (sym e))
 
-pub rule-none : (c : ℕ) → c < c-plain → (c ≡ 72 → ⊥) → ruleOf c ≡ 0
+pub rule-none : (c : ℕ) → c < c-plain → (c ≡ c-text → ⊥) → ruleOf c ≡ 0
 unfolding ruleOf
 rule-none c h n =
     rw (
-      ne-eqb c 72 n,
+      ne-eqb c c-text n,
       lt-leb c-argument c (omega arith),
       lt-leb c-express c (omega arith),
       ne-eqb c c-break (λ z. omega arith),
@@ -91,13 +94,13 @@ rule-none c h n =
 
 module _ (m : Model) (cs vs : List ℕ) (S : Says m cs vs) where
   abbrev pub hs : List ℕ
-  hs = homesOf cs (replicate 8192 0)
+  hs = homesOf cs (replicate itemsMost 0)
 
   abbrev pub ss : List ℕ
-  ss = startsOf cs (replicate 8192 0)
+  ss = startsOf cs (replicate itemsMost 0)
 
   abbrev pub ts : List ℕ
-  ts = heightsOf cs ss (replicate 8192 0)
+  ts = heightsOf cs ss (replicate itemsMost 0)
 
   abbrev pub fault : ℕ → ℕ
   fault j = bad cs vs hs ss ts j
@@ -188,11 +191,11 @@ module _ (m : Model) (cs vs : List ℕ) (S : Says m cs vs) where
   unfolding badTwice
   rule-pid j a e f = let z : _≡_ {A = ℕ} 4 0 = sym (fault-declaring j a ∙ rw e refl) ∙ f in omega arith
 
-  fault-size : (j : ℕ) → getD cs j 0 ≡ c-size → fault j ≡ badSize vs 32 j
+  fault-size : (j : ℕ) → getD cs j 0 ≡ c-size → fault j ≡ badSize vs arrayMost j
   unfolding badBy ruleOf
   fault-size j e = rw e
 
-  fault-channel : (j : ℕ) → getD cs j 0 ≡ c-channel → fault j ≡ badSize vs 8 j
+  fault-channel : (j : ℕ) → getD cs j 0 ≡ c-channel → fault j ≡ badSize vs capacityMost j
   unfolding badBy ruleOf
   fault-channel j e = rw e
 
@@ -200,11 +203,11 @@ module _ (m : Model) (cs vs : List ℕ) (S : Says m cs vs) where
   unfolding badSize
   size-is most k n b q = rw (back k, S .numbers k n (omega arith) q) refl
 
-  pub rule-size : (k n : ℕ) → suc k < length cs → itemAt (code m) k ≡ i-number n → getD cs (suc k) 0 ≡ c-size → Judges (suc k) (suc (suc k)) (both (leb 1 n) (leb n 32))
-  rule-size k n b q e = judges-one (suc k) 4 (both (leb 1 n) (leb n 32)) (fault-size (suc k) e ∙ size-is 32 k n b q)
+  pub rule-size : (k n : ℕ) → suc k < length cs → itemAt (code m) k ≡ i-number n → getD cs (suc k) 0 ≡ c-size → Judges (suc k) (suc (suc k)) (both (leb arrayLeast n) (leb n arrayMost))
+  rule-size k n b q e = judges-one (suc k) 4 (both (leb arrayLeast n) (leb n arrayMost)) (fault-size (suc k) e ∙ size-is arrayMost k n b q)
 
-  pub rule-channel : (k n : ℕ) → suc k < length cs → itemAt (code m) k ≡ i-number n → getD cs (suc k) 0 ≡ c-channel → Judges (suc k) (suc (suc k)) (both (leb 1 n) (leb n 8))
-  rule-channel k n b q e = judges-one (suc k) 4 (both (leb 1 n) (leb n 8)) (fault-channel (suc k) e ∙ size-is 8 k n b q)
+  pub rule-channel : (k n : ℕ) → suc k < length cs → itemAt (code m) k ≡ i-number n → getD cs (suc k) 0 ≡ c-channel → Judges (suc k) (suc (suc k)) (both (leb capacityLeast n) (leb n capacityMost))
+  rule-channel k n b q e = judges-one (suc k) 4 (both (leb capacityLeast n) (leb n capacityMost)) (fault-channel (suc k) e ∙ size-is capacityMost k n b q)
 
   -- the value of a name is an mtype name
   pub rule-named : (k h : ℕ) → getD cs (suc k) 0 ≡ c-named → getD hs (suc k) 0 ≡ h → Judges (suc k) (suc (suc k)) (eqb (getD cs (lookup cs vs hs (getD vs k 0) h k) 0) c-message)
@@ -254,7 +257,7 @@ module _ (m : Model) (cs vs : List ℕ) (S : Says m cs vs) where
   last-over set i e b p = ap (last cs set) (let z : e ≡ i + (e - i) = omega arith in z) ∙ last-far set (e - i) i (λ j c d. p j c (omega arith))
 
   -- the i-th type, from 0 on, of a channel that is item c: the fifth is bad
-  pub rule-field : (c i j : ℕ) → getD cs j 0 ≡ c-field → last cs 16 j ≡ suc c → j ≡ c + 2 + 2 * i → fault j ≡ pick (eqb i 4) 5 0
+  pub rule-field : (c i j : ℕ) → getD cs j 0 ≡ c-field → last cs 16 j ≡ suc c → j ≡ c + 2 + 2 * i → fault j ≡ pick (eqb i fieldsMost) 5 0
   unfolding badBy ruleOf badField
   rule-field c i j e q z = rw e (rw q (ap (λ b. pick b 5 0) (go (ℕ-discrete i 4))))
     where

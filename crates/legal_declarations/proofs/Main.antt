@@ -7,6 +7,7 @@ use mathlib.Core.List.{List, []}
 use lib.ListN.{length, replicate}
 use lib.Dec.{leb}
 use borrow.Author.Tests.{leb-true, le-leb}
+use Rattle.base_ceilings.specs.Ceilings.{itemsMost}
 use Rattle.base_bytes.specs.Choice.{both}
 use Rattle.base_bytes.proofs.Tests.{both-true}
 use Rattle.spec_text.specs.Names.{pid}
@@ -28,10 +29,7 @@ use Rattle.legal_declarations.proofs.Judging.{hs, Clean, rule-pid}
 use Rattle.legal_declarations.proofs.Variables.{Pidless}
 use Rattle.legal_declarations.proofs.Bodies.{Statements}
 use Rattle.legal_declarations.proofs.Parts.{walk-lawful, lawful-walk, Through, units-through}
-
-no-pid : Pidless []
-unfolding senseIn
-no-pid = refl
+use Rattle.legal_declarations.proofs.Units.{no-pid}
 
 module _ (cs hs : List ℕ) where
   count-start : (set : ℕ) → count cs hs set 0 0 0 ≡ 0
@@ -40,13 +38,13 @@ module _ (cs hs : List ℕ) where
 
 module _ (m : Model) (cs vs : List ℕ) (S : Says m cs vs) (ruled : Statements m cs vs S) where
   abbrev homes : List ℕ
-  homes = homesOf cs (replicate 8192 0)
+  homes = homesOf cs (replicate itemsMost 0)
 
   abbrev starts : List ℕ
-  starts = startsOf cs (replicate 8192 0)
+  starts = startsOf cs (replicate itemsMost 0)
 
   abbrev heights : List ℕ
-  heights = heightsOf cs starts (replicate 8192 0)
+  heights = heightsOf cs starts (replicate itemsMost 0)
 
   through : Through m cs vs S [] 0 0 m 0
   through = units-through m cs vs S ruled m [] 0 [] 0 0 refl refl (scoped-start m cs vs homes S 0) (inside-none cs) (count-start cs homes 9) (count-start cs homes 10)
@@ -87,11 +85,11 @@ module _ (cs vs hs ss ts toks : List ℕ) where
   least-none (suc n) j h = rw (h j (omega arith) (omega arith)) (least-none n (j + 1) (λ i a b. h i (omega arith) (omega arith)))
 
 free-checked : (cs vs toks : List ℕ)
-    → ((j : ℕ) → j < length cs → bad cs vs (homesOf cs (replicate 8192 0)) (startsOf cs (replicate 8192 0)) (heightsOf cs (startsOf cs (replicate 8192 0)) (replicate 8192 0)) j ≡ 0)
+    → ((j : ℕ) → j < length cs → bad cs vs (homesOf cs (replicate itemsMost 0)) (startsOf cs (replicate itemsMost 0)) (heightsOf cs (startsOf cs (replicate itemsMost 0)) (replicate itemsMost 0)) j ≡ 0)
     → checked cs vs toks ≡ None
 unfolding checked leastOf
 free-checked cs vs toks h =
-    least-none cs vs (homesOf cs (replicate 8192 0)) (startsOf cs (replicate 8192 0)) (heightsOf cs (startsOf cs (replicate 8192 0)) (replicate 8192 0)) toks (length cs) 0
+    least-none cs vs (homesOf cs (replicate itemsMost 0)) (startsOf cs (replicate itemsMost 0)) (heightsOf cs (startsOf cs (replicate itemsMost 0)) (replicate itemsMost 0)) toks (length cs) 0
     (λ i a b. h i (omega arith))
 
 module _ (m : Model) (cs vs : List ℕ) (S : Says m cs vs) (ruled : Statements m cs vs S) (toks : List ℕ) where

@@ -7,21 +7,22 @@ use mathlib.Core.Bool.{Bool, true}
 use mathlib.Core.List.{List, [], _∷_, _++_, append-assoc, append-nil}
 use lib.ListN.{length, getD, length-append}
 use borrow.Author.Tests.{eq-eqb, eqb-true}
-use Rattle.base_codes.specs.Codes.{c-active, c-active-many, c-proctype}
+use Rattle.base_codes.specs.Codes.{c-active, c-active-many, c-name, c-number, c-proctype}
 use Rattle.base_bytes.specs.Choice.{both}
 use Rattle.base_bytes.proofs.Tests.{both-true}
 use Rattle.rule_sheets.specs.Homes.{insideOf}
 use Rattle.rule_search.specs.Search.{count}
-use Rattle.rule_item.specs.Rules.{ruleOf}
 use Rattle.spec_grammar.specs.Tree.{Name, Model, sequence, Tree, Declaration, declare, Group, body, Activity, idle, once, times, Part, mtypes, global, process, init}
-use Rattle.spec_grammar.specs.Code.{Item, i-name, i-number, i-type, i-mtypes, i-global, i-local, i-proctype, i-active, i-active-many, i-init, i-body, i-end-body, each, code-tree, code-declaration, code-group, code-body, code-activity, code-part, code}
+use Rattle.base_codes.specs.Items.{Item, i-active, i-active-many, i-body, i-end-body, i-global, i-init, i-local, i-mtypes, i-name, i-number, i-proctype, i-type}
+use Rattle.base_codes.specs.Sets.{ruleOf}
+use Rattle.parse_code.specs.Code.{each, code-tree, code-declaration, code-group, code-body, code-activity, code-part, code}
 use Rattle.table_entries.specs.Items.{Known}
 use Rattle.spec_rules.specs.Senses.{Scope}
 use Rattle.spec_rules.specs.Units.{ofPart, ofModel, partLawful, partsLawful, mtypesIn, initsIn, tally}
 use Rattle.legal_terms.specs.Says.{itemAt, Says}
 use Rattle.spec_machine.specs.Program.{sizeIn, startIn}
 use Rattle.agree_stage.proofs.Stands.{Lying, lying-behind, lying-before, lying-whole, lying-in, statements-lie}
-use Rattle.legal_declarations.proofs.Items.{type-code}
+use Rattle.table_entries.proofs.Items.{type-code}
 use Rattle.legal_declarations.proofs.Standing.{Lies, lies-front, lies-back, lies-whole, long, known-at, code-is}
 use Rattle.legal_declarations.proofs.Scopes.{Scoped}
 use Rattle.legal_declarations.proofs.Judging.{hs, Clean, Judges, clean-empty, judges-true, judges-both}
@@ -70,7 +71,7 @@ beyond [] k h = refl
 beyond (x ∷ l) zero h = absurd (omega arith)
 beyond (x ∷ l) (suc k) h = beyond l k (omega arith)
 
-marks : (ruleOf 70 ≡ 0) × (ruleOf 71 ≡ 0)
+marks : (ruleOf c-name ≡ 0) × (ruleOf c-number ≡ 0)
 unfolding ruleOf
 marks = (refl, refl)
 
@@ -99,7 +100,7 @@ module _ (m : Model) (cs vs : List ℕ) (S : Says m cs vs) where
       let d = code-is m cs vs S (suc k) (i-name w) (y .2 .0) (y .2 .1) in
       (λ z. omega arith, λ z. omega arith)
   after-units (global (declare t us) ∷ n) k y e =
-      let a = type-code t (subst Known (y .1) (known-at m cs vs S k (y .0))) .1 in
+      let a = type-code (subst Known (y .1) (known-at m cs vs S k (y .0))) .1 in
       let c = code-is m cs vs S k (i-type t) (y .0) (y .1) in
       let d = code-is m cs vs S (suc k) i-global (y .2 .0) (y .2 .1) in
       (λ z. omega arith, λ z. omega arith)
@@ -144,7 +145,7 @@ module _ (m : Model) (cs vs : List ℕ) (S : Says m cs vs) where
         → xs ≡ front ++ (code-part (process a w gs (body ds q)) ++ rest) → Lies xs j (code-part (process a w gs (body ds q)))
         → e ≡ j + length (code-part (process a w gs (body ds q))) → suc (suc n) ≡ j + length (code-activity a w) → Begins k → j ≤ n → n < length xs → itemAt xs n ≡ i-name w
         → suc n < length xs → getD cs (suc n) 0 ≡ k
-        → Clean m cs vs S j n → ((i : ℕ) → j ≤ i → i ≤ n → getD cs i 0 ≤ 71) → After m cs vs S e → Sc g 0 j → insideOf cs j ≡ 0 → count cs H 9 0 0 j ≡ c → count cs H 10 0 0 j ≡ d
+        → Clean m cs vs S j n → ((i : ℕ) → j ≤ i → i ≤ n → getD cs i 0 ≤ c-number) → After m cs vs S e → Sc g 0 j → insideOf cs j ≡ 0 → count cs H 9 0 0 j ≡ c → count cs H 10 0 0 j ≡ d
         → Done m cs vs S g c d (process a w gs (body ds q)) j e
     process-done a w gs ds q n k e split y q0 en bg jn bn qn bu ck clean low after sc ins c9 c10 =
         let A = code-activity a w in
@@ -172,19 +173,19 @@ module _ (m : Model) (cs vs : List ℕ) (S : Says m cs vs) where
     part-done (process idle w gs (body ds q)) e split eq after sc ins c9 c10 y top =
         process-done idle w gs ds q j c-proctype e split y eq (omega arith) plainly (omega arith) (y .0) (y .1) (y .2 .0) (code-is m cs vs S (suc j) i-proctype (y .2 .0) (y .2 .1))
         (clean-empty m cs vs S j j (omega arith))
-        (λ i u v. (let k : getD cs i 0 ≡ 70 = ap (λ n. getD cs n 0) (let z : i ≡ j = omega arith in z) ∙ code-is m cs vs S j (i-name w) (y .0) (y .1) in omega arith)) after sc ins c9 c10
+        (λ i u v. (let k : getD cs i 0 ≡ c-name = ap (λ n. getD cs n 0) (let z : i ≡ j = omega arith in z) ∙ code-is m cs vs S j (i-name w) (y .0) (y .1) in omega arith)) after sc ins c9 c10
     part-done (process once w gs (body ds q)) e split eq after sc ins c9 c10 y top =
         process-done once w gs ds q j c-active e split y eq (omega arith) once-more (omega arith) (y .0) (y .1) (y .2 .0) (code-is m cs vs S (suc j) i-active (y .2 .0) (y .2 .1))
         (clean-empty m cs vs S j j (omega arith))
-        (λ i u v. (let k : getD cs i 0 ≡ 70 = ap (λ n. getD cs n 0) (let z : i ≡ j = omega arith in z) ∙ code-is m cs vs S j (i-name w) (y .0) (y .1) in omega arith)) after sc ins c9 c10
+        (λ i u v. (let k : getD cs i 0 ≡ c-name = ap (λ n. getD cs n 0) (let z : i ≡ j = omega arith in z) ∙ code-is m cs vs S j (i-name w) (y .0) (y .1) in omega arith)) after sc ins c9 c10
     part-done (process (times r) w gs (body ds q)) e split eq after sc ins c9 c10 y top =
         process-done (times r) w gs ds q (suc j) c-active-many e split y eq (omega arith) many (omega arith) (y .2 .0) (y .2 .1) (y .2 .2 .0)
         (code-is m cs vs S (suc (suc j)) i-active-many (y .2 .2 .0) (y .2 .2 .1))
-        (mark-clean m cs vs S j 71 (i-number r) (y .0) (y .1) refl (marks .1)) (λ i u v. low i u v (ℕ-discrete i j)) after sc ins c9 c10
+        (mark-clean m cs vs S j c-number (i-number r) (y .0) (y .1) refl (marks .1)) (λ i u v. low i u v (ℕ-discrete i j)) after sc ins c9 c10
       where
-        low : (i : ℕ) → j ≤ i → i ≤ suc j → Dec (i ≡ j) → getD cs i 0 ≤ 71
-        low i u v (yes z) = let k : getD cs i 0 ≡ 71 = ap (λ n. getD cs n 0) z ∙ code-is m cs vs S j (i-number r) (y .0) (y .1) in omega arith
-        low i u v (no z) = let k : getD cs i 0 ≡ 70 = ap (λ n. getD cs n 0) (let z : i ≡ suc j = omega arith in z) ∙ code-is m cs vs S (suc j) (i-name w) (y .2 .0) (y .2 .1) in omega arith
+        low : (i : ℕ) → j ≤ i → i ≤ suc j → Dec (i ≡ j) → getD cs i 0 ≤ c-number
+        low i u v (yes z) = let k : getD cs i 0 ≡ c-number = ap (λ n. getD cs n 0) z ∙ code-is m cs vs S j (i-number r) (y .0) (y .1) in omega arith
+        low i u v (no z) = let k : getD cs i 0 ≡ c-name = ap (λ n. getD cs n 0) (let z : i ≡ suc j = omega arith in z) ∙ code-is m cs vs S (suc j) (i-name w) (y .2 .0) (y .2 .1) in omega arith
     part-done (init (body ds q)) e split eq after sc ins c9 c10 y top =
         let b = suc j in
         let f = suc b + length (each (code-declaration i-local) ds) in

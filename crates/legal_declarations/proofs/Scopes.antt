@@ -8,7 +8,7 @@ use mathlib.Core.List.{List, [], _∷_, _++_}
 use lib.ListN.{length, getD}
 use lib.Dec.{eqb, ltb}
 use borrow.Author.Tests.{lt-ltb, le-ltb, ne-eqb, eq-eqb}
-use Rattle.base_codes.specs.Codes.{c-message}
+use Rattle.base_codes.specs.Codes.{c-message, c-name}
 use Rattle.base_bytes.specs.Choice.{pick, both}
 use Rattle.base_bytes.specs.Lists.{same}
 use Rattle.base_bytes.proofs.Tests.{true-false}
@@ -19,7 +19,8 @@ use Rattle.rule_search.specs.Sets.{among}
 use Rattle.rule_search.specs.Search.{declares, find, lookup, count}
 use Rattle.rule_item.specs.Rules.{isArray, isChan}
 use Rattle.spec_grammar.specs.Tree.{Name, Model}
-use Rattle.spec_grammar.specs.Code.{i-name, code}
+use Rattle.base_codes.specs.Items.{i-name}
+use Rattle.parse_code.specs.Code.{code}
 use Rattle.spec_rules.specs.Senses.{Sense, variable, constant, procedure, unknown, Declared, declared, Scope, senseIn, isUnknown, isConstant, hides, senseOf}
 use Rattle.legal_terms.specs.Says.{itemAt, Says}
 use Rattle.legal_terms.specs.Setting.{Finds}
@@ -125,7 +126,7 @@ module _ (cs hs : List ℕ) where
   out-further d e j (procedure n) u q o = subst (λ x. Out x (suc j) (procedure n)) (sym q) (let z = o .0 in omega arith, o .1, o .2)
   out-further d e j unknown u q o = absurd (true-false u)
 
-name-no-variable : among 14 70 ≡ false
+name-no-variable : among 14 c-name ≡ false
 unfolding among
 name-no-variable = refl
 
@@ -211,16 +212,16 @@ module _ (m : Model) (cs vs hs : List ℕ) (S : Says m cs vs) where
       pid-there false e unknown z p = absurd (true-false p)
 
   -- ---- what a name means, in body h with the locals l behind the globals g
-  out-finds : (d j : ℕ) (s : Sense) → getD cs j 0 ≡ 70 → Out cs hs d j s → Finds cs d s
+  out-finds : (d j : ℕ) (s : Sense) → getD cs j 0 ≡ c-name → Out cs hs d j s → Finds cs d s
   out-finds d j (variable c a) e o = (o .1, o .2, o .3)
   out-finds d j constant e o = o .1
   out-finds d j (procedure n) e o = o .1
   out-finds d j unknown e o = subst (λ x. Finds cs x unknown) (sym o) (name-none (getD cs j 0) e)
     where
-      name-none : (c : ℕ) → c ≡ 70 → (among 14 c ≡ false) × (c ≡ c-message → ⊥)
+      name-none : (c : ℕ) → c ≡ c-name → (among 14 c ≡ false) × (c ≡ c-message → ⊥)
       name-none c e = (ap (among 14) e ∙ name-no-variable, λ z. omega arith)
 
-  pub lookup-finds : (l g : Scope) (h k : ℕ) (w : Name) → Scoped l h k → Scoped g 0 k → k < length cs → itemAt (code m) k ≡ i-name w → getD cs k 0 ≡ 70 → same w pid ≡ false
+  pub lookup-finds : (l g : Scope) (h k : ℕ) (w : Name) → Scoped l h k → Scoped g 0 k → k < length cs → itemAt (code m) k ≡ i-name w → getD cs k 0 ≡ c-name → same w pid ≡ false
       → Finds cs (lookup cs vs hs (getD vs k 0) h k) (senseOf l g w)
   unfolding lookup senseOf
   lookup-finds l g h k w s r b q c n =

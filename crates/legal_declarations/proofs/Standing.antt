@@ -9,8 +9,9 @@ use lib.ListN.{length, getD, length-append, length-map}
 use lib.Seq.{getD-append-add}
 use Rattle.base_codes.specs.Codes.{c-end-option, c-field}
 use Rattle.spec_grammar.specs.Tree.{Model}
-use Rattle.spec_grammar.specs.Code.{Item, i-plain, code}
-use Rattle.table_entries.specs.Items.{codeOf, Known, AllKnown}
+use Rattle.base_codes.specs.Items.{Item, codeOf, i-plain}
+use Rattle.parse_code.specs.Code.{code}
+use Rattle.table_entries.specs.Items.{Known, AllKnown}
 use Rattle.legal_terms.specs.Says.{itemAt, Says}
 use Rattle.legal_declarations.proofs.Items.{spoken, valued, settled, declaring, Low, Calm, spoken-code, valued-code, settled-code, declaring-code, settled-declaring, All}
 

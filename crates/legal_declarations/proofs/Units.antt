@@ -9,31 +9,32 @@ use mathlib.Core.List.{List, [], _∷_, _++_, map, append-nil}
 use lib.ListN.{length, getD}
 use lib.Dec.{eqb}
 use borrow.Author.Tests.{ne-eqb}
-use Rattle.base_codes.specs.Codes.{c-active, c-active-many, c-body, c-end-body, c-field, c-init, c-message, c-mtypes, c-parameter, c-proctype, c-size}
+use Rattle.base_codes.specs.Codes.{c-active, c-active-many, c-body, c-end-body, c-field, c-init, c-message, c-mtypes, c-name, c-number, c-parameter, c-proctype, c-size}
 use Rattle.base_bytes.specs.Choice.{both, either}
 use Rattle.base_bytes.proofs.Tests.{true-false, both-true}
 use Rattle.rule_sheets.specs.Walks.{sum}
-use Rattle.rule_sheets.specs.Homes.{heads, insideOf}
+use Rattle.rule_sheets.specs.Homes.{insideOf}
 use Rattle.rule_search.specs.Sets.{among}
 use Rattle.rule_search.specs.Search.{last, one, count}
-use Rattle.rule_item.specs.Rules.{ruleOf}
 use Rattle.spec_grammar.specs.Tree.{Name, Model, sequence, Tree, Declaration, declare, Variable, Group, body, Activity, Part, mtypes, global, process, init}
-use Rattle.spec_grammar.specs.Code.{Item, i-name, i-mtypes, i-message, i-global, i-local, i-init, i-body, i-end-body, each, code-tree, code-declaration, code-group, code-body, code-message, code-part, code}
-use Rattle.table_entries.specs.Items.{codeOf}
+use Rattle.base_codes.specs.Items.{Item, codeOf, i-body, i-end-body, i-global, i-init, i-local, i-message, i-mtypes, i-name}
+use Rattle.base_codes.specs.Sets.{ruleOf, isUnit}
+use Rattle.parse_code.specs.Code.{each, code-tree, code-declaration, code-group, code-body, code-message, code-part, code}
 use Rattle.spec_rules.specs.Senses.{Sense, constant, procedure, Scope, declared, senseIn, fresh}
-use Rattle.spec_rules.specs.Units.{ofMessage, ofGroups, ofPart, joins, bodyLawful, partLawful, mtypesIn, initsIn}
+use Rattle.spec_rules.specs.Units.{ofMessage, scopeOfGroups, ofPart, joins, bodyLawful, partLawful, mtypesIn, initsIn}
 use Rattle.legal_terms.specs.Says.{itemAt, Says}
 use Rattle.spec_machine.specs.Program.{sizeIn}
 use Rattle.agree_stage.proofs.Stands.{Lying}
 use Rattle.keep_tables.proofs.Sums.{sum-next}
 use Rattle.legal_declarations.proofs.Items.{settled, all-declaration, global-settled, All, all-each}
 use Rattle.legal_declarations.proofs.Standing.{Lies, lies-front, lies-all, long, code-at, code-is, settled-at}
-use Rattle.legal_declarations.proofs.Homes.{no-head, inside-over, home-inside, home-of-head, home-most}
+use Rattle.legal_declarations.proofs.Homes.{inside-over, home-inside, home-of-head, home-most}
 use Rattle.legal_declarations.proofs.Scopes.{Out, Scoped, scoped-start, scoped-over, scoped-more}
 use Rattle.legal_declarations.proofs.Judging.{hs, Clean, Judges, clean-join, judges-both, judges-skip, rule-fresh, rule-mtypes, rule-init}
 use Rattle.legal_declarations.proofs.Variables.{low-one, Pidless, fresh-pidless, mark-clean, After}
 use Rattle.legal_declarations.proofs.Declarations.{names-judged, groups-judged, after-declarations, global-judged}
 use Rattle.legal_declarations.proofs.Bodies.{Frame, frame-made, frame-behind, home-in, inside-after, parameters-counted, Statements, body-judged}
+use Rattle.rule_sheets.proofs.Meaning.{no-head}
 
 -- ---- sets
 not-nine : (c : ℕ) → (c ≡ c-mtypes → ⊥) → among 9 c ≡ false
@@ -44,11 +45,11 @@ not-ten : (c : ℕ) → (c ≡ c-init → ⊥) → among 10 c ≡ false
 unfolding among
 not-ten c n = ne-eqb c c-init n
 
-sets : (among 9 c-mtypes ≡ true) × (among 10 c-init ≡ true) × (among 1 c-mtypes ≡ false) × (among 1 c-message ≡ true) × (among 3 c-message ≡ false) × (among 1 c-init ≡ false) × (among 1 70 ≡ false) × (among 1 71 ≡ false)
+sets : (among 9 c-mtypes ≡ true) × (among 10 c-init ≡ true) × (among 1 c-mtypes ≡ false) × (among 1 c-message ≡ true) × (among 3 c-message ≡ false) × (among 1 c-init ≡ false) × (among 1 c-name ≡ false) × (among 1 c-number ≡ false)
 unfolding among
 sets = (refl, refl, refl, refl, refl, refl, refl, refl)
 
-marks : (ruleOf 70 ≡ 0) × (ruleOf 71 ≡ 0)
+marks : (ruleOf c-name ≡ 0) × (ruleOf c-number ≡ 0)
 unfolding ruleOf
 marks = (refl, refl)
 
@@ -58,14 +59,14 @@ pub data Begins : ℕ → Type 0 where
   once-more : Begins c-active
   many : Begins c-active-many
 
-begins-head : {c : ℕ} → Begins c → (heads c ≡ true) × (among 1 c ≡ true) × (among 13 c ≡ true) × (c ≡ c-mtypes → ⊥) × (c ≡ c-init → ⊥)
+begins-head : {c : ℕ} → Begins c → (isUnit c ≡ true) × (among 1 c ≡ true) × (among 13 c ≡ true) × (c ≡ c-mtypes → ⊥) × (c ≡ c-init → ⊥)
 unfolding among
 begins-head plainly = (refl, refl, refl, (λ z. omega arith), (λ z. omega arith))
 begins-head once-more = (refl, refl, refl, (λ z. omega arith), (λ z. omega arith))
 begins-head many = (refl, refl, refl, (λ z. omega arith), (λ z. omega arith))
 
 message : Item → Bool
-message x = either (eqb (codeOf x) 70) (eqb (codeOf x) c-message)
+message x = either (eqb (codeOf x) c-name) (eqb (codeOf x) c-message)
 
 message-all : (w : Name) → All message (code-message w)
 unfolding message
@@ -73,14 +74,14 @@ message-all w = (refl, (refl, tt))
 
 message-code : (x : Item) → message x ≡ true → (codeOf x ≤ c-message) × (codeOf x ≡ c-mtypes → ⊥)
 unfolding message
-message-code x e = go (ℕ-discrete (codeOf x) 70) (ℕ-discrete (codeOf x) c-message)
+message-code x e = go (ℕ-discrete (codeOf x) c-name) (ℕ-discrete (codeOf x) c-message)
   where
-    go : Dec (codeOf x ≡ 70) → Dec (codeOf x ≡ c-message) → (codeOf x ≤ c-message) × (codeOf x ≡ c-mtypes → ⊥)
+    go : Dec (codeOf x ≡ c-name) → Dec (codeOf x ≡ c-message) → (codeOf x ≤ c-message) × (codeOf x ≡ c-mtypes → ⊥)
     go (yes z) d = (omega arith, λ y. omega arith)
     go (no z) (yes d) = (omega arith, λ y. omega arith)
-    go (no z) (no d) = absurd (true-false (sym e ∙ rw (ne-eqb (codeOf x) 70 z, ne-eqb (codeOf x) c-message d) refl))
+    go (no z) (no d) = absurd (true-false (sym e ∙ rw (ne-eqb (codeOf x) c-name z, ne-eqb (codeOf x) c-message d) refl))
 
-no-pid : Pidless []
+pub no-pid : Pidless []
 unfolding senseIn
 no-pid = refl
 
@@ -251,7 +252,7 @@ module _ (m : Model) (cs vs : List ℕ) (S : Says m cs vs) where
 
     pub done-process : (a : Activity) (w : Name) (gs : List Group) (ds : List Declaration) (q : Tree sequence) (j n b f t k : ℕ) → Begins k → j ≤ n → n < length xs
         → itemAt xs n ≡ i-name w → suc n < length xs → getD cs (suc n) 0 ≡ k
-        → Clean m cs vs S j n → ((i : ℕ) → j ≤ i → i ≤ n → getD cs i 0 ≤ 71)
+        → Clean m cs vs S j n → ((i : ℕ) → j ≤ i → i ≤ n → getD cs i 0 ≤ c-number)
         → b ≡ suc (suc n) + length (each code-group gs) → f ≡ suc b + length (each (code-declaration i-local) ds) → t ≡ f + sizeIn q → Lies xs (suc (suc n)) (each code-group gs)
         → Lies xs b (code-body (body ds q))
         → Lying xs 0 (code-tree q) f → (getD cs (suc t) 0 ≡ c-size → ⊥) → Sc g 0 j → insideOf cs j ≡ 0 → count cs H 9 0 0 j ≡ c → count cs H 10 0 0 j ≡ d
@@ -260,15 +261,15 @@ module _ (m : Model) (cs vs : List ℕ) (S : Says m cs vs) where
         let u = suc n in
         let lg = long m cs vs S in
         let bh = begins-head bg in
-        let F = frame-made m cs vs S gs ds q u b f t (ap heads ck ∙ bh .0) eb ef et yg yb bu in
+        let F = frame-made m cs vs S gs ds q u b f t (ap isUnit ck ∙ bh .0) eb ef et yg yb bu in
         let i0 = F .parts in
         let i1 = F .inner in
         let i2 = F .last in
         let top = F .top in
         let fl = flat j u ins (omega arith) (omega arith) (λ i x y. (let z = low i x (omega arith) in omega arith)) in
         let su : Sc g 0 u = scoped-over m cs vs H S g 0 j u (omega arith) (λ i x y. inl (low-none (getD cs i 0) (low i x (omega arith)))) sc in
-        let sn : Sense = procedure (length (ofGroups gs)) in
-        let hu = home-of-head cs (S .few) u (omega arith) (ap heads ck ∙ bh .0) in
+        let sn : Sense = procedure (length (scopeOfGroups gs)) in
+        let hu = home-of-head cs (S .few) u (omega arith) (ap isUnit ck ∙ bh .0) in
         let am = ap (among 1) ck ∙ bh .1 in
         let out : Out cs H u (suc u) sn = (omega arith, ap (among 13) ck ∙ bh .2, parameters-counted m cs vs S u b f t F gs yg eb) in
         let g2 = g ++ declared w sn ∷ [] in
@@ -279,7 +280,7 @@ module _ (m : Model) (cs vs : List ℕ) (S : Says m cs vs) where
         ((λ z. (let e = F .begin in omega arith)), after-declarations m cs vs S ds (suc b) (yd .2) (subst (After m cs vs S) ef (frame-behind m cs vs S u b f t F after)) .0) in
         let ps = groups-judged m cs vs S (suc u) (suc u) b (λ i x y. home-in m cs vs S u b f t F i x (omega arith)) (omega arith) gs [] (suc u) b eb (omega arith)
         (omega arith) yg ab (frame-start u b f t F) in
-        let JG : J (suc u) b (joins [] (ofGroups gs)) = ps .1 .judged in
+        let JG : J (suc u) b (joins [] (scopeOfGroups gs)) = ps .1 .judged in
         let n9 = count-over 9 j (suc u) (omega arith) (λ i x y. not-nine (getD cs i 0) (heading i x (omega arith) (ℕ-discrete i u) ck (bh .3) (bh .4) low .0)) in
         let n10 = count-over 10 j (suc u) (omega arith) (λ i x y. not-ten (getD cs i 0) (heading i x (omega arith) (ℕ-discrete i u) ck (bh .3) (bh .4) low .1)) in
         let m9 = frame-nine u b f t F in
@@ -290,20 +291,20 @@ module _ (m : Model) (cs vs : List ℕ) (S : Says m cs vs) where
           lists = omega arith;
           inits = omega arith;
           judged = λ M sm nm ng.
-              (let B = bodyLawful M g2 (ofGroups gs) (body ds q) in
-              judges-skip m cs vs S j u (suc t) (both (fresh g w) (both (joins [] (ofGroups gs)) B)) (omega arith) (omega arith)
-              (clean-join m cs vs S j n u clean (mark-clean m cs vs S n 70 (i-name w) bn qn refl (marks .0)))
-              (judges-both m cs vs S u (suc u) (suc t) (fresh g w) (both (joins [] (ofGroups gs)) B) (omega arith) (omega arith) (rule-fresh m cs vs S g 0 n w (omega arith) qn am hu su)
-              (λ fr. judges-both m cs vs S (suc u) b (suc t) (joins [] (ofGroups gs)) B (omega arith) (omega arith) JG
-              (λ jo. body-judged m cs vs S ruled u b f t F ds q (ofGroups gs) g2 M lying et ef (yd .2) after (ps .1 .scope) s2 sm (ps .1 .pidless no-pid jo)
+              (let B = bodyLawful M g2 (scopeOfGroups gs) (body ds q) in
+              judges-skip m cs vs S j u (suc t) (both (fresh g w) (both (joins [] (scopeOfGroups gs)) B)) (omega arith) (omega arith)
+              (clean-join m cs vs S j n u clean (mark-clean m cs vs S n c-name (i-name w) bn qn refl (marks .0)))
+              (judges-both m cs vs S u (suc u) (suc t) (fresh g w) (both (joins [] (scopeOfGroups gs)) B) (omega arith) (omega arith) (rule-fresh m cs vs S g 0 n w (omega arith) qn am hu su)
+              (λ fr. judges-both m cs vs S (suc u) b (suc t) (joins [] (scopeOfGroups gs)) B (omega arith) (omega arith) JG
+              (λ jo. body-judged m cs vs S ruled u b f t F ds q (scopeOfGroups gs) g2 M lying et ef (yd .2) after (ps .1 .scope) s2 sm (ps .1 .pidless no-pid jo)
               (fresh-pidless g w sn (sc .sure) fr ng) nm))));
           pidless = λ M ng e. fresh-pidless g w sn (sc .sure) (both-true (fresh g w) _ e .0) ng;
         }
       where
-        low-none : (x : ℕ) → x ≤ 71 → among 1 x ≡ false
+        low-none : (x : ℕ) → x ≤ c-number → among 1 x ≡ false
         low-none x h = low-one x (record { most = omega arith; string = λ z. omega arith; high = λ z. omega arith })
 
-        heading : (i : ℕ) → j ≤ i → i ≤ suc n → Dec (i ≡ suc n) → getD cs (suc n) 0 ≡ k → (k ≡ c-mtypes → ⊥) → (k ≡ c-init → ⊥) → ((i : ℕ) → j ≤ i → i ≤ n → getD cs i 0 ≤ 71)
+        heading : (i : ℕ) → j ≤ i → i ≤ suc n → Dec (i ≡ suc n) → getD cs (suc n) 0 ≡ k → (k ≡ c-mtypes → ⊥) → (k ≡ c-init → ⊥) → ((i : ℕ) → j ≤ i → i ≤ n → getD cs i 0 ≤ c-number)
             → (getD cs i 0 ≡ c-mtypes → ⊥) × (getD cs i 0 ≡ c-init → ⊥)
         heading i x y (yes z) ck p q low = let e : getD cs i 0 ≡ k = ap (λ n. getD cs n 0) z ∙ ck in (λ r. p (sym e ∙ r), λ r. q (sym e ∙ r))
         heading i x y (no z) ck p q low = let e = low i x (omega arith) in (λ r. omega arith, λ r. omega arith)
@@ -315,12 +316,12 @@ module _ (m : Model) (cs vs : List ℕ) (S : Says m cs vs) where
     done-init ds q j b f t bj qj eb ef et yb lying after sc ins c9 c10 =
         let ci = code-is m cs vs S j i-init bj qj in
         let lg = long m cs vs S in
-        let F = frame-made m cs vs S [] ds q j b f t (ap heads ci) (omega arith) ef et tt yb bj in
+        let F = frame-made m cs vs S [] ds q j b f t (ap isUnit ci) (omega arith) ef et tt yb bj in
         let i0 = F .parts in
         let i1 = F .inner in
         let i2 = F .last in
         let top = F .top in
-        let hj = home-of-head cs (S .few) j (omega arith) (ap heads ci) in
+        let hj = home-of-head cs (S .few) j (omega arith) (ap isUnit ci) in
         let s1 : Sc g 0 (suc j) = scoped-over m cs vs H S g 0 j (suc j) (omega arith) (λ i x y. inl (ap (λ n. among 1 (getD cs n 0)) (let z : i ≡ j = omega arith in z) ∙ ap
         (among 1) ci ∙ sets .5)) sc in
         let yd = lies-front xs b (i-body ∷ each (code-declaration i-local) ds) (code-tree q) (lies-front xs b (i-body ∷ each (code-declaration i-local) ds ++ code-tree q)

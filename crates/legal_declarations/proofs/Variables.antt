@@ -10,27 +10,30 @@ use mathlib.Core.List.{List, [], _∷_, _++_, map, append-assoc, append-nil}
 use lib.ListN.{length, getD, length-append}
 use lib.Dec.{eqb, leb}
 use borrow.Author.Tests.{ne-eqb, eq-eqb, le-leb, lt-leb, leb-true}
-use Rattle.base_codes.specs.Codes.{c-chan, c-channel, c-declared, c-false, c-field, c-global, c-group, c-len, c-local, c-message, c-minus, c-parameter, c-size, c-true, c-value}
+use Rattle.base_ceilings.specs.Ceilings.{arrayLeast, arrayMost, fieldsMost}
+use Rattle.base_codes.specs.Codes.{c-chan, c-channel, c-declared, c-false, c-field, c-global, c-group, c-len, c-local, c-message, c-minus, c-parameter, c-size, c-true, c-value, c-name, c-number}
 use Rattle.base_bytes.specs.Choice.{pick, both, either}
 use Rattle.base_bytes.specs.Lists.{same}
 use Rattle.base_bytes.proofs.Tests.{true-false, both-true}
 use Rattle.spec_text.specs.Names.{pid}
 use Rattle.rule_search.specs.Sets.{among}
 use Rattle.rule_search.specs.Search.{lookup, last}
-use Rattle.rule_item.specs.Rules as rules
-use Rattle.rule_item.specs.Rules.{ruleOf}
 use Rattle.spec_grammar.specs.Tree.{Name, Model, Value, unset, set-number, set-minus, set-true, set-false, set-name, set-channel, Variable, variable}
-use Rattle.spec_grammar.specs.Code.{Item, i-name, i-number, i-type, i-true, i-false, i-declared, i-size, i-value, i-minus, i-named, i-channel, i-field, each, code-field, code-size, code-value, code-variable, code}
-use Rattle.table_entries.specs.Items.{codeOf, Known}
-use Rattle.spec_rules.specs.Senses as senses
+use Rattle.table_entries.specs.Items.{Known}
 use Rattle.spec_rules.specs.Senses.{Sense, unknown, constant, procedure, declared, Scope, senseIn, isUnknown, isConstant, fresh, hides}
-use Rattle.spec_rules.specs.Units.{isArray, ofVariable, sized, variables}
-use Rattle.spec_rules.specs.Units as units
+use Rattle.spec_rules.specs.Units.{isArray, senseOfVariable, sized, variables}
 use Rattle.legal_terms.specs.Says.{itemAt, Says}
-use Rattle.legal_declarations.proofs.Items.{valued, Low, type-code, all-append, all-size, all-value}
+use Rattle.legal_declarations.proofs.Items.{valued, Low, all-append, all-size, all-value}
 use Rattle.legal_declarations.proofs.Standing.{Lies, lies-front, lies-back, lies-all, long, known-at, code-is, valued-at}
 use Rattle.legal_declarations.proofs.Scopes.{Sure, Scoped, sense-more, scoped-over, scoped-more}
 use Rattle.legal_declarations.proofs.Judging.{hs, fault, rule-none, fault-none, fault-mark, Clean, Judges, clean-join, clean-one, clean-empty, judges-true, judges-both, judges-skip, rule-fresh, rule-size, rule-channel, rule-named, rule-field, last-here, last-skip, last-over}
+use Rattle.base_codes.specs.Items.{Item, codeOf, i-channel, i-declared, i-false, i-field, i-minus, i-name, i-named, i-number, i-size, i-true, i-type, i-value}
+use Rattle.base_codes.specs.Sets.{ruleOf}
+use Rattle.parse_code.specs.Code.{each, code-field, code-size, code-value, code-variable, code}
+use Rattle.table_entries.proofs.Items.{type-code}
+use Rattle.rule_item.specs.Rules as rules
+use Rattle.spec_rules.specs.Senses as senses
+use Rattle.spec_rules.specs.Units as units
 
 -- ---- sets
 pub low-one : (c : ℕ) → Low c → among 1 c ≡ false
@@ -51,11 +54,11 @@ among-16 : (c : ℕ) → (c ≡ c-channel → ⊥) → among 16 c ≡ false
 unfolding among
 among-16 c n = ne-eqb c c-channel n
 
-sets : (among 1 70 ≡ false) × (among 3 70 ≡ false) × (among 1 c-declared ≡ true) × (among 3 c-declared ≡ false) × (among 14 c-declared ≡ true) × (among 16 c-channel ≡ true) × (among 16 c-field ≡ false)
+sets : (among 1 c-name ≡ false) × (among 3 c-name ≡ false) × (among 1 c-declared ≡ true) × (among 3 c-declared ≡ false) × (among 14 c-declared ≡ true) × (among 16 c-channel ≡ true) × (among 16 c-field ≡ false)
 unfolding among
 sets = (refl, refl, refl, refl, refl, refl, refl)
 
-marks : (ruleOf 70 ≡ 0) × (ruleOf 71 ≡ 0) × (ruleOf c-value ≡ 0) × (ruleOf c-minus ≡ 0) × (ruleOf c-true ≡ 0) × (ruleOf c-false ≡ 0)
+marks : (ruleOf c-name ≡ 0) × (ruleOf c-number ≡ 0) × (ruleOf c-value ≡ 0) × (ruleOf c-minus ≡ 0) × (ruleOf c-true ≡ 0) × (ruleOf c-false ≡ 0)
 unfolding ruleOf
 marks = (refl, refl, refl, refl, refl, refl)
 
@@ -108,7 +111,7 @@ module _ (m : Model) (cs vs : List ℕ) (S : Says m cs vs) where
 
   pub type-clean : (k t : ℕ) → k < length xs → itemAt xs k ≡ i-type t → Clean m cs vs S k (suc k)
   type-clean k t h q =
-      let a = type-code t (subst Known q (known-at m cs vs S k h)) in
+      let a = type-code (subst Known q (known-at m cs vs S k h)) in
       let x = a .0 in
       let y = a .1 in
       let z = code-is m cs vs S k (i-type t) h q in
@@ -118,31 +121,31 @@ module _ (m : Model) (cs vs : List ℕ) (S : Says m cs vs) where
   judges-to i e d a b p q j = subst (λ x. J i x b) p (subst (λ x. J i e x) q j)
 
   -- ---- the types of a channel's messages
-  fields : (ks : List ℕ) (c i k : ℕ) → Lies xs k (each code-field ks) → k ≡ c + 1 + 2 * i → last cs 16 k ≡ suc c → i ≤ 4 → J k (k + length (each code-field ks)) (leb (i + length ks) 4)
+  fields : (ks : List ℕ) (c i k : ℕ) → Lies xs k (each code-field ks) → k ≡ c + 1 + 2 * i → last cs 16 k ≡ suc c → i ≤ fieldsMost → J k (k + length (each code-field ks)) (leb (i + length ks) fieldsMost)
   fields [] c i k h e q b = judges-to k k (k + 0) true (leb (i + 0) 4) (omega arith) (sym (le-leb (i + 0) 4 (omega arith)))
       (judges-true m cs vs S k k (clean-empty m cs vs S k k (omega arith)))
-  fields (t ∷ ks) c i k h e q b = go (decLt i 4) (fields ks c (i + 1) (suc (suc k)) (h .2 .2) (omega arith) (last-skip m cs vs S 16 (suc k) (ap (among 16) field ∙ sets .6) ∙ was))
+  fields (t ∷ ks) c i k h e q b = go (decLt i fieldsMost) (fields ks c (i + 1) (suc (suc k)) (h .2 .2) (omega arith) (last-skip m cs vs S 16 (suc k) (ap (among 16) field ∙ sets .6) ∙ was))
     where
       field : getD cs (suc k) 0 ≡ c-field
       field = code-is m cs vs S (suc k) i-field (h .2 .0) (h .2 .1)
 
       was : last cs 16 (suc k) ≡ suc c
       was =
-          let a = type-code t (subst Known (h .1) (known-at m cs vs S k (h .0))) in
+          let a = type-code (subst Known (h .1) (known-at m cs vs S k (h .0))) in
           let x = a .1 in
           let z = code-is m cs vs S k (i-type t) (h .0) (h .1) in
           last-skip m cs vs S 16 k (among-16 (getD cs k 0) (λ u. omega arith)) ∙ q
 
-      ruled : fault m cs vs S (suc k) ≡ pick (eqb i 4) 5 0
+      ruled : fault m cs vs S (suc k) ≡ pick (eqb i fieldsMost) 5 0
       ruled = rule-field m cs vs S c i (suc k) field was (omega arith)
 
-      go : Dec (i < 4) → (i + 1 ≤ 4 → J (suc (suc k)) (suc (suc k) + length (each code-field ks)) (leb (i + 1 + length ks) 4))
+      go : Dec (i < 4) → (i + 1 ≤ 4 → J (suc (suc k)) (suc (suc k) + length (each code-field ks)) (leb (i + 1 + length ks) fieldsMost))
           → J k (k + suc (suc (length (each code-field ks)))) (leb (i + suc (length ks)) 4)
       go (yes l) r =
           let f : fault m cs vs S (suc k) ≡ 0 = ruled ∙ ap (λ x. pick x 5 0) (ne-eqb i 4 (λ z. omega arith)) in
-          judges-to k (suc (suc k) + length (each code-field ks)) (k + suc (suc (length (each code-field ks)))) (leb (i + 1 + length ks) 4) (leb (i + suc (length ks)) 4) (omega arith)
+          judges-to k (suc (suc k) + length (each code-field ks)) (k + suc (suc (length (each code-field ks)))) (leb (i + 1 + length ks) fieldsMost) (leb (i + suc (length ks)) 4) (omega arith)
           (ap (λ x. leb x 4) (let z : i + 1 + length ks ≡ i + suc (length ks) = omega arith in z))
-          (judges-skip m cs vs S k (suc (suc k)) (suc (suc k) + length (each code-field ks)) (leb (i + 1 + length ks) 4) (omega arith) (omega arith)
+          (judges-skip m cs vs S k (suc (suc k)) (suc (suc k) + length (each code-field ks)) (leb (i + 1 + length ks) fieldsMost) (omega arith) (omega arith)
           (clean-join m cs vs S k (suc k) (suc (suc k)) (type-clean k t (h .0) (h .1)) (clean-one m cs vs S (suc k) f)) (r (omega arith)))
       go (no l) r =
           let f : fault m cs vs S (suc k) ≡ 5 = ruled ∙ ap (λ x. pick x 5 0) (eq-eqb i 4 (omega arith)) in
@@ -159,29 +162,29 @@ module _ (m : Model) (cs vs : List ℕ) (S : Says m cs vs) where
       → ((w : Name) → k < length xs → itemAt xs k ≡ i-name w → k < k + length (code-value v) → eqb (getD cs (lookup cs vs H (getD vs k 0) h k) 0) c-message ≡ isConstant (sense w))
       → J k (k + length (code-value v)) (units.valued sense v)
   value-judged unset k h sense l o n = judges-true m cs vs S k (k + 0) (clean-empty m cs vs S k (k + 0) (omega arith))
-  value-judged (set-number x) k h sense l o n = two k (mark-clean k 71 (i-number x) (l .0) (l .1) refl (marks .1)) (mark-clean (suc k) c-value i-value (l .2 .0) (l .2 .1) refl (marks .2))
-  value-judged (set-minus x) k h sense l o n = two k (mark-clean k 71 (i-number x) (l .0) (l .1) refl (marks .1)) (mark-clean (suc k) c-minus i-minus (l .2 .0) (l .2 .1) refl (marks .3))
+  value-judged (set-number x) k h sense l o n = two k (mark-clean k c-number (i-number x) (l .0) (l .1) refl (marks .1)) (mark-clean (suc k) c-value i-value (l .2 .0) (l .2 .1) refl (marks .2))
+  value-judged (set-minus x) k h sense l o n = two k (mark-clean k c-number (i-number x) (l .0) (l .1) refl (marks .1)) (mark-clean (suc k) c-minus i-minus (l .2 .0) (l .2 .1) refl (marks .3))
   value-judged set-true k h sense l o n = two k (mark-clean k c-true i-true (l .0) (l .1) refl (marks .4)) (mark-clean (suc k) c-value i-value (l .2 .0) (l .2 .1) refl (marks .2))
   value-judged set-false k h sense l o n = two k (mark-clean k c-false i-false (l .0) (l .1) refl (marks .5)) (mark-clean (suc k) c-value i-value (l .2 .0) (l .2 .1) refl (marks .2))
   value-judged (set-name w) k h sense l o n =
       judges-to k (suc (suc k)) (k + 2) (eqb (getD cs (lookup cs vs H (getD vs k 0) h k) 0) c-message) (isConstant (sense w)) (omega arith) (n w (l .0) (l .1) (omega arith))
       (judges-skip m cs vs S k (suc k) (suc (suc k)) (eqb (getD cs (lookup cs vs H (getD vs k 0) h k) 0) c-message) (omega arith) (omega arith)
-      (mark-clean k 70 (i-name w) (l .0) (l .1) refl (marks .0))
+      (mark-clean k c-name (i-name w) (l .0) (l .1) refl (marks .0))
       (rule-named m cs vs S k h (code-is m cs vs S (suc k) i-named (l .2 .0) (l .2 .1)) (o (suc k) (omega arith) (omega arith))))
   value-judged (set-channel x ks) k h sense l o n =
       let c = code-is m cs vs S (suc k) i-channel (l .2 .0) (l .2 .1) in
-      judges-to k (suc (suc k) + length (each code-field ks)) (k + suc (suc (length (each code-field ks)))) (both (both (leb 1 x) (leb x 8)) (leb (0 + length ks) 4)) _ (omega arith)
+      judges-to k (suc (suc k) + length (each code-field ks)) (k + suc (suc (length (each code-field ks)))) (both (both (leb 1 x) (leb x 8)) (leb (0 + length ks) fieldsMost)) _ (omega arith)
       (ap (λ y. both (both (leb 1 x) (leb x 8)) (leb y 4)) (let z : 0 + length ks ≡ length ks = omega arith in z))
-      (judges-skip m cs vs S k (suc k) (suc (suc k) + length (each code-field ks)) _ (omega arith) (omega arith) (mark-clean k 71 (i-number x) (l .0) (l .1) refl (marks .1))
-      (judges-both m cs vs S (suc k) (suc (suc k)) (suc (suc k) + length (each code-field ks)) (both (leb 1 x) (leb x 8)) (leb (0 + length ks) 4) (omega arith) (omega arith)
+      (judges-skip m cs vs S k (suc k) (suc (suc k) + length (each code-field ks)) _ (omega arith) (omega arith) (mark-clean k c-number (i-number x) (l .0) (l .1) refl (marks .1))
+      (judges-both m cs vs S (suc k) (suc (suc k)) (suc (suc k) + length (each code-field ks)) (both (leb 1 x) (leb x 8)) (leb (0 + length ks) fieldsMost) (omega arith) (omega arith)
       (rule-channel m cs vs S k x (below (suc k) (l .2 .0)) (l .1) c)
       (λ u. fields ks (suc k) 0 (suc (suc k)) (l .2 .2) (omega arith) (last-here m cs vs S 16 (suc k) (ap (among 16) c ∙ sets .5)) (omega arith))))
 
   size-judged : (s : Option ℕ) (k : ℕ) → Lies xs k (code-size s) → J k (k + length (code-size s)) (sized s)
   size-judged none k l = judges-true m cs vs S k (k + 0) (clean-empty m cs vs S k (k + 0) (omega arith))
   size-judged (some n) k l =
-      judges-to k (suc (suc k)) (k + 2) (both (leb 1 n) (leb n 32)) (both (leb 1 n) (leb n 32)) (omega arith) refl
-      (judges-skip m cs vs S k (suc k) (suc (suc k)) (both (leb 1 n) (leb n 32)) (omega arith) (omega arith) (mark-clean k 71 (i-number n) (l .0) (l .1) refl (marks .1))
+      judges-to k (suc (suc k)) (k + 2) (both (leb arrayLeast n) (leb n arrayMost)) (both (leb arrayLeast n) (leb n arrayMost)) (omega arith) refl
+      (judges-skip m cs vs S k (suc k) (suc (suc k)) (both (leb arrayLeast n) (leb n arrayMost)) (omega arith) (omega arith) (mark-clean k c-number (i-number n) (l .0) (l .1) refl (marks .1))
       (rule-size m cs vs S k n (below (suc k) (l .2 .0)) (l .1) (code-is m cs vs S (suc k) i-size (l .2 .0) (l .2 .1))))
 
   -- ---- is it an array, is it a chan
@@ -192,13 +195,13 @@ module _ (m : Model) (cs vs : List ℕ) (S : Says m cs vs) where
   pub array-none : (k : ℕ) → (getD cs (suc (suc (suc k))) 0 ≡ c-size → ⊥) → rules.isArray cs (suc k) ≡ false
   unfolding rules.isArray
   array-none k n =
-      rw (let z : suc k + 2 ≡ suc (suc (suc k)) = omega arith in z) (rw (ne-eqb (getD cs (suc (suc (suc k))) 0) c-size n) (go (eqb (getD cs (suc k + 1) 0) 71)))
+      rw (let z : suc k + 2 ≡ suc (suc (suc k)) = omega arith in z) (rw (ne-eqb (getD cs (suc (suc (suc k))) 0) c-size n) (go (eqb (getD cs (suc k + 1) 0) c-number)))
     where
       go : (b : Bool) → both b false ≡ false
       go true = refl
       go false = refl
 
-  array-some : (k : ℕ) → getD cs (suc (suc k)) 0 ≡ 71 → getD cs (suc (suc (suc k))) 0 ≡ c-size → rules.isArray cs (suc k) ≡ true
+  array-some : (k : ℕ) → getD cs (suc (suc k)) 0 ≡ c-number → getD cs (suc (suc (suc k))) 0 ≡ c-size → rules.isArray cs (suc k) ≡ true
   unfolding rules.isArray
   array-some k a b = rw ((let z : suc k + 1 ≡ suc (suc k) = omega arith in z), (let z : suc k + 2 ≡ suc (suc (suc k)) = omega arith in z)) (rw (a, b) refl)
 
@@ -219,7 +222,7 @@ module _ (m : Model) (cs vs : List ℕ) (S : Says m cs vs) where
 
   -- ---- a variable of type t, in body h, with the type at item p; `sense` says what names stand for with the scope so far
   module _ (t h lo hi p : ℕ) (sense : Scope → Name → Sense) (f : Scope → Variable → Bool)
-      (F : (l : Scope) (w : Name) (s : Option ℕ) (v : Value) → f l (variable w s v) ≡ both (fresh l w) (both (sized s) (units.valued (sense (l ++ ofVariable t (variable w s v) ∷ [])) v)))
+      (F : (l : Scope) (w : Name) (s : Option ℕ) (v : Value) → f l (variable w s v) ≡ both (fresh l w) (both (sized s) (units.valued (sense (l ++ senseOfVariable t (variable w s v) ∷ [])) v)))
       (home : (j : ℕ) → lo ≤ j → j < hi → getD H j 0 ≡ h) (top : hi ≤ length cs) (typed : getD cs p 0 ≡ 130 + t)
       (look : (l : Scope) (j : ℕ) (w : Name) → lo ≤ j → j < hi → itemAt xs j ≡ i-name w → Sc l h j → Pidless l → eqb (getD cs (lookup cs vs H (getD vs j 0) h j) 0) c-message ≡ isConstant
       (sense l w)) where
@@ -232,13 +235,13 @@ module _ (m : Model) (cs vs : List ℕ) (S : Says m cs vs) where
 
     one-variable : (w : Name) (s : Option ℕ) (v : Value) (l : Scope) (k e : ℕ) → e ≡ k + length (code-variable (variable w s v)) → lo ≤ k → e ≤ hi
         → Lies xs k (code-variable (variable w s v)) → last cs 3 k ≡ suc (suc p)
-        → After e → Sc l h k → Passed l (f l (variable w s v)) k e (l ++ ofVariable t (variable w s v) ∷ [])
+        → After e → Sc l h k → Passed l (f l (variable w s v)) k e (l ++ senseOfVariable t (variable w s v) ∷ [])
     one-variable w s v l k e q b d y c a sc =
         record {
           scope = scope-at e (omega arith) (omega arith);
           kind = last-over m cs vs S 3 (suc (suc k)) e (omega arith) (λ j g u. low-three (getD cs j 0) (lows j g u)) ∙ last-skip m cs vs S 3 (suc k) (ap (among 3) cd ∙ sets .3) ∙ kind1;
           judged = λ n. (let z = sizes in subst (λ x. J k e x) (sym (F l w s v))
-              (judges-skip m cs vs S k (suc k) e _ (omega arith) (omega arith) (mark-clean k 70 (i-name w) (y .0) (y .1) refl (marks .0))
+              (judges-skip m cs vs S k (suc k) e _ (omega arith) (omega arith) (mark-clean k c-name (i-name w) (y .0) (y .1) refl (marks .0))
               (judges-both m cs vs S (suc k) (suc (suc k)) e (fresh l w) _ (omega arith) (omega arith) (rule-fresh m cs vs S l h k w (below (suc k) (y .2 .0)) (y .1)
               (ap (among 1) cd ∙ sets .2) hd sc1)
               (λ fr. judges-both m cs vs S (suc (suc k)) k2 e (sized s) _ (omega arith) (omega arith) (size-judged s (suc (suc k))
@@ -270,7 +273,7 @@ module _ (m : Model) (cs vs : List ℕ) (S : Says m cs vs) where
         hd : getD H (suc k) 0 ≡ h
         hd = let z = ends in home (suc k) (omega arith) (omega arith)
 
-        cn : getD cs k 0 ≡ 70
+        cn : getD cs k 0 ≡ c-name
         cn = code-is m cs vs S k (i-name w) (y .0) (y .1)
 
         kind1 : last cs 3 (suc k) ≡ suc (suc p)
@@ -307,7 +310,7 @@ module _ (m : Model) (cs vs : List ℕ) (S : Says m cs vs) where
 
     pub all-variables-judged : (us : List Variable) (l : Scope) (k e : ℕ) → e ≡ k + length (each code-variable us) → lo ≤ k → e ≤ hi → Lies xs k (each code-variable us)
         → last cs 3 k ≡ suc (suc p)
-        → After e → Sc l h k → Passed l (variables f t l us) k e (l ++ map (ofVariable t) us)
+        → After e → Sc l h k → Passed l (variables f t l us) k e (l ++ map (senseOfVariable t) us)
     unfolding variables
     all-variables-judged [] l k e q b d y c a sc =
         let z : k ≡ e = omega arith in
@@ -324,9 +327,9 @@ module _ (m : Model) (cs vs : List ℕ) (S : Says m cs vs) where
         let k2 = k + length X in
         let r = lies-back xs X E k k2 refl y in
         let one = one-variable w s v l k k2 refl b (omega arith) (lies-front xs k X E y) c (after-variables us k2 r (subst After (let z : e ≡ k2 + length E = omega arith in z) a)) sc in
-        let l2 = l ++ ofVariable t (variable w s v) ∷ [] in
+        let l2 = l ++ senseOfVariable t (variable w s v) ∷ [] in
         let rest = all-variables-judged us l2 k2 e (omega arith) (omega arith) d r (one .kind) a (one .scope) in
-        let join : l2 ++ map (ofVariable t) us ≡ l ++ (ofVariable t (variable w s v) ∷ map (ofVariable t) us) = append-assoc l (ofVariable t (variable w s v) ∷ []) (map (ofVariable t) us) in
+        let join : l2 ++ map (senseOfVariable t) us ≡ l ++ (senseOfVariable t (variable w s v) ∷ map (senseOfVariable t) us) = append-assoc l (senseOfVariable t (variable w s v) ∷ []) (map (senseOfVariable t) us) in
         record {
           scope = subst (λ x. Sc x h e) join (rest .scope);
           kind = rest .kind;

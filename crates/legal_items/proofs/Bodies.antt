@@ -7,24 +7,24 @@ use mathlib.Core.Logic.{_⊎_, inl, inr}
 use mathlib.Core.List.{List, [], _∷_, _++_}
 use lib.ListN.{length, getD, length-append}
 use lib.Dec.{eqb}
-use borrow.Author.Tests.{le-ltb}
-use Rattle.base_codes.specs.Codes.{c-end-body, c-parameter}
+use borrow.Author.Tests.{lt-leb}
+use Rattle.base_codes.specs.Codes.{c-end-body, c-proctype}
 use Rattle.base_bytes.specs.Choice.{pick}
 use Rattle.spec_grammar.specs.Tree.{sequence, Tree, Declaration, Group, body}
-use Rattle.spec_grammar.specs.Code.{i-local, i-body, i-end-body, each, code-tree, code-declaration, code-group, code-body}
-use Rattle.rule_sheets.specs.Homes.{heads, insideOf, homeOf}
-use Rattle.legal_items.proofs.Codes.{every-lift, InTree, tree-codes, InDeclaration, local-codes, InGroup, groups-codes}
+use Rattle.base_codes.specs.Items.{i-body, i-end-body, i-local}
+use Rattle.base_codes.specs.Sets.{isUnit}
+use Rattle.parse_code.specs.Code.{each, code-tree, code-declaration, code-group, code-body}
+use Rattle.rule_sheets.specs.Homes.{insideOf, homeOf}
+use Rattle.agree_eval.proofs.Ranges.{every-lift, InTree, tree-codes, InDeclaration, local-codes, InGroup, groups-codes}
 use Rattle.legal_items.proofs.Standing.{weigh, weigh-append, Lain, lain-front, lain-back, Stood, Inner, inside-head, settled, settled-end}
+use Rattle.rule_sheets.proofs.Meaning.{no-head}
 
 -- ---- which body an item can be in
-low-heads : (c : ℕ) → c ≤ c-parameter → heads c ≡ false
-low-heads c h = rw (le-ltb c-parameter c h)
-
 module _ (cs : List ℕ) where
   inside-most : (j : ℕ) → insideOf cs j ≤ j
   unfolding insideOf
   inside-most zero = omega arith
-  inside-most (suc j) = go (heads (getD cs j 0)) (eqb (getD cs j 0) c-end-body) (inside-most j)
+  inside-most (suc j) = go (isUnit (getD cs j 0)) (eqb (getD cs j 0) c-end-body) (inside-most j)
     where
       go : (a b : Bool) → insideOf cs j ≤ j → pick a (j + 1) (pick b 0 (insideOf cs j)) ≤ suc j
       go true b r = omega arith
@@ -33,7 +33,7 @@ module _ (cs : List ℕ) where
 
   pub home-most : (j : ℕ) → homeOf cs j ≤ j
   unfolding homeOf
-  home-most j = go (heads (getD cs j 0)) (inside-most j)
+  home-most j = go (isUnit (getD cs j 0)) (inside-most j)
     where
       go : (a : Bool) → insideOf cs j ≤ j → pick a 0 (insideOf cs j) ≤ j
       go true r = omega arith
@@ -45,7 +45,7 @@ module _ (cs : List ℕ) where
     unfolding insideOf
     inside-past zero = inl (ap (insideOf cs) (let z : e + 0 ≡ e = omega arith in z) ∙ shut)
     inside-past (suc d) =
-        subst (λ n. (insideOf cs n ≡ 0) ⊎ (e < insideOf cs n)) (let z : suc (e + d) ≡ e + suc d = omega arith in z) (go (heads (getD cs (e + d) 0)) (eqb (getD cs (e + d) 0) c-end-body) (inside-past d))
+        subst (λ n. (insideOf cs n ≡ 0) ⊎ (e < insideOf cs n)) (let z : suc (e + d) ≡ e + suc d = omega arith in z) (go (isUnit (getD cs (e + d) 0)) (eqb (getD cs (e + d) 0) c-end-body) (inside-past d))
       where
         go : (a b : Bool) → (insideOf cs (e + d) ≡ 0) ⊎ (e < insideOf cs (e + d))
             → (pick a (e + d + 1) (pick b 0 (insideOf cs (e + d))) ≡ 0) ⊎ (e < pick a (e + d + 1) (pick b 0 (insideOf cs (e + d))))
@@ -55,7 +55,7 @@ module _ (cs : List ℕ) where
 
     pub home-past : (j : ℕ) → e ≤ j → (homeOf cs j ≡ 0) ⊎ (e < homeOf cs j)
     unfolding homeOf
-    home-past j h = go (heads (getD cs j 0)) (subst (λ n. (insideOf cs n ≡ 0) ⊎ (e < insideOf cs n)) (let z : e + (j - e) ≡ j = omega arith in z) (inside-past (j - e)))
+    home-past j h = go (isUnit (getD cs j 0)) (subst (λ n. (insideOf cs n ≡ 0) ⊎ (e < insideOf cs n)) (let z : e + (j - e) ≡ j = omega arith in z) (inside-past (j - e)))
       where
         go : (a : Bool) → (insideOf cs j ≡ 0) ⊎ (e < insideOf cs j) → (pick a 0 (insideOf cs j) ≡ 0) ⊎ (e < pick a 0 (insideOf cs j))
         go true r = inl refl
@@ -88,21 +88,21 @@ module _ (cs vs hs : List ℕ) where
       omega arith
 
   module _ (homed : (j : ℕ) → j < length cs → getD hs j 0 ≡ homeOf cs j) where
-    pub housed : (u : ℕ) (gs : List Group) (ds : List Declaration) (q : Tree sequence) → heads (getD cs u 0) ≡ true → Lain cs vs (suc u) (each code-group gs)
+    pub housed : (u : ℕ) (gs : List Group) (ds : List Declaration) (q : Tree sequence) → isUnit (getD cs u 0) ≡ true → Lain cs vs (suc u) (each code-group gs)
         → Lain cs vs (suc u + length (each code-group gs)) (code-body (body ds q)) → Housed u gs ds q
     housed u gs ds q e g b =
         let G = each code-group gs in
         let D = each (code-declaration i-local) ds in
         let T = code-tree q in
         let k = suc u + length G in
-        let x = settled cs vs hs homed G (u + 1) (suc u) (every-lift InGroup Mine (λ c h. (low-heads c (omega arith), λ z. omega arith)) G (groups-codes gs)) g (inside-head cs vs hs u e) in
+        let x = settled cs vs hs homed G (u + 1) (suc u) (every-lift InGroup Mine (λ c h. (no-head c (omega arith), λ z. omega arith)) G (groups-codes gs)) g (inside-head cs vs hs u e) in
         let bt = lain-front cs vs k (i-body ∷ D ++ T) (i-end-body ∷ []) b in
         let be = lain-back cs vs (i-body ∷ D ++ T) (i-end-body ∷ []) k (suc k + length D + length T) (omega (arith, length-append (i-body ∷ D) T)) b in
         let bd = lain-front cs vs k (i-body ∷ D) T bt in
         let y = settled cs vs hs homed (i-body ∷ []) (u + 1) k (λ z. (refl, λ w. omega arith), tt) (bd .0, bd .1, bd .2, bd .3, tt) (x .1) in
-        let d = settled cs vs hs homed D (u + 1) (suc k) (every-lift InDeclaration Mine (λ c h. (low-heads c (omega arith), λ z. omega arith)) D (local-codes ds)) (bd .4)
+        let d = settled cs vs hs homed D (u + 1) (suc k) (every-lift InDeclaration Mine (λ c h. (no-head c (omega arith), λ z. omega arith)) D (local-codes ds)) (bd .4)
         (ap (insideOf cs) (let z : suc k ≡ k + 1 = omega arith in z) ∙ y .1) in
-        let t = settled cs vs hs homed T (u + 1) (suc k + length D) (every-lift InTree Mine (λ c h. (low-heads c (omega arith), λ z. omega arith)) T (tree-codes q))
+        let t = settled cs vs hs homed T (u + 1) (suc k + length D) (every-lift InTree Mine (λ c h. (no-head c (omega arith), λ z. omega arith)) T (tree-codes q))
         (lain-back cs vs (i-body ∷ D) T k (suc k + length D) (omega arith) bt) (d .1) in
         let z = settled-end cs vs hs homed (suc k + length D + length T) (u + 1) be (t .1) in
         record { groups = x .0; mark = y .0; declarations = d .0; statements = t .0; last = z .0; shut = z .1 }

@@ -7,18 +7,19 @@ use mathlib.Core.List.{List, [], _∷_, _++_}
 use lib.ListN.{length, getD}
 use lib.Dec.{leb}
 use borrow.Author.Tests.{ne-eqb, lt-leb}
-use Rattle.base_codes.specs.Codes.{c-argument, c-assign, c-body, c-constant, c-do, c-end-body, c-express, c-if, c-local, c-message, c-od, c-parameter, c-proctype}
+use Rattle.base_codes.specs.Codes.{c-argument, c-assign, c-body, c-constant, c-do, c-end-body, c-express, c-if, c-local, c-message, c-od, c-parameter, c-proctype, c-text}
 use Rattle.base_bytes.proofs.Tests.{both-no}
 use Rattle.parse_machine_proof.proofs.Never.{lt-or-ge}
 use Rattle.spec_grammar.specs.Tree.{Name, Shape, Exp, Expr, Received, Sort, sequence, Tree, express, assign, increment, decrement, send, receive, assert, print, skip, goto, break, timeout, else, run, set-run, select, loop, bare, labelled, end, then, over, option, Declaration, Group, Body, body, Activity, idle, once, times, Part, mtypes, global, process, init, Model}
-use Rattle.spec_grammar.specs.Code.{Item, i-name, i-target, i-assign, i-express, i-increment, i-decrement, i-send, i-receive, i-assert, i-end, i-set-run, i-fi, i-od, i-end-option, i-local, i-global, i-body, i-end-body, each, code-exp, code-argument, code-received, code-tree, code-declaration, code-group, code-body, code-activity, code-message, code-part, code}
-use Rattle.table_entries.specs.Items.{codeOf, AllKnown}
+use Rattle.base_codes.specs.Items.{Item, codeOf, i-assert, i-assign, i-body, i-decrement, i-end, i-end-body, i-end-option, i-express, i-fi, i-global, i-increment, i-local, i-name, i-od, i-receive, i-send, i-set-run, i-target}
+use Rattle.parse_code.specs.Code.{each, code-exp, code-argument, code-received, code-tree, code-declaration, code-group, code-body, code-activity, code-message, code-part, code}
+use Rattle.table_entries.specs.Items.{AllKnown}
 use Rattle.rule_search.specs.Sets.{among}
 use Rattle.rule_ceilings.specs.Ceilings.{one}
 use Rattle.agree_eval.proofs.Operators.{known-front, known-back}
 use Rattle.spec_rules.specs.Units.{tally}
-use Rattle.spec_rules.specs.Ceilings.{statementsIn, statementsOf, messagesOf, proctypesOf}
-use Rattle.legal_items.proofs.Codes.{Every, InExp, exp-codes, InArgs, args-codes, all-received-codes, InTree, tree-codes, InDeclaration, local-codes, global-codes, InGroup, groups-codes, InMessages, messages-codes}
+use Rattle.spec_rules.specs.Ceilings.{statementsIn, statementCount, messageCount, proctypeCount}
+use Rattle.agree_eval.proofs.Ranges.{Every, InExp, exp-codes, InArgs, args-codes, all-received-codes, InTree, tree-codes, InDeclaration, local-codes, global-codes, InGroup, groups-codes, InMessages, messages-codes}
 use Rattle.legal_items.proofs.Standing.{weigh, Lain}
 
 -- ---- sums of what depends on the code alone
@@ -64,15 +65,15 @@ module _ (ds : List Declaration) (q : Tree sequence) (k : AllKnown (code-body (b
   known-tree = known-back (i-body ∷ each (code-declaration i-local) ds) (code-tree q) (known-front (i-body ∷ each (code-declaration i-local) ds ++ code-tree q) (i-end-body ∷ []) k)
 
 -- ---- statements
-quiet-low : (c : ℕ) → c ≤ c-constant → (c ≡ 72 → ⊥) → one 11 c ≡ 0
+quiet-low : (c : ℕ) → c ≤ c-constant → (c ≡ c-text → ⊥) → one 11 c ≡ 0
 unfolding one among
-quiet-low c h n = rw (ne-eqb c 72 n, ne-eqb c c-express (λ z. omega arith), lt-leb c-assign c (omega arith), ne-eqb c c-do (λ z. omega arith))
+quiet-low c h n = rw (ne-eqb c c-text n, ne-eqb c c-express (λ z. omega arith), lt-leb c-assign c (omega arith), ne-eqb c c-do (λ z. omega arith))
 
 quiet-high : (c : ℕ) → c-od ≤ c → one 11 c ≡ 0
 unfolding one among
-quiet-high c h = rw (ne-eqb c 72 (λ z. omega arith), ne-eqb c c-express (λ z. omega arith), both-no (leb c-assign c) (lt-leb c c-if (omega arith)), ne-eqb c c-do (λ z. omega arith))
+quiet-high c h = rw (ne-eqb c c-text (λ z. omega arith), ne-eqb c c-express (λ z. omega arith), both-no (leb c-assign c) (lt-leb c c-if (omega arith)), ne-eqb c c-do (λ z. omega arith))
 
-quiet-both : (c : ℕ) → (c ≡ 72 → ⊥) → (c-argument ≤ c → c-local ≤ c) → one 11 c ≡ 0
+quiet-both : (c : ℕ) → (c ≡ c-text → ⊥) → (c-argument ≤ c → c-local ≤ c) → one 11 c ≡ 0
 quiet-both c n h = go (lt-or-ge c c-argument)
   where
     go : (c < c-argument) ⊎ (c-argument ≤ c) → one 11 c ≡ 0
@@ -197,7 +198,7 @@ messages-none ws k = mass-none (one 11) InMessages (each code-message ws) (messa
     go c (inl e) = quiet-low c (omega arith) (λ z. omega arith)
     go c (inr e) = quiet-high c (omega arith)
 
-statements-part : (p : Part) → AllKnown (code-part p) → S (code-part p) ≡ statementsOf p
+statements-part : (p : Part) → AllKnown (code-part p) → S (code-part p) ≡ statementCount p
 unfolding one among
 statements-part (mtypes ws) k = let a = messages-none ws (k .1) in omega arith
 statements-part (global d) k = mass-none (one 11) InDeclaration (code-declaration i-global d) (global-codes d) k (λ c h. quiet-both c (h .1) (h .2))
@@ -219,8 +220,8 @@ module _ (g : ℕ → ℕ) (f : Part → ℕ) (h : (p : Part) → AllKnown (code
       let c = mass-model m (known-back (code-part p) (code m) k) in
       omega arith
 
-pub statements-model : (m : Model) → AllKnown (code m) → mass (one 11) (code m) ≡ tally statementsOf m
-statements-model m k = mass-model (one 11) statementsOf statements-part m k
+pub statements-model : (m : Model) → AllKnown (code m) → mass (one 11) (code m) ≡ tally statementCount m
+statements-model m k = mass-model (one 11) statementCount statements-part m k
 
 -- ---- what is in no declaration, no parameter and no statement
 module _ (g : ℕ → ℕ) (declared : (c : ℕ) → InDeclaration c → g c ≡ 0) (grouped : (c : ℕ) → InGroup c → g c ≡ 0)
@@ -254,7 +255,7 @@ unfolding one among
 messages-each [] = refl
 messages-each (w ∷ ws) = let a = messages-each ws in omega arith
 
-messages-part : (p : Part) → AllKnown (code-part p) → mass (one 12) (code-part p) ≡ messagesOf p
+messages-part : (p : Part) → AllKnown (code-part p) → mass (one 12) (code-part p) ≡ messageCount p
 unfolding one among
 messages-part (mtypes ws) k = let a = messages-each ws in omega arith
 messages-part (global d) k = mass-none (one 12) InDeclaration (code-declaration i-global d) (global-codes d) k (λ c h. no-message c (λ z. omega arith))
@@ -270,8 +271,8 @@ messages-part (init b) k =
     let a = bare-body (one 12) (λ c h. no-message c (λ z. omega arith)) group-none (λ c h. no-message c (λ z. omega arith)) refl refl b (k .1) in
     omega arith
 
-pub messages-model : (m : Model) → AllKnown (code m) → mass (one 12) (code m) ≡ tally messagesOf m
-messages-model m k = mass-model (one 12) messagesOf messages-part m k
+pub messages-model : (m : Model) → AllKnown (code m) → mass (one 12) (code m) ≡ tally messageCount m
+messages-model m k = mass-model (one 12) messageCount messages-part m k
 
 -- ---- proctypes
 no-proctype : (c : ℕ) → c ≤ c-parameter → one 13 c ≡ 0
@@ -282,7 +283,7 @@ message-none : (c : ℕ) → InMessages c → one 13 c ≡ 0
 message-none c (inl e) = no-proctype c (omega arith)
 message-none c (inr e) = no-proctype c (omega arith)
 
-proctypes-part : (p : Part) → AllKnown (code-part p) → mass (one 13) (code-part p) ≡ proctypesOf p
+proctypes-part : (p : Part) → AllKnown (code-part p) → mass (one 13) (code-part p) ≡ proctypeCount p
 unfolding one among
 proctypes-part (mtypes ws) k = let a = mass-none (one 13) InMessages (each code-message ws) (messages-codes ws) (k .1) message-none in omega arith
 proctypes-part (global d) k = mass-none (one 13) InDeclaration (code-declaration i-global d) (global-codes d) k (λ c h. no-proctype c (omega arith))
@@ -296,5 +297,5 @@ proctypes-part (process x w gs b) k =
 proctypes-part (init b) k =
     let a = bare-body (one 13) (λ c h. no-proctype c (omega arith)) (λ c h. no-proctype c (omega arith)) (λ c h. no-proctype c (omega arith)) refl refl b (k .1) in omega arith
 
-pub proctypes-model : (m : Model) → AllKnown (code m) → mass (one 13) (code m) ≡ tally proctypesOf m
-proctypes-model m k = mass-model (one 13) proctypesOf proctypes-part m k
+pub proctypes-model : (m : Model) → AllKnown (code m) → mass (one 13) (code m) ≡ tally proctypeCount m
+proctypes-model m k = mass-model (one 13) proctypeCount proctypes-part m k

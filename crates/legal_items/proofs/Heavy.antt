@@ -8,18 +8,20 @@ use mathlib.Core.List.{List, [], _∷_, _++_}
 use lib.ListN.{length, getD, length-append}
 use lib.Dec.{eqb, ltb, leb}
 use borrow.Author.Tests.{lt-ltb, le-ltb, lt-leb, le-leb}
+use Rattle.base_ceilings.specs.Ceilings.{numbersMost}
 use Rattle.base_codes.specs.Codes.{c-body, c-init, c-parameter, c-proctype}
 use Rattle.base_bytes.specs.Choice.{pick}
 use Rattle.base_bytes.proofs.Tests.{both-no}
 use Rattle.parse_machine_proof.proofs.Never.{lt-or-ge}
 use Rattle.spec_grammar.specs.Tree.{Name, Group, Body, body, Activity, idle, once, times, Part, mtypes, global, process, init}
-use Rattle.spec_grammar.specs.Code.{Item, i-init, each, code-group, code-activity, code-body, code-part}
+use Rattle.base_codes.specs.Items.{Item, i-init}
+use Rattle.parse_code.specs.Code.{each, code-group, code-activity, code-body, code-part}
 use Rattle.rule_sheets.specs.Walks.{sum}
 use Rattle.rule_sheets.specs.Homes.{homeOf}
 use Rattle.rule_search.specs.Sets.{among}
 use Rattle.rule_ceilings.specs.Ceilings.{numbersAt, numbers, heavyAt}
 use Rattle.spec_rules.specs.Units.{tally}
-use Rattle.spec_rules.specs.Ceilings.{ofDeclaration, ofGroup}
+use Rattle.spec_rules.specs.Ceilings.{sizeOfDeclaration, sizeOfGroup}
 use Rattle.legal_items.proofs.Standing.{weigh, sum-weigh, Lain}
 use Rattle.legal_items.proofs.Bodies.{home-most, home-past}
 use Rattle.legal_items.proofs.Parts.{headAt, head-last, process-housed, init-housed, Standing}
@@ -63,8 +65,8 @@ module _ (f : ℕ → ℕ) where
 abbrev pub spare : Part → Bool
 spare (mtypes ws) = true
 spare (global d) = true
-spare (process x w gs (body ds q)) = leb (tally ofGroup gs + tally ofDeclaration ds) 32
-spare (init (body ds q)) = leb (tally ofDeclaration ds) 32
+spare (process x w gs (body ds q)) = leb (tally sizeOfGroup gs + tally sizeOfDeclaration ds) numbersMost
+spare (init (body ds q)) = leb (tally sizeOfDeclaration ds) numbersMost
 
 pub not-over : (n m : ℕ) → eqb (pick (ltb m n) 1 0) 0 ≡ leb n m
 not-over n m = go (lt-or-ge m n)
@@ -95,7 +97,7 @@ module _ (cs vs hs : List ℕ) (homed : (j : ℕ) → j < length cs → getD hs 
   unfolding heavyAt among
   heavy-high j h = rw (both-no (leb c-proctype (getD cs j 0)) (lt-leb (getD cs j 0) c-init (omega arith)))
 
-  heavy-is : (j : ℕ) → among 15 (getD cs j 0) ≡ true → heavyAt cs vs hs j ≡ pick (ltb 32 (numbers cs vs hs (j + 1))) 1 0
+  heavy-is : (j : ℕ) → among 15 (getD cs j 0) ≡ true → heavyAt cs vs hs j ≡ pick (ltb numbersMost (numbers cs vs hs (j + 1))) 1 0
   unfolding heavyAt
   heavy-is j e = rw e
 
@@ -129,13 +131,13 @@ module _ (cs vs hs : List ℕ) (homed : (j : ℕ) → j < length cs → getD hs 
       let A = process-activity cs vs hs homed x w gs (body ds q) i S in
       let b = head-inside x w gs (body ds q) i in
       ap (λ n. eqb n 0) (head-process cs vs hs homed (heavyAt cs vs hs) heavy-low heavy-high x w gs (body ds q) i S ∙ heavy-is u (head-among x w i A)
-      ∙ ap (λ n. pick (ltb 32 n) 1 0) (unit-numbers (process x w gs (body ds q)) i u S (b .0) (b .1)
+      ∙ ap (λ n. pick (ltb numbersMost n) 1 0) (unit-numbers (process x w gs (body ds q)) i u S (b .0) (b .1)
       ∙ numbers-unit cs vs hs (u + 1) (code-activity x w) gs ds q i u (head-last x w i) refl (process-housed cs vs hs homed i x w gs ds q (S .lain)) (activity-none cs vs hs (u + 1) x w i A)))
-      ∙ not-over (tally ofGroup gs + tally ofDeclaration ds) 32
+      ∙ not-over (tally sizeOfGroup gs + tally sizeOfDeclaration ds) numbersMost
   heavy-part (init (body ds q)) i S =
       let a = no-variable cs vs hs (i + 1) i (λ z. let y = S .lain .2 in omega arith) (λ z. let y = S .lain .2 in omega arith) in
       let b : weigh (numbersAt cs vs hs (i + 1)) i (i-init ∷ []) ≡ 0 = omega arith in
       let c = numbers-unit cs vs hs (i + 1) (i-init ∷ []) [] ds q i i (omega arith) refl (init-housed cs vs hs homed i ds q (S .lain)) b in
       ap (λ n. eqb n 0) (head-init cs vs hs homed (heavyAt cs vs hs) heavy-low heavy-high (body ds q) i S ∙ heavy-is i (init-among i (S .lain .2))
-      ∙ ap (λ n. pick (ltb 32 n) 1 0) (unit-numbers (init (body ds q)) i i S (omega arith) (omega arith) ∙ c ∙ (let z : 0 + tally ofDeclaration ds ≡ tally ofDeclaration ds = omega arith in z)))
-      ∙ not-over (tally ofDeclaration ds) 32
+      ∙ ap (λ n. pick (ltb numbersMost n) 1 0) (unit-numbers (init (body ds q)) i i S (omega arith) (omega arith) ∙ c ∙ (let z : 0 + tally sizeOfDeclaration ds ≡ tally sizeOfDeclaration ds = omega arith in z)))
+      ∙ not-over (tally sizeOfDeclaration ds) numbersMost

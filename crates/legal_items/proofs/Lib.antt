@@ -1,5 +1,4 @@
 pub mod Says
-pub mod Codes
 pub mod Standing
 pub mod Bodies
 pub mod Counts

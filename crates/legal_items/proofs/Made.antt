@@ -13,13 +13,13 @@ use Rattle.base_codes.specs.Codes.{c-active, c-active-many, c-body, c-channel, 
 use Rattle.base_bytes.specs.Choice.{pick}
 use Rattle.spec_grammar.specs.Tree.{Name, sequence, Tree, Value, unset, set-number, set-minus, set-true, set-false, set-name, set-channel, Declaration, declare, Group, Body, body, Activity, idle, once, times, Part, mtypes, global, process, init}
 use Rattle.spec_grammar.specs.Tree as tree
-use Rattle.spec_grammar.specs.Code.{Item, i-local, i-global, i-init, each, code-field, code-size, code-value, code-variable, code-tree, code-declaration, code-group, code-body, code-activity, code-message, code-part}
-use Rattle.table_entries.specs.Items.{codeOf}
+use Rattle.base_codes.specs.Items.{Item, codeOf, i-global, i-init, i-local}
+use Rattle.parse_code.specs.Code.{each, code-field, code-size, code-value, code-variable, code-tree, code-declaration, code-group, code-body, code-activity, code-message, code-part}
 use Rattle.rule_sheets.specs.Homes.{homeOf}
 use Rattle.rule_ceilings.specs.Ceilings.{startsAt, makesAt}
 use Rattle.spec_rules.specs.Units.{tally}
-use Rattle.spec_rules.specs.Ceilings.{madeBy, madeByVariable, madeByDeclaration, startedBy, startsOf, channelsOf}
-use Rattle.legal_items.proofs.Codes.{type-low, InTree, tree-codes, InDeclaration, local-codes, global-codes, InGroup, groups-codes, InMessages, messages-codes}
+use Rattle.spec_rules.specs.Ceilings.{channelsBy, madeByVariable, madeByDeclaration, startedBy, startCount, channelCount}
+use Rattle.agree_eval.proofs.Ranges.{type-low, InTree, tree-codes, InDeclaration, local-codes, global-codes, InGroup, groups-codes, InMessages, messages-codes}
 use Rattle.legal_items.proofs.Standing.{weigh, weigh-append, Lain, lain-front, Stood, stood-front, stood-back, still}
 use Rattle.legal_items.proofs.Bodies.{Housed}
 use Rattle.legal_items.proofs.Parts.{headAt, head-last, unit-sum, process-housed, init-housed, mtypes-stood, global-stood, Standing}
@@ -92,7 +92,7 @@ module _ (cs vs hs : List ℕ) (homed : (j : ℕ) → j < length cs → getD hs 
   pub process-activity : (x : Activity) (w : Name) (gs : List Group) (b : Body) (i : ℕ) → Standing cs vs hs homed (process x w gs b) i → Lain cs vs i (code-activity x w)
   process-activity x w gs b i S = lain-front cs vs i (code-activity x w) (each code-group gs) (lain-front cs vs i (code-activity x w ++ each code-group gs) (code-body b) (S .lain))
 
-  pub starts-part : (p : Part) (i : ℕ) → Standing cs vs hs homed p i → weigh (startsAt cs vs) i (code-part p) ≡ startsOf p
+  pub starts-part : (p : Part) (i : ℕ) → Standing cs vs hs homed p i → weigh (startsAt cs vs) i (code-part p) ≡ startCount p
   starts-part (mtypes ws) i S = head-mtypes (startsAt cs vs) start-low start-high ws i S
   starts-part (global d) i S = head-global (startsAt cs vs) start-low start-high d i S
   starts-part (process x w gs b) i S = head-process (startsAt cs vs) start-low start-high x w gs b i S ∙ starts-head x w i (process-activity x w gs b i S)
@@ -133,7 +133,7 @@ module _ (cs vs hs : List ℕ) (homed : (j : ℕ) → j < length cs → getD hs 
     two-none : (x y : Item) (i : ℕ) → St i (x ∷ y ∷ []) → (codeOf x ≡ c-channel → ⊥) → (codeOf y ≡ c-channel → ⊥) → weigh K i (x ∷ y ∷ []) ≡ each-made h * 0
     two-none x y i s a b = let c = no-channel i (λ z. a (sym (s .1) ∙ z)) in let d = no-channel (suc i) (λ z. b (sym (s .4 .1) ∙ z)) in omega arith
 
-    channels-value : (v : Value) (i : ℕ) → St i (code-value v) → weigh K i (code-value v) ≡ each-made h * madeBy v
+    channels-value : (v : Value) (i : ℕ) → St i (code-value v) → weigh K i (code-value v) ≡ each-made h * channelsBy v
     channels-value unset i s = omega arith
     channels-value (set-number n) i s = two-none _ _ i s (λ z. omega arith) (λ z. omega arith)
     channels-value (set-minus n) i s = two-none _ _ i s (λ z. omega arith) (λ z. omega arith)
@@ -204,7 +204,7 @@ module _ (cs vs hs : List ℕ) (homed : (j : ℕ) → j < length cs → getD hs 
   message-none j (inl e) = no-channel j (λ z. omega arith)
   message-none j (inr e) = no-channel j (λ z. omega arith)
 
-  pub channels-part : (p : Part) (i : ℕ) → Standing cs vs hs homed p i → weigh K i (code-part p) ≡ channelsOf p
+  pub channels-part : (p : Part) (i : ℕ) → Standing cs vs hs homed p i → weigh K i (code-part p) ≡ channelCount p
   channels-part (mtypes ws) i S =
       let s = mtypes-stood cs vs hs homed i ws (S .lain) (S .free) .0 in
       let a = no-channel i (λ z. let y = s .1 in omega arith) in

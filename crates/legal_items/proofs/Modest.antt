@@ -8,18 +8,19 @@ use mathlib.Core.List.{List, [], _∷_}
 use lib.ListN.{length, getD, replicate, length-map, length-replicate}
 use lib.Dec.{eqb, ltb, leb}
 use borrow.Author.Tests.{lt-ltb, le-ltb, lt-leb, le-leb, ne-eqb}
+use Rattle.base_ceilings.specs.Ceilings.{channelsMost, globalsMost, itemsMost, mtypesMost, processesMost, proctypesMost, statementsMost}
 use Rattle.base_bytes.specs.Choice.{both, either}
 use Rattle.parse_machine_proof.proofs.Never.{lt-or-ge}
 use Rattle.spec_grammar.specs.Tree.{body, Part, mtypes, global, process, init, Model}
-use Rattle.spec_grammar.specs.Code.{code}
-use Rattle.table_entries.specs.Items.{codeOf}
+use Rattle.base_codes.specs.Items.{codeOf}
+use Rattle.parse_code.specs.Code.{code}
 use Rattle.rule_sheets.specs.Walks.{sum}
 use Rattle.rule_sheets.specs.Homes.{insideOf, homeOf, homesOf}
 use Rattle.rule_sheets.proofs.Meaning.{home-at}
 use Rattle.rule_ceilings.specs.Ceilings.{one, numbersAt, numbers, startsAt, makesAt, wideAt, heavyAt, weight, total, anyPassed, passed}
 use Rattle.spec_rules.specs.Units.{tally}
 use Rattle.spec_rules.specs.Statements.{all}
-use Rattle.spec_rules.specs.Ceilings.{statementsOf, messagesOf, proctypesOf, globalsOf, light, startsOf, channelsOf, modest}
+use Rattle.spec_rules.specs.Ceilings.{statementCount, messageCount, proctypeCount, globalCount, light, startCount, channelCount, modest}
 use Rattle.legal_terms.specs.Says.{Says}
 use Rattle.legal_items.proofs.Standing.{weigh, sum-weigh, Lain, model-lain}
 use Rattle.legal_items.proofs.Counts.{mass-at, statements-model, messages-model, proctypes-model}
@@ -56,17 +57,17 @@ turned false true = refl
 turned false false = refl
 
 judged : (a b c d s k x y : ℕ)
-    → either (either (either (ltb 512 a) (ltb 64 b)) (either (ltb 16 c) (ltb 64 d))) (either (either (ltb 0 x) (ltb 0 y)) (either (either (ltb 16 s) (eqb s 0)) (ltb 16 k)))
-    ≡ not (both (both (both (leb a 512) (leb b 64)) (both (leb c 16) (leb d 64))) (both (both (eqb x 0) (eqb y 0)) (both (both (leb 1 s) (leb s 16)) (leb k 16))))
+    → either (either (either (ltb statementsMost a) (ltb mtypesMost b)) (either (ltb proctypesMost c) (ltb globalsMost d))) (either (either (ltb 0 x) (ltb 0 y)) (either (either (ltb processesMost s) (eqb s 0)) (ltb channelsMost k)))
+    ≡ not (both (both (both (leb a statementsMost) (leb b mtypesMost)) (both (leb c proctypesMost) (leb d globalsMost))) (both (both (eqb x 0) (eqb y 0)) (both (both (leb 1 s) (leb s processesMost)) (leb k channelsMost))))
 judged a b c d s k x y =
-    let p = ap₂ either (over a 512) (over b 64) ∙ not-both (leb a 512) (leb b 64) in
-    let q = ap₂ either (over c 16) (over d 64) ∙ not-both (leb c 16) (leb d 64) in
+    let p = ap₂ either (over a statementsMost) (over b mtypesMost) ∙ not-both (leb a statementsMost) (leb b mtypesMost) in
+    let q = ap₂ either (over c proctypesMost) (over d globalsMost) ∙ not-both (leb c proctypesMost) (leb d globalsMost) in
     let r = ap₂ either (any x) (any y) ∙ not-both (eqb x 0) (eqb y 0) in
-    let t = ap₂ either (over s 16) (nothing s) ∙ turned (leb s 16) (leb 1 s) in
-    let u = ap₂ either t (over k 16) ∙ not-both (both (leb 1 s) (leb s 16)) (leb k 16) in
-    let v = ap₂ either p q ∙ not-both (both (leb a 512) (leb b 64)) (both (leb c 16) (leb d 64)) in
-    let w = ap₂ either r u ∙ not-both (both (eqb x 0) (eqb y 0)) (both (both (leb 1 s) (leb s 16)) (leb k 16)) in
-    ap₂ either v w ∙ not-both (both (both (leb a 512) (leb b 64)) (both (leb c 16) (leb d 64))) (both (both (eqb x 0) (eqb y 0)) (both (both (leb 1 s) (leb s 16)) (leb k 16)))
+    let t = ap₂ either (over s processesMost) (nothing s) ∙ turned (leb s processesMost) (leb 1 s) in
+    let u = ap₂ either t (over k channelsMost) ∙ not-both (both (leb 1 s) (leb s processesMost)) (leb k channelsMost) in
+    let v = ap₂ either p q ∙ not-both (both (leb a statementsMost) (leb b mtypesMost)) (both (leb c proctypesMost) (leb d globalsMost)) in
+    let w = ap₂ either r u ∙ not-both (both (eqb x 0) (eqb y 0)) (both (both (leb 1 s) (leb s processesMost)) (leb k channelsMost)) in
+    ap₂ either v w ∙ not-both (both (both (leb a statementsMost) (leb b mtypesMost)) (both (leb c proctypesMost) (leb d globalsMost))) (both (both (eqb x 0) (eqb y 0)) (both (both (leb 1 s) (leb s processesMost)) (leb k channelsMost)))
 
 -- ---- a unit is light where its processes have numbers to spare and its printfs are not too wide
 light-is : (p : Part) → both (spare p) (tight p) ≡ light p
@@ -91,10 +92,10 @@ inside-start cs = refl
 
 module _ (m : Model) (cs vs : List ℕ) (S : Says m cs vs) where
   abbrev hs : List ℕ
-  hs = homesOf cs (replicate 8192 0)
+  hs = homesOf cs (replicate itemsMost 0)
 
   homed : (j : ℕ) → j < length cs → getD hs j 0 ≡ homeOf cs j
-  homed j h = home-at cs (replicate 8192 0) j h (S .few) (omega (arith, S .few, length-replicate {A = ℕ} 8192 0))
+  homed j h = home-at cs (replicate itemsMost 0) j h (S .few) (omega (arith, S .few, length-replicate {A = ℕ} itemsMost 0))
 
   long : length cs ≡ length (code m)
   long = ap length (S .codes) ∙ length-map (code m) codeOf
@@ -108,29 +109,29 @@ module _ (m : Model) (cs vs : List ℕ) (S : Says m cs vs) where
   ends : 0 + length (code m) ≡ length cs
   ends = omega (arith, long)
 
-  statements-are : total cs vs hs 1 ≡ tally statementsOf m
+  statements-are : total cs vs hs 1 ≡ tally statementCount m
   unfolding total weight
   statements-are = whole (λ j. one 11 (getD cs j 0)) ∙ mass-at (one 11) cs vs (code m) 0 lain ∙ statements-model m (S .known)
 
-  messages-are : total cs vs hs 2 ≡ tally messagesOf m
+  messages-are : total cs vs hs 2 ≡ tally messageCount m
   unfolding total weight
   messages-are = whole (λ j. one 12 (getD cs j 0)) ∙ mass-at (one 12) cs vs (code m) 0 lain ∙ messages-model m (S .known)
 
-  proctypes-are : total cs vs hs 3 ≡ tally proctypesOf m
+  proctypes-are : total cs vs hs 3 ≡ tally proctypeCount m
   unfolding total weight
   proctypes-are = whole (λ j. one 13 (getD cs j 0)) ∙ mass-at (one 13) cs vs (code m) 0 lain ∙ proctypes-model m (S .known)
 
-  globals-are : numbers cs vs hs 0 ≡ tally globalsOf m
+  globals-are : numbers cs vs hs 0 ≡ tally globalCount m
   unfolding numbers
-  globals-are = whole (numbersAt cs vs hs 0) ∙ model-sum cs vs hs homed (numbersAt cs vs hs 0) globalsOf (globals-part cs vs hs homed) m 0 lain (inside-start cs) ends
+  globals-are = whole (numbersAt cs vs hs 0) ∙ model-sum cs vs hs homed (numbersAt cs vs hs 0) globalCount (globals-part cs vs hs homed) m 0 lain (inside-start cs) ends
 
-  starts-are : total cs vs hs 4 ≡ tally startsOf m
+  starts-are : total cs vs hs 4 ≡ tally startCount m
   unfolding total weight
-  starts-are = whole (startsAt cs vs) ∙ model-sum cs vs hs homed (startsAt cs vs) startsOf (starts-part cs vs hs homed) m 0 lain (inside-start cs) ends
+  starts-are = whole (startsAt cs vs) ∙ model-sum cs vs hs homed (startsAt cs vs) startCount (starts-part cs vs hs homed) m 0 lain (inside-start cs) ends
 
-  channels-are : total cs vs hs 5 ≡ tally channelsOf m
+  channels-are : total cs vs hs 5 ≡ tally channelCount m
   unfolding total weight
-  channels-are = whole (makesAt cs vs hs) ∙ model-sum cs vs hs homed (makesAt cs vs hs) channelsOf (channels-part cs vs hs homed) m 0 lain (inside-start cs) ends
+  channels-are = whole (makesAt cs vs hs) ∙ model-sum cs vs hs homed (makesAt cs vs hs) channelCount (channels-part cs vs hs homed) m 0 lain (inside-start cs) ends
 
   widths-are : eqb (total cs vs hs 6) 0 ≡ all tight m
   unfolding total weight
@@ -148,4 +149,4 @@ module _ (m : Model) (cs vs : List ℕ) (S : Says m cs vs) where
 
   pub passed-modest : passed cs vs ≡ not (modest m)
   unfolding passed
-  passed-modest = rw (le-ltb 8192 (length cs) (S .few)) any-passed
+  passed-modest = rw (le-ltb itemsMost (length cs) (S .few)) any-passed

@@ -10,19 +10,19 @@ use native.Mathlib.Decide.{ℕ-discrete}
 use lib.ListN.{length, getD, length-append}
 use lib.Dec.{eqb}
 use borrow.Author.Tests.{ne-eqb, eq-eqb}
-use Rattle.base_codes.specs.Codes.{c-declared, c-end-body, c-parameter, c-size}
+use Rattle.base_codes.specs.Codes.{c-declared, c-end-body, c-number, c-parameter, c-size}
 use Rattle.base_bytes.specs.Choice.{pick, both}
 use Rattle.spec_grammar.specs.Tree.{Name, sequence, Tree, Value, unset, set-number, set-minus, set-true, set-false, set-name, set-channel, Declaration, declare, Group, group, body, Activity, idle, once, times, Part, mtypes, global, process, init}
 use Rattle.spec_grammar.specs.Tree as tree
-use Rattle.spec_grammar.specs.Code.{Item, i-local, i-global, i-init, each, code-size, code-value, code-variable, code-tree, code-declaration, code-parameter, code-group, code-body, code-activity, code-message, code-part}
-use Rattle.table_entries.specs.Items.{codeOf}
+use Rattle.base_codes.specs.Items.{Item, codeOf, i-global, i-init, i-local}
+use Rattle.parse_code.specs.Code.{each, code-size, code-value, code-variable, code-tree, code-declaration, code-parameter, code-group, code-body, code-activity, code-message, code-part}
 use Rattle.rule_sheets.specs.Homes.{homeOf}
 use Rattle.rule_search.specs.Sets.{among}
 use Rattle.rule_item.specs.Rules.{isArray}
 use Rattle.rule_ceilings.specs.Ceilings.{numbersAt}
 use Rattle.spec_rules.specs.Units.{tally}
-use Rattle.spec_rules.specs.Ceilings.{sizeOf, ofVariable, ofDeclaration, ofGroup, globalsOf}
-use Rattle.legal_items.proofs.Codes.{Every, every-append, type-low, InTree, tree-codes, InValue, size-codes, value-codes, InMessages, messages-codes}
+use Rattle.spec_rules.specs.Ceilings.{sizeOf, sizeOfVariable, sizeOfDeclaration, sizeOfGroup, globalCount}
+use Rattle.agree_eval.proofs.Ranges.{Every, every-append, type-low, InTree, tree-codes, InValue, size-codes, value-codes, InMessages, messages-codes}
 use Rattle.legal_items.proofs.Standing.{weigh, weigh-append, Lain, Stood, stood-front, stood-back, still, away}
 use Rattle.legal_items.proofs.Bodies.{Housed}
 use Rattle.legal_items.proofs.Parts.{Ahead, headAt, head-last, unit-sum, process-housed, init-housed, mtypes-stood, global-stood, Standing}
@@ -33,18 +33,18 @@ module _ (cs vs hs : List ℕ) where
   no-array : (d : ℕ) → Ahead cs vs hs (suc d) → isArray cs d ≡ false
   unfolding isArray
   no-array d n =
-      ap₂ (λ a b. both (eqb (getD cs a 0) 71) (eqb (getD cs b 0) c-size)) (let z : d + 1 ≡ suc d = omega arith in z) (let z : d + 2 ≡ suc (suc d) = omega arith in z)
-      ∙ go (ℕ-discrete (getD cs (suc d) 0) 71) (ℕ-discrete (getD cs (suc (suc d)) 0) c-size)
+      ap₂ (λ a b. both (eqb (getD cs a 0) c-number) (eqb (getD cs b 0) c-size)) (let z : d + 1 ≡ suc d = omega arith in z) (let z : d + 2 ≡ suc (suc d) = omega arith in z)
+      ∙ go (ℕ-discrete (getD cs (suc d) 0) c-number) (ℕ-discrete (getD cs (suc (suc d)) 0) c-size)
     where
-      go : Dec (getD cs (suc d) 0 ≡ 71) → Dec (getD cs (suc (suc d)) 0 ≡ c-size) → both (eqb (getD cs (suc d) 0) 71) (eqb (getD cs (suc (suc d)) 0) c-size) ≡ false
+      go : Dec (getD cs (suc d) 0 ≡ c-number) → Dec (getD cs (suc (suc d)) 0 ≡ c-size) → both (eqb (getD cs (suc d) 0) c-number) (eqb (getD cs (suc (suc d)) 0) c-size) ≡ false
       go (yes a) (yes b) = absurd (n a b)
       go (yes a) (no b) = rw (a, ne-eqb (getD cs (suc (suc d)) 0) c-size b)
-      go (no a) b = rw (ne-eqb (getD cs (suc d) 0) 71 a)
+      go (no a) b = rw (ne-eqb (getD cs (suc d) 0) c-number a)
 
-  an-array : (d : ℕ) → getD cs (suc d) 0 ≡ 71 → getD cs (suc (suc d)) 0 ≡ c-size → isArray cs d ≡ true
+  an-array : (d : ℕ) → getD cs (suc d) 0 ≡ c-number → getD cs (suc (suc d)) 0 ≡ c-size → isArray cs d ≡ true
   unfolding isArray
   an-array d a b =
-      ap₂ (λ i j. both (eqb (getD cs i 0) 71) (eqb (getD cs j 0) c-size)) (let z : d + 1 ≡ suc d = omega arith in z) (let z : d + 2 ≡ suc (suc d) = omega arith in z) ∙ rw (a, b)
+      ap₂ (λ i j. both (eqb (getD cs i 0) c-number) (eqb (getD cs j 0) c-size)) (let z : d + 1 ≡ suc d = omega arith in z) (let z : d + 2 ≡ suc (suc d) = omega arith in z) ∙ rw (a, b)
 
   module _ (h : ℕ) where
     abbrev pub N : ℕ → ℕ
@@ -81,7 +81,7 @@ module _ (cs vs hs : List ℕ) where
     St = Stood cs vs hs h
 
     -- ---- a variable
-    ahead-other : (j : ℕ) → (getD cs j 0 ≡ 71 → ⊥) → Ahead cs vs hs j
+    ahead-other : (j : ℕ) → (getD cs j 0 ≡ c-number → ⊥) → Ahead cs vs hs j
     ahead-other j n a b = n a
 
     ahead-next : (j : ℕ) → (getD cs (suc j) 0 ≡ c-size → ⊥) → Ahead cs vs hs j
@@ -102,7 +102,7 @@ module _ (cs vs hs : List ℕ) where
     numbers-declared (some n) v j e k s a =
         a-variable j c-declared e declares k ∙ rw (an-array j (s .1) (s .4 .1)) (ap (λ i. getD vs i 0) (let z : j + 1 ≡ suc j = omega arith in z) ∙ s .2 n refl)
 
-    numbers-variable : (x : tree.Variable) (i : ℕ) → St i (code-variable x) → Ahead cs vs hs (i + length (code-variable x)) → weigh N i (code-variable x) ≡ ofVariable x
+    numbers-variable : (x : tree.Variable) (i : ℕ) → St i (code-variable x) → Ahead cs vs hs (i + length (code-variable x)) → weigh N i (code-variable x) ≡ sizeOfVariable x
     numbers-variable (tree.variable w o v) i s a =
         let b = no-variable i (λ z. let y = s .1 in omega arith) (λ z. let y = s .1 in omega arith) in
         let l = length (code-size o ++ code-value v) in
@@ -131,11 +131,11 @@ module _ (cs vs hs : List ℕ) where
     variable-begins (tree.variable w o v) l i s = ahead-other i (λ z. let y = s .1 in omega arith)
 
     numbers-declaration : (i : Item) → (codeOf i ≡ c-declared → ⊥) → (codeOf i ≡ c-parameter → ⊥) → (d : Declaration) (j : ℕ) → St j (code-declaration i d) → Ahead cs vs hs (j + length (code-declaration i d))
-        → weigh N j (code-declaration i d) ≡ ofDeclaration d
+        → weigh N j (code-declaration i d) ≡ sizeOfDeclaration d
     numbers-declaration i m n (declare k xs) j s a =
         let b = no-variable j (λ z. let y = s .1 in let x = type-low k (s .0) in omega arith) (λ z. let y = s .1 in let x = type-low k (s .0) in omega arith) in
         let c = no-variable (suc j) (λ z. m (sym (s .4 .1) ∙ z)) (λ z. n (sym (s .4 .1) ∙ z)) in
-        let d = numbers-each code-variable ofVariable numbers-variable variable-begins xs (suc (suc j)) (s .4 .4)
+        let d = numbers-each code-variable sizeOfVariable numbers-variable variable-begins xs (suc (suc j)) (s .4 .4)
         (subst (Ahead cs vs hs) (let z : j + suc (suc (length (each code-variable xs))) ≡ suc (suc j) + length (each code-variable xs) = omega arith in z) a) in
         omega arith
 
@@ -143,9 +143,9 @@ module _ (cs vs hs : List ℕ) where
     local-begins (declare k xs) l i s = ahead-other i (λ z. let y = s .1 in let x = type-low k (s .0) in omega arith)
 
     numbers-locals : (ds : List Declaration) (j : ℕ) → St j (each (code-declaration i-local) ds) → Ahead cs vs hs (j + length (each (code-declaration i-local) ds))
-        → weigh N j (each (code-declaration i-local) ds) ≡ tally ofDeclaration ds
+        → weigh N j (each (code-declaration i-local) ds) ≡ tally sizeOfDeclaration ds
     numbers-locals ds j s a =
-        numbers-each (code-declaration i-local) ofDeclaration (numbers-declaration i-local (λ z. omega arith) (λ z. omega arith)) local-begins ds j s a
+        numbers-each (code-declaration i-local) sizeOfDeclaration (numbers-declaration i-local (λ z. omega arith) (λ z. omega arith)) local-begins ds j s a
 
     -- ---- parameters
     parameter-begins : (w : Name) (l : List Item) (i : ℕ) → St i (code-parameter w ++ l) → Ahead cs vs hs i
@@ -161,7 +161,7 @@ module _ (cs vs hs : List ℕ) where
     all-ones [] = refl
     all-ones (w ∷ ws) = let a = all-ones ws in omega arith
 
-    numbers-group : (g : Group) (i : ℕ) → St i (code-group g) → Ahead cs vs hs (i + length (code-group g)) → weigh N i (code-group g) ≡ ofGroup g
+    numbers-group : (g : Group) (i : ℕ) → St i (code-group g) → Ahead cs vs hs (i + length (code-group g)) → weigh N i (code-group g) ≡ sizeOfGroup g
     numbers-group (group k ws) j s a =
         let b = no-variable j (λ z. let y = s .1 in let x = type-low k (s .0) in omega arith) (λ z. let y = s .1 in let x = type-low k (s .0) in omega arith) in
         let c = no-variable (suc j) (λ z. let y = s .4 .1 in omega arith) (λ z. let y = s .4 .1 in omega arith) in
@@ -173,8 +173,8 @@ module _ (cs vs hs : List ℕ) where
     group-begins : (g : Group) (l : List Item) (i : ℕ) → St i (code-group g ++ l) → Ahead cs vs hs i
     group-begins (group k ws) l i s = ahead-other i (λ z. let y = s .1 in let x = type-low k (s .0) in omega arith)
 
-    numbers-groups : (gs : List Group) (j : ℕ) → St j (each code-group gs) → Ahead cs vs hs (j + length (each code-group gs)) → weigh N j (each code-group gs) ≡ tally ofGroup gs
-    numbers-groups gs j s a = numbers-each code-group ofGroup numbers-group group-begins gs j s a
+    numbers-groups : (gs : List Group) (j : ℕ) → St j (each code-group gs) → Ahead cs vs hs (j + length (each code-group gs)) → weigh N j (each code-group gs) ≡ tally sizeOfGroup gs
+    numbers-groups gs j s a = numbers-each code-group sizeOfGroup numbers-group group-begins gs j s a
 
     -- ---- statements do not begin as a size does, and declare nothing
     ahead-tree : (l : List Item) (j : ℕ) → Every InTree l → St j l → getD cs (j + length l) 0 ≡ c-end-body → Ahead cs vs hs j
@@ -184,7 +184,7 @@ module _ (cs vs hs : List ℕ) where
 
     -- the numbers of a unit's body, where this is its body
     pub numbers-unit : (A : List Item) (gs : List Group) (ds : List Declaration) (q : Tree sequence) (i u : ℕ) → suc u ≡ i + length A → h ≡ u + 1 → Housed cs vs hs u gs ds q → weigh N i A ≡ 0
-        → weigh N i (A ++ each code-group gs ++ code-body (body ds q)) ≡ tally ofGroup gs + tally ofDeclaration ds
+        → weigh N i (A ++ each code-group gs ++ code-body (body ds q)) ≡ tally sizeOfGroup gs + tally sizeOfDeclaration ds
     numbers-unit A gs ds q i u e r H n =
         let G = each code-group gs in
         let D = each (code-declaration i-local) ds in
@@ -238,7 +238,7 @@ module _ (cs vs hs : List ℕ) where
 
   -- ---- global numbers
   module _ (homed : (j : ℕ) → j < length cs → getD hs j 0 ≡ homeOf cs j) where
-    pub globals-part : (p : Part) (i : ℕ) → Standing cs vs hs homed p i → weigh (numbersAt cs vs hs 0) i (code-part p) ≡ globalsOf p
+    pub globals-part : (p : Part) (i : ℕ) → Standing cs vs hs homed p i → weigh (numbersAt cs vs hs 0) i (code-part p) ≡ globalCount p
     globals-part (mtypes ws) i S =
         let s = mtypes-stood cs vs hs homed i ws (S .lain) (S .free) .0 in
         let a = no-variable 0 i (λ z. let y = s .1 in omega arith) (λ z. let y = s .1 in omega arith) in

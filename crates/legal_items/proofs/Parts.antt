@@ -7,15 +7,17 @@ use mathlib.Core.Logic.{inl, inr}
 use mathlib.Core.List.{List, [], _∷_, _++_}
 use lib.ListN.{length, getD, length-append}
 use lib.Dec.{eqb}
-use borrow.Author.Tests.{ne-eqb, le-ltb}
-use Rattle.base_codes.specs.Codes.{c-parameter, c-size}
+use borrow.Author.Tests.{ne-eqb, lt-leb}
+use Rattle.base_codes.specs.Codes.{c-number, c-proctype, c-size}
 use Rattle.base_bytes.specs.Choice.{both}
 use Rattle.spec_grammar.specs.Tree.{Name, sequence, Tree, Declaration, declare, Group, body, Activity, idle, once, times, Part, mtypes, global, process, init, Model}
-use Rattle.spec_grammar.specs.Code.{Item, i-local, i-init, i-body, i-end-body, each, code-tree, code-declaration, code-group, code-body, code-activity, code-message, code-part, code}
-use Rattle.rule_sheets.specs.Homes.{heads, insideOf, homeOf}
+use Rattle.base_codes.specs.Items.{Item, i-body, i-end-body, i-init, i-local}
+use Rattle.base_codes.specs.Sets.{isUnit}
+use Rattle.parse_code.specs.Code.{each, code-tree, code-declaration, code-group, code-body, code-activity, code-message, code-part, code}
+use Rattle.rule_sheets.specs.Homes.{insideOf, homeOf}
 use Rattle.spec_rules.specs.Units.{tally}
 use Rattle.spec_rules.specs.Statements.{all}
-use Rattle.legal_items.proofs.Codes.{every-lift, type-low, InDeclaration, global-codes, InMessages, messages-codes}
+use Rattle.agree_eval.proofs.Ranges.{every-lift, type-low, InDeclaration, global-codes, InMessages, messages-codes}
 use Rattle.legal_items.proofs.Standing.{weigh, weigh-append, Lain, lain-front, lain-back, Stood, Inner, settled}
 use Rattle.legal_items.proofs.Bodies.{Housed, housed, weigh-body}
 use Rattle.read_accepts_proof.proofs.Alike.{past-end as past}
@@ -39,7 +41,7 @@ none-sum (suc a) b = ne-eqb (suc a + b) 0 (λ z. omega arith) ∙ ap (λ c. both
 module _ (cs vs hs : List ℕ) where
   -- what stands there is no size of an array
   abbrev pub Ahead : ℕ → Type 0
-  Ahead e = getD cs e 0 ≡ 71 → getD cs (suc e) 0 ≡ c-size → ⊥
+  Ahead e = getD cs e 0 ≡ c-number → getD cs (suc e) 0 ≡ c-size → ⊥
 
   pub unit-sum : (f : ℕ → ℕ) (A : List Item) (gs : List Group) (ds : List Declaration) (q : Tree sequence) (i u : ℕ) → suc u ≡ i + length A
       → weigh f i (A ++ each code-group gs ++ code-body (body ds q))
@@ -65,13 +67,13 @@ module _ (cs vs hs : List ℕ) where
       let d = length-append (i-body ∷ D) (code-tree q) in
       omega arith
 
-  activity-head : (x : Activity) (w : Name) (i : ℕ) → Lain cs vs i (code-activity x w) → heads (getD cs (headAt x i) 0) ≡ true
+  activity-head : (x : Activity) (w : Name) (i : ℕ) → Lain cs vs i (code-activity x w) → isUnit (getD cs (headAt x i) 0) ≡ true
   activity-head idle w i s = rw (s .4 .2)
   activity-head once w i s = rw (s .4 .2)
   activity-head (times n) w i s = rw (s .4 .4 .2)
 
   module _ (homed : (j : ℕ) → j < length cs → getD hs j 0 ≡ homeOf cs j) where
-    unit-housed : (A : List Item) (gs : List Group) (ds : List Declaration) (q : Tree sequence) (i u : ℕ) → suc u ≡ i + length A → heads (getD cs u 0) ≡ true
+    unit-housed : (A : List Item) (gs : List Group) (ds : List Declaration) (q : Tree sequence) (i u : ℕ) → suc u ≡ i + length A → isUnit (getD cs u 0) ≡ true
         → Lain cs vs i (A ++ each code-group gs ++ code-body (body ds q)) → Housed cs vs hs u gs ds q
     unit-housed A gs ds q i u e h s =
         let G = each code-group gs in
@@ -104,7 +106,7 @@ module _ (cs vs hs : List ℕ) where
           → Stood cs vs hs 0 i (code-part (global d)) × (insideOf cs (i + length (code-part (global d))) ≡ 0)
       global-stood d s o =
           settled cs vs hs homed (code-part (global d)) 0 i
-          (every-lift InDeclaration (Inner cs vs hs) (λ c h. (rw (le-ltb c-parameter c (let z = h .0 in omega arith)), λ z. omega arith)) (code-part (global d)) (global-codes d)) s o
+          (every-lift InDeclaration (Inner cs vs hs) (λ c h. (rw (lt-leb c-proctype c (let z = h .0 in omega arith)), λ z. omega arith)) (code-part (global d)) (global-codes d)) s o
 
     -- no body is open behind a unit
     part-shut : (p : Part) (i : ℕ) → Lain cs vs i (code-part p) → insideOf cs i ≡ 0 → insideOf cs (i + length (code-part p)) ≡ 0

@@ -5,30 +5,29 @@ use native.Mathlib.Omega.{arith}
 use mathlib.Core.Path.{_≡_, refl, sym as inv, ap, ap₂, _∙_}
 use mathlib.Core.Bool.{Bool, true, false}
 use mathlib.Core.Logic.{_⊎_, inl, inr}
-use mathlib.Core.List.{List, [], _∷_, _++_, map}
+use mathlib.Core.List.{List, [], _∷_, _++_, map, append-nil}
 use lib.ListN.{length, getD, replicate, length-map, length-replicate}
 use lib.Seq.{ext-getD}
 use lib.Dec.{eqb}
 use borrow.Author.Tests.{le-ltb, eq-eqb, ne-eqb}
+use Rattle.base_ceilings.specs.Ceilings.{itemsMost, numberMost, textMost}
 use Rattle.base_bytes.specs.Choice.{pick}
 use Rattle.base_bytes.specs.Lists.{same}
 use Rattle.base_bytes.proofs.Lists.{same-refl, same-eq}
 use Rattle.base_bytes.proofs.Tests.{true-false}
 use Rattle.text_pieces.specs.Bytes.{quote}
-use Rattle.text_pieces.specs.Ceilings.{number-most}
 use Rattle.text_pieces.specs.Spans.{decimal}
 use Rattle.text_tokens.specs.Reading.{Placed}
 use Rattle.text_spacing_proof.specs.Writing.{tokensIn}
 use Rattle.text_spacing_proof.proofs.Exact.{reading-exact}
 use Rattle.spec_grammar.specs.Tree.{Name}
-use Rattle.spec_grammar.specs.Code.{Item, i-name, i-number, i-text, i-plain, code}
 use Rattle.parse_machine_proof.specs.Machine.{symbol-of, place-of}
 use Rattle.parse_machine_proof.specs.Items.{read}
 use Rattle.parse_machine_proof.proofs.Never.{lt-or-ge}
-use Rattle.table_entries.specs.Entry.{Entry, nothing, runs}
+use Rattle.table_entries.specs.Entry.{Entry, nothing}
 use Rattle.table_entries.specs.Sources.{entryAt, entriesOf, valueOf}
-use Rattle.table_entries.specs.Items.{codeOf, entryOf}
-use Rattle.table_entries.proofs.Runs.{length-runs}
+use Rattle.table_entries.specs.Items.{entryOf}
+use Rattle.table_entries.proofs.Runs.{length-runs, runs-at}
 use Rattle.table_layout.specs.Trees.{entriesIn}
 use Rattle.rule_sheets.specs.Walks.{first}
 use Rattle.rule_sheets.specs.Payload.{wordOf, sameName, firstSame, nameArg, argOf, argsOf, spelled}
@@ -41,21 +40,14 @@ use Rattle.table_proof.proofs.Accepted.{accepted-known, accepted-items}
 use Rattle.table_proof.proofs.Built.{accepted-entries}
 use Rattle.table_proof.proofs.Wrote.{machine-right}
 use Rattle.read_accepts_proof.proofs.Alike.{parsed-done, name-says, text-says as string-says}
-use Rattle.agree_eval.proofs.Codes.{entry-code}
 use Rattle.agree_eval.proofs.Lookups.{first-reached}
 use Rattle.legal_terms.specs.Says.{itemAt, Says}
-use Rattle.legal_items.specs.Parses.{Parses, codesOf, saidOf}
-use Rattle.agree_eval.proofs.Codes.{runs-at}
+use Rattle.base_codes.specs.Codes.{c-name, c-number, c-text}
+use Rattle.base_codes.specs.Items.{Item, codeOf, i-name, i-number, i-plain, i-text}
+use Rattle.parse_code.specs.Code.{code}
+use Rattle.read_accepts_proof.specs.Meaning.{Grammatical, codesOf, said}
 
 -- ---- lists
-entry-codes : (l : List Item) → map (λ x. entryOf x .code) l ≡ map codeOf l
-entry-codes [] = refl
-entry-codes (x ∷ l) = ap₂ _∷_ (entry-code x) (entry-codes l)
-
-no-more : (l : List ℕ) → l ++ [] ≡ l
-no-more [] = refl
-no-more (a ∷ l) = ap (a ∷_) (no-more l)
-
 -- the first that passes does pass
 first-passes : (p : ℕ → Bool) (i k : ℕ) → p (i + k) ≡ true → p (first p i k) ≡ true
 unfolding first
@@ -78,7 +70,7 @@ unfolding formatFrom
 format-quoted s = format-end false 0 0 s
 
 -- ---- the text
-module _ (t : List ℕ) (p : Parses t) where
+module _ (t : List ℕ) (p : Grammatical t) where
   abbrev ss : List ℕ
   ss = map Placed.start (p .parts)
 
@@ -99,48 +91,48 @@ module _ (t : List ℕ) (p : Parses t) where
 
   entries-are : entriesOf t ss es cs ks ≡ entriesIn (p .tree)
   entries-are =
-      rw (← no-more ss, ← no-more es, ← no-more ks) (accepted-entries t (p .parts) (p .tree) (p .reads) (p .gram) [] [] [] symbol-of place-of (p .numbers) right (p .coded))
+      rw (← append-nil ss, ← append-nil es, ← append-nil ks) (accepted-entries t (p .parts) (p .tree) (p .reads) (p .gram) [] [] [] symbol-of place-of (p .numbers) right (p .coded))
 
-  entries-long : length (entriesIn (p .tree)) ≡ min 8192 (length cs)
+  entries-long : length (entriesIn (p .tree)) ≡ min itemsMost (length cs)
   unfolding entriesOf
-  entries-long = ap length (inv entries-are) ∙ length-runs (entryAt t ss es cs ks) 0 (min 8192 (length cs))
+  entries-long = ap length (inv entries-are) ∙ length-runs (entryAt t ss es cs ks) 0 (min itemsMost (length cs))
 
   long : length cs ≡ length xs
   long = length-map (p .numbers) symbol-of ∙ inv (length-map (p .numbers) (read (tokensIn t (p .parts)))) ∙ ap length (p .coded)
 
-  few : length cs ≤ 8192
+  few : length cs ≤ itemsMost
   few = omega (arith, entries-long, accepted-items t (p .parts) (p .tree) (p .reads) (p .gram))
 
   entry-is : (j : ℕ) → j < length cs → entryAt t ss es cs ks j ≡ entryOf (itemAt xs j)
   unfolding entriesOf
   entry-is j h =
-      inv (runs-at (entryAt t ss es cs ks) 0 (min 8192 (length cs)) j (omega (arith, few)) ∙ ap (entryAt t ss es cs ks) (let z : 0 + j ≡ j = omega arith in z))
+      inv (runs-at (entryAt t ss es cs ks) 0 (min itemsMost (length cs)) j (omega (arith, few)) ∙ ap (entryAt t ss es cs ks) (let z : 0 + j ≡ j = omega arith in z))
       ∙ ap (λ (l : List Entry). getD l j nothing) entries-are ∙ get-only entryOf xs j i-plain nothing (omega (arith, long))
 
   code-is : (j : ℕ) → j < length cs → getD cs j 0 ≡ codeOf (itemAt xs j)
   unfolding entryAt
-  code-is j h = ap Entry.code (entry-is j h) ∙ entry-code (itemAt xs j)
+  code-is j h = ap Entry.code (entry-is j h)
 
   codes-are : cs ≡ map codeOf xs
   codes-are = ext-getD 0 cs (map codeOf xs) (long ∙ inv (length-map xs codeOf)) (λ j h. code-is j h ∙ inv (get-only codeOf xs j i-plain 0 (omega (arith, long))))
 
   -- ---- what an item says
-  said-is : (j : ℕ) → j < length cs → getD (saidOf t p) j 0 ≡ argOf t ss es cs ks j
+  said-is : (j : ℕ) → j < length cs → getD (said t p) j 0 ≡ argOf t ss es cs ks j
   unfolding argsOf
   said-is j h =
-      rw (le-ltb 8192 (length t) (reading-exact t (p .parts) .0 (p .reads) .1), le-ltb 8192 (length cs) few)
-      (filled-at (argOf t ss es cs ks) 0 (length cs) (replicate 8192 0) j (omega arith) (omega arith) (omega (arith, few, length-replicate 8192 zero)))
+      rw (le-ltb textMost (length t) (reading-exact t (p .parts) .0 (p .reads) .1), le-ltb itemsMost (length cs) few)
+      (filled-at (argOf t ss es cs ks) 0 (length cs) (replicate itemsMost 0) j (omega arith) (omega arith) (omega (arith, few, length-replicate itemsMost zero)))
 
-  name-said : (j : ℕ) → j < length cs → getD cs j 0 ≡ 70 → getD (saidOf t p) j 0 ≡ nameArg t ss es cs ks j
+  name-said : (j : ℕ) → j < length cs → getD cs j 0 ≡ c-name → getD (said t p) j 0 ≡ nameArg t ss es cs ks j
   unfolding argOf
-  name-said j h e = said-is j h ∙ rw (eq-eqb (getD cs j 0) 70 e)
+  name-said j h e = said-is j h ∙ rw (eq-eqb (getD cs j 0) c-name e)
 
-  number-said : (j n : ℕ) → j < length cs → itemAt xs j ≡ i-number n → getD (saidOf t p) j 0 ≡ n
+  number-said : (j n : ℕ) → j < length cs → itemAt xs j ≡ i-number n → getD (said t p) j 0 ≡ n
   unfolding argOf entryAt valueOf spelled
   number-said j n h i =
       let e = code-is j h ∙ ap codeOf i in
-      let v : pick (eqb (getD cs j 0) 71) (min (number-most + 1) (decimal (wordOf t ss es cs ks j))) 0 ≡ n = ap Entry.value (entry-is j h) ∙ ap (λ x. entryOf x .value) i in
-      said-is j h ∙ rw (ne-eqb (getD cs j 0) 70 (λ z. omega arith), eq-eqb (getD cs j 0) 71 e) (inv (rw (eq-eqb (getD cs j 0) 71 e)) ∙ v)
+      let v : pick (eqb (getD cs j 0) c-number) (min (numberMost + 1) (decimal (wordOf t ss es cs ks j))) 0 ≡ n = ap Entry.value (entry-is j h) ∙ ap (λ x. entryOf x .value) i in
+      said-is j h ∙ rw (ne-eqb (getD cs j 0) c-name (λ z. omega arith), eq-eqb (getD cs j 0) c-number e) (inv (rw (eq-eqb (getD cs j 0) c-number e)) ∙ v)
 
   -- the number of an item, and its token
   module _ (j : ℕ) (h : j < length cs) where
@@ -158,21 +150,21 @@ module _ (t : List ℕ) (p : Parses t) where
 
     word-is : (w : Name) → itemAt xs j ≡ i-name w → wordOf t ss es cs ks j ≡ w
     word-is w i =
-        place-is ∙ name-says t (p .parts) (p .reads) (getD (p .numbers) j 0) (symbol-is 70 (code-is j h ∙ ap codeOf i)) (right j within) ∙ ap (λ x. entryOf x .bytes) (inv item-read ∙ i)
+        place-is ∙ name-says t (p .parts) (p .reads) (getD (p .numbers) j 0) (symbol-is c-name (code-is j h ∙ ap codeOf i)) (right j within) ∙ ap (λ x. entryOf x .bytes) (inv item-read ∙ i)
 
     string-is : (w : List ℕ) → itemAt xs j ≡ i-text w → wordOf t ss es cs ks j ≡ quote ∷ (w ++ quote ∷ [])
     string-is w i =
-        place-is ∙ string-says t (p .parts) (p .reads) (getD (p .numbers) j 0) (symbol-is 72 (code-is j h ∙ ap codeOf i)) (right j within)
+        place-is ∙ string-says t (p .parts) (p .reads) (getD (p .numbers) j 0) (symbol-is c-text (code-is j h ∙ ap codeOf i)) (right j within)
         ∙ ap (λ x. quote ∷ (entryOf x .bytes ++ quote ∷ [])) (inv item-read ∙ i)
 
-  string-said : (j : ℕ) (w : List ℕ) → j < length cs → itemAt xs j ≡ i-text w → getD (saidOf t p) j 0 ≡ formatOf w
+  string-said : (j : ℕ) (w : List ℕ) → j < length cs → itemAt xs j ≡ i-text w → getD (said t p) j 0 ≡ formatOf w
   unfolding argOf
   string-said j w h i =
       let e = code-is j h ∙ ap codeOf i in
       said-is j h ∙ rw e (ap formatOf (string-is j h w i) ∙ format-quoted w)
 
   -- ---- names
-  pid-said : (j : ℕ) (w : Name) → j < length cs → itemAt xs j ≡ i-name w → eqb (getD (saidOf t p) j 0) 0 ≡ same w pid
+  pid-said : (j : ℕ) (w : Name) → j < length cs → itemAt xs j ≡ i-name w → eqb (getD (said t p) j 0) 0 ≡ same w pid
   unfolding nameArg
   pid-said j w h i =
       ap (λ n. eqb n 0) (name-said j h (code-is j h ∙ ap codeOf i) ∙ ap (λ (u : List ℕ). pick (same u pid) 0 (firstSame t ss es cs ks j + 1)) (word-is j h w i)) ∙ go (same w pid)
@@ -181,35 +173,35 @@ module _ (t : List ℕ) (p : Parses t) where
       go true = refl
       go false = ne-eqb (firstSame t ss es cs ks j + 1) 0 (λ e. omega arith)
 
-  passes : (f j : ℕ) → getD cs f 0 ≡ 70 → wordOf t ss es cs ks f ≡ wordOf t ss es cs ks j → sameName t ss es cs ks j f ≡ true
+  passes : (f j : ℕ) → getD cs f 0 ≡ c-name → wordOf t ss es cs ks f ≡ wordOf t ss es cs ks j → sameName t ss es cs ks j f ≡ true
   unfolding sameName
-  passes f j e q = rw (eq-eqb (getD cs f 0) 70 e) (ap (λ (u : List ℕ). same u (wordOf t ss es cs ks j)) q ∙ same-refl (wordOf t ss es cs ks j))
+  passes f j e q = rw (eq-eqb (getD cs f 0) c-name e) (ap (λ (u : List ℕ). same u (wordOf t ss es cs ks j)) q ∙ same-refl (wordOf t ss es cs ks j))
 
   passed : (f j : ℕ) → sameName t ss es cs ks j f ≡ true → wordOf t ss es cs ks f ≡ wordOf t ss es cs ks j
   unfolding sameName
-  passed f j e = go (eqb (getD cs f 0) 70) e
+  passed f j e = go (eqb (getD cs f 0) c-name) e
     where
       go : (b : Bool) → pick b (same (wordOf t ss es cs ks f) (wordOf t ss es cs ks j)) false ≡ true → wordOf t ss es cs ks f ≡ wordOf t ss es cs ks j
       go true q = same-eq (wordOf t ss es cs ks f) (wordOf t ss es cs ks j) q
       go false q = absurd (true-false (inv q))
 
   -- the first item of item j's name has that name
-  first-word : (j : ℕ) → getD cs j 0 ≡ 70 → wordOf t ss es cs ks (firstSame t ss es cs ks j) ≡ wordOf t ss es cs ks j
+  first-word : (j : ℕ) → getD cs j 0 ≡ c-name → wordOf t ss es cs ks (firstSame t ss es cs ks j) ≡ wordOf t ss es cs ks j
   unfolding firstSame
   first-word j e = passed _ j (first-passes (sameName t ss es cs ks j) 0 j (ap (sameName t ss es cs ks j) (let z : 0 + j ≡ j = omega arith in z) ∙ passes j j e refl))
 
   firsts : (f j : ℕ) → wordOf t ss es cs ks f ≡ wordOf t ss es cs ks j → first (sameName t ss es cs ks f) 0 f ≡ first (sameName t ss es cs ks j) 0 f
   unfolding sameName
-  firsts f j q = ap (λ (u : List ℕ). first (λ i. pick (eqb (getD cs i 0) 70) (same (wordOf t ss es cs ks i) u) false) 0 f) q
+  firsts f j q = ap (λ (u : List ℕ). first (λ i. pick (eqb (getD cs i 0) c-name) (same (wordOf t ss es cs ks i) u) false) 0 f) q
 
   -- two items of one name, the first of them at f
-  ordered : (f j : ℕ) → f ≤ j → getD cs f 0 ≡ 70 → wordOf t ss es cs ks f ≡ wordOf t ss es cs ks j → firstSame t ss es cs ks f ≡ firstSame t ss es cs ks j
+  ordered : (f j : ℕ) → f ≤ j → getD cs f 0 ≡ c-name → wordOf t ss es cs ks f ≡ wordOf t ss es cs ks j → firstSame t ss es cs ks f ≡ firstSame t ss es cs ks j
   unfolding firstSame
   ordered f j h e q =
       firsts f j q ∙ inv (ap (first (sameName t ss es cs ks j) 0) (let z : j ≡ f + (j - f) = omega arith in z)
       ∙ first-reached (sameName t ss es cs ks j) 0 f (j - f) (ap (sameName t ss es cs ks j) (let y : 0 + f ≡ f = omega arith in y) ∙ passes f j e q))
 
-  first-equal : (j k : ℕ) → getD cs j 0 ≡ 70 → getD cs k 0 ≡ 70 → wordOf t ss es cs ks j ≡ wordOf t ss es cs ks k → firstSame t ss es cs ks j ≡ firstSame t ss es cs ks k
+  first-equal : (j k : ℕ) → getD cs j 0 ≡ c-name → getD cs k 0 ≡ c-name → wordOf t ss es cs ks j ≡ wordOf t ss es cs ks k → firstSame t ss es cs ks j ≡ firstSame t ss es cs ks k
   first-equal j k e f q = go (lt-or-ge j k)
     where
       go : (j < k) ⊎ (k ≤ j) → firstSame t ss es cs ks j ≡ firstSame t ss es cs ks k
@@ -217,7 +209,7 @@ module _ (t : List ℕ) (p : Parses t) where
       go (inr h) = inv (ordered k j h f (inv q))
 
   names-said : (j k : ℕ) (v w : Name) → j < length cs → k < length cs → itemAt xs j ≡ i-name v → itemAt xs k ≡ i-name w
-      → eqb (getD (saidOf t p) j 0) (getD (saidOf t p) k 0) ≡ same v w
+      → eqb (getD (said t p) j 0) (getD (said t p) k 0) ≡ same v w
   unfolding nameArg
   names-said j k v w h g i u =
       let e = code-is j h ∙ ap codeOf i in
@@ -232,7 +224,7 @@ module _ (t : List ℕ) (p : Parses t) where
       by false true x y q n = ne-eqb (firstSame t ss es cs ks j + 1) 0 (λ z. omega arith)
       by false false x y q n = ne-eqb (firstSame t ss es cs ks j + 1) (firstSame t ss es cs ks k + 1) (λ z. n (omega arith))
 
-      go : (b : Bool) → same v w ≡ b → getD cs j 0 ≡ 70 → getD cs k 0 ≡ 70 → eqb (pick (same v pid) 0 (firstSame t ss es cs ks j + 1)) (pick (same w pid) 0 (firstSame t ss es cs ks k + 1)) ≡ b
+      go : (b : Bool) → same v w ≡ b → getD cs j 0 ≡ c-name → getD cs k 0 ≡ c-name → eqb (pick (same v pid) 0 (firstSame t ss es cs ks j + 1)) (pick (same w pid) 0 (firstSame t ss es cs ks k + 1)) ≡ b
       go true q e f =
           let z = same-eq v w q in
           eq-eqb _ _ (ap (λ (y : List ℕ). pick (same y pid) 0 (firstSame t ss es cs ks j + 1)) z
@@ -241,7 +233,7 @@ module _ (t : List ℕ) (p : Parses t) where
           by (same v pid) (same w pid) refl refl q
           (λ z. true-false (inv (same-refl v) ∙ ap (same v) (inv (word-is j h v i) ∙ inv (first-word j e) ∙ ap (wordOf t ss es cs ks) z ∙ first-word k f ∙ word-is k g w u) ∙ q))
 
-  pub text-says : Says (p .tree) (codesOf t p) (saidOf t p)
+  pub text-says : Says (p .tree) (codesOf t p) (said t p)
   text-says =
       record {
         known = accepted-known t (p .parts) (p .tree) (p .reads) (p .gram);

@@ -8,13 +8,15 @@ use lib.ListN.{length, getD, length-map}
 use borrow.Author.Tests.{ne-eqb}
 use Rattle.base_codes.specs.Codes.{c-end-body}
 use Rattle.spec_grammar.specs.Tree.{Model}
-use Rattle.spec_grammar.specs.Code.{Item, i-number, i-plain, i-end-body, code}
-use Rattle.table_entries.specs.Items.{codeOf, Known, AllKnown}
+use Rattle.base_codes.specs.Items.{Item, codeOf, i-end-body, i-number, i-plain}
+use Rattle.base_codes.specs.Sets.{isUnit}
+use Rattle.parse_code.specs.Code.{code}
+use Rattle.table_entries.specs.Items.{Known, AllKnown}
 use Rattle.table_proof.proofs.Read.{get-only}
 use Rattle.rule_sheets.specs.Walks.{sum}
-use Rattle.rule_sheets.specs.Homes.{heads, insideOf, homeOf}
+use Rattle.rule_sheets.specs.Homes.{insideOf, homeOf}
 use Rattle.legal_terms.specs.Says.{itemAt, Says}
-use Rattle.legal_items.proofs.Codes.{Every}
+use Rattle.agree_eval.proofs.Ranges.{Every}
 
 -- ---- sums over the items of a list that stands at a place
 abbrev pub weigh : (ℕ → ℕ) → ℕ → List Item → ℕ
@@ -91,13 +93,13 @@ module _ (cs vs hs : List ℕ) where
 
   -- what neither begins nor ends a body
   abbrev pub Inner : ℕ → Type 0
-  Inner c = (heads c ≡ false) × (c ≡ c-end-body → ⊥)
+  Inner c = (isUnit c ≡ false) × (c ≡ c-end-body → ⊥)
 
   inside-next : (j : ℕ) → Inner (getD cs j 0) → insideOf cs (suc j) ≡ insideOf cs j
   unfolding insideOf
   inside-next j p = rw (p .0, ne-eqb (getD cs j 0) c-end-body (p .1))
 
-  pub inside-head : (j : ℕ) → heads (getD cs j 0) ≡ true → insideOf cs (suc j) ≡ j + 1
+  pub inside-head : (j : ℕ) → isUnit (getD cs j 0) ≡ true → insideOf cs (suc j) ≡ j + 1
   unfolding insideOf
   inside-head j p = rw p
 
@@ -105,7 +107,7 @@ module _ (cs vs hs : List ℕ) where
   unfolding insideOf
   inside-end j p = rw p
 
-  home-plain : (j : ℕ) → heads (getD cs j 0) ≡ false → homeOf cs j ≡ insideOf cs j
+  home-plain : (j : ℕ) → isUnit (getD cs j 0) ≡ false → homeOf cs j ≡ insideOf cs j
   unfolding homeOf
   home-plain j p = rw p
 

@@ -7,6 +7,7 @@ use mathlib.Core.List.{List, map}
 use lib.ListN.{length}
 use lib.Dec.{ltb}
 use borrow.Author.Tests.{le-ltb}
+use Rattle.base_ceilings.specs.Ceilings.{itemsMost, tablesRoom}
 use Rattle.base_bytes.specs.Choice.{pick}
 use Rattle.base_bytes.proofs.Tests.{true-false}
 use Rattle.base_kinds.specs.Kinds.{Token}
@@ -20,13 +21,12 @@ use Rattle.rule_least.specs.Faults.{checked}
 use Rattle.rule_least.specs.declared.Fault.the-variants.{None}
 use Rattle.read_passes.specs.declared.Judged.the-variants.{Accepted, Refused}
 use Rattle.read_passes.specs.Judging.{judgeOf}
-use Rattle.read_accepts_proof.specs.Meaning.{Accepts}
+use Rattle.read_accepts_proof.specs.Meaning.{Accepts, Grammatical, codesOf, said}
 use Rattle.read_accepts_proof.proofs.Main.{kinds-are, all-proper, short, accepted-means, means-accepted}
-use Rattle.read_entry.specs.Entries.{room, readOf}
+use Rattle.read_entry.specs.Entries.{readOf}
 use Rattle.spec_rules.specs.Units.{modelLawful}
 use Rattle.spec_rules.specs.Ceilings as ceilings
 use Rattle.legal_terms.specs.Says.{Says}
-use Rattle.legal_items.specs.Parses.{Parses, codesOf, saidOf}
 use Rattle.legal_items.specs.Legal.{Legal}
 use Rattle.legal_items.proofs.Says.{text-says}
 use Rattle.legal_items.proofs.Modest.{passed-modest}
@@ -36,21 +36,22 @@ denied true e = refl
 denied false e = absurd (true-false e)
 
 -- the first half of what acceptance means
-pub accepted-parses : (t : List ℕ) → Accepts t → Parses t
-accepted-parses t a = record { parts = a .parts; reads = a .reads; tree = a .tree; gram = a .gram; numbers = a .numbers; written = a .written; coded = a .coded }
+pub accepted-parses : (t : List ℕ) → Accepts t → Grammatical t
+accepted-parses t a = record { parts = a .parts; reads = a .reads; tree = a .tree; gram = a .gram; shallow = a .shallow; numbers = a .numbers; written = a .written; coded = a .coded }
 
 -- a text with a tree that is not too deep has its items
-pub legal-parses : (t : List ℕ) → Legal t → Parses t
+pub legal-parses : (t : List ℕ) → Legal t → Grammatical t
 legal-parses t l =
     let ts = tokensIn t (l .parts) in
-    let (o, h, c) = accepts ts (all-proper t (l .parts)) (short t (l .parts) (l .reads)) 8192 (omega arith) (l .tree) (l .gram) (l .shallow) in
+    let (o, h, c) = accepts ts (all-proper t (l .parts)) (short t (l .parts) (l .reads)) itemsMost (omega arith) (l .tree) (l .gram) (l .shallow) in
     record {
       parts = l .parts;
       reads = l .reads;
       tree = l .tree;
       gram = l .gram;
+      shallow = l .shallow;
       numbers = o;
-      written = ap (λ (ks : List ℕ). parsed ks 8192) (inv (kinds-are t (l .parts))) ∙ h;
+      written = ap (λ (ks : List ℕ). parsed ks itemsMost) (inv (kinds-are t (l .parts))) ∙ h;
       coded = c;
     }
 
@@ -69,8 +70,8 @@ module _ (rules : (m : Model) (ts : List Token) → Gram ts m → (cs vs toks : 
         tree = a .tree;
         gram = a .gram;
         shallow = a .shallow;
-        lawful = rules (a .tree) (tokensIn t (a .parts)) (a .gram) (codesOf t p) (saidOf t p) (map place-of (a .numbers)) s .0 (a .faultless);
-        modest = denied (ceilings.modest (a .tree)) (inv (passed-modest (a .tree) (codesOf t p) (saidOf t p) s) ∙ a .within);
+        lawful = rules (a .tree) (tokensIn t (a .parts)) (a .gram) (codesOf t p) (said t p) (map place-of (a .numbers)) s .0 (a .faultless);
+        modest = denied (ceilings.modest (a .tree)) (inv (passed-modest (a .tree) (codesOf t p) (said t p) s) ∙ a .within);
       }
 
   pub lawful-accepted : (t : List ℕ) → Legal t → judgeOf t ≡ Accepted
@@ -88,19 +89,19 @@ module _ (rules : (m : Model) (ts : List Token) → Gram ts m → (cs vs toks : 
         numbers = p .numbers;
         written = p .written;
         coded = p .coded;
-        faultless = rules (p .tree) (tokensIn t (p .parts)) (p .gram) (codesOf t p) (saidOf t p) (map place-of (p .numbers)) s .1 (l .lawful);
-        within = passed-modest (p .tree) (codesOf t p) (saidOf t p) s ∙ ap not (l .modest);
+        faultless = rules (p .tree) (tokensIn t (p .parts)) (p .gram) (codesOf t p) (said t p) (map place-of (p .numbers)) s .1 (l .lawful);
+        within = passed-modest (p .tree) (codesOf t p) (said t p) s ∙ ap not (l .modest);
       }
 
   -- the same of the reader's entry, whose tables are lent with room or refused
   pub read-lawful : (t old : List ℕ) → readOf t old ≡ Accepted → Legal t
   unfolding readOf
-  read-lawful t old q = go (ltb (length old) room) q
+  read-lawful t old q = go (ltb (length old) tablesRoom) q
     where
       go : (b : Bool) → pick b (Refused 7 0 0) (judgeOf t) ≡ Accepted → Legal t
       go true e = absurd (let z : _≡_ {A = ℕ} 0 1 = cc in omega arith)
       go false e = accepted-lawful t e
 
-  pub lawful-read : (t old : List ℕ) → room ≤ length old → Legal t → readOf t old ≡ Accepted
+  pub lawful-read : (t old : List ℕ) → tablesRoom ≤ length old → Legal t → readOf t old ≡ Accepted
   unfolding readOf
-  lawful-read t old h l = rw (le-ltb (length old) room h) (lawful-accepted t l)
+  lawful-read t old h l = rw (le-ltb (length old) tablesRoom h) (lawful-accepted t l)

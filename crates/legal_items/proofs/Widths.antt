@@ -9,18 +9,18 @@ use native.Mathlib.Decide.{ℕ-discrete}
 use lib.ListN.{length, getD, length-append}
 use lib.Dec.{eqb, ltb}
 use borrow.Author.Tests.{ne-eqb, eq-eqb, lt-leb}
-use Rattle.base_codes.specs.Codes.{c-argument, c-choice, c-end, c-receive, c-run, c-send, c-set-run}
+use Rattle.base_codes.specs.Codes.{c-argument, c-choice, c-end, c-receive, c-run, c-send, c-set-run, c-text}
 use Rattle.base_bytes.specs.Choice.{pick, both}
 use Rattle.spec_grammar.specs.Tree.{Name, Shape, Exp, Expr, Sort, sequence, Tree, express, assign, increment, decrement, send, receive, assert, print, skip, goto, break, timeout, else, run, set-run, select, loop, bare, labelled, end, then, over, option, Declaration, Group, body, Activity, idle, once, times, Part, mtypes, global, process, init}
-use Rattle.spec_grammar.specs.Code.{Item, i-name, i-text, i-argument, i-express, i-target, i-assign, i-increment, i-decrement, i-send, i-receive, i-assert, i-end, i-run, i-set-run, i-if, i-fi, i-do, i-od, i-end-option, i-local, i-init, each, code-exp, code-argument, code-received, code-tree, code-declaration, code-group, code-body, code-activity, code-message, code-part}
-use Rattle.table_entries.specs.Items.{codeOf}
+use Rattle.base_codes.specs.Items.{Item, codeOf, i-argument, i-assert, i-assign, i-decrement, i-do, i-end, i-end-option, i-express, i-fi, i-if, i-increment, i-init, i-local, i-name, i-od, i-receive, i-run, i-send, i-set-run, i-target, i-text}
+use Rattle.parse_code.specs.Code.{each, code-exp, code-argument, code-received, code-tree, code-declaration, code-group, code-body, code-activity, code-message, code-part}
 use Rattle.rule_sheets.specs.Walks.{after, sum}
 use Rattle.rule_sheets.specs.Homes.{homeOf}
 use Rattle.rule_search.specs.Sets.{among}
 use Rattle.rule_search.specs.Search.{last, opener, one, count}
 use Rattle.rule_ceilings.specs.Ceilings.{wideAt}
 use Rattle.spec_rules.specs.Ceilings.{narrow}
-use Rattle.legal_items.proofs.Codes.{Every, every-append, every-lift, InExp, exp-codes, InArgs, args-codes, all-received-codes, InDeclaration, local-codes, global-codes, InGroup, groups-codes, InMessages, messages-codes}
+use Rattle.agree_eval.proofs.Ranges.{Every, every-append, every-lift, InExp, exp-codes, InArgs, args-codes, all-received-codes, InDeclaration, local-codes, global-codes, InGroup, groups-codes, InMessages, messages-codes}
 use Rattle.legal_items.proofs.Standing.{weigh, weigh-append, sum-weigh, Lain, Stood, stood-front, stood-back, still}
 use Rattle.legal_items.proofs.Bodies.{Housed}
 use Rattle.legal_items.proofs.Parts.{none-sum, headAt, head-last, unit-sum, process-housed, init-housed, mtypes-stood, global-stood, Standing}
@@ -53,7 +53,7 @@ tight (init (body ds q)) = narrow q
 
 no-opener : (c : ℕ) → InArgs c → among 4 c ≡ false
 unfolding among
-no-opener c h = rw (ne-eqb c 72 (h .1), lt-leb c-send c (omega arith), lt-leb c-run c (omega arith))
+no-opener c h = rw (ne-eqb c c-text (h .1), lt-leb c-send c (omega arith), lt-leb c-run c (omega arith))
 
 opens-send : among 4 c-send ≡ true
 unfolding among
@@ -71,7 +71,7 @@ opens-set-run : among 4 c-set-run ≡ true
 unfolding among
 opens-set-run = refl
 
-opens-print : among 4 72 ≡ true
+opens-print : among 4 c-text ≡ true
 unfolding among
 opens-print = refl
 
@@ -83,11 +83,11 @@ module _ (cs vs hs : List ℕ) where
   unfolding wideAt
   no-end j n = rw (ne-eqb (getD cs j 0) c-end n)
 
-  other-end : (j o : ℕ) → getD cs j 0 ≡ c-end → opener cs j ≡ o → (getD cs o 0 ≡ 72 → ⊥) → W j ≡ 0
+  other-end : (j o : ℕ) → getD cs j 0 ≡ c-end → opener cs j ≡ o → (getD cs o 0 ≡ c-text → ⊥) → W j ≡ 0
   unfolding wideAt
-  other-end j o e q n = rw (e, q, ne-eqb (getD cs o 0) 72 n)
+  other-end j o e q n = rw (e, q, ne-eqb (getD cs o 0) c-text n)
 
-  print-end : (j o h n : ℕ) → getD cs j 0 ≡ c-end → opener cs j ≡ o → getD cs o 0 ≡ 72 → getD hs j 0 ≡ h → count cs hs 5 h o j ≡ n → W j ≡ pick (ltb 4 n) 1 0
+  print-end : (j o h n : ℕ) → getD cs j 0 ≡ c-end → opener cs j ≡ o → getD cs o 0 ≡ c-text → getD hs j 0 ≡ h → count cs hs 5 h o j ≡ n → W j ≡ pick (ltb 4 n) 1 0
   unfolding wideAt
   print-end j o h n e q g k c = rw (e, q, g, k, c)
 
@@ -158,7 +158,7 @@ module _ (cs vs hs : List ℕ) where
     marked e x i n s = quiet (code-exp e ++ x ∷ []) i (every-append Calm (code-exp e) (x ∷ []) (calm-exp e) (λ k. n, tt)) s
 
     -- arguments of what is no printf
-    closed : (F : List Item) (x : Item) (A : List Item) (i : ℕ) → Every Calm F → Every InArgs A → among 4 (codeOf x) ≡ true → (codeOf x ≡ 72 → ⊥) → Calm (codeOf x)
+    closed : (F : List Item) (x : Item) (A : List Item) (i : ℕ) → Every Calm F → Every InArgs A → among 4 (codeOf x) ≡ true → (codeOf x ≡ c-text → ⊥) → Calm (codeOf x)
         → St i (F ++ x ∷ A ++ i-end ∷ [])
         → eqb (weigh W i (F ++ x ∷ A ++ i-end ∷ [])) 0 ≡ true
     closed F x A i f a t n m s =
@@ -191,7 +191,7 @@ module _ (cs vs hs : List ℕ) where
         let d = stood-back cs vs hs h (i-text w ∷ A) (i-end ∷ []) i e (omega arith) s in
         let b = weigh-append W (i-text w ∷ A) (i-end ∷ []) i e (omega arith) in
         let c = calm (i-text w ∷ A) i (λ k z. omega arith, calm-args A (args-codes es)) q in
-        let g = print-end e i h (length es) (d .1) (opener-is A h i 72 e refl (args-codes es) (q .4) (q .1) opens-print) (q .1) (d .3) (counted w es i e refl q) in
+        let g = print-end e i h (length es) (d .1) (opener-is A h i c-text e refl (args-codes es) (q .4) (q .1) opens-print) (q .1) (d .3) (counted w es i e refl q) in
         ap (λ k. eqb k 0) (let z : weigh W i (i-text w ∷ A ++ i-end ∷ []) ≡ pick (ltb 4 (length es)) 1 0 = omega arith in z) ∙ not-over (length es) 4
     wide-tree skip i s = quiet (code-tree skip) i (λ k z. omega arith, tt) s
     wide-tree (goto w) i s = quiet (code-tree (goto w)) i (λ k z. omega arith, (λ k z. omega arith, tt)) s

@@ -1,3 +1,4 @@
+-- Bridge, for `read-legal`, `legal-read` (crate `legal_texts`).
 -- Which texts are models, said of trees alone: document 01, "What is answered", all rows that refuse a text turned round. It has tokens, they have a tree and are not too deep, and that tree
 -- is lawful and modest.
 use mathlib.Core.Path.{_≡_}

@@ -1,2 +1,1 @@
-pub mod Parses
 pub mod Legal

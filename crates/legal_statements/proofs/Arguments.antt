@@ -8,18 +8,18 @@ use mathlib.Core.List.{List, [], _∷_, _++_}
 use lib.ListN.{length, getD}
 use lib.Dec.{eqb}
 use borrow.Author.Tests.{ne-eqb, eq-eqb, lt-leb}
-use Rattle.base_codes.specs.Codes.{c-argument, c-constant, c-end, c-equal, c-false, c-into, c-run, c-send, c-true}
+use Rattle.base_codes.specs.Codes.{c-argument, c-constant, c-end, c-equal, c-false, c-into, c-number, c-run, c-send, c-text, c-true}
 use Rattle.base_bytes.specs.Choice.{pick, both}
 use Rattle.base_bytes.proofs.Tests.{true-false}
 use Rattle.rule_sheets.specs.Walks.{after, sum}
 use Rattle.rule_search.specs.Sets.{among}
 use Rattle.rule_search.specs.Search.{last, opener, one, count}
-use Rattle.rule_item.specs.Rules.{ruleOf, roleOf, badHeight, badCount, badEnd, badBy}
-use Rattle.link_phrases_proof.specs.Phrases.{inExpression}
+use Rattle.rule_item.specs.Rules.{roleOf, badHeight, badCount, badEnd, badBy}
 use Rattle.link_phrases_proof.proofs.Inside.{all-inside, phrase-inside, mark-outside, text-outside}
 use Rattle.spec_grammar.specs.Tree.{Shape, Exp, Expr, Received, into, equal, exactly, exactly-true, exactly-false}
-use Rattle.spec_grammar.specs.Code.{Item, i-number, i-true, i-false, i-argument, i-into, i-equal, i-constant, i-end, each, code-exp, code-argument, code-received}
-use Rattle.table_entries.specs.Items.{codeOf}
+use Rattle.base_codes.specs.Items.{Item, codeOf, i-argument, i-constant, i-end, i-equal, i-false, i-into, i-number, i-true}
+use Rattle.base_codes.specs.Sets.{ruleOf, isPart}
+use Rattle.parse_code.specs.Code.{each, code-exp, code-argument, code-received}
 use Rattle.spec_rules.specs.Expressions.{operand, received, whole}
 use Rattle.spec_rules.specs.Statements.{all, sense, receives}
 use Rattle.legal_statements.specs.Scene.{Scene, homes, starts, heights, clean, Stands}
@@ -46,16 +46,16 @@ marks-append [] y = omega arith
 marks-append (c ∷ x) y = let e = marks-append x y in omega arith
 
 -- ---- in expressions none
-pub inner-code : (c : ℕ) → inExpression c ≡ true → (c < c-argument) × (c ≡ 72 → ⊥)
-inner-code c e = (low (decLt c c-argument), λ z. true-false (sym e ∙ ap inExpression z ∙ text-outside))
+pub inner-code : (c : ℕ) → isPart c ≡ true → (c < c-argument) × (c ≡ c-text → ⊥)
+inner-code c e = (low (decLt c c-argument), λ z. true-false (sym e ∙ ap isPart z ∙ text-outside))
   where
     low : Dec (c < c-argument) → c < c-argument
     low (yes h) = h
     low (no h) = absurd (true-false (sym e ∙ mark-outside c (omega arith)))
 
-inner-unopened : (c : ℕ) → c < c-argument → (c ≡ 72 → ⊥) → among 4 c ≡ false
+inner-unopened : (c : ℕ) → c < c-argument → (c ≡ c-text → ⊥) → among 4 c ≡ false
 unfolding among
-inner-unopened c h g = rw (ne-eqb c 72 g, lt-leb c-send c (omega arith), lt-leb c-run c (omega arith)) refl
+inner-unopened c h g = rw (ne-eqb c c-text g, lt-leb c-send c (omega arith), lt-leb c-run c (omega arith)) refl
 
 inner-unmarked : (c : ℕ) → c < c-argument → among 5 c ≡ false
 unfolding among
@@ -73,7 +73,7 @@ parts-unmarked (x ∷ l) p = let z = inner-code (codeOf x) (p .0) in rw (inner-u
 -- ---- the marks of arguments
 argument-marks : ((among 4 c-argument ≡ false) × (among 4 c-into ≡ false) × (among 4 c-equal ≡ false) × (among 4 c-constant ≡ false))
     × ((among 5 c-argument ≡ true) × (among 5 c-into ≡ true) × (among 5 c-equal ≡ true) × (among 5 c-constant ≡ true))
-    × ((among 4 71 ≡ false) × (among 4 c-true ≡ false) × (among 4 c-false ≡ false)) × ((among 5 71 ≡ false) × (among 5 c-true ≡ false) × (among 5 c-false ≡ false))
+    × ((among 4 c-number ≡ false) × (among 4 c-true ≡ false) × (among 4 c-false ≡ false)) × ((among 5 c-number ≡ false) × (among 5 c-true ≡ false) × (among 5 c-false ≡ false))
 unfolding among
 argument-marks = ((refl, refl, refl, refl), (refl, refl, refl, refl), (refl, refl, refl), (refl, refl, refl))
 
@@ -148,7 +148,7 @@ module _ (S : Scene) where
   pub received-fault : (x : Received) (i : ℕ) → Stands S i (code-received x) → clean S i (code-received x) ≡ receives (S .at) x
   received-fault (into r) i s = marked-fault S r received i-into i 2 s tt (mark-roles .1) (mark-rules .1) height-rule
   received-fault (equal e) i s = marked-fault S e operand i-equal i 17 s refl (mark-roles .2) (mark-rules .2) height-rule-behind
-  received-fault (exactly n) i s = constant-fault (i-number n) 71 i refl (rules-none .1) s
+  received-fault (exactly n) i s = constant-fault (i-number n) c-number i refl (rules-none .1) s
   received-fault exactly-true i s = constant-fault i-true c-true i refl (rules-none .2) s
   received-fault exactly-false i s = constant-fault i-false c-false i refl (rules-none .3) s
 

@@ -7,22 +7,23 @@ use mathlib.Core.List.{List, [], _∷_, _++_}
 use lib.ListN.{length, getD, length-append}
 use lib.Dec.{eqb, ltb, leb}
 use borrow.Author.Tests.{lt-ltb, le-ltb, ltb-true, ltb-false, le-leb, lt-leb, leb-true, leb-false, ne-eqb, eqb-true, eqb-false}
-use Rattle.base_codes.specs.Codes.{c-break, c-do, c-else, c-end-option, c-fi, c-goto, c-if, c-label, c-od, c-option, c-skip, c-timeout}
+use Rattle.base_codes.specs.Codes.{c-break, c-do, c-else, c-end-option, c-fi, c-goto, c-if, c-label, c-name, c-od, c-option, c-skip, c-timeout}
 use Rattle.base_bytes.specs.Choice.{pick, both, either}
 use Rattle.base_bytes.specs.Lists.{same}
 use Rattle.spec_text.specs.Names.{pid}
 use Rattle.rule_search.specs.Sets.{among}
 use Rattle.rule_search.specs.Search.{find}
-use Rattle.rule_item.specs.Rules.{twin, badTwice, badGoto, badBreak, badElse, badBy, ruleOf}
+use Rattle.rule_item.specs.Rules.{twin, badTwice, badGoto, badBreak, badElse, badBy}
 use Rattle.link_phrases_proof.proofs.Starts.{some-items}
 use Rattle.link_phrases_proof.proofs.Inside.{all-inside, phrase-inside}
 use Rattle.spec_grammar.specs.Tree.{Name, Shape, Exp, Sort, action, statement, sequence, options, Tree, express, assign, increment, decrement, send, receive, assert, print, skip, goto, break, timeout, else, run, set-run, select, loop, bare, labelled, end, then}
-use Rattle.spec_grammar.specs.Code.{Item, i-name, i-text, i-end, i-label, i-express, i-target, i-assign, i-increment, i-decrement, i-send, i-receive, i-assert, i-skip, i-goto, i-break, i-timeout, i-else, i-run, i-set-run, i-if, i-fi, i-do, i-od, i-option, i-end-option, each, code-exp, code-argument, code-received, code-tree}
-use Rattle.table_entries.specs.Items.{codeOf}
+use Rattle.base_codes.specs.Items.{Item, codeOf, i-assert, i-assign, i-break, i-decrement, i-do, i-else, i-end, i-end-option, i-express, i-fi, i-goto, i-if, i-increment, i-label, i-name, i-od, i-option, i-receive, i-run, i-send, i-set-run, i-skip, i-target, i-text, i-timeout}
+use Rattle.base_codes.specs.Sets.{ruleOf}
+use Rattle.parse_code.specs.Code.{each, code-exp, code-argument, code-received, code-tree}
 use Rattle.spec_rules.specs.Statements.{has, isElse}
 use Rattle.legal_terms.specs.Says.{itemAt}
 use Rattle.legal_statements.specs.Scene.{Scene, xs, homes, starts, heights, fine, clean, Stands}
-use Rattle.legal_statements.proofs.Tests.{both-last}
+use Rattle.legal_statements.proofs.Tests.{both-last, told-five}
 use Rattle.legal_statements.proofs.Stands.{front, back, next, inside, code-at, proper, home, clean-one, clean-none, fine-by, fine-free}
 use Rattle.legal_statements.proofs.Uses.{pid-told}
 use Rattle.legal_statements.proofs.Phrases.{rules-none}
@@ -70,10 +71,6 @@ judged = (refl, refl, refl, refl)
 goto-told : (b : Bool) → eqb (pick b 0 4) 0 ≡ b
 goto-told true = refl
 goto-told false = refl
-
-break-told : (b : Bool) → eqb (pick b 0 5) 0 ≡ b
-break-told true = refl
-break-told false = refl
 
 label-told : (b : Bool) → eqb (pick b 4 0) 0 ≡ not b
 label-told true = refl
@@ -261,7 +258,7 @@ module _ (S : Scene) where
   goto-fault w i ls s goes =
       let n = next S (i-name w) (i-goto ∷ []) i s in
       clean-one S (i-name w) (i-goto ∷ []) i
-      ∙ ap₂ both (fine-free S i 70 (code-at S (i-name w) (i-goto ∷ []) i s) (rules-none .0))
+      ∙ ap₂ both (fine-free S i c-name (code-at S (i-name w) (i-goto ∷ []) i s) (rules-none .0))
       (clean-one S i-goto [] (suc i)
       ∙ ap₂ both
       (fine-by S (suc i) c-goto 9 (code-at S i-goto [] (suc i) n) (judged .1) ∙ ap (λ k. eqb k 0) (goto-rule (suc i) ∙ goto-is i (home S i-goto [] (suc i) n))
@@ -277,7 +274,7 @@ module _ (S : Scene) where
   break-fault i loops s p =
       clean-one S i-break [] i
       ∙ ap₂ both
-      (fine-by S i c-break 3 (code-at S i-break [] i s) (judged .2) ∙ ap (λ k. eqb k 0) (break-rule i ∙ break-is i (home S i-break [] i s)) ∙ break-told (ltb (before S 8 i) (before S 7 i))
+      (fine-by S i c-break 3 (code-at S i-break [] i s) (judged .2) ∙ ap (λ k. eqb k 0) (break-rule i ∙ break-is i (home S i-break [] i s)) ∙ told-five (ltb (before S 8 i) (before S 7 i))
       ∙ ap (ltb (before S 8 i)) (p .opened) ∙ less-told (before S 8 i) (p .depth) loops (p .told))
       (clean-none S (suc i))
       ∙ both-last loops

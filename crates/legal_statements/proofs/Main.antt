@@ -21,8 +21,8 @@ use Rattle.rule_search.specs.Search.{declares, find, one}
 use Rattle.rule_item.specs.Rules.{bad}
 use Rattle.rule_least.specs.Faults.{blank}
 use Rattle.spec_grammar.specs.Tree.{Name, sequence, Tree, Model}
-use Rattle.spec_grammar.specs.Code.{Item, i-plain, i-name, code-tree, code}
-use Rattle.table_entries.specs.Items.{codeOf}
+use Rattle.base_codes.specs.Items.{Item, codeOf, i-name, i-plain}
+use Rattle.parse_code.specs.Code.{code-tree, code}
 use Rattle.spec_machine.specs.Program.{sizeIn}
 use Rattle.agree_stage.proofs.Stands.{Lying}
 use Rattle.spec_rules.specs.Statements.{Place, has, labelsOf, apart, allowed}

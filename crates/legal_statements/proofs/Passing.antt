@@ -16,8 +16,8 @@ use Rattle.rule_search.specs.Search.{declares, one, count}
 use Rattle.rule_item.specs.Rules.{twin}
 use Rattle.link_phrases_proof.proofs.Inside.{all-inside, phrase-inside}
 use Rattle.spec_grammar.specs.Tree.{Name, Shape, Exp, Expr, Received, into, equal, exactly, exactly-true, exactly-false, Sort, action, statement, sequence, options, Tree, express, assign, increment, decrement, send, receive, assert, print, skip, goto, break, timeout, else, run, set-run, select, loop, bare, labelled, end, then, over, option}
-use Rattle.spec_grammar.specs.Code.{Item, i-name, i-text, i-argument, i-into, i-equal, i-end, i-label, i-express, i-target, i-assign, i-increment, i-decrement, i-send, i-receive, i-assert, i-skip, i-goto, i-break, i-timeout, i-else, i-run, i-set-run, i-if, i-fi, i-do, i-od, i-option, i-end-option, each, code-exp, code-argument, code-received, code-tree}
-use Rattle.table_entries.specs.Items.{codeOf}
+use Rattle.base_codes.specs.Items.{Item, codeOf, i-argument, i-assert, i-assign, i-break, i-decrement, i-do, i-else, i-end, i-end-option, i-equal, i-express, i-fi, i-goto, i-if, i-increment, i-into, i-label, i-name, i-od, i-option, i-receive, i-run, i-send, i-set-run, i-skip, i-target, i-text, i-timeout}
+use Rattle.parse_code.specs.Code.{each, code-exp, code-argument, code-received, code-tree}
 use Rattle.spec_rules.specs.Statements.{has, labelsOf}
 use Rattle.legal_terms.specs.Says.{itemAt}
 use Rattle.legal_statements.specs.Scene.{Scene, xs, homes, Stands}

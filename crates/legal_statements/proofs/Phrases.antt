@@ -7,23 +7,25 @@ use mathlib.Core.List.{List, [], _∷_, _++_, append-nil}
 use lib.ListN.{length, getD, length-append, length-replicate}
 use lib.Dec.{eqb, ltb, leb}
 use borrow.Author.Tests.{lt-ltb, le-ltb, lt-leb, leb-true, leb-false, ne-eqb}
-use Rattle.base_codes.specs.Codes.{c-argument, c-assert, c-break, c-channel, c-choice, c-declared, c-else, c-end, c-equal, c-express, c-false, c-field, c-goto, c-increment, c-index, c-init, c-into, c-label, c-len, c-message, c-mtypes, c-named, c-negate, c-otherwise, c-parameter, c-plain, c-run, c-send, c-size, c-target, c-true}
+use Rattle.base_ceilings.specs.Ceilings.{heightMost, itemsMost}
+use Rattle.base_codes.specs.Codes.{c-argument, c-assert, c-break, c-channel, c-choice, c-declared, c-else, c-end, c-equal, c-express, c-false, c-field, c-goto, c-increment, c-index, c-init, c-into, c-label, c-len, c-message, c-mtypes, c-named, c-negate, c-otherwise, c-parameter, c-plain, c-run, c-send, c-size, c-target, c-true, c-name, c-number, c-text}
 use Rattle.base_bytes.specs.Choice.{pick, both}
 use Rattle.rule_least.specs.Faults.{blank}
-use Rattle.rule_item.specs.Rules.{roleOf, ruleOf, badHeight, badBy}
+use Rattle.rule_item.specs.Rules.{roleOf, badHeight, badBy}
 use Rattle.spec_rules.specs.Heights.{height}
 use Rattle.link_phrases_proof.proofs.Starts.{phrase-starts}
 use Rattle.link_phrases_proof.proofs.Heights.{phrase-heights}
 use Rattle.spec_grammar.specs.Tree.{Shape, expression, reference, Exp, plain, indexed, num, tru, fls, get, len, unary, binary, choice}
 use Rattle.spec_grammar.specs.Grammar.{Is-unary, is-minus, is-not, is-flip}
-use Rattle.spec_grammar.specs.Code.{Item, i-name, i-number, i-plain, i-index, i-true, i-false, i-len, i-otherwise, i-choice, i-unary, i-binary, code-exp}
-use Rattle.table_entries.specs.Items.{codeOf}
 use Rattle.spec_rules.specs.Expressions.{Role, operand, channel, usable, named, lawful}
 use Rattle.spec_rules.specs.Statements.{sense}
 use Rattle.legal_statements.specs.Scene.{Scene, homes, starts, heights, fine, clean, Stands}
 use Rattle.legal_statements.proofs.Tests.{both-turn, both-group, both-last}
 use Rattle.legal_statements.proofs.Stands.{front, back, next, inside, code-at, codes-at, proper, home, clean-append, clean-one, clean-none, fine-by, fine-free}
 use Rattle.legal_statements.proofs.Uses.{number, reference-fault}
+use Rattle.base_codes.specs.Items.{Item, codeOf, i-binary, i-choice, i-false, i-index, i-len, i-name, i-number, i-otherwise, i-plain, i-true, i-unary}
+use Rattle.base_codes.specs.Sets.{ruleOf}
+use Rattle.parse_code.specs.Code.{code-exp}
 
 -- an expression is an operand; a reference is what the item behind it says
 abbrev pub Stood : Shape → Role → Type 0
@@ -31,7 +33,7 @@ Stood expression role = role ≡ operand
 Stood reference role = Unit {0}
 
 -- ---- items with no rule, and the roles that they give what stands before them
-pub rules-none : (ruleOf 70 ≡ 0) × (ruleOf 71 ≡ 0) × (ruleOf c-true ≡ 0) × (ruleOf c-false ≡ 0) × (ruleOf c-len ≡ 0) × (ruleOf c-otherwise ≡ 0) × (ruleOf c-choice ≡ 0)
+pub rules-none : (ruleOf c-name ≡ 0) × (ruleOf c-number ≡ 0) × (ruleOf c-true ≡ 0) × (ruleOf c-false ≡ 0) × (ruleOf c-len ≡ 0) × (ruleOf c-otherwise ≡ 0) × (ruleOf c-choice ≡ 0)
 unfolding ruleOf
 rules-none = (refl, refl, refl, refl, refl, refl, refl)
 
@@ -52,7 +54,7 @@ binary-rule o a b =
     let off : (k : ℕ) → c-negate ≤ k → eqb c k ≡ false = λ k h. ne-eqb c k (λ e. omega arith) in
     let low : (k : ℕ) → c-negate ≤ k → leb k c ≡ false = λ k h. lt-leb k c (omega arith) in
     rw (
-      ne-eqb c 72 (λ e. omega arith),
+      ne-eqb c c-text (λ e. omega arith),
       low c-argument (omega arith),
       low c-express (omega arith),
       off c-break (omega arith),
@@ -82,17 +84,17 @@ binary-role o a b =
     let c = 146 + o in
     rw (ne-eqb c c-len (λ e. omega arith), lt-leb c-send c (omega arith), ne-eqb c c-target (λ e. omega arith), lt-leb c-increment c (omega arith), ne-eqb c c-into (λ e. omega arith)) refl
 
-roles : (roleOf 70 ≡ 0) × (roleOf 71 ≡ 0) × (roleOf c-true ≡ 0) × (roleOf c-false ≡ 0) × (roleOf c-index ≡ 0) × (roleOf c-len ≡ 1) × (roleOf c-otherwise ≡ 0) × (roleOf c-choice ≡ 0)
+roles : (roleOf c-name ≡ 0) × (roleOf c-number ≡ 0) × (roleOf c-true ≡ 0) × (roleOf c-false ≡ 0) × (roleOf c-index ≡ 0) × (roleOf c-len ≡ 1) × (roleOf c-otherwise ≡ 0) × (roleOf c-choice ≡ 0)
 unfolding roleOf
 roles = (refl, refl, refl, refl, refl, refl, refl, refl)
 
 -- ---- heights
-height-told : (n k : ℕ) → n ≡ min 33 k → eqb (pick (ltb 32 n) 2 0) 0 ≡ leb k 32
-height-told n k e = go (leb k 32) refl
+height-told : (n k : ℕ) → n ≡ min (heightMost + 1) k → eqb (pick (ltb heightMost n) 2 0) 0 ≡ leb k heightMost
+height-told n k e = go (leb k heightMost) refl
   where
-    go : (b : Bool) → leb k 32 ≡ b → eqb (pick (ltb 32 n) 2 0) 0 ≡ b
-    go true f = rw (le-ltb 32 n (omega (arith, leb-true k 32 f))) refl
-    go false f = rw (lt-ltb 32 n (omega (arith, leb-false k 32 f))) refl
+    go : (b : Bool) → leb k heightMost ≡ b → eqb (pick (ltb heightMost n) 2 0) 0 ≡ b
+    go true f = rw (le-ltb heightMost n (omega (arith, leb-true k heightMost f))) refl
+    go false f = rw (lt-ltb heightMost n (omega (arith, leb-false k heightMost f))) refl
 
 module _ (S : Scene) where
   -- the first item of an expression makes what stands before it an operand
@@ -126,13 +128,13 @@ module _ (S : Scene) where
 
   started : {s : Shape} (e : Exp s) (i j : ℕ) → Stands S i (code-exp e) → j ≡ i + length (code-exp e) - 1 → getD (starts S) j 0 ≡ i
   started e i j s q =
-      phrase-starts (S .cs) blank e (proper S e i s) i j (codes-at S (code-exp e) i s) (S .says .few) (omega (arith, S .says .few, length-replicate {A = ℕ} 8192 0))
+      phrase-starts (S .cs) blank e (proper S e i s) i j (codes-at S (code-exp e) i s) (S .says .few) (omega (arith, S .says .few, length-replicate {A = ℕ} itemsMost 0))
       (omega (arith, s .high, S .within)) q
 
-  risen : {s : Shape} (e : Exp s) (i j : ℕ) → Stands S i (code-exp e) → j ≡ i + length (code-exp e) - 1 → getD (heights S) j 0 ≡ min 33 (height e)
+  risen : {s : Shape} (e : Exp s) (i j : ℕ) → Stands S i (code-exp e) → j ≡ i + length (code-exp e) - 1 → getD (heights S) j 0 ≡ min (heightMost + 1) (height e)
   risen e i j s q =
-      phrase-heights (S .cs) blank blank e (proper S e i s) i j (codes-at S (code-exp e) i s) (S .says .few) (omega (arith, S .says .few, length-replicate {A = ℕ} 8192 0))
-      (omega (arith, S .says .few, length-replicate {A = ℕ} 8192 0))
+      phrase-heights (S .cs) blank blank e (proper S e i s) i j (codes-at S (code-exp e) i s) (S .says .few) (omega (arith, S .says .few, length-replicate {A = ℕ} itemsMost 0))
+      (omega (arith, S .says .few, length-replicate {A = ℕ} itemsMost 0))
       (omega (arith, s .high, S .within)) q
 
   pub phrase-fault : {s : Shape} (e : Exp s) (role : Role) (i k : ℕ) → Stands S i (code-exp e) → k ≡ i + length (code-exp e) → Stood s role → roleOf (getD (S .cs) k 0) ≡ number role
@@ -141,7 +143,7 @@ module _ (S : Scene) where
   phrase-fault (plain w) role i k s q o r =
       let z : suc i + 1 ≡ k = omega arith in
       clean-one S (i-name w) (i-plain ∷ []) i
-      ∙ ap₂ both (free (i-name w) (i-plain ∷ []) i 70 s refl (rules-none .0))
+      ∙ ap₂ both (free (i-name w) (i-plain ∷ []) i c-name s refl (rules-none .0))
       (clean-one S i-plain [] (suc i) ∙ ap₂ both
       (reference-fault S i w (s .items .0) (s .low) (inside S (i-name w) (i-plain ∷ []) i s) (suc i) c-plain role false (code-at S i-plain [] (suc i) (next S (i-name w) (i-plain ∷ []) i s))
       (rules-used .0) refl
@@ -156,13 +158,13 @@ module _ (S : Scene) where
       let b = back S E (i-index ∷ []) (suc i) j refl n in
       let c = code-at S i-index [] j b in
       clean-one S (i-name w) (E ++ i-index ∷ []) i
-      ∙ ap₂ both (free (i-name w) (E ++ i-index ∷ []) i 70 s refl (rules-none .0))
+      ∙ ap₂ both (free (i-name w) (E ++ i-index ∷ []) i c-name s refl (rules-none .0))
       (last-item E i-index (suc i) j (named (sense (S .at)) operand e) (usable (sense (S .at)) role true w) refl
       (phrase-fault e operand (suc i) j (front S E (i-index ∷ []) (suc i) n) refl refl (ap roleOf c ∙ roles .4))
       (reference-fault S i w (s .items .0) (s .low) (inside S (i-name w) (E ++ i-index ∷ []) i s) j c-index role true c (rules-used .1) refl
       (started (indexed w e) i j s (omega arith)) (home S i-index [] j b) (ap (λ n. roleOf (getD (S .cs) n 0)) z ∙ r)))
       ∙ both-turn (named (sense (S .at)) operand e) (usable (sense (S .at)) role true w)
-  phrase-fault (num n) role i k s q o r = clean-one S (i-number n) [] i ∙ ap₂ both (free (i-number n) [] i 71 s refl (rules-none .1)) (clean-none S (suc i))
+  phrase-fault (num n) role i k s q o r = clean-one S (i-number n) [] i ∙ ap₂ both (free (i-number n) [] i c-number s refl (rules-none .1)) (clean-none S (suc i))
   phrase-fault tru role i k s q o r = clean-one S i-true [] i ∙ ap₂ both (free i-true [] i c-true s refl (rules-none .2)) (clean-none S (suc i))
   phrase-fault fls role i k s q o r = clean-one S i-false [] i ∙ ap₂ both (free i-false [] i c-false s refl (rules-none .3)) (clean-none S (suc i))
   phrase-fault (get v) role i k s q o r = phrase-fault v operand i k s q tt (r ∙ ap number o)
@@ -236,6 +238,6 @@ module _ (S : Scene) where
       let b = back S E (x ∷ []) i k refl s in
       let c = code-at S x [] k b in
       let E-stands = front S E (x ∷ []) i s in
-      last-item E x i k (named (sense (S .at)) role e) (leb (height e) 32) refl (phrase-fault e role i k E-stands refl o (ap roleOf c ∙ n))
+      last-item E x i k (named (sense (S .at)) role e) (leb (height e) heightMost) refl (phrase-fault e role i k E-stands refl o (ap roleOf c ∙ n))
       (fine-by S k (codeOf x) r c t ∙ ap (λ n. eqb n 0) (f k) ∙ height-told (getD (heights S) (k - 1) 0) (height e) (risen e i (k - 1) E-stands refl))
-      ∙ both-turn (named (sense (S .at)) role e) (leb (height e) 32)
+      ∙ both-turn (named (sense (S .at)) role e) (leb (height e) heightMost)

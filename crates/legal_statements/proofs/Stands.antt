@@ -7,11 +7,13 @@ use mathlib.Core.List.{List, [], _∷_, _++_, map}
 use lib.ListN.{length, getD, length-map, length-append}
 use lib.Dec.{eqb}
 use Rattle.base_bytes.specs.Choice.{both}
-use Rattle.rule_item.specs.Rules.{ruleOf, badBy}
+use Rattle.rule_item.specs.Rules.{badBy}
 use Rattle.link_phrases_proof.specs.Phrases.{At, Proper}
 use Rattle.spec_grammar.specs.Tree.{Shape, Exp}
-use Rattle.spec_grammar.specs.Code.{Item, i-plain, code-exp}
-use Rattle.table_entries.specs.Items.{codeOf, Known, AllKnown}
+use Rattle.base_codes.specs.Items.{Item, codeOf, i-plain}
+use Rattle.base_codes.specs.Sets.{ruleOf}
+use Rattle.parse_code.specs.Code.{code-exp}
+use Rattle.table_entries.specs.Items.{Known, AllKnown}
 use Rattle.agree_eval.proofs.Operators.{known-proper}
 use Rattle.legal_terms.specs.Says.{itemAt}
 use Rattle.legal_statements.specs.Scene.{Scene, xs, homes, starts, heights, fine, clean, Items, Stands}

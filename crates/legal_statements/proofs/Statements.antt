@@ -9,7 +9,7 @@ use mathlib.Core.List.{List, [], _∷_, _++_, append-assoc}
 use lib.ListN.{length, getD, length-append, List·getD-eq-default}
 use lib.Dec.{eqb, ltb, leb}
 use borrow.Author.Tests.{lt-ltb, le-ltb, leb-true, leb-false, eqb-true, eqb-false, eq-eqb}
-use Rattle.base_codes.specs.Codes.{c-assert, c-assign, c-decrement, c-express, c-increment, c-receive, c-run, c-send, c-set-run, c-target}
+use Rattle.base_codes.specs.Codes.{c-assert, c-assign, c-decrement, c-express, c-increment, c-name, c-receive, c-run, c-send, c-set-run, c-target, c-text}
 use Rattle.base_bytes.specs.Choice.{pick, both}
 use Rattle.base_bytes.specs.Lists.{same}
 use Rattle.base_bytes.proofs.Lists.{same-eq}
@@ -17,16 +17,17 @@ use Rattle.spec_text.specs.Formats.{formatOf}
 use Rattle.spec_text.specs.Names.{pid}
 use Rattle.rule_search.specs.Sets.{among}
 use Rattle.rule_search.specs.Search.{find, count}
-use Rattle.rule_item.specs.Rules.{roleOf, ruleOf, badFormat, badCount, badPassing, badRun, badBy, globalOf, bodyOf}
+use Rattle.rule_item.specs.Rules.{roleOf, badFormat, badCount, badPassing, badRun, badBy, globalOf, bodyOf}
 use Rattle.spec_grammar.specs.Tree.{Name, Expr, Ref, Received, express, assign, increment, decrement, send, receive, assert, print, run, set-run}
-use Rattle.spec_grammar.specs.Code.{Item, i-name, i-text, i-end, i-express, i-target, i-assign, i-increment, i-decrement, i-send, i-receive, i-assert, i-run, i-set-run, each, code-exp, code-argument, code-received, code-tree}
-use Rattle.table_entries.specs.Items.{codeOf}
+use Rattle.base_codes.specs.Items.{Item, codeOf, i-assert, i-assign, i-decrement, i-end, i-express, i-increment, i-name, i-receive, i-run, i-send, i-set-run, i-target, i-text}
+use Rattle.base_codes.specs.Sets.{ruleOf}
+use Rattle.parse_code.specs.Code.{each, code-exp, code-argument, code-received, code-tree}
 use Rattle.spec_rules.specs.Senses.{Sense, variable, constant, procedure, unknown, isUnknown, senseIn}
 use Rattle.spec_rules.specs.Expressions.{operand, channel, target, lawful, whole}
 use Rattle.spec_rules.specs.Statements.{all, sense, takes, runs, receives, formats, allowed}
 use Rattle.legal_terms.specs.Setting.{Runs}
 use Rattle.legal_statements.specs.Scene.{Scene, homes, starts, heights, clean, Stands}
-use Rattle.legal_statements.proofs.Tests.{both-turn}
+use Rattle.legal_statements.proofs.Tests.{both-turn, told-five}
 use Rattle.legal_statements.proofs.Stands.{front, back, next, inside, code-at, home, clean-append, clean-one, fine-by, fine-free}
 use Rattle.legal_statements.proofs.Uses.{pid-told}
 use Rattle.legal_statements.proofs.Phrases.{marked-fault, rules-none}
@@ -34,7 +35,7 @@ use Rattle.legal_statements.proofs.Arguments.{height-rule, height-rule-
 use Rattle.legal_statements.proofs.Walks.{find-pid}
 
 -- ---- rules, roles and sets
-rules : (ruleOf c-express ≡ 2) × (ruleOf c-target ≡ 2) × (ruleOf c-assign ≡ 2) × (ruleOf c-increment ≡ 2) × (ruleOf c-decrement ≡ 2) × (ruleOf c-send ≡ 2) × (ruleOf c-receive ≡ 2) × (ruleOf c-assert ≡ 17) × (ruleOf 72 ≡ 1)
+rules : (ruleOf c-express ≡ 2) × (ruleOf c-target ≡ 2) × (ruleOf c-assign ≡ 2) × (ruleOf c-increment ≡ 2) × (ruleOf c-decrement ≡ 2) × (ruleOf c-send ≡ 2) × (ruleOf c-receive ≡ 2) × (ruleOf c-assert ≡ 17) × (ruleOf c-text ≡ 1)
     × (ruleOf c-run ≡ 10) × (ruleOf c-set-run ≡ 10)
 unfolding ruleOf
 rules = (refl, refl, refl, refl, refl, refl, refl, refl, refl, refl, refl)
@@ -43,8 +44,8 @@ roles : (roleOf c-express ≡ 0) × (roleOf c-target ≡ 2) × (roleOf c-assign 
 unfolding roleOf
 roles = (refl, refl, refl, refl, refl, refl, refl, refl)
 
-openers : ((among 4 72 ≡ true) × (among 4 c-send ≡ true) × (among 4 c-receive ≡ true) × (among 4 c-run ≡ true) × (among 4 c-set-run ≡ true))
-    × ((among 5 72 ≡ false) × (among 5 c-send ≡ false) × (among 5 c-receive ≡ false) × (among 5 c-run ≡ false) × (among 5 c-set-run ≡ false)) × (among 13 0 ≡ false)
+openers : ((among 4 c-text ≡ true) × (among 4 c-send ≡ true) × (among 4 c-receive ≡ true) × (among 4 c-run ≡ true) × (among 4 c-set-run ≡ true))
+    × ((among 5 c-text ≡ false) × (among 5 c-send ≡ false) × (among 5 c-receive ≡ false) × (among 5 c-run ≡ false) × (among 5 c-set-run ≡ false)) × (among 13 0 ≡ false)
 unfolding among
 openers = ((refl, refl, refl, refl, refl), (refl, refl, refl, refl, refl), refl)
 
@@ -60,10 +61,6 @@ few-told n = go (leb n 4) refl
     go : (b : Bool) → leb n 4 ≡ b → eqb (pick (ltb 4 n) 5 0) 0 ≡ b
     go true e = rw (le-ltb 4 n (leb-true n 4 e)) refl
     go false e = rw (lt-ltb 4 n (leb-false n 4 e)) refl
-
-as-many-told : (b : Bool) → eqb (pick b 0 5) 0 ≡ b
-as-many-told true = refl
-as-many-told false = refl
 
 bad-told : (v : ℕ) → v < 2 → eqb (pick (eqb v 1) 5 0) 0 ≡ eqb v 0
 bad-told v h = go (eqb v 1) refl
@@ -100,9 +97,9 @@ module _ (S : Scene) where
   unfolding badCount
   received-many k n e = rw e (few-told n)
 
-  printed-many : (k n : ℕ) → getD (S .cs) k 0 ≡ 72 → eqb (badCount (S .cs) (S .vs) (homes S) k n) 0 ≡ eqb n (getD (S .vs) k 0 / 2)
+  printed-many : (k n : ℕ) → getD (S .cs) k 0 ≡ c-text → eqb (badCount (S .cs) (S .vs) (homes S) k n) 0 ≡ eqb n (getD (S .vs) k 0 / 2)
   unfolding badCount
-  printed-many k n e = rw e (as-many-told (eqb n (getD (S .vs) k 0 / 2)))
+  printed-many k n e = rw e (told-five (eqb n (getD (S .vs) k 0 / 2)))
 
   run-many : (k n : ℕ) → (getD (S .cs) k 0 ≡ c-run) ⊎ (getD (S .cs) k 0 ≡ c-set-run) → badCount (S .cs) (S .vs) (homes S) k n ≡ badPassing (S .cs) (S .vs) (homes S) k n
   unfolding badCount
@@ -177,7 +174,7 @@ module _ (S : Scene) where
       let k = next S (i-name w) (x ∷ L) i s in
       let it = code-at S x L (suc i) k in
       clean-one S (i-name w) (x ∷ L) i
-      ∙ ap₂ both (fine-free S i 70 (code-at S (i-name w) (x ∷ L) i s) (rules-none .0))
+      ∙ ap₂ both (fine-free S i c-name (code-at S (i-name w) (x ∷ L) i s) (rules-none .0))
       (clean-one S x L (suc i)
       ∙ ap₂ both (fine-by S (suc i) (codeOf x) 10 it r ∙ ap (λ n. eqb n 0) (run-rule (suc i)))
       (arguments-fault S x es (suc i) k o m ∙ ap (λ n. both (all (whole (sense (S .at))) es) (eqb n 0)) (run-many (suc i) (length es) (begun it c)))
@@ -269,7 +266,7 @@ module _ (S : Scene) where
       let v : getD (S .vs) i 0 ≡ formatOf w = S .says .strings i w (let a = s .high in let b = S .within in omega arith) (s .items .0) in
       clean-one S (i-text w) L i
       ∙ ap₂ both
-      (fine-by S i 72 1 it (rules .8) ∙ ap (λ n. eqb n 0) (format-rule i) ∙ bad-told (getD (S .vs) i 0 % 2) (mod-lt (getD (S .vs) i 0) (let q : 0 < 2 = omega arith in q))
+      (fine-by S i c-text 1 it (rules .8) ∙ ap (λ n. eqb n 0) (format-rule i) ∙ bad-told (getD (S .vs) i 0 % 2) (mod-lt (getD (S .vs) i 0) (let q : 0 < 2 = omega arith in q))
       ∙ ap (λ n. eqb (n % 2) 0) v)
       (arguments-fault S (i-text w) es i s (openers .0 .0) (openers .1 .0)
       ∙ ap (both (all (whole (sense (S .at))) es)) (printed-many i (length es) it ∙ ap (λ n. eqb (length es) (n / 2)) v))

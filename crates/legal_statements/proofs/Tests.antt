@@ -1,7 +1,8 @@
--- Tests joined in another order.
+-- Tests joined in another order, and told by a fault.
 use mathlib.Core.Path.{_≡_, refl, sym}
 use mathlib.Core.Bool.{Bool, true, false}
-use Rattle.base_bytes.specs.Choice.{both}
+use lib.Dec.{eqb}
+use Rattle.base_bytes.specs.Choice.{pick, both}
 
 pub both-turn : (a b : Bool) → both a b ≡ both b a
 both-turn true true = refl
@@ -22,3 +23,8 @@ pub same-tests : (a b : Bool) → (a ≡ true → b ≡ true) → (b ≡ true �
 same-tests true b f g = sym (f refl)
 same-tests false true f g = g refl
 same-tests false false f g = refl
+
+-- fault 5, unless the test passes
+pub told-five : (b : Bool) → eqb (pick b 0 5) 0 ≡ b
+told-five true = refl
+told-five false = refl

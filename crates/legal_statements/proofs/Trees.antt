@@ -6,15 +6,16 @@ use mathlib.Core.Bool.{Bool, true, false, not}
 use mathlib.Core.List.{List, [], _∷_, _++_}
 use lib.ListN.{length, getD}
 use lib.Dec.{eqb, leb}
-use Rattle.base_codes.specs.Codes.{c-do, c-fi, c-if, c-od, c-option}
+use Rattle.base_codes.specs.Codes.{c-do, c-fi, c-if, c-name, c-od, c-option}
 use Rattle.base_bytes.specs.Choice.{pick, both, either}
 use Rattle.base_bytes.specs.Lists.{same}
 use Rattle.base_bytes.proofs.Tests.{true-false}
 use Rattle.spec_text.specs.Names.{pid}
-use Rattle.rule_item.specs.Rules.{twin, ruleOf}
+use Rattle.rule_item.specs.Rules.{twin}
 use Rattle.spec_grammar.specs.Tree.{Name, Sort, options, Tree, express, assign, increment, decrement, send, receive, assert, print, skip, goto, break, timeout, else, run, set-run, select, loop, bare, labelled, end, then, over, option}
-use Rattle.spec_grammar.specs.Code.{Item, i-name, i-label, i-skip, i-timeout, i-if, i-fi, i-do, i-od, i-option, i-end-option, code-tree}
-use Rattle.table_entries.specs.Items.{codeOf}
+use Rattle.base_codes.specs.Items.{Item, codeOf, i-do, i-end-option, i-fi, i-if, i-label, i-name, i-od, i-option, i-skip, i-timeout}
+use Rattle.base_codes.specs.Sets.{ruleOf}
+use Rattle.parse_code.specs.Code.{code-tree}
 use Rattle.spec_rules.specs.Statements.{has, isElse, labelsOf, allowed}
 use Rattle.legal_statements.specs.Scene.{Scene, clean, Stands}
 use Rattle.legal_statements.proofs.Tests.{both-turn, both-group, both-last}
@@ -120,7 +121,7 @@ module _ (S : Scene) (goes : Goes S (S .at .labels)) where
       let z : k - 1 ≡ suc i = omega arith in
       let u = not (either (same w pid) (has ls w)) in
       clean-one S (i-name w) (i-label ∷ A) i
-      ∙ ap₂ both (fine-free S i 70 (code-at S (i-name w) (i-label ∷ A) i s) (rules-none .0))
+      ∙ ap₂ both (fine-free S i c-name (code-at S (i-name w) (i-label ∷ A) i s) (rules-none .0))
       (clean-one S i-label A (suc i)
       ∙ ap₂ both (label-fault S w A i ls s p)
       (tree-fault a k loops false twinned (ls ++ w ∷ []) (next S i-label A (suc i) n) (prior-over S i k ls (w ∷ []) 1 q p) (deep-over S i k (w ∷ []) 1 loops q d)

@@ -14,9 +14,10 @@ use Rattle.base_bytes.proofs.Tests.{true-false, both-true}
 use Rattle.spec_text.specs.Names.{pid}
 use Rattle.rule_search.specs.Sets.{among}
 use Rattle.rule_search.specs.Search.{lookup}
-use Rattle.rule_item.specs.Rules.{roleOf, badPlain, badIndex, badVariable, badUse, badRef, ruleOf, badBy}
+use Rattle.rule_item.specs.Rules.{roleOf, badPlain, badIndex, badVariable, badUse, badRef, badBy}
 use Rattle.spec_grammar.specs.Tree.{Name}
-use Rattle.spec_grammar.specs.Code.{i-name}
+use Rattle.base_codes.specs.Items.{i-name}
+use Rattle.base_codes.specs.Sets.{ruleOf}
 use Rattle.spec_rules.specs.Senses.{Sense, variable, constant, procedure, unknown}
 use Rattle.spec_rules.specs.Expressions.{Role, operand, channel, target, received, forConstant, forPid, forChan, alike, suits, usable}
 use Rattle.spec_rules.specs.Statements.{sense}

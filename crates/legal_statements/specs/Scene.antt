@@ -1,3 +1,4 @@
+-- Bridge, for `read-legal`, `legal-read` (crate `legal_texts`).
 -- The statements of a body among the items of a model, and which of these items keep the rules: document 01, rows 2, 4 and 5 of "What is answered" (specs/Rules.antt of `rule_item`).
 use Prim.Native.Nat.{ℕ, suc, _+_, _≤_}
 use mathlib.Core.Path.{_≡_}
@@ -11,7 +12,8 @@ use Rattle.rule_sheets.specs.Spans.{startsOf, heightsOf}
 use Rattle.rule_item.specs.Rules.{bad}
 use Rattle.rule_least.specs.Faults.{blank}
 use Rattle.spec_grammar.specs.Tree.{Model}
-use Rattle.spec_grammar.specs.Code.{Item, code}
+use Rattle.base_codes.specs.Items.{Item}
+use Rattle.parse_code.specs.Code.{code}
 use Rattle.spec_rules.specs.Statements.{Place}
 use Rattle.legal_terms.specs.Says.{Says, itemAt}
 use Rattle.legal_terms.specs.Setting.{Setting}

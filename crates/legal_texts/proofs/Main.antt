@@ -4,13 +4,14 @@ use mathlib.Core.Path.{_≡_}
 use mathlib.Core.Bool.{true}
 use mathlib.Core.List.{List}
 use lib.ListN.{length}
+use Rattle.base_ceilings.specs.Ceilings.{tablesRoom}
 use Rattle.base_kinds.specs.Kinds.{Token}
 use Rattle.spec_grammar.specs.Tree.{Model}
 use Rattle.spec_grammar.specs.Grammar.{Gram}
 use Rattle.rule_least.specs.Faults.{checked}
 use Rattle.rule_least.specs.declared.Fault.the-variants.{None}
 use Rattle.read_passes.specs.declared.Judged.the-variants.{Accepted}
-use Rattle.read_entry.specs.Entries.{room, readOf}
+use Rattle.read_entry.specs.Entries.{readOf}
 use Rattle.legal_terms.specs.Says.{Says}
 use Rattle.spec_rules.specs.Units.{modelLawful}
 use Rattle.legal_items.specs.Legal.{Legal}
@@ -30,5 +31,5 @@ rules m ts g cs vs toks s = (checked-lawful m cs vs s (statements m cs vs s) tok
 pub read-legal : (t old : List ℕ) → readOf t old ≡ Accepted → Legal t
 read-legal t old = whole.read-lawful rules t old
 
-pub legal-read : (t old : List ℕ) → room ≤ length old → Legal t → readOf t old ≡ Accepted
+pub legal-read : (t old : List ℕ) → tablesRoom ≤ length old → Legal t → readOf t old ≡ Accepted
 legal-read t old = whole.lawful-read rules t old

@@ -6,9 +6,11 @@ use native.Mathlib.Omega.{arith}
 use lib.ListN.{length, getD, set, replicate}
 use lib.Dec.{ltb}
 use borrow.Author.Tests.{lt-ltb, le-ltb}
+use Rattle.base_ceilings.specs.Ceilings.{itemsMost}
 use Rattle.rule_sheets.specs.Homes.{homesOf}
 use Rattle.rule_sheets.specs.Spans.{startsOf}
-use Rattle.link_items.specs.Links.{classOf, linkBy, linkAt, filledBack, linksOf}
+use Rattle.link_items.specs.Links.{linkBy, linkAt, filledBack, linksOf}
+use Rattle.base_codes.specs.Sets.{classOf}
 
 module _ (cs vs hs ss : List ℕ) where
   pub back-more : (j i : ℕ) (l m : List ℕ) {k v : ℕ} → j ≡ suc i → k ≡ classOf (getD cs i 0) → v ≡ linkBy cs vs hs ss k l i → m ≡ set l i (min 4294967295 v)
@@ -20,11 +22,11 @@ module _ (cs vs hs ss : List ℕ) where
   unfolding filledBack
   back-end j l q = rw q
 
-pub links-long : (cs vs l : List ℕ) → 8192 < length cs → l ≡ linksOf cs vs l
+pub links-long : (cs vs l : List ℕ) → itemsMost < length cs → l ≡ linksOf cs vs l
 unfolding linksOf
-links-long cs vs l h = simp (lt-ltb 8192 (length cs) h)
+links-long cs vs l h = simp (lt-ltb itemsMost (length cs) h)
 
-pub links-filled : (cs vs l m : List ℕ) {hs ss : List ℕ} → length cs ≤ 8192 → hs ≡ homesOf cs (replicate 8192 0) → ss ≡ startsOf cs (replicate 8192 0)
+pub links-filled : (cs vs l m : List ℕ) {hs ss : List ℕ} → length cs ≤ itemsMost → hs ≡ homesOf cs (replicate itemsMost 0) → ss ≡ startsOf cs (replicate itemsMost 0)
     → m ≡ filledBack cs vs hs ss (length cs) l → m ≡ linksOf cs vs l
 unfolding linksOf
-links-filled cs vs l m h eh es em = simp (le-ltb 8192 (length cs) h, ← eh, ← es) em
+links-filled cs vs l m h eh es em = simp (le-ltb itemsMost (length cs) h, ← eh, ← es) em

@@ -2,16 +2,19 @@
 ghost use mathlib.Core.Path.{_≡_};
 ghost use Prim.Native.Nat.{_+_, _-_, _≤_, _<_, min};
 ghost use lib.ListN.{length, getD, set};
+ghost use Rattle.base_ceilings.specs.Ceilings.{itemsMost};
+ghost use Rattle.link_items.specs.Links.{sizeKept};
 ghost use Rattle.rule_search.specs.Search as seek;
+ghost use Rattle.base_codes.specs.Sets as sets;
 ghost use Rattle.link_items.specs.Links as spec;
+use base_bytes::minus;
+use base_bytes::word_at;
 use rule_search::count;
 use rule_search::find;
 use rule_search::lookup;
-use rule_sheets::minus;
-use rule_sheets::word_at;
 
-// The most items.
-const ITEMS_MOST: usize = 8192;
+// Sizes as a link keeps them.
+const SIZE_KEPT: usize = 2 * base_ceilings::ARRAY_MOST - 1;
 
 // The code of the first type.
 const FIRST_TYPE: usize = base_codes::BIT as usize;
@@ -26,10 +29,10 @@ fn type_at(codes: &[u8], d: usize) -> usize
 
 fn size_at(codes: &[u8], args: &[u32], d: usize) -> usize
     ensures { λ r. ⌜ r ≡ spec.sizeAt (now (codes .entry)) (now (args .entry)) d ⌝ }
-    ensures { λ r. ⌜ r ≤ 63 ⌝ }
+    ensures { λ r. ⌜ r ≤ sizeKept ⌝ }
 {
     if rule_item::is_array(codes, d) {
-        base_bytes::least(63, rule_sheets::word_on(args, d, 1))
+        base_bytes::least(SIZE_KEPT, base_bytes::word_on(args, d, 1))
     } else {
         1
     }
@@ -43,7 +46,7 @@ fn local_at(homes: &[u32], d: usize) -> usize
 }
 
 fn offset_at(codes: &[u8], args: &[u32], homes: &[u32], d: usize) -> usize
-    requires { ⌜ d ≤ 8192 ⌝ }
+    requires { ⌜ d ≤ itemsMost ⌝ }
     ensures { λ r. ⌜ r ≡ spec.offsetAt (now (codes .entry)) (now (args .entry)) (now (homes .entry)) d ⌝ }
     ensures { λ r. ⌜ r ≤ 65535 ⌝ }
 {
@@ -58,7 +61,7 @@ fn offset_at(codes: &[u8], args: &[u32], homes: &[u32], d: usize) -> usize
 
 // A variable's type, whether it is local, its size and where its numbers begin, in one number.
 fn slot_at(codes: &[u8], args: &[u32], homes: &[u32], d: usize) -> usize
-    requires { ⌜ d ≤ 8192 ⌝ }
+    requires { ⌜ d ≤ itemsMost ⌝ }
     ensures { λ r. ⌜ r ≡ spec.slotAt (now (codes .entry)) (now (args .entry)) (now (homes .entry)) d ⌝ }
 {
     let t = type_at(codes, d);
@@ -69,7 +72,7 @@ fn slot_at(codes: &[u8], args: &[u32], homes: &[u32], d: usize) -> usize
 
 // The class of an item's link, sixteen items to a line.
 fn class_of(c: u8) -> u8
-    ensures { λ r. ⌜ r ≡ spec.classOf c ⌝ }
+    ensures { λ r. ⌜ r ≡ sets.classOf c ⌝ }
 {
     base_bytes::byte_at(
         b"\
@@ -126,7 +129,7 @@ fn link_by(
     class: u8,
     j: usize,
 ) -> usize
-    requires { ⌜ (j < length (now codes)) × (length (now codes) ≤ 8192) ⌝ }
+    requires { ⌜ (j < length (now codes)) × (length (now codes) ≤ itemsMost) ⌝ }
     ensures { λ r. ⌜ r ≡ spec.linkBy (now (codes .entry)) (now (args .entry)) (now (homes .entry)) (now (starts .entry)) class (now (links .entry)) j ⌝ }
 {
     match class {
@@ -160,7 +163,7 @@ fn put(s: &mut [u32], i: usize, v: usize)
 
 // All links, the last first.
 fn fill_back(codes: &[u8], args: &[u32], homes: &[u32], starts: &[u32], links: &mut [u32])
-    requires { ⌜ length (now codes) ≤ 8192 ⌝ }
+    requires { ⌜ length (now codes) ≤ itemsMost ⌝ }
     ensures { λ _. ⌜ now (links .exit) ≡ spec.filledBack (now (codes .entry)) (now (args .entry)) (now (homes .entry)) (now (starts .entry)) (length (now (codes .entry))) (now (links .entry)) ⌝ }
 {
     let mut j = codes.len();
@@ -175,11 +178,11 @@ fn fill_back(codes: &[u8], args: &[u32], homes: &[u32], starts: &[u32], links: &
 pub fn fill_links(codes: &[u8], args: &[u32], links: &mut [u32])
     ensures { λ _. ⌜ now (links .exit) ≡ spec.linksOf (now (codes .entry)) (now (args .entry)) (now (links .entry)) ⌝ }
 {
-    if ITEMS_MOST < codes.len() {
+    if base_ceilings::ITEMS_MOST < codes.len() {
         return;
     }
-    let mut homes = [0u32; 8192];
-    let mut starts = [0u32; 8192];
+    let mut homes = [0u32; base_ceilings::ITEMS_MOST];
+    let mut starts = [0u32; base_ceilings::ITEMS_MOST];
     rule_sheets::fill_homes(codes, &mut homes);
     rule_sheets::fill_starts(codes, &mut starts);
     fill_back(codes, args, &homes, &starts, links);

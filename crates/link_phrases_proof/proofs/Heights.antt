@@ -7,28 +7,29 @@ use mathlib.Core.List.{List, [], _∷_, _++_}
 use lib.ListN.{length, getD, length-append}
 use lib.Dec.{leb}
 use borrow.Author.Tests.{le-ltb, leb-true, leb-false}
-use Rattle.base_codes.specs.Codes.{c-choice, c-false, c-index, c-len, c-plain, c-true}
+use Rattle.base_ceilings.specs.Ceilings.{heightMost, itemsMost}
+use Rattle.base_codes.specs.Codes.{c-choice, c-false, c-index, c-len, c-plain, c-true, c-number}
 use Rattle.base_bytes.specs.Choice.{pick}
 use Rattle.spec_grammar.specs.Tree.{Shape, Exp, plain, indexed, num, tru, fls, get, len, unary, binary, choice}
-use Rattle.spec_grammar.specs.Code.{i-index, i-len, i-unary, i-binary, i-otherwise, i-choice, code-exp}
-use Rattle.table_entries.specs.Items.{codeOf}
 use Rattle.rule_sheets.specs.Walks.{filled}
 use Rattle.rule_sheets.specs.Spans.{shapeOf, above, greater, heightOf, startsOf, heightsOf}
 use Rattle.link_phrases_proof.specs.Phrases.{Proper, At}
 use Rattle.spec_rules.specs.Heights.{height}
 use Rattle.link_phrases_proof.proofs.Fills.{filled-length, filled-keeps, filled-split, filled-last}
 use Rattle.link_phrases_proof.proofs.Starts.{at-front, at-back, some-items, unary-shape, binary-shape, shapes, phrase-starts}
+use Rattle.base_codes.specs.Items.{codeOf, i-binary, i-choice, i-index, i-len, i-otherwise, i-unary}
+use Rattle.parse_code.specs.Code.{code-exp}
 
 -- ---- heights that stop at 33
-above-min : (h : ℕ) → above (min 33 h) ≡ min 33 (suc h)
+above-min : (h : ℕ) → above (min (heightMost + 1) h) ≡ min (heightMost + 1) (suc h)
 above-min h = omega arith
 
-greater-min : (a b : ℕ) → greater (min 33 a) (min 33 b) ≡ min 33 (max a b)
-greater-min a b = go (leb (min 33 a) (min 33 b)) refl
+greater-min : (a b : ℕ) → greater (min (heightMost + 1) a) (min (heightMost + 1) b) ≡ min (heightMost + 1) (max a b)
+greater-min a b = go (leb (min (heightMost + 1) a) (min (heightMost + 1) b)) refl
   where
-    go : (t : Bool) → leb (min 33 a) (min 33 b) ≡ t → pick t (min 33 b) (min 33 a) ≡ min 33 (max a b)
-    go true e = omega (arith, leb-true (min 33 a) (min 33 b) e)
-    go false e = omega (arith, leb-false (min 33 a) (min 33 b) e)
+    go : (t : Bool) → leb (min (heightMost + 1) a) (min (heightMost + 1) b) ≡ t → pick t (min (heightMost + 1) b) (min (heightMost + 1) a) ≡ min (heightMost + 1) (max a b)
+    go true e = omega (arith, leb-true (min (heightMost + 1) a) (min (heightMost + 1) b) e)
+    go false e = omega (arith, leb-false (min (heightMost + 1) a) (min (heightMost + 1) b) e)
 
 -- ---- a height, by the shape of the last item
 module _ (cs ss l : List ℕ) (j c : ℕ) (it : getD cs j 0 ≡ c) where
@@ -61,12 +62,12 @@ module _ (cs ss l : List ℕ) (j c : ℕ) (it : getD cs j 0 ≡ c) where
 max-swap : (a b : ℕ) → max b a ≡ max a b
 max-swap a b = omega arith
 
-of-two : (x y a b : ℕ) → x ≡ min 33 b → y ≡ min 33 a → above (greater x y) ≡ min 33 (suc (max a b))
-of-two x y a b e f = ap above (ap₂ greater e f ∙ greater-min b a ∙ ap (min 33) (max-swap a b)) ∙ above-min (max a b)
+of-two : (x y a b : ℕ) → x ≡ min (heightMost + 1) b → y ≡ min (heightMost + 1) a → above (greater x y) ≡ min (heightMost + 1) (suc (max a b))
+of-two x y a b e f = ap above (ap₂ greater e f ∙ greater-min b a ∙ ap (min (heightMost + 1)) (max-swap a b)) ∙ above-min (max a b)
 
-of-three : (x y z a b c : ℕ) → x ≡ min 33 c → y ≡ min 33 b → z ≡ min 33 a → above (greater x (greater y z)) ≡ min 33 (suc (max a (max b c)))
+of-three : (x y z a b c : ℕ) → x ≡ min (heightMost + 1) c → y ≡ min (heightMost + 1) b → z ≡ min (heightMost + 1) a → above (greater x (greater y z)) ≡ min (heightMost + 1) (suc (max a (max b c)))
 of-three x y z a b c e f g =
-    ap above (ap₂ greater e (ap₂ greater f g ∙ greater-min b a) ∙ greater-min c (max b a) ∙ ap (min 33) (turned a b c)) ∙ above-min (max a (max b c))
+    ap above (ap₂ greater e (ap₂ greater f g ∙ greater-min b a) ∙ greater-min c (max b a) ∙ ap (min (heightMost + 1)) (turned a b c)) ∙ above-min (max a (max b c))
   where
     turned : (a b c : ℕ) → max c (max b a) ≡ max a (max b c)
     turned a b c = omega arith
@@ -83,13 +84,13 @@ module _ (cs ss : List ℕ) (right : (s : Shape) (e : Exp s) → Proper e → (i
   second i a b n p l j v e q h = ap (λ (m : List ℕ). getD m j 0) (filled-split F a b i n p l e q) ∙ h
 
   height-at : {s : Shape} (e : Exp s) → Proper e → (i n j : ℕ) (l : List ℕ) → n ≡ length (code-exp e) → j ≡ i + n - 1 → At cs i (code-exp e) → i + n ≤ length cs → i + n ≤ length l
-      → getD (filled F i n l) j 0 ≡ min 33 (height e)
+      → getD (filled F i n l) j 0 ≡ min (heightMost + 1) (height e)
   height-at (plain w) p i n j l q r h g s =
       let z : j ≡ suc i = omega arith in
       filled-last F 1 i n j l q (omega arith) (omega arith) ∙ height-plain cs ss (filled F i 1 l) j c-plain (rw z (h .1 .0)) (shapes .4)
   height-at (num v) p i n j l q r h g s =
       let z : j ≡ i = omega arith in
-      filled-last F 0 i n j l q (omega arith) (omega arith) ∙ height-leaf cs ss (filled F i 0 l) j 71 (rw z (h .0)) (shapes .1)
+      filled-last F 0 i n j l q (omega arith) (omega arith) ∙ height-leaf cs ss (filled F i 0 l) j c-number (rw z (h .0)) (shapes .1)
   height-at tru p i n j l q r h g s =
       let z : j ≡ i = omega arith in
       filled-last F 0 i n j l q (omega arith) (omega arith) ∙ height-leaf cs ss (filled F i 0 l) j c-true (rw z (h .0)) (shapes .2)
@@ -105,7 +106,7 @@ module _ (cs ss : List ℕ) (right : (s : Shape) (e : Exp s) → Proper e → (i
       let z : i + 1 ≡ suc i = omega arith in
       let y = height-at e p (i + 1) m (j - 1) (filled F i 1 l) refl (omega (arith, some-items e)) (rw z one) (omega arith) (omega (arith, filled-length F i 1 l)) in
       filled-last F (1 + m) i n j l (omega arith) (omega arith) (omega arith) ∙ height-index cs ss (filled F i (1 + m) l) j c-index x (shapes .5)
-      ∙ ap above (second i 1 m (1 + m) (i + 1) l (j - 1) (min 33 (height e)) refl refl y) ∙ above-min (height e)
+      ∙ ap above (second i 1 m (1 + m) (i + 1) l (j - 1) (min (heightMost + 1) (height e)) refl refl y) ∙ above-min (height e)
   height-at (len v) p i n j l q r h g s =
       let m = length (code-exp v) in
       let t : length (code-exp v ++ i-len ∷ []) ≡ m + 1 = length-append (code-exp v) (i-len ∷ []) in
@@ -127,12 +128,12 @@ module _ (cs ss : List ℕ) (right : (s : Shape) (e : Exp s) → Proper e → (i
       let bb = at-back cs (code-exp a) (code-exp b) i (i + m) refl ab in
       let x = at-back cs (code-exp a ++ code-exp b) (i-binary o ∷ []) i j (omega arith) h .0 in
       let w : getD ss (j - 1) 0 ≡ i + m = right _ b (p .3) (i + m) (j - 1) bb (omega arith) (omega (arith, some-items b)) in
-      let u : getD (filled F i (m + k) l) (j - 1) 0 ≡ min 33 (height b) =
-      second i m k (m + k) (i + m) l (j - 1) (min 33 (height b)) refl refl
+      let u : getD (filled F i (m + k) l) (j - 1) 0 ≡ min (heightMost + 1) (height b) =
+      second i m k (m + k) (i + m) l (j - 1) (min (heightMost + 1) (height b)) refl refl
       (height-at b (p .3) (i + m) k (j - 1) (filled F i m l) refl (omega (arith, some-items b)) bb (omega arith) (omega (arith, filled-length F i m l))) in
-      let v : getD (filled F i (m + k) l) (i + m - 1) 0 ≡ min 33 (height a) =
+      let v : getD (filled F i (m + k) l) (i + m - 1) 0 ≡ min (heightMost + 1) (height a) =
       kept i m k (m + k) (i + m) l (i + m - 1) refl refl (omega (arith, some-items a)) ∙ height-at a (p .2) i m (i + m - 1) l refl refl (at-front cs i (code-exp a) (code-exp b) ab) (omega arith) (omega arith) in
-      let v′ : getD (filled F i (m + k) l) (getD ss (j - 1) 0 - 1) 0 ≡ min 33 (height a) = rw w v in
+      let v′ : getD (filled F i (m + k) l) (getD ss (j - 1) 0 - 1) 0 ≡ min (heightMost + 1) (height a) = rw w v in
       filled-last F (m + k) i n j l (omega arith) (omega arith) (omega arith) ∙ height-binary cs ss (filled F i (m + k) l) j (codeOf (i-binary o)) x (binary-shape o (p .0) (p .1))
       ∙ of-two _ _ (height a) (height b) u v′
   height-at (choice a b c) p i n j l q r h g s =
@@ -154,30 +155,30 @@ module _ (cs ss : List ℕ) (right : (s : Shape) (e : Exp s) → Proper e → (i
       let cc′ : At cs (i + m + k + 1) C = rw z (oc .1) in
       let sc : getD ss (j - 1) 0 ≡ i + m + k + 1 = right _ c (p .2) (i + m + k + 1) (j - 1) cc′ (omega arith) (omega (arith, some-items c)) in
       let sb : getD ss (i + m + k - 1) 0 ≡ i + m = right _ b (p .1) (i + m) (i + m + k - 1) bb (omega arith) refl in
-      let u : getD (filled F i (m + k + 1 + d) l) (j - 1) 0 ≡ min 33 (height c) =
-      second i (m + k + 1) d (m + k + 1 + d) (i + m + k + 1) l (j - 1) (min 33 (height c)) refl (omega arith)
+      let u : getD (filled F i (m + k + 1 + d) l) (j - 1) 0 ≡ min (heightMost + 1) (height c) =
+      second i (m + k + 1) d (m + k + 1 + d) (i + m + k + 1) l (j - 1) (min (heightMost + 1) (height c)) refl (omega arith)
       (height-at c (p .2) (i + m + k + 1) d (j - 1) (filled F i (m + k + 1) l) refl (omega (arith, some-items c)) cc′ (omega arith) (omega (arith, filled-length F i (m + k + 1) l))) in
-      let v : getD (filled F i (m + k + 1 + d) l) (i + m + k - 1) 0 ≡ min 33 (height b) =
+      let v : getD (filled F i (m + k + 1 + d) l) (i + m + k - 1) 0 ≡ min (heightMost + 1) (height b) =
       kept i (m + k) (1 + d) (m + k + 1 + d) (i + m + k) l (i + m + k - 1) (omega arith) (omega arith) (omega (arith, some-items a))
-      ∙ second i m k (m + k) (i + m) l (i + m + k - 1) (min 33 (height b)) refl refl
+      ∙ second i m k (m + k) (i + m) l (i + m + k - 1) (min (heightMost + 1) (height b)) refl refl
       (height-at b (p .1) (i + m) k (i + m + k - 1) (filled F i m l) refl refl bb (omega arith) (omega (arith, filled-length F i m l))) in
-      let w : getD (filled F i (m + k + 1 + d) l) (i + m - 1) 0 ≡ min 33 (height a) =
+      let w : getD (filled F i (m + k + 1 + d) l) (i + m - 1) 0 ≡ min (heightMost + 1) (height a) =
       kept i m (k + 1 + d) (m + k + 1 + d) (i + m) l (i + m - 1) (omega arith) refl (omega (arith, some-items a)) ∙ height-at a (p .0) i m (i + m - 1) l refl refl (at-front cs i A B ab) (omega arith) (omega arith) in
       let y : i + m + k + 1 - 2 ≡ i + m + k - 1 = omega arith in
-      let v′ : getD (filled F i (m + k + 1 + d) l) (getD ss (j - 1) 0 - 2) 0 ≡ min 33 (height b) = rw (sc, y) v in
-      let w′ : getD (filled F i (m + k + 1 + d) l) (getD ss (getD ss (j - 1) 0 - 2) 0 - 1) 0 ≡ min 33 (height a) = rw (sc, y, sb) w in
+      let v′ : getD (filled F i (m + k + 1 + d) l) (getD ss (j - 1) 0 - 2) 0 ≡ min (heightMost + 1) (height b) = rw (sc, y) v in
+      let w′ : getD (filled F i (m + k + 1 + d) l) (getD ss (getD ss (j - 1) 0 - 2) 0 - 1) 0 ≡ min (heightMost + 1) (height a) = rw (sc, y, sb) w in
       filled-last F (m + k + 1 + d) i n j l (omega arith) (omega arith) (omega arith) ∙ height-choice cs ss (filled F i (m + k + 1 + d) l) j c-choice x (shapes .7)
       ∙ of-three _ _ _ (height a) (height b) (height c) u v′ w′
 
 -- AT ITS LAST ITEM every expression that stands in the items has its height, up to 33
-pub phrase-heights : (cs z y : List ℕ) {s : Shape} (e : Exp s) → Proper e → (i j : ℕ) → At cs i (code-exp e) → length cs ≤ 8192 → length cs ≤ length z → length cs ≤ length y
-    → i + length (code-exp e) ≤ length cs → j ≡ i + length (code-exp e) - 1 → getD (heightsOf cs (startsOf cs z) y) j 0 ≡ min 33 (height e)
+pub phrase-heights : (cs z y : List ℕ) {s : Shape} (e : Exp s) → Proper e → (i j : ℕ) → At cs i (code-exp e) → length cs ≤ itemsMost → length cs ≤ length z → length cs ≤ length y
+    → i + length (code-exp e) ≤ length cs → j ≡ i + length (code-exp e) - 1 → getD (heightsOf cs (startsOf cs z) y) j 0 ≡ min (heightMost + 1) (height e)
 unfolding heightsOf
 phrase-heights cs z y e p i j h few room more in-list q =
     let n = length (code-exp e) in
     let r = length cs - (i + n) in
     let G = heightOf cs (startsOf cs z) in
-    simp (le-ltb 8192 (length cs) few)
+    simp (le-ltb itemsMost (length cs) few)
     (ap (λ (m : List ℕ). getD m j 0) (filled-split G (i + n) r 0 (length cs) (i + n) y (omega arith) (omega arith))
     ∙ filled-keeps G (i + n) r (filled G 0 (i + n) y) j (omega (arith, some-items e))
     ∙ ap (λ (m : List ℕ). getD m j 0) (filled-split G i n 0 (i + n) i y refl (omega arith))

@@ -1,40 +1,46 @@
 -- WHAT EXPRESSIONS ARE MADE OF: every item of one is an expression's item, and no mark that stands behind a whole one is. Where the expressions of a list of items stand.
-use Prim.Native.Nat.{ℕ, zero, suc, _+_, _≤_, _<_}
+use Prim.Native.Nat.{ℕ, suc, _+_, _≤_}
 use native.Mathlib.Omega.{arith}
-use mathlib.Core.Path.{_≡_, refl, _∙_}
-use mathlib.Core.Bool.{Bool, true, false}
+use mathlib.Core.Path.{_≡_, refl}
+use mathlib.Core.Bool.{true, false, Bool}
 use mathlib.Core.List.{List, [], _∷_, _++_, map}
-use lib.ListN.{length, getD, length-append}
+use lib.ListN.{length, length-append}
 use lib.Seq.{getD-append-seam}
-use borrow.Author.Tests.{lt-ltb, le-ltb, ne-eqb}
-use Rattle.base_codes.specs.Codes.{c-argument, c-bit, c-int}
-use Rattle.base_bytes.specs.Choice.{both}
+use lib.Dec.{leb}
+use borrow.Author.Tests.{le-leb, lt-leb}
+use Rattle.base_codes.specs.Codes.{c-argument, c-choice, c-complement, c-name, c-number, c-or-else, c-plain, c-text}
+use Rattle.base_codes.specs.Sets.{isPart}
+use Rattle.base_bytes.specs.Choice.{either, both}
 use Rattle.spec_grammar.specs.Tree.{Shape, Exp, plain, indexed, num, tru, fls, get, len, unary, binary, choice}
 use Rattle.spec_grammar.specs.Grammar.{Is-unary, is-minus, is-not, is-flip}
-use Rattle.spec_grammar.specs.Code.{Item, i-name, i-number, i-type, i-plain, i-index, i-true, i-false, i-len, i-otherwise, i-choice, i-unary, i-binary, code-exp}
-use Rattle.table_entries.specs.Items.{codeOf}
-use Rattle.link_phrases_proof.specs.Phrases.{Proper, At, inExpression}
+use Rattle.base_codes.specs.Items.{Item, codeOf, i-binary, i-choice, i-index, i-len, i-otherwise, i-unary}
+use Rattle.parse_code.specs.Code.{code-exp}
+use Rattle.link_phrases_proof.specs.Phrases.{Proper, At}
 
 abbrev pub all-inside : List Item → Type 0
 all-inside [] = Unit {0}
-all-inside (x ∷ l) = (inExpression (codeOf x) ≡ true) × all-inside l
+all-inside (x ∷ l) = (isPart (codeOf x) ≡ true) × all-inside l
 
 inside-append : (x y : List Item) → all-inside x → all-inside y → all-inside (x ++ y)
 inside-append [] y a b = b
 inside-append (c ∷ x) y a b = (a .0, inside-append x y (a .1) b)
 
-unary-inside : {o : ℕ} → Is-unary o → inExpression (codeOf (i-unary o)) ≡ true
-unfolding inExpression
+unary-inside : {o : ℕ} → Is-unary o → isPart (codeOf (i-unary o)) ≡ true
+unfolding isPart
 unary-inside is-minus = refl
 unary-inside is-not = refl
 unary-inside is-flip = refl
 
-binary-inside : (o : ℕ) → 1 ≤ o → o ≤ 18 → inExpression (codeOf (i-binary o)) ≡ true
-unfolding inExpression
-binary-inside o a b = rw (ne-eqb (146 + o) 70 (λ e. omega arith), ne-eqb (146 + o) 71 (λ e. omega arith), lt-ltb 146 (146 + o) (omega arith), lt-ltb (146 + o) c-bit (omega arith))
+binary-inside : (o : ℕ) → 1 ≤ o → o ≤ 18 → isPart (codeOf (i-binary o)) ≡ true
+unfolding isPart
+binary-inside o a b = rw (lt-leb (146 + o) c-number (omega arith), le-leb c-or-else (146 + o) (omega arith), le-leb (146 + o) c-complement (omega arith)) (no-matter (leb c-name (146 + o)))
+  where
+    no-matter : (x : Bool) → either (both x false) true ≡ true
+    no-matter true = refl
+    no-matter false = refl
 
 pub phrase-inside : {s : Shape} (e : Exp s) → Proper e → all-inside (code-exp e)
-unfolding inExpression
+unfolding isPart
 phrase-inside (plain w) p = (refl, (refl, tt))
 phrase-inside (indexed w e) p = (refl, inside-append (code-exp e) (i-index ∷ []) (phrase-inside e p) (refl, tt))
 phrase-inside (num n) p = (refl, tt)
@@ -51,19 +57,14 @@ phrase-inside (choice a b c) p =
     (refl, tt)
 
 -- 183 argument to 228 end-body: every other mark
-pub mark-outside : (c : ℕ) → c-argument ≤ c → inExpression c ≡ false
-unfolding inExpression
-mark-outside c h = rw (ne-eqb c 70 (λ e. omega arith), ne-eqb c 71 (λ e. omega arith), lt-ltb 146 c (omega arith), le-ltb c c-bit (omega arith), lt-ltb c-int c (omega arith), le-ltb c c-argument (omega arith))
+pub mark-outside : (c : ℕ) → c-argument ≤ c → isPart c ≡ false
+unfolding isPart
+mark-outside c h = rw (le-leb c-name c (omega arith), lt-leb c c-number (omega arith), le-leb c-or-else c (omega arith), lt-leb c c-complement (omega arith), le-leb c-plain c (omega arith), lt-leb c c-choice (omega arith))
 
--- strings and types
-pub text-outside : inExpression 72 ≡ false
-unfolding inExpression
+-- strings
+pub text-outside : isPart c-text ≡ false
+unfolding isPart
 text-outside = refl
-
-pub type-outside : (k : ℕ) → 38 ≤ k → k ≤ 45 → inExpression (codeOf (i-type k)) ≡ false
-unfolding inExpression
-type-outside k a b =
-    rw (ne-eqb (130 + k) 70 (λ e. omega arith), ne-eqb (130 + k) 71 (λ e. omega arith), lt-ltb 146 (130 + k) (omega arith), le-ltb (130 + k) c-bit (omega arith), le-ltb c-int (130 + k) (omega arith))
 
 -- ---- the place of items in the codes of a list of items
 regroup : (p : List ℕ) (b : ℕ) (q : List ℕ) → (p ++ b ∷ []) ++ q ≡ p ++ b ∷ q

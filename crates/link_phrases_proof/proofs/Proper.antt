@@ -1,11 +1,11 @@
 -- The expressions of texts are proper: their operators are operators.
-use Prim.Native.Nat.{ℕ, zero, suc, _≤_, _<_}
+use Prim.Native.Nat.{ℕ, zero, suc, _≤_}
 use native.Mathlib.Omega.{arith}
-use mathlib.Core.Path.{_≡_, _∙_, ap}
+use mathlib.Core.Path.{_≡_}
 use mathlib.Core.List.{List}
-use Rattle.base_kinds.specs.Kinds.{Token}
+use Rattle.base_kinds.specs.Kinds.{Token, level}
 use Rattle.spec_grammar.specs.Tree.{Expr}
-use Rattle.spec_grammar.specs.Grammar.{level, E, e-plain, e-index, e-number, e-true, e-false, e-len, e-group, e-choice, e-unary, e-binary, e-up}
+use Rattle.spec_grammar.specs.Grammar.{E, e-plain, e-index, e-number, e-true, e-false, e-len, e-group, e-choice, e-unary, e-binary, e-up}
 use Rattle.spec_grammar.proofs.Levels.{operator-small}
 use Rattle.link_phrases_proof.specs.Phrases.{Proper}
 

@@ -5,15 +5,16 @@ use mathlib.Core.Path.{_≡_, refl, sym as inv, _∙_, ap}
 use mathlib.Core.List.{List, [], _∷_, _++_}
 use lib.ListN.{length, getD, length-append}
 use borrow.Author.Tests.{lt-ltb, le-ltb, ne-eqb, eq-eqb}
-use Rattle.base_codes.specs.Codes.{c-choice, c-false, c-index, c-len, c-negate, c-plain, c-remainder, c-true}
+use Rattle.base_ceilings.specs.Ceilings.{itemsMost}
+use Rattle.base_codes.specs.Codes.{c-choice, c-false, c-index, c-len, c-negate, c-plain, c-remainder, c-true, c-name, c-number}
 use Rattle.spec_grammar.specs.Tree.{Shape, Exp, plain, indexed, num, tru, fls, get, len, unary, binary, choice}
 use Rattle.spec_grammar.specs.Grammar.{Is-unary, is-minus, is-not, is-flip}
-use Rattle.spec_grammar.specs.Code.{Item, i-name, i-plain, i-index, i-len, i-unary, i-binary, i-otherwise, i-choice, code-exp}
-use Rattle.table_entries.specs.Items.{codeOf}
 use Rattle.rule_sheets.specs.Walks.{filled}
 use Rattle.rule_sheets.specs.Spans.{shapeOf, startOf, startsOf}
 use Rattle.link_phrases_proof.specs.Phrases.{Proper, At}
 use Rattle.link_phrases_proof.proofs.Fills.{filled-length, filled-keeps, filled-split, filled-last}
+use Rattle.base_codes.specs.Items.{Item, codeOf, i-binary, i-choice, i-index, i-len, i-otherwise, i-unary}
+use Rattle.parse_code.specs.Code.{code-exp}
 
 -- ---- items side by side
 pub at-front : (cs : List ℕ) (i : ℕ) (x y : List Item) → At cs i (x ++ y) → At cs i x
@@ -49,7 +50,7 @@ binary-shape o a b =
     rw (ne-eqb (146 + o) c-plain (λ e. omega arith), ne-eqb (146 + o) c-index (λ e. omega arith), ne-eqb (146 + o) c-len (λ e. omega arith), le-ltb c-remainder (146 + o) (omega arith), lt-ltb 146 (146 + o) (omega arith), lt-ltb (146 + o) c-negate (omega arith))
 
 -- the others, by their codes
-pub shapes : (shapeOf 70 ≡ 0) × (shapeOf 71 ≡ 0) × (shapeOf c-true ≡ 0) × (shapeOf c-false ≡ 0) × (shapeOf c-plain ≡ 1) × (shapeOf c-index ≡ 2) × (shapeOf c-len ≡ 3) × (shapeOf c-choice ≡ 5)
+pub shapes : (shapeOf c-name ≡ 0) × (shapeOf c-number ≡ 0) × (shapeOf c-true ≡ 0) × (shapeOf c-false ≡ 0) × (shapeOf c-plain ≡ 1) × (shapeOf c-index ≡ 2) × (shapeOf c-len ≡ 3) × (shapeOf c-choice ≡ 5)
 unfolding shapeOf
 shapes = (refl, refl, refl, refl, refl, refl, refl, refl)
 
@@ -97,7 +98,7 @@ module _ (cs : List ℕ) where
       filled-last F 1 i n j l q (omega arith) (omega arith) ∙ start-plain cs (filled F i 1 l) j c-plain (rw z (h .1 .0)) (shapes .4) ∙ omega arith
   start-at (num v) p i n j l q r h s =
       let z : j ≡ i = omega arith in
-      filled-last F 0 i n j l q (omega arith) (omega arith) ∙ start-leaf cs (filled F i 0 l) j 71 (rw z (h .0)) (shapes .1) ∙ z
+      filled-last F 0 i n j l q (omega arith) (omega arith) ∙ start-leaf cs (filled F i 0 l) j c-number (rw z (h .0)) (shapes .1) ∙ z
   start-at tru p i n j l q r h s =
       let z : j ≡ i = omega arith in
       filled-last F 0 i n j l q (omega arith) (omega arith) ∙ start-leaf cs (filled F i 0 l) j c-true (rw z (h .0)) (shapes .2) ∙ z
@@ -166,13 +167,13 @@ module _ (cs : List ℕ) where
       filled-last F (m + k + 1 + d) i n j l (omega arith) (omega arith) (omega arith) ∙ start-choice cs (filled F i (m + k + 1 + d) l) j c-choice x (shapes .7) ∙ rw (u, y, v) w
 
 -- AT ITS LAST ITEM every expression that stands in the items has its first place
-pub phrase-starts : (cs z : List ℕ) {s : Shape} (e : Exp s) → Proper e → (i j : ℕ) → At cs i (code-exp e) → length cs ≤ 8192 → length cs ≤ length z → i + length (code-exp e) ≤ length cs
+pub phrase-starts : (cs z : List ℕ) {s : Shape} (e : Exp s) → Proper e → (i j : ℕ) → At cs i (code-exp e) → length cs ≤ itemsMost → length cs ≤ length z → i + length (code-exp e) ≤ length cs
     → j ≡ i + length (code-exp e) - 1 → getD (startsOf cs z) j 0 ≡ i
 unfolding startsOf
 phrase-starts cs z e p i j h few room in-list q =
     let n = length (code-exp e) in
     let r = length cs - (i + n) in
-    simp (le-ltb 8192 (length cs) few)
+    simp (le-ltb itemsMost (length cs) few)
     (ap (λ (m : List ℕ). getD m j 0) (filled-split (startOf cs) (i + n) r 0 (length cs) (i + n) z (omega arith) (omega arith))
     ∙ filled-keeps (startOf cs) (i + n) r (filled (startOf cs) 0 (i + n) z) j (omega (arith, some-items e))
     ∙ ap (λ (m : List ℕ). getD m j 0) (filled-split (startOf cs) i n 0 (i + n) i z refl (omega arith))

@@ -1,16 +1,12 @@
+-- Mechanism, held to the specification by `phrase-heights` (crate `link_phrases_proof`).
 -- Expressions of a tree as phrases of its code: where their items stand.
 use mathlib.Core.Path.{_≡_}
-use mathlib.Core.Bool.{Bool}
 use mathlib.Core.List.{List, [], _∷_}
 use Prim.Native.Nat.{ℕ, suc, _≤_}
 use lib.ListN.{getD}
-use lib.Dec.{eqb, ltb}
-use Rattle.base_codes.specs.Codes.{c-argument, c-bit, c-int}
-use Rattle.base_bytes.specs.Choice.{both, either}
 use Rattle.spec_grammar.specs.Tree.{Shape, Exp, plain, indexed, num, tru, fls, get, len, unary, binary, choice}
 use Rattle.spec_grammar.specs.Grammar.{Is-unary}
-use Rattle.spec_grammar.specs.Code.{Item}
-use Rattle.table_entries.specs.Items.{codeOf}
+use Rattle.base_codes.specs.Items.{Item, codeOf}
 
 -- its operators are operators
 abbrev pub Proper : {s : Shape} → Exp s → Type 0
@@ -29,7 +25,3 @@ Proper (choice a b c) = Proper a × Proper b × Proper c
 abbrev pub At : List ℕ → ℕ → List Item → Type 0
 At cs i [] = Unit {0}
 At cs i (x ∷ l) = (getD cs i 0 ≡ codeOf x) × At cs (suc i) l
-
--- the codes of items that expressions are made of: names and numbers, operators, and `plain` to `choice`
-unfoldable pub inExpression : ℕ → Bool
-inExpression c = either (eqb c 70) (either (eqb c 71) (either (both (ltb 146 c) (ltb c c-bit)) (both (ltb c-int c) (ltb c c-argument))))

@@ -1,16 +1,16 @@
 -- The walks over items: one item more, the end, and what stands past the last item.
 use Prim.Native.Nat.{ℕ, zero, suc, _+_, _-_, _≤_, _<_}
-use mathlib.Core.Path.{_≡_, refl, sym, _∙_, ap}
+use mathlib.Core.Path.{_≡_, refl}
 use mathlib.Core.Bool.{Bool, true, false}
 use mathlib.Core.List.{List, [], _∷_}
 use native.Mathlib.Omega.{arith}
 use lib.ListN.{length, getD}
-use lib.Dec.{eqb, leb}
+use lib.Dec.{eqb}
 use Rattle.base_codes.specs.Codes.{c-do}
-use Rattle.base_bytes.specs.Choice.{pick, both, either}
-use Rattle.rule_sheets.specs.Walks.{first}
+use Rattle.base_codes.specs.Sets.{isPart, isAlone, isLead, isOpening, isClosing}
+use Rattle.base_bytes.specs.Choice.{both}
 use Rattle.rule_sheets.proofs.Walks.{first-end}
-use Rattle.link_places.specs.Places.{isPart, isMark, markFrom, isAlone, isLead, isPlace, isStop, placeFrom, isOpening, isClosing, deeper, closeFrom, closeOf, shallower, openOf, pastOption, nextFrom}
+use Rattle.link_places.specs.Places.{isMark, markFrom, isPlace, isStop, placeFrom, deeper, closeFrom, closeOf, shallower, openOf, pastOption, nextFrom}
 
 pub past : (l : List ℕ) (i : ℕ) → length l ≤ i → getD l i 0 ≡ 0
 past [] i h = refl
@@ -39,10 +39,6 @@ module _ (cs : List ℕ) (p : ℕ) where
   pub next-past : (l : List ℕ) → length cs ≤ p → p ≡ nextFrom cs l p
   unfolding nextFrom placeFrom
   next-past l h = rw (past cs p h) (first-end (isStop cs) p (length cs - p) (omega arith))
-
-  pub mark-past : (k : ℕ) → length cs ≤ k → k ≡ markFrom cs k
-  unfolding markFrom
-  mark-past k h = first-end (λ i. isMark (getD cs i 0)) k (length cs - k) (omega arith)
 
 -- ## going on
 module _ (cs : List ℕ) (pair i d : ℕ) {a t : Bool} (h : i < length cs) (ea : a ≡ isClosing pair (getD cs i 0)) (et : t ≡ both a (eqb d 1)) where

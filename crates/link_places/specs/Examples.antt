@@ -1,15 +1,17 @@
+-- Mechanism, held to the specification by `text-leads` (crate `agree_control`).
 -- Worked examples, computed: the items of `init{do::1;break::else od;L:skip}`, by number
 --   0 init 1 body 2 do 3 option 4 number 5 express 6 break 7 end-option 8 option 9 else 10 end-option 11 od 12 name 13 label 14 skip 15 end-body
 use Prim.Native.Nat.{ℕ}
 use mathlib.Core.Path.{_≡_, refl}
 use mathlib.Core.Bool.{true, false}
 use mathlib.Core.List.{List, [], _∷_}
-use Rattle.base_codes.specs.Codes.{c-body, c-break, c-do, c-else, c-end-body, c-end-option, c-express, c-init, c-label, c-od, c-option, c-skip}
+use Rattle.base_codes.specs.Codes.{c-body, c-break, c-do, c-else, c-end-body, c-end-option, c-express, c-init, c-label, c-name, c-number, c-od, c-option, c-skip}
+use Rattle.base_codes.specs.Sets.{isPart, isAlone, isLead, isOpening, isClosing}
 use Rattle.rule_sheets.specs.Walks.{first}
-use Rattle.link_places.specs.Places.{isPart, markFrom, markOf, isAlone, isLead, isPlace, isStop, placeFrom, isOpening, isClosing, deeper, closeFrom, closeOf, shallower, openOf, pastOption, nextFrom, pastLoop}
+use Rattle.link_places.specs.Places.{markFrom, markOf, isPlace, isStop, placeFrom, deeper, closeFrom, closeOf, shallower, openOf, pastOption, nextFrom, pastLoop}
 
 abbrev model : List ℕ
-model = c-init ∷ c-body ∷ c-do ∷ c-option ∷ 71 ∷ c-express ∷ c-break ∷ c-end-option ∷ c-option ∷ c-else ∷ c-end-option ∷ c-od ∷ 70 ∷ c-label ∷ c-skip ∷ c-end-body ∷ []
+model = c-init ∷ c-body ∷ c-do ∷ c-option ∷ c-number ∷ c-express ∷ c-break ∷ c-end-option ∷ c-option ∷ c-else ∷ c-end-option ∷ c-od ∷ c-name ∷ c-label ∷ c-skip ∷ c-end-body ∷ []
 
 -- the place behind `od`, at item 11
 abbrev links : List ℕ

@@ -1,3 +1,4 @@
+-- Mechanism, held to the specification by `text-leads` (crate `agree_control`).
 -- Where control can stand in a model, over its items `cs` alone: phrases and the marks behind them, the places of statements, what closes what was opened, and
 -- which place follows. Document 01, "How it moves": "an ended option leads past `fi`, or back to `do`".
 use Prim.Native.Nat.{ℕ, zero, suc, _+_, _-_}
@@ -5,16 +6,12 @@ use mathlib.Core.Bool.{Bool, true, false}
 use mathlib.Core.List.{List}
 use lib.ListN.{length, getD}
 use lib.Dec.{eqb}
-use Rattle.base_codes.specs.Codes.{c-assert, c-break, c-choice, c-complement, c-do, c-else, c-end, c-end-body, c-end-option, c-express, c-fi, c-goto, c-if, c-increment, c-od, c-option, c-or-else, c-plain, c-run, c-skip, c-target}
+use Rattle.base_codes.specs.Codes.{c-do, c-end-body, c-end-option}
+use Rattle.base_codes.specs.Sets.{isPart, isAlone, isLead, isOpening, isClosing}
 use Rattle.base_bytes.specs.Choice.{pick, both, either}
 use Rattle.rule_sheets.specs.Walks.{first}
-use Rattle.rule_search.specs.Sets.{within}
 
 -- ## phrases
--- part of an expression: name, number, binary and unary operators, plain, index, true, false, len, otherwise, choice
-unfoldable pub isPart : ℕ → Bool
-isPart c = either (within 70 71 c) (either (within c-or-else c-complement c) (within c-plain c-choice c))
-
 abbrev pub isMark : ℕ → Bool
 isMark c = pick (isPart c) false true
 
@@ -27,14 +24,6 @@ abbrev pub markOf : List ℕ → ℕ → ℕ
 markOf cs j = markFrom cs (j + 1)
 
 -- ## the places of statements
--- a statement that begins with its own mark: printf (its string), skip, break, timeout, else, if, do
-unfoldable pub isAlone : ℕ → Bool
-isAlone c = either (either (eqb c 72) (eqb c c-skip)) (either (within c-break c-else c) (either (eqb c c-if) (eqb c c-do)))
-
--- the mark of a statement that begins with a phrase: express, target, increment, decrement, send, receive, assert, goto, run
-unfoldable pub isLead : ℕ → Bool
-isLead c = either (within c-express c-target c) (either (within c-increment c-assert c) (either (eqb c c-goto) (eqb c c-run)))
-
 -- the place of a statement is its first item behind a label: one that is its own mark, or the first of a phrase with such a mark
 unfoldable pub isPlace : List ℕ → ℕ → Bool
 isPlace cs p = pick (isAlone (getD cs p 0)) true (pick (isPart (getD cs p 0)) (both (isMark (getD cs (p - 1) 0)) (isLead (getD cs (markOf cs p) 0))) false)
@@ -47,23 +36,7 @@ isStop cs p = either (eqb (getD cs p 0) c-end-body) (isPlace cs p)
 unfoldable pub placeFrom : List ℕ → ℕ → ℕ
 placeFrom cs k = first (isStop cs) k (length cs - k)
 
--- ## what closes what was opened
--- pairs by number: 0 selections (if or do, fi or od), 1 loops (do, od), 2 options (option, end-option); what never stands inside its like needs no opening:
--- 3 bodies (end-body), 4 arguments (end)
-unfoldable pub isOpening : ℕ → ℕ → Bool
-isOpening pair c =
-    pick (eqb pair 0) (either (eqb c c-if) (eqb c c-do))
-    (pick (eqb pair 1) (eqb c c-do)
-    (pick (eqb pair 2) (eqb c c-option) false))
-
-unfoldable pub isClosing : ℕ → ℕ → Bool
-isClosing pair c =
-    pick (eqb pair 0) (either (eqb c c-fi) (eqb c c-od))
-    (pick (eqb pair 1) (eqb c c-od)
-    (pick (eqb pair 2) (eqb c c-end-option)
-    (pick (eqb pair 3) (eqb c c-end-body)
-    (pick (eqb pair 4) (eqb c c-end) false))))
-
+-- ## what closes what was opened: pairs by number, as in specs/Sets.antt of `base_codes`
 -- behind an item of code c, where d are open before it
 unfoldable pub deeper : ℕ → ℕ → ℕ → ℕ
 deeper pair c d = pick (isOpening pair c) (d + 1) (pick (isClosing pair c) (d - 1) d)

@@ -1,26 +1,16 @@
 // Where control can stand in a model, by its items alone: phrases and their marks, the places of statements, what closes what was opened, which place follows.
 ghost use mathlib.Core.Path.{_≡_};
 ghost use Prim.Native.Nat.{_+_, _≤_, _<_};
-ghost use lib.ListN.{length, getD};
+ghost use lib.ListN.{length};
+use base_bytes::both;
+use base_bytes::either;
+use base_bytes::minus;
+use base_bytes::word_at;
+use base_codes::is_alone;
+use base_codes::is_lead;
+use base_codes::is_part;
+ghost use Rattle.base_codes.specs.Sets as sets;
 ghost use Rattle.link_places.specs.Places as places;
-use rule_search::within;
-use rule_sheets::both;
-use rule_sheets::either;
-use rule_sheets::minus;
-use rule_sheets::word_at;
-
-// Is an item part of an expression?
-pub fn is_part(c: u8) -> bool
-    ensures { λ r. ⌜ r ≡ places.isPart c ⌝ }
-{
-    either(
-        within(70, 71, c),
-        either(
-            within(base_codes::OR_ELSE, base_codes::COMPLEMENT, c),
-            within(base_codes::PLAIN, base_codes::CHOICE, c),
-        ),
-    )
-}
 
 // Or is it none, so a mark?
 pub fn is_mark(c: u8) -> bool
@@ -41,32 +31,6 @@ pub fn mark_from(codes: &[u8], i: usize) -> usize
         k += 1;
     }
     k
-}
-
-// Does a statement begin with this mark of its own?
-pub fn is_alone(c: u8) -> bool
-    ensures { λ r. ⌜ r ≡ places.isAlone c ⌝ }
-{
-    either(
-        either(c == 72, c == base_codes::SKIP),
-        either(
-            within(base_codes::BREAK, base_codes::ELSE, c),
-            either(c == base_codes::IF, c == base_codes::DO),
-        ),
-    )
-}
-
-// Is this the mark of a statement that begins with a phrase?
-pub fn is_lead(c: u8) -> bool
-    ensures { λ r. ⌜ r ≡ places.isLead c ⌝ }
-{
-    either(
-        within(base_codes::EXPRESS, base_codes::TARGET, c),
-        either(
-            within(base_codes::INCREMENT, base_codes::ASSERT, c),
-            either(c == base_codes::GOTO, c == base_codes::RUN),
-        ),
-    )
 }
 
 // Does a statement have its place here?
@@ -113,7 +77,7 @@ pub fn place_from(codes: &[u8], k: usize) -> usize
 }
 
 fn is_opening(pair: u8, c: u8) -> bool
-    ensures { λ r. ⌜ r ≡ places.isOpening pair c ⌝ }
+    ensures { λ r. ⌜ r ≡ sets.isOpening pair c ⌝ }
 {
     match pair {
         0 => either(c == base_codes::IF, c == base_codes::DO),
@@ -124,7 +88,7 @@ fn is_opening(pair: u8, c: u8) -> bool
 }
 
 fn is_closing(pair: u8, c: u8) -> bool
-    ensures { λ r. ⌜ r ≡ places.isClosing pair c ⌝ }
+    ensures { λ r. ⌜ r ≡ sets.isClosing pair c ⌝ }
 {
     match pair {
         0 => either(c == base_codes::FI, c == base_codes::OD),

@@ -1,19 +1,19 @@
 -- The laws that the entries cite.
 use mathlib.Core.Path.{_≡_, refl, sym, ap, _∙_}
 use mathlib.Core.Bool.{Bool, true, false}
-use mathlib.Core.List.{List, [], _∷_, _++_}
+use mathlib.Core.List.{List, _++_}
 use Prim.Native.Nat.{ℕ, _+_, _-_, _≤_, _<_, min}
 use native.Mathlib.Omega.{arith}
 use borrow.Author.Tests.{lt-ltb, le-ltb, ltb-false}
 use lib.Dec.{ltb}
-use lib.ListN.{length, getD, take, drop, length-append}
+use lib.ListN.{length, take, drop, length-append}
 use lib.Seq.{take-at}
+use Rattle.base_ceilings.specs.Ceilings.{normalMost, tablesRoom}
 use Rattle.base_bytes.specs.Choice.{pick}
 use Rattle.base_bytes.specs.Lists.{pasted}
-use Rattle.base_pens.specs.Pen.{Pen, pen, puts}
-use Rattle.base_pens.proofs.Pen.{puts-fit}
+use Rattle.base_pens.specs.Pen.{pen, puts}
+use Rattle.base_pens.proofs.Pen.{puts-fit, list-of, at-of}
 use Rattle.read_passes.specs.declared.Judged.{Judged}
-use Rattle.read_passes.specs.declared.Judged.the-variants as judged
 use Rattle.read_passes.specs.Judging.{judgeOf, tablesText}
 use Rattle.read_accepts_proof.proofs.Main.{accepted-means}
 use Rattle.read_entry.specs.Entries.{readOf, stays, leftOf as readLeft}
@@ -24,16 +24,12 @@ use Rattle.table_genuine.specs.Genuine.{written, agrees, returns, genuine}
 use Rattle.table_genuine.proofs.Laws.{counted, written-front, some-numbers}
 use Rattle.normal_entry.specs.declared.Written.{Written}
 use Rattle.normal_entry.specs.declared.Written.the-variants.{Text, Refused}
-use Rattle.normal_entry.specs.Entries.{roomy, put, normalBy, normalText, answerOf, leftOf, answerFrom, leftFrom}
+use Rattle.normal_entry.specs.Entries.{roomy, put, normalBy, answerOf, leftOf, answerFrom, leftFrom}
+use Rattle.normal_proof.specs.Texts.{normalText}
+use Rattle.read_passes.specs.declared.Judged.the-variants as judged
 
 -- ---- a text in an array, and copied
-at-of : {x y : Pen} → x ≡ y → x .at ≡ y .at
-at-of e = ap (λ (w : Pen). w .at) e
-
-list-of : {x y : Pen} → x ≡ y → x .list ≡ y .list
-list-of e = ap (λ (w : Pen). w .list) e
-
-module _ (u zeros text : List ℕ) (n : ℕ) (old : List ℕ) (few : length u ≤ 8192) (l : length zeros ≡ 8192) (e : pen text n ≡ puts u (pen zeros 0)) where
+module _ (u zeros text : List ℕ) (n : ℕ) (old : List ℕ) (few : length u ≤ normalMost) (l : length zeros ≡ normalMost) (e : pen text n ≡ puts u (pen zeros 0)) where
   laid : pen text n ≡ pen (u ++ drop (length u) zeros) (length u)
   laid = e ∙ puts-fit u zeros (omega arith)
 
@@ -49,7 +45,7 @@ module _ (u zeros text : List ℕ) (n : ℕ) (old : List ℕ) (few : length u �
       )
 
 -- ---- from a text
-module _ (t zeros tables : List ℕ) (r : Judged) (l : length zeros ≡ 16384) (e : r ≡ readOf t zeros) (f : tables ≡ readLeft t zeros) where
+module _ (t zeros tables : List ℕ) (r : Judged) (l : length zeros ≡ tablesRoom) (e : r ≡ readOf t zeros) (f : tables ≡ readLeft t zeros) where
   pub judged-is : r ≡ judgeOf t
   judged-is = whole-room t zeros r l e
 
@@ -61,7 +57,7 @@ module _ (t zeros tables : List ℕ) (r : Judged) (l : length zeros ≡ 16384) (
       let n : tables ≡ tablesText t ++ drop (length (tablesText t)) zeros = f ∙ ap (λ (z : Judged). stays z (tablesText t) zeros) (sym e ∙ q) in
       ap written n ∙ written-front (tablesText t) (drop (length (tablesText t)) zeros) (counted t a) (some-numbers t a)
 
-  pub text-room : (w : List ℕ) → r ≡ judged.Accepted → w ≡ written tables → length (normalOf w) ≤ 8192
+  pub text-room : (w : List ℕ) → r ≡ judged.Accepted → w ≡ written tables → length (normalOf w) ≤ normalMost
   text-room w q ew = rw (ew ∙ written-is q) (text-short t (accepted-means t (sym judged-is ∙ q)))
 
   pub text-written : (w old new : List ℕ) (x : Written) → r ≡ judged.Accepted → w ≡ written tables → x ≡ roomy (normalOf w) old → new ≡ put x (normalOf w) old
@@ -82,27 +78,27 @@ module _ (ts old : List ℕ) where
   left-by : (x : Written) → x ≡ answerFrom ts old → old ≡ put x (normalOf (written ts)) old → old ≡ leftFrom ts old
   left-by x e h = h ∙ ap (λ (z : Written). put z (normalOf (written ts)) old) e
 
-  pub tables-short : length ts < 16384 → (Refused 7 0 0 ≡ answerFrom ts old) × (old ≡ leftFrom ts old)
+  pub tables-short : length ts < tablesRoom → (Refused 7 0 0 ≡ answerFrom ts old) × (old ≡ leftFrom ts old)
   unfolding answerFrom
-  tables-short h = let a : Refused 7 0 0 ≡ answerFrom ts old = simp (lt-ltb (length ts) 16384 h) in (a, left-by (Refused 7 0 0) a refl)
+  tables-short h = let a : Refused 7 0 0 ≡ answerFrom ts old = simp (lt-ltb (length ts) tablesRoom h) in (a, left-by (Refused 7 0 0) a refl)
 
-  pub tables-foreign : (b : Bool) → 16384 ≤ length ts → b ≡ genuine ts → b ≡ false → (Refused 8 0 0 ≡ answerFrom ts old) × (old ≡ leftFrom ts old)
+  pub tables-foreign : (b : Bool) → tablesRoom ≤ length ts → b ≡ genuine ts → b ≡ false → (Refused 8 0 0 ≡ answerFrom ts old) × (old ≡ leftFrom ts old)
   unfolding answerFrom
-  tables-foreign b h e q = let a : Refused 8 0 0 ≡ answerFrom ts old = simp (le-ltb (length ts) 16384 h, sym e ∙ q) in (a, left-by (Refused 8 0 0) a refl)
+  tables-foreign b h e q = let a : Refused 8 0 0 ≡ answerFrom ts old = simp (le-ltb (length ts) tablesRoom h, sym e ∙ q) in (a, left-by (Refused 8 0 0) a refl)
 
-  pub tables-written : (b : Bool) (w new : List ℕ) (x : Written) → 16384 ≤ length ts → b ≡ genuine ts → b ≡ true → w ≡ written ts → x ≡ roomy (normalOf w) old → new ≡ put x (normalOf w) old
+  pub tables-written : (b : Bool) (w new : List ℕ) (x : Written) → tablesRoom ≤ length ts → b ≡ genuine ts → b ≡ true → w ≡ written ts → x ≡ roomy (normalOf w) old → new ≡ put x (normalOf w) old
       → (x ≡ answerFrom ts old) × (new ≡ leftFrom ts old)
   unfolding answerFrom
   tables-written b w new x h e q ew ex en =
-      let a : x ≡ answerFrom ts old = ex ∙ ap (λ (z : List ℕ). roomy (normalOf z) old) ew ∙ simp (le-ltb (length ts) 16384 h, sym e ∙ q) in
+      let a : x ≡ answerFrom ts old = ex ∙ ap (λ (z : List ℕ). roomy (normalOf z) old) ew ∙ simp (le-ltb (length ts) tablesRoom h, sym e ∙ q) in
       (a, en ∙ ap (λ (z : List ℕ). put x (normalOf z) old) ew ∙ ap (λ (z : Written). put z (normalOf (written ts)) old) a)
 
 -- a text that is returned is short
-pub genuine-short : (ts : List ℕ) (b : Bool) (w : List ℕ) → b ≡ genuine ts → b ≡ true → w ≡ written ts → length (normalOf w) ≤ 8192
+pub genuine-short : (ts : List ℕ) (b : Bool) (w : List ℕ) → b ≡ genuine ts → b ≡ true → w ≡ written ts → length (normalOf w) ≤ normalMost
 unfolding genuine returns
-genuine-short ts b w e q ew = rw ew (go (ltb 8192 (length (normalOf (written ts)))) refl (sym e ∙ q))
+genuine-short ts b w e q ew = rw ew (go (ltb normalMost (length (normalOf (written ts)))) refl (sym e ∙ q))
   where
-    go : (x : Bool) → ltb 8192 (length (normalOf (written ts))) ≡ x
-        → pick x false (agrees (judgeOf (normalOf (written ts))) (written ts) (tablesText (normalOf (written ts)))) ≡ true → length (normalOf (written ts)) ≤ 8192
+    go : (x : Bool) → ltb normalMost (length (normalOf (written ts))) ≡ x
+        → pick x false (agrees (judgeOf (normalOf (written ts))) (written ts) (tablesText (normalOf (written ts)))) ≡ true → length (normalOf (written ts)) ≤ normalMost
     go true h k = absurd (let z : _≡_ {A = ℕ} 0 1 = cc in omega arith)
-    go false h k = ltb-false 8192 (length (normalOf (written ts))) h
+    go false h k = ltb-false normalMost (length (normalOf (written ts))) h

@@ -2,6 +2,7 @@
 ghost use mathlib.Core.Path.{_≡_};
 ghost use Prim.Native.Nat.{_≤_};
 ghost use lib.ListN.{length};
+ghost use Rattle.base_ceilings.specs.Ceilings.{normalMost};
 ghost use Rattle.normal_writer.specs.Normal.{normalOf};
 ghost use Rattle.normal_entry.specs.Entries.{roomy, put, answerOf, leftOf, answerFrom, leftFrom};
 use read_passes::Judged;
@@ -12,16 +13,13 @@ pub enum Written {
     Refused(u8, usize, usize),
 }
 
-// The numbers that are lent for tables.
-const TABLES_ROOM: usize = 16384;
-
 // The normal text of the tables w, if there is room for it.
 fn lay(w: &[u32], out: &mut [u8]) -> Written
-    requires { ⌜ length (normalOf (now w)) ≤ 8192 ⌝ }
+    requires { ⌜ length (normalOf (now w)) ≤ normalMost ⌝ }
     ensures { λ r. ⌜ r ≡ roomy (normalOf (now (w .entry))) (now (out .entry)) ⌝ }
     ensures { λ r. ⌜ now (out .exit) ≡ put r (normalOf (now (w .entry))) (now (out .entry)) ⌝ }
 {
-    let mut text = [0u8; 8192];
+    let mut text = [0u8; base_ceilings::NORMAL_MOST];
     let n = normal_writer::write_normal(w, &mut text);
     if out.len() < n {
         return Written::Refused(7, 0, 0);
@@ -35,7 +33,7 @@ pub fn normal(text: &[u8], out: &mut [u8]) -> Written
     ensures { λ r. ⌜ r ≡ answerOf (now (text .entry)) (now (out .entry)) ⌝ }
     ensures { λ _. ⌜ now (out .exit) ≡ leftOf (now (text .entry)) (now (out .entry)) ⌝ }
 {
-    let mut tables = [0u32; 16384];
+    let mut tables = [0u32; base_ceilings::TABLES_ROOM];
     let j = read_entry::read(text, &mut tables);
     match j {
         Judged::Accepted => lay(table_genuine::written(&tables), out),
@@ -48,7 +46,7 @@ pub fn normal_of(tables: &[u32], out: &mut [u8]) -> Written
     ensures { λ r. ⌜ r ≡ answerFrom (now (tables .entry)) (now (out .entry)) ⌝ }
     ensures { λ _. ⌜ now (out .exit) ≡ leftFrom (now (tables .entry)) (now (out .entry)) ⌝ }
 {
-    if tables.len() < TABLES_ROOM {
+    if tables.len() < base_ceilings::TABLES_ROOM {
         return Written::Refused(7, 0, 0);
     }
     if table_genuine::is_genuine(tables) {

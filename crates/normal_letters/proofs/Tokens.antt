@@ -9,6 +9,7 @@ use lib.ListN.{length, getD, take, drop, set, length-set, length-append, length-
 use lib.Seq.{take-suc-set, append-snoc, take-at, take-all, drop-cons}
 use lib.Dec.{eqb, ltb}
 use borrow.Author.Tests.{lt-ltb, le-ltb, eq-eqb, ne-eqb}
+use Rattle.base_codes.specs.Codes.{c-number, c-text}
 use Rattle.base_bytes.specs.Choice.{pick}
 use Rattle.base_kinds.specs.Kinds.{Token, sym as symbol, name, number, text, kindOf}
 use Rattle.text_pieces.specs.Bytes.{quote}
@@ -31,17 +32,17 @@ module _ (t : List ℕ) where
   kind-fixed v h = rw (lt-ltb v 70 h)
 
   module _ (v i c : ℕ) (h : 70 ≤ v) (j : i ≡ v - 256) (e : c ≡ codeOf t i) where
-    pub kind-number : c ≡ 71 → 71 ≡ kindOf (tokenBy t v)
+    pub kind-number : c ≡ c-number → 71 ≡ kindOf (tokenBy t v)
     unfolding tokenBy heldOf
     kind-number f = rw (le-ltb v 70 h, ← j, ← e, f)
 
-    pub kind-text : c ≡ 72 → 72 ≡ kindOf (tokenBy t v)
+    pub kind-text : c ≡ c-text → 72 ≡ kindOf (tokenBy t v)
     unfolding tokenBy heldOf
     kind-text f = rw (le-ltb v 70 h, ← j, ← e, f)
 
-    pub kind-name : (c ≡ 71 → ⊥) → (c ≡ 72 → ⊥) → 70 ≡ kindOf (tokenBy t v)
+    pub kind-name : (c ≡ c-number → ⊥) → (c ≡ c-text → ⊥) → 70 ≡ kindOf (tokenBy t v)
     unfolding tokenBy heldOf
-    kind-name f g = rw (le-ltb v 70 h, ← j, ← e, ne-eqb c 71 f, ne-eqb c 72 g)
+    kind-name f g = rw (le-ltb v 70 h, ← j, ← e, ne-eqb c c-number f, ne-eqb c c-text g)
 
   pub fixed-spelled : (v : ℕ) (w x : Pen) → v < 70 → x ≡ puts (spelledBy v) w → x ≡ puts (spell (tokenBy t v)) w
   unfolding tokenBy
@@ -52,17 +53,17 @@ module _ (t : List ℕ) where
   held-spelled v i w x h j e = rw (le-ltb v 70 h, ← j) e
 
   module _ (i c : ℕ) (w x : Pen) (e : c ≡ codeOf t i) where
-    pub number-spelled : (n : ℕ) → c ≡ 71 → n ≡ numberOf t i → x ≡ puts (digitsBy 10 n) w → x ≡ puts (spell (heldOf t i)) w
+    pub number-spelled : (n : ℕ) → c ≡ c-number → n ≡ numberOf t i → x ≡ puts (digitsBy 10 n) w → x ≡ puts (spell (heldOf t i)) w
     unfolding heldOf
     number-spelled n f g p = rw (← e, f, ← g) p
 
-    pub text-spelled : (y z : Pen) → c ≡ 72 → y ≡ write-one 34 w → z ≡ puts (spelled t i) y → x ≡ write-one 34 z → x ≡ puts (spell (heldOf t i)) w
+    pub text-spelled : (y z : Pen) → c ≡ c-text → y ≡ write-one 34 w → z ≡ puts (spelled t i) y → x ≡ write-one 34 z → x ≡ puts (spell (heldOf t i)) w
     unfolding heldOf puts
     text-spelled y z f p q r = rw (← e, f, puts-append (spelled t i) (34 ∷ []) (write-one 34 w), ← p, ← q) r
 
-    pub name-spelled : (c ≡ 71 → ⊥) → (c ≡ 72 → ⊥) → x ≡ puts (spelled t i) w → x ≡ puts (spell (heldOf t i)) w
+    pub name-spelled : (c ≡ c-number → ⊥) → (c ≡ c-text → ⊥) → x ≡ puts (spelled t i) w → x ≡ puts (spell (heldOf t i)) w
     unfolding heldOf
-    name-spelled f g p = rw (← e, ne-eqb c 71 f, ne-eqb c 72 g) p
+    name-spelled f g p = rw (← e, ne-eqb c c-number f, ne-eqb c c-text g) p
 
   -- ---- the bytes of a name
   pub name-start : (i n : ℕ) (w : Pen) → n ≡ nameLength t i → puts (upto (nameByte t i) 0 (n - 0)) w ≡ puts (upto (nameByte t i) 0 (nameLength t i)) w
@@ -94,7 +95,7 @@ digits-short (suc f) n = go (ltb n 10) (digits-short f (n / 10))
 module _ (t : List ℕ) where
   held-short : (i : ℕ) → length (spell (heldOf t i)) ≤ 129
   unfolding heldOf
-  held-short i = go (eqb (codeOf t i) 71) (eqb (codeOf t i) 72)
+  held-short i = go (eqb (codeOf t i) c-number) (eqb (codeOf t i) c-text)
     where
       go : (a b : Bool) → length (spell (pick a (number (numberOf t i)) (pick b (text (spelled t i)) (name (spelled t i))))) ≤ 129
       go true b = omega (arith, digits-short 10 (numberOf t i))

@@ -1,8 +1,10 @@
+-- Mechanism, held to the specification by `text-normal` (crate `normal_proof`).
 -- The tokens that tables hold, by their numbers: what an item holds, and a token with the space before it (document 01, "Normal text").
 use mathlib.Core.List.{List, [], _∷_, _++_}
 use Prim.Native.Nat.{ℕ, _-_}
 use lib.ListN.{getD}
 use lib.Dec.{eqb, ltb}
+use Rattle.base_codes.specs.Codes.{c-number, c-text}
 use Rattle.base_bytes.specs.Choice.{pick}
 use Rattle.base_kinds.specs.Kinds.{Token, sym, name, number, text}
 use Rattle.text_spacing_proof.specs.Writing.{spell}
@@ -21,7 +23,7 @@ module _ (t : List ℕ) where
 
   -- what item i holds
   unfoldable pub heldOf : ℕ → Token
-  heldOf i = pick (eqb (codeOf t i) 71) (number (numberOf t i)) (pick (eqb (codeOf t i) 72) (text (spelled i)) (name (spelled i)))
+  heldOf i = pick (eqb (codeOf t i) c-number) (number (numberOf t i)) (pick (eqb (codeOf t i) c-text) (text (spelled i)) (name (spelled i)))
 
   -- a token by its number: a kind, or 256 and an item
   unfoldable pub tokenBy : ℕ → Token

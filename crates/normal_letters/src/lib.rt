@@ -27,10 +27,10 @@ fn put_held(t: &[u32], i: usize, out: &mut [u8], p: usize) -> usize
     ensures { λ r. ⌜ pen (now (out .exit)) r ≡ puts (spell (heldOf (now (t .entry)) i)) (pen (now (out .entry)) p) ⌝ }
 {
     let c = table_layout::code(t, i);
-    if c == 71 {
+    if c == base_codes::NUMBER {
         return text_pens::put_digits(table_layout::number(t, i) as u32, 10, out, p);
     }
-    if c == 72 {
+    if c == base_codes::TEXT {
         let a = text_pens::put(out, p, b'"');
         let b = put_name(t, i, out, a);
         return text_pens::put(out, b, b'"');
@@ -63,10 +63,10 @@ fn kind_by(t: &[u32], v: u32) -> u8
         return v as u8;
     }
     let c = table_layout::code(t, item_of(v));
-    if c == 71 {
+    if c == base_codes::NUMBER {
         return 71;
     }
-    if c == 72 { 72 } else { 70 }
+    if c == base_codes::TEXT { 72 } else { 70 }
 }
 
 fn space_if(b: bool, out: &mut [u8], p: usize) -> usize

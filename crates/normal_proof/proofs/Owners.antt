@@ -7,6 +7,7 @@ use mathlib.Core.List.{List}
 use borrow.Author.Tests.{le-ltb}
 use lib.Dec.{ltb}
 use lib.ListN.{length}
+use Rattle.base_ceilings.specs.Ceilings.{normalMost}
 use Rattle.base_bytes.specs.Choice.{pick}
 use Rattle.base_bytes.specs.Lists.{same}
 use Rattle.base_bytes.proofs.Lists.{same-refl, same-eq}
@@ -21,7 +22,7 @@ use Rattle.normal_proof.proofs.Texts.{text-short, text-accepted, normal
 
 pub genuine-owned : (ts : List ℕ) → genuine ts ≡ true → Owned ts
 unfolding genuine returns
-genuine-owned ts e = go (ltb 8192 (length (normalOf (written ts)))) (judgeOf (normalOf (written ts))) refl e
+genuine-owned ts e = go (ltb normalMost (length (normalOf (written ts)))) (judgeOf (normalOf (written ts))) refl e
   where
     go : (b : Bool) (j : Judged) → judgeOf (normalOf (written ts)) ≡ j → pick b false (agrees j (written ts) (tablesText (normalOf (written ts)))) ≡ true → Owned ts
     go true j h k = absurd (let z : _≡_ {A = ℕ} 0 1 = cc in omega arith)
@@ -29,10 +30,10 @@ genuine-owned ts e = go (ltb 8192 (length (normalOf (written ts)))) (judgeOf (no
     go false (Refused x i n) h k = absurd (let z : _≡_ {A = ℕ} 0 1 = cc in omega arith)
 
 -- a short text that is accepted with the tables w returns them
-returned : (w u : List ℕ) → length u ≤ 8192 → judgeOf u ≡ Accepted → tablesText u ≡ w → returns w u ≡ true
+returned : (w u : List ℕ) → length u ≤ normalMost → judgeOf u ≡ Accepted → tablesText u ≡ w → returns w u ≡ true
 unfolding returns
 returned w u h j e =
-    ap (λ (b : Bool). pick b false (agrees (judgeOf u) w (tablesText u))) (le-ltb 8192 (length u) h)
+    ap (λ (b : Bool). pick b false (agrees (judgeOf u) w (tablesText u))) (le-ltb normalMost (length u) h)
     ∙ (ap (λ (z : Judged). agrees z w (tablesText u)) j ∙ ap (same w) e ∙ same-refl w)
 
 pub owned-genuine : (ts : List ℕ) → Owned ts → genuine ts ≡ true

@@ -5,6 +5,7 @@ use native.Mathlib.Omega.{arith}
 use mathlib.Core.Path.{_≡_, sym, _∙_, ap}
 use mathlib.Core.List.{List}
 use lib.ListN.{length}
+use Rattle.base_ceilings.specs.Ceilings.{normalMost}
 use Rattle.text_spacing_proof.proofs.Exact.{reading-exact}
 use Rattle.read_passes.specs.declared.Judged.the-variants.{Accepted}
 use Rattle.read_passes.specs.Judging.{judgeOf, tablesText}
@@ -14,10 +15,7 @@ use Rattle.read_accepts_proof.proofs.Tables.{text-tables, tree-tables}
 use Rattle.normal_writer.specs.Normal.{normalOf}
 use Rattle.normal_shortest_proof.specs.Normal.{normal}
 use Rattle.normal_shortest_proof.proofs.Main.{never-longer, normal-accepted, normal-tree, tables-normal, equal-normals}
-
--- what the writer makes of a text's tables
-abbrev pub normalText : List ℕ → List ℕ
-normalText t = normalOf (tablesText t)
+use Rattle.normal_proof.specs.Texts.{normalText}
 
 module _ (t : List ℕ) (a : Accepts t) where
   pub text-normal : normalText t ≡ normal (a .tree)
@@ -26,7 +24,7 @@ module _ (t : List ℕ) (a : Accepts t) where
   pub text-never-longer : length (normalText t) ≤ length t
   text-never-longer = omega (arith, ap length text-normal, never-longer t a)
 
-  pub text-short : length (normalText t) ≤ 8192
+  pub text-short : length (normalText t) ≤ normalMost
   text-short = omega (arith, text-never-longer, reading-exact t (a .parts) .0 (a .reads) .1)
 
   pub text-accepted : judgeOf (normalText t) ≡ Accepted

@@ -10,15 +10,16 @@ use lib.ListN.{length, getD, length-append}
 use lib.Dec.{eqb, ltb, leb}
 use native.Mathlib.Decide.{ℕ-discrete}
 use borrow.Author.Tests.{ne-eqb, leb-true}
-use Rattle.base_codes.specs.Codes.{c-bit, c-bool, c-byte, c-chan, c-channel, c-declared, c-field, c-int, c-minus, c-mtype, c-named, c-pid, c-short, c-size, c-value}
+use Rattle.base_codes.specs.Codes.{c-bit, c-bool, c-byte, c-chan, c-channel, c-declared, c-field, c-int, c-minus, c-mtype, c-named, c-number, c-pid, c-short, c-size, c-value}
 use Rattle.base_bytes.specs.Choice.{pick, both}
 use Rattle.base_bytes.proofs.Tests.{both-true}
 use Rattle.base_kinds.specs.Kinds.{Token, sym, name, number, text}
 use Rattle.spec_grammar.specs.Marks.{'comma, 'rbrace}
 use Rattle.spec_grammar.specs.Tree.{num, tru, fls, Value, unset, set-number, set-minus, set-true, set-false, set-name, set-channel, Variable, variable, Declaration, declare}
-use Rattle.spec_grammar.specs.Code.{Item, i-name, i-type, i-declared, each, code-field, code-size, code-value, code-variable, code-declaration}
+use Rattle.base_codes.specs.Items.{Item, codeOf, i-declared, i-name, i-type}
+use Rattle.parse_code.specs.Code.{each, code-field, code-size, code-value, code-variable, code-declaration}
 use Rattle.spec_grammar.specs.Print.{further, join, print-type, print-value, print-size, print-variable, print-declaration}
-use Rattle.table_entries.specs.Items.{codeOf, entryOf}
+use Rattle.table_entries.specs.Items.{entryOf}
 use Rattle.normal_rows.specs.Rules.{rows}
 use Rattle.normal_writer.specs.Turning.{cell, rowFrom, rowOf, laid, turned, isToken, after, marked}
 use Rattle.normal_reprint_proof.specs.Here.{Sane, tok, flagged, Here}
@@ -168,8 +169,8 @@ module _ (h : ℕ → Token) (ms : List ℕ) where
         go h ms j (suc i) 134 c-field (aft ++ st) (27 ∷ 122 ∷ 134 ∷ (aft ++ st)) out (omega arith) refl (p .3 .0) (more-fields-row (suc i) (aft ++ st)) ∙ emit h ms 27 refl _ _ _ ∙ type-here h ms k i b (p .2) (p .0) _ _
 
     -- `=` and the capacity, before the types
-    capacity : (n i : ℕ) (out : List Token) → getD ms i 0 ≡ 71 → h i ≡ number n → W h ms (suc i) (124 ∷ (aft ++ st)) out ≡ W h ms i (135 ∷ (aft ++ st)) (sym 32 ∷ sym 23 ∷ number n ∷ out)
-    capacity n i out g e = go h ms (suc i) i 124 71 (aft ++ st) ((256 + i) ∷ 23 ∷ 32 ∷ 135 ∷ (aft ++ st)) out refl refl g (capacity-row i (aft ++ st)) ∙ tell h ms i (number n) e _ _ _ ∙ emit h ms 23 refl _ _ _ ∙ emit h ms 32 refl _ _ _
+    capacity : (n i : ℕ) (out : List Token) → getD ms i 0 ≡ c-number → h i ≡ number n → W h ms (suc i) (124 ∷ (aft ++ st)) out ≡ W h ms i (135 ∷ (aft ++ st)) (sym 32 ∷ sym 23 ∷ number n ∷ out)
+    capacity n i out g e = go h ms (suc i) i 124 c-number (aft ++ st) ((256 + i) ∷ 23 ∷ 32 ∷ 135 ∷ (aft ++ st)) out refl refl g (capacity-row i (aft ++ st)) ∙ tell h ms i (number n) e _ _ _ ∙ emit h ms 23 refl _ _ _ ∙ emit h ms 32 refl _ _ _
 
     channel : (n : ℕ) (ks : List ℕ) (b : Bool) (i j : ℕ) → j ≡ i + length (code-value (set-channel n ks)) → Here h ms b i (code-value (set-channel n ks)) → (out : List Token)
         → W h ms j (s ∷ st) out ≡ W h ms i (135 ∷ (aft ++ st)) (print-value (set-channel n ks) ++ (sep f (sym v) ++ out))

@@ -2,25 +2,24 @@
 use Prim.Native.Nat.{ℕ, zero, suc, _+_, _-_, _≤_, _<_}
 use native.Mathlib.Omega.{arith}
 use native.Mathlib.Decide.{decLt}
-use mathlib.Core.Path.{_≡_, refl, sym as inv, _∙_, ap, subst}
+use mathlib.Core.Path.{_≡_, refl, _∙_, ap}
 use mathlib.Core.Bool.{Bool, true, false}
 use mathlib.Core.Logic.{_⊎_, inl, inr}
 use mathlib.Core.List.{List, [], _∷_, _++_, append-assoc}
 use lib.ListN.{length, getD, length-append}
 use lib.Dec.{eqb, ltb, leb}
-use borrow.Author.Tests.{lt-ltb, le-ltb, eq-eqb, ne-eqb, leb-true, leb-false, eqb-true}
-use Rattle.base_codes.specs.Codes.{c-choice, c-complement, c-end, c-false, c-index, c-len, c-negate, c-not, c-or-else, c-otherwise, c-plain, c-true}
+use borrow.Author.Tests.{lt-ltb, le-ltb, ne-eqb, leb-true, leb-false, eqb-true}
+use Rattle.base_codes.specs.Codes.{c-choice, c-complement, c-end, c-false, c-index, c-len, c-negate, c-not, c-number, c-or-else, c-otherwise, c-plain, c-text, c-true}
 use Rattle.base_bytes.specs.Choice.{pick, both, either}
-use Rattle.base_bytes.proofs.Tests.{both-true, either-true, true-false}
-use Rattle.base_kinds.specs.Kinds.{Token, sym, name, number, text}
+use Rattle.base_bytes.proofs.Tests.{both-true, either-true}
+use Rattle.base_kinds.specs.Kinds.{Token, sym, number, level}
 use Rattle.base_values.specs.Operators.{levelOf}
-use Rattle.spec_grammar.specs.Tree.{Shape, expression, reference, Exp, plain, indexed, num, tru, fls, get, len, unary, binary, choice, Ref}
-use Rattle.spec_grammar.specs.Grammar.{level, Is-unary, is-minus, is-not, is-flip}
-use Rattle.spec_grammar.specs.Code.{Item, i-name, i-plain, i-index, i-len, i-unary, i-binary, i-otherwise, i-choice, code-exp}
+use Rattle.spec_grammar.specs.Tree.{Shape, Exp, plain, indexed, num, tru, fls, get, len, unary, binary, choice, Ref}
+use Rattle.base_codes.specs.Items.{codeOf, i-binary, i-choice, i-index, i-len, i-otherwise, i-unary}
+use Rattle.parse_code.specs.Code.{code-exp}
 use Rattle.spec_grammar.specs.Print.{wrap, print-exp}
-use Rattle.table_entries.specs.Items.{codeOf}
 use Rattle.normal_rows.specs.Rules.{rows}
-use Rattle.normal_writer.specs.Turning.{cell, rowFrom, shared, rowOf, laid, operated, isBinary, turned, isToken, after, marked}
+use Rattle.normal_writer.specs.Turning.{cell, rowFrom, shared, rowOf, laid, operated, turned, isToken, marked}
 use Rattle.normal_reprint_proof.specs.Here.{Sane, flagged, Here}
 use Rattle.normal_reprint_proof.proofs.Walk.{W, emit, go, tell, here-front, here-back, operand-row, name-here}
 
@@ -41,7 +40,7 @@ sane-unary o (inl e) = by (either-true (eqb o 15) (either (eqb o 19) (eqb o 20))
     by (inr z) = last (either-true (eqb o 19) (eqb o 20) z)
 sane-unary o (inr e) = absurd (big (eqb o 15) e)
   where
-    big : (b : Bool) → pick b c-negate (c-or-else + o) ≤ 72 → ⊥
+    big : (b : Bool) → pick b c-negate (c-or-else + o) ≤ c-text → ⊥
     big true l = omega arith
     big false l = omega arith
 
@@ -151,7 +150,7 @@ module _ (h : ℕ → Token) (ms : List ℕ) where
   walk-exp (plain w) f i j l n p a b st out =
       at-level j (suc i) l c-plain st (120 ∷ st) out (omega arith) a b (p .3 .0) refl (plain-row (suc i) st) ∙ name-here h ms (suc i) i w refl (p .0) (p .1 (omega arith)) st out
   walk-exp (num v) f i j l n p a b st out =
-      at-level j i l 71 st ((256 + i) ∷ st) out (omega arith) a b (p .0) refl (operand-row i st) ∙ tell h ms i (number v) (p .1 (omega arith)) i st out
+      at-level j i l c-number st ((256 + i) ∷ st) out (omega arith) a b (p .0) refl (operand-row i st) ∙ tell h ms i (number v) (p .1 (omega arith)) i st out
   walk-exp tru f i j l n p a b st out = at-level j i l c-true st (65 ∷ st) out (omega arith) a b (p .0) refl (true-row i st) ∙ emit h ms 65 refl i st out
   walk-exp fls f i j l n p a b st out = at-level j i l c-false st (52 ∷ st) out (omega arith) a b (p .0) refl (false-row i st) ∙ emit h ms 52 refl i st out
   walk-exp (get r) f i j l n p a b st out = walk-exp r f i j l n p a b st out ∙ ap (λ (z : List Token). W h ms i st (z ++ out)) (ref-level r l 12)

@@ -8,14 +8,15 @@ use mathlib.Core.List.{List, [], _∷_, _++_, append-assoc}
 use lib.ListN.{length, getD, length-append}
 use lib.Dec.{eqb, ltb}
 use borrow.Author.Tests.{ne-eqb}
-use Rattle.base_codes.specs.Codes.{c-argument, c-constant, c-equal, c-into, c-receive, c-run, c-send, c-set-run}
+use Rattle.base_codes.specs.Codes.{c-argument, c-constant, c-equal, c-into, c-receive, c-run, c-send, c-set-run, c-text}
 use Rattle.base_bytes.specs.Choice.{pick, both, either}
 use Rattle.base_kinds.specs.Kinds.{Token, sym, name, number, text}
 use Rattle.spec_grammar.specs.Marks.{'comma}
 use Rattle.spec_grammar.specs.Tree.{Shape, Exp, plain, indexed, num, tru, fls, get, len, unary, binary, choice, Expr, Received, into, equal, exactly, exactly-true, exactly-false}
-use Rattle.spec_grammar.specs.Code.{Item, i-argument, i-into, i-equal, i-constant, i-name, i-plain, i-index, i-len, i-unary, i-binary, i-otherwise, i-choice, each, code-exp, code-argument, code-received}
+use Rattle.base_codes.specs.Items.{Item, codeOf, i-argument, i-binary, i-choice, i-equal, i-index, i-into, i-len, i-otherwise, i-unary}
+use Rattle.parse_code.specs.Code.{each, code-exp, code-argument, code-received}
 use Rattle.spec_grammar.specs.Print.{print-exp, print-whole, print-received, further, join}
-use Rattle.table_entries.specs.Items.{codeOf, entryOf}
+use Rattle.table_entries.specs.Items.{entryOf}
 use Rattle.normal_rows.specs.Rules.{rows}
 use Rattle.normal_writer.specs.Turning.{cell, rowFrom, rowOf, laid, turned, after, marked}
 use Rattle.normal_reprint_proof.specs.Here.{flagged, Here}
@@ -39,8 +40,8 @@ pub flagged-append : (x y : List Item) (b : Bool) → flagged b (x ++ y) ≡ fla
 flagged-append [] y b = refl
 flagged-append (a ∷ x) y b = flagged-append x y (after b (entryOf a .code))
 
-unflagged : (c : ℕ) (b : Bool) → (c ≡ c-send → ⊥) → (c ≡ c-receive → ⊥) → (c ≡ 72 → ⊥) → (c ≡ c-run → ⊥) → (c ≡ c-set-run → ⊥) → after b c ≡ b
-unflagged c b p q r s t = rw (ne-eqb c c-send p, ne-eqb c c-receive q, ne-eqb c 72 r, ne-eqb c c-run s, ne-eqb c c-set-run t)
+unflagged : (c : ℕ) (b : Bool) → (c ≡ c-send → ⊥) → (c ≡ c-receive → ⊥) → (c ≡ c-text → ⊥) → (c ≡ c-run → ⊥) → (c ≡ c-set-run → ⊥) → after b c ≡ b
+unflagged c b p q r s t = rw (ne-eqb c c-send p, ne-eqb c c-receive q, ne-eqb c c-text r, ne-eqb c c-run s, ne-eqb c c-set-run t)
 
 module _ (h : ℕ → Token) (ms : List ℕ) where
   pub flag-exp : {s : Shape} (e : Exp s) (f : Bool) (i : ℕ) → Here h ms f i (code-exp e) → (b : Bool) → flagged b (code-exp e) ≡ b

@@ -3,23 +3,19 @@ use Prim.Native.Nat.{ℕ, zero, suc, _+_, _-_, _≤_, _<_, min}
 use native.Mathlib.Omega.{arith}
 use native.Mathlib.Numerals.{add-one}
 use mathlib.Core.Path.{_≡_, refl, sym as inv, _∙_, ap, subst}
-use mathlib.Core.Bool.{Bool, true, false}
+use mathlib.Core.Bool.{Bool, false}
 use mathlib.Core.Logic.{_⊎_, inl, inr}
 use mathlib.Core.List.{List, [], _∷_, _++_, append-nil, map}
 use lib.ListN.{length, getD, length-append, length-map}
 use lib.Seq.{getD-at}
-use Rattle.base_codes.specs.Codes.{c-or-else}
-use Rattle.base_bytes.specs.Choice.{pick, both}
-use Rattle.base_bytes.proofs.Tests.{both-true}
+use Rattle.base_ceilings.specs.Ceilings.{itemsMost}
+use Rattle.base_codes.specs.Codes.{c-end-body, c-name, c-number, c-plain, c-text}
 use Rattle.base_kinds.specs.Kinds.{Token, sym, name, number, text}
 use Rattle.text_spacing_proof.specs.Writing.{write}
 use Rattle.spec_grammar.specs.Tree.{Model}
-use Rattle.spec_grammar.specs.Code.{Item, i-plain, code}
 use Rattle.spec_grammar.specs.Print.{print-model}
-use Rattle.parse_tables.specs.Numbering.{items, nth, item}
 use Rattle.table_entries.specs.Entry.{Entry, entry, nothing}
-use Rattle.table_entries.specs.Items.{entryOf, Known, is-name, is-text, is-number, is-mark, AllKnown}
-use Rattle.table_entries.proofs.Items.{mark-entry}
+use Rattle.table_entries.specs.Items.{entryOf, Known, is-name, is-text, is-number, is-mark, AllKnown, is-type, is-unary, is-binary}
 use Rattle.table_layout.specs.Tables.{tablesOf}
 use Rattle.table_layout.specs.Access.{itemsOf, codeOf, numberOf}
 use Rattle.table_layout.specs.Back.{AllFair, Small, bytesBack, valueBack, entryBack}
@@ -27,57 +23,61 @@ use Rattle.table_layout.specs.Trees.{entriesIn, tablesIn}
 use Rattle.table_layout.proofs.Holds.{holds-items, holds-code}
 use Rattle.table_layout.proofs.Back.{entry-back}
 use Rattle.table_layout.proofs.Trees.{items-fair}
-use Rattle.table_proof.specs.Marks.{isMark}
 use Rattle.normal_writer.specs.Turning.{marked, after, marks, told, walk, whole}
 use Rattle.normal_letters.specs.Tokens.{spelled, heldOf, tokenBy}
 use Rattle.normal_writer.specs.Normal.{codesIn, tokensOf, normalOf}
 use Rattle.normal_reprint_proof.specs.Here.{holds, tok, Sane, Here}
 use Rattle.normal_reprint_proof.proofs.Models.{walk-model}
+use borrow.Author.Tests.{le-leb}
+use Rattle.spec_grammar.specs.Grammar.{is-minus, is-not, is-flip}
+use Rattle.base_codes.specs.Items.{Item}
+use Rattle.parse_code.specs.Code.{code}
 
 -- ---- an item of a text has a number
-abbrev all-marks : List Item → Bool
-all-marks [] = true
-all-marks (x ∷ l) = both (isMark x) (all-marks l)
-
-marks-at : (l : List Item) → all-marks l ≡ true → (j : ℕ) → j < length l → isMark (nth l j i-plain) ≡ true
-marks-at [] e j h = absurd (omega arith)
-marks-at (x ∷ l) e zero h = both-true (isMark x) (all-marks l) e .0
-marks-at (x ∷ l) e (suc j) h = marks-at l (both-true (isMark x) (all-marks l) e .1) j (omega arith)
-
 known-sane : {x : Item} → Known x → Sane x
 known-sane (is-name a b) = inr (omega arith)
 known-sane (is-text a b) = inr (omega arith)
 known-sane is-number = inr (omega arith)
-known-sane (is-mark x a b) = inl (marks-at items refl (x - c-or-else) (omega arith))
+known-sane (is-type {k} a b) = inl (rw (le-leb 38 k a, le-leb k 45 b))
+known-sane (is-unary is-minus) = inl refl
+known-sane (is-unary is-not) = inl refl
+known-sane (is-unary is-flip) = inl refl
+known-sane (is-binary {o} a b) = inl (rw (le-leb 1 o a, le-leb o 18 b))
+known-sane (is-mark {c} a b) = inl (rw (le-leb c-plain c a, le-leb c c-end-body b))
 
 -- ---- what the tables say an item holds
 module _ (t : List ℕ) (j : ℕ) where
-  held-name : (w : List ℕ) → entryBack t j ≡ entry 70 w 0 → heldOf t j ≡ name w
+  held-name : (w : List ℕ) → entryBack t j ≡ entry c-name w 0 → heldOf t j ≡ name w
   unfolding heldOf entryBack bytesBack
   held-name w e =
-      let c : codeOf t j ≡ 70 = ap Entry.code e in
+      let c : codeOf t j ≡ c-name = ap Entry.code e in
       let b : spelled t j ≡ w = inv (rw c refl) ∙ ap Entry.bytes e in
       rw (c, b) refl
 
-  held-text : (w : List ℕ) → entryBack t j ≡ entry 72 w 0 → heldOf t j ≡ text w
+  held-text : (w : List ℕ) → entryBack t j ≡ entry c-text w 0 → heldOf t j ≡ text w
   unfolding heldOf entryBack bytesBack
   held-text w e =
-      let c : codeOf t j ≡ 72 = ap Entry.code e in
+      let c : codeOf t j ≡ c-text = ap Entry.code e in
       let b : spelled t j ≡ w = inv (rw c refl) ∙ ap Entry.bytes e in
       rw (c, b) refl
 
-  held-number : (n : ℕ) → entryBack t j ≡ entry 71 [] n → heldOf t j ≡ number n
+  held-number : (n : ℕ) → entryBack t j ≡ entry c-number [] n → heldOf t j ≡ number n
   unfolding heldOf entryBack valueBack
   held-number n e =
-      let c : codeOf t j ≡ 71 = ap Entry.code e in
+      let c : codeOf t j ≡ c-number = ap Entry.code e in
       let b : numberOf t j ≡ n = inv (rw c refl) ∙ ap Entry.value e in
       rw (c, b) refl
 
-  held-known : {x : Item} → Known x → entryBack t j ≡ entryOf x → entryOf x .code ≤ 72 → heldOf t j ≡ holds (entryOf x)
+  held-known : {x : Item} → Known x → entryBack t j ≡ entryOf x → entryOf x .code ≤ c-text → heldOf t j ≡ holds (entryOf x)
   held-known (is-name {w = w} a b) e l = held-name w e
   held-known (is-text {w = w} a b) e l = held-text w e
   held-known (is-number {n = n}) e l = held-number n e
-  held-known (is-mark x a b) e l = absurd (omega (arith, ap Entry.code (mark-entry x a b)))
+  held-known (is-type a b) e l = absurd (omega arith)
+  held-known (is-unary is-minus) e l = absurd (omega arith)
+  held-known (is-unary is-not) e l = absurd (omega arith)
+  held-known (is-unary is-flip) e l = absurd (omega arith)
+  held-known (is-binary a b) e l = absurd (omega arith)
+  held-known (is-mark a b) e l = absurd (omega arith)
 
 -- ---- the items stand in the marked codes
 module _ (t : List ℕ) where
@@ -132,10 +132,10 @@ module _ (m : Model) (ls : List ℕ) (known : AllKnown (code m)) (small : Small 
   abbrev M : List ℕ
   M = marks false (codeOf T) 0 (length (code m))
 
-  codes-are : length (entriesIn m) ≤ 8192 → codesIn T ≡ M
+  codes-are : length (entriesIn m) ≤ itemsMost → codesIn T ≡ M
   unfolding codesIn
   codes-are few =
-      let n : min 8192 (itemsOf T) ≡ length (code m) = omega (arith, holds-items (entriesIn m) ls, length-map (code m) entryOf) in
+      let n : min itemsMost (itemsOf T) ≡ length (code m) = omega (arith, holds-items (entriesIn m) ls, length-map (code m) entryOf) in
       ap (marks false (codeOf T) 0) n
 
   -- nothing is left below
@@ -148,9 +148,9 @@ module _ (m : Model) (ls : List ℕ) (known : AllKnown (code m)) (small : Small 
       walk-model (heldOf T) M m false 0 (length M) (omega (arith, length-marks false (codeOf T) 0 (length (code m)))) (here-marks T (code m) [] false 0 (length (code m)) refl refl all-facts) [] []
       ∙ bottom (print-model m ++ []) ∙ append-nil (print-model m)
 
-  tokens-are : length (entriesIn m) ≤ 8192 → tokensOf T ≡ print-model m
+  tokens-are : length (entriesIn m) ≤ itemsMost → tokensOf T ≡ print-model m
   unfolding tokensOf tokenBy
   tokens-are few = ap (λ (cs : List ℕ). walk (tok (heldOf T)) cs (length cs) (143 ∷ []) []) (codes-are few) ∙ walked
 
-  pub normal-text : length (entriesIn m) ≤ 8192 → normalOf (tablesIn m ls) ≡ write (print-model m)
+  pub normal-text : length (entriesIn m) ≤ itemsMost → normalOf (tablesIn m ls) ≡ write (print-model m)
   normal-text few = ap write (tokens-are few)

@@ -10,9 +10,9 @@ use Rattle.base_bytes.specs.Choice.{pick}
 use Rattle.base_kinds.specs.Kinds.{Token, sym, name, number}
 use Rattle.spec_grammar.specs.Marks.{'rpar, 'rbrace, 'comma, 'semi}
 use Rattle.spec_grammar.specs.Tree.{Name, Tree, sequence, Declaration, Group, group, Body, body, Activity, idle, once, times, Part, mtypes, global, process, init, Model}
-use Rattle.spec_grammar.specs.Code.{Item, i-local, i-global, i-body, i-end-body, each, code-tree, code-declaration, code-parameter, code-group, code-body, code-activity, code-message, code-part, code}
+use Rattle.base_codes.specs.Items.{i-end-body, i-global, i-local}
+use Rattle.parse_code.specs.Code.{each, code-tree, code-declaration, code-parameter, code-group, code-body, code-activity, code-message, code-part, code}
 use Rattle.spec_grammar.specs.Print.{join, further, print-tree, print-declaration, print-name, print-group, print-items, print-body, print-activity, print-part, print-model}
-use Rattle.table_entries.specs.Items.{codeOf}
 use Rattle.normal_rows.specs.Rules.{rows}
 use Rattle.normal_writer.specs.Turning.{cell, rowFrom, rowOf, laid, turned, isToken, after, marked}
 use Rattle.normal_reprint_proof.specs.Here.{tok, flagged, Here}

@@ -5,14 +5,14 @@ use mathlib.Core.Path.{_≡_, refl, sym as inv, _∙_, ap}
 use mathlib.Core.Bool.{Bool, true, false}
 use mathlib.Core.List.{List, [], _∷_, _++_, append-assoc}
 use lib.ListN.{length, getD, length-append}
-use Rattle.base_codes.specs.Codes.{c-assert, c-assign, c-break, c-decrement, c-do, c-else, c-end, c-end-closed, c-end-option, c-express, c-fi, c-goto, c-if, c-increment, c-label, c-od, c-option, c-receive, c-run, c-send, c-set-run, c-skip, c-target, c-timeout}
+use Rattle.base_codes.specs.Codes.{c-assert, c-assign, c-break, c-decrement, c-do, c-else, c-end, c-end-closed, c-end-option, c-express, c-fi, c-goto, c-if, c-increment, c-label, c-od, c-option, c-receive, c-run, c-send, c-set-run, c-skip, c-target, c-text, c-timeout}
 use Rattle.base_bytes.specs.Choice.{pick, both}
 use Rattle.base_kinds.specs.Kinds.{Token, sym, name, number, text}
 use Rattle.spec_grammar.specs.Marks.{'semi, 'comma}
 use Rattle.spec_grammar.specs.Tree.{Sort, action, statement, sequence, options, Expr, Received, Tree, express, assign, increment, decrement, send, receive, assert, print, skip, goto, break, timeout, else, run, set-run, select, loop, bare, labelled, end, then, over, option}
-use Rattle.spec_grammar.specs.Code.{Item, i-text, i-name, i-end, i-label, i-express, i-target, i-assign, i-increment, i-decrement, i-send, i-receive, i-assert, i-run, i-set-run, i-if, i-fi, i-do, i-od, i-option, i-end-option, each, code-exp, code-argument, code-received, code-tree}
+use Rattle.base_codes.specs.Items.{i-assert, i-assign, i-decrement, i-end, i-end-option, i-express, i-fi, i-increment, i-name, i-od, i-receive, i-send, i-set-run, i-target}
+use Rattle.parse_code.specs.Code.{each, code-exp, code-argument, code-received, code-tree}
 use Rattle.spec_grammar.specs.Print.{print-exp, print-whole, print-received, further, join, before, print-tree}
-use Rattle.table_entries.specs.Items.{codeOf}
 use Rattle.normal_rows.specs.Rules.{rows}
 use Rattle.normal_writer.specs.Turning.{cell, rowFrom, rowOf, laid, turned, isToken, after, marked}
 use Rattle.normal_reprint_proof.specs.Here.{tok, flagged, Here}
@@ -161,10 +161,10 @@ module _ (h : ℕ → Token) (ms : List ℕ) where
   alone c v i j f st out n g e r = begin f j i c st (v ∷ 131 ∷ st) out (omega arith) g r ∙ emit h ms v e i (131 ∷ st) (sep f 'semi ++ out)
 
   -- what a format stands behind: its arguments, with a comma before them if there are any
-  format : (w : List ℕ) (f : Bool) (i : ℕ) (st : List ℕ) (out : List Token) → getD ms i 0 ≡ 72 → h i ≡ text w → W h ms (suc i) (args f ∷ st) out ≡ W h ms i (21 ∷ 60 ∷ st) (text w ∷ (sep f 'comma ++ out))
-  format w false i st out g e = go h ms (suc i) i 132 72 st ((256 + i) ∷ 21 ∷ 60 ∷ st) out refl refl g (format-row i st) ∙ tell h ms i (text w) e i (21 ∷ 60 ∷ st) out
+  format : (w : List ℕ) (f : Bool) (i : ℕ) (st : List ℕ) (out : List Token) → getD ms i 0 ≡ c-text → h i ≡ text w → W h ms (suc i) (args f ∷ st) out ≡ W h ms i (21 ∷ 60 ∷ st) (text w ∷ (sep f 'comma ++ out))
+  format w false i st out g e = go h ms (suc i) i 132 c-text st ((256 + i) ∷ 21 ∷ 60 ∷ st) out refl refl g (format-row i st) ∙ tell h ms i (text w) e i (21 ∷ 60 ∷ st) out
   format w true i st out g e =
-      go h ms (suc i) i 133 72 st (27 ∷ (256 + i) ∷ 21 ∷ 60 ∷ st) out refl refl g (format-comma-row i st) ∙ emit h ms 27 refl i ((256 + i) ∷ 21 ∷ 60 ∷ st) out ∙ tell h ms i (text w) e i (21 ∷ 60 ∷ st) ('comma ∷ out)
+      go h ms (suc i) i 133 c-text st (27 ∷ (256 + i) ∷ 21 ∷ 60 ∷ st) out refl refl g (format-comma-row i st) ∙ emit h ms 27 refl i ((256 + i) ∷ 21 ∷ 60 ∷ st) out ∙ tell h ms i (text w) e i (21 ∷ 60 ∷ st) ('comma ∷ out)
 
   pub walk-tree : {k : Sort} (t : Tree k) (b : Bool) (i j : ℕ) → j ≡ i + length (code-tree t) → Here h ms b i (code-tree t) → Claim k t i j
   walk-tree (express e) b i j n p = λ f st out.

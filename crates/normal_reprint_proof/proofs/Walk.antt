@@ -8,9 +8,10 @@ use lib.ListN.{length, getD, length-append}
 use lib.Dec.{eqb, ltb}
 use borrow.Author.Tests.{lt-ltb, le-ltb, eq-eqb, ne-eqb}
 use Rattle.base_bytes.specs.Choice.{pick, both, either}
+use Rattle.base_codes.specs.Codes.{c-name, c-number, c-text}
 use Rattle.base_kinds.specs.Kinds.{Token, sym, name, number, text}
-use Rattle.spec_grammar.specs.Code.{Item}
-use Rattle.table_entries.specs.Items.{codeOf, entryOf}
+use Rattle.base_codes.specs.Items.{Item}
+use Rattle.table_entries.specs.Items.{entryOf}
 use Rattle.normal_rows.specs.Rules.{rows}
 use Rattle.normal_writer.specs.Turning.{cell, rowFrom, rowOf, laid, turned, isToken, kept, told, walk, after}
 use Rattle.normal_reprint_proof.specs.Here.{tok, flagged, Here}
@@ -48,34 +49,34 @@ module _ (h : ℕ → Token) (ms : List ℕ) where
 some-item : (i : ℕ) → eqb (256 + i) 0 ≡ false
 some-item i = ne-eqb (256 + i) 0 (λ e. omega arith)
 
-pub name-row : (i : ℕ) (st : List ℕ) → turned 120 70 i st ≡ (256 + i) ∷ st
+pub name-row : (i : ℕ) (st : List ℕ) → turned 120 c-name i st ≡ (256 + i) ∷ st
 unfolding turned rowOf rowFrom cell rows laid
 name-row i st = rw (some-item i) refl
 
-pub number-row : (i : ℕ) (st : List ℕ) → turned 120 71 i st ≡ (256 + i) ∷ st
+pub number-row : (i : ℕ) (st : List ℕ) → turned 120 c-number i st ≡ (256 + i) ∷ st
 unfolding turned rowOf rowFrom cell rows laid
 number-row i st = rw (some-item i) refl
 
-pub operand-row : (i : ℕ) (st : List ℕ) → turned 101 71 i st ≡ (256 + i) ∷ st
+pub operand-row : (i : ℕ) (st : List ℕ) → turned 101 c-number i st ≡ (256 + i) ∷ st
 unfolding turned rowOf rowFrom cell rows laid
 operand-row i st = rw (some-item i) refl
 
-pub capacity-row : (i : ℕ) (st : List ℕ) → turned 124 71 i st ≡ (256 + i) ∷ 23 ∷ 32 ∷ 135 ∷ st
+pub capacity-row : (i : ℕ) (st : List ℕ) → turned 124 c-number i st ≡ (256 + i) ∷ 23 ∷ 32 ∷ 135 ∷ st
 unfolding turned rowOf rowFrom cell rows laid
 capacity-row i st = rw (some-item i) refl
 
-pub format-row : (i : ℕ) (st : List ℕ) → turned 132 72 i st ≡ (256 + i) ∷ 21 ∷ 60 ∷ st
+pub format-row : (i : ℕ) (st : List ℕ) → turned 132 c-text i st ≡ (256 + i) ∷ 21 ∷ 60 ∷ st
 unfolding turned rowOf rowFrom cell rows laid
 format-row i st = rw (some-item i) refl
 
-pub format-comma-row : (i : ℕ) (st : List ℕ) → turned 133 72 i st ≡ 27 ∷ (256 + i) ∷ 21 ∷ 60 ∷ st
+pub format-comma-row : (i : ℕ) (st : List ℕ) → turned 133 c-text i st ≡ 27 ∷ (256 + i) ∷ 21 ∷ 60 ∷ st
 unfolding turned rowOf rowFrom cell rows laid
 format-comma-row i st = rw (some-item i) refl
 
 module _ (h : ℕ → Token) (ms : List ℕ) where
   -- a name or a number where one is asked for
-  pub name-here : (j i : ℕ) (w : List ℕ) → j ≡ suc i → getD ms i 0 ≡ 70 → h i ≡ name w → (st : List ℕ) (out : List Token) → W h ms j (120 ∷ st) out ≡ W h ms i st (name w ∷ out)
-  name-here j i w n c e st out = go h ms j i 120 70 st ((256 + i) ∷ st) out n refl c (name-row i st) ∙ tell h ms i (name w) e i st out
+  pub name-here : (j i : ℕ) (w : List ℕ) → j ≡ suc i → getD ms i 0 ≡ c-name → h i ≡ name w → (st : List ℕ) (out : List Token) → W h ms j (120 ∷ st) out ≡ W h ms i st (name w ∷ out)
+  name-here j i w n c e st out = go h ms j i 120 c-name st ((256 + i) ∷ st) out n refl c (name-row i st) ∙ tell h ms i (name w) e i st out
 
-  pub number-here : (j i n : ℕ) → j ≡ suc i → getD ms i 0 ≡ 71 → h i ≡ number n → (st : List ℕ) (out : List Token) → W h ms j (120 ∷ st) out ≡ W h ms i st (number n ∷ out)
-  number-here j i n q c e st out = go h ms j i 120 71 st ((256 + i) ∷ st) out q refl c (number-row i st) ∙ tell h ms i (number n) e i st out
+  pub number-here : (j i n : ℕ) → j ≡ suc i → getD ms i 0 ≡ c-number → h i ≡ number n → (st : List ℕ) (out : List Token) → W h ms j (120 ∷ st) out ≡ W h ms i st (number n ∷ out)
+  number-here j i n q c e st out = go h ms j i 120 c-number st ((256 + i) ∷ st) out q refl c (number-row i st) ∙ tell h ms i (number n) e i st out

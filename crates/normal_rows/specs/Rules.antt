@@ -1,3 +1,4 @@
+-- Mechanism, held to the specification by `text-normal` (crate `normal_proof`).
 -- How a model's items, met from the last to the first, become the tokens of its normal text from the last to the first. A stack says what is still to come on the left:
 --   1 to 69    a fixed token, by its kind                        256 + i  what item i holds: a name, a number or a string
 --   100 + l    an expression where level l is asked for (112: a reference)
@@ -10,7 +11,7 @@
 -- A row says what a symbol becomes at an item of a code. Code 229 is an `end` (187) whose arguments stand in parentheses. No row: the symbol goes, and nothing is written.
 use mathlib.Core.List.{List, [], _∷_, _++_}
 use Prim.Native.Nat.{ℕ}
-use Rattle.base_codes.specs.Codes.{c-active, c-active-many, c-argument, c-assert, c-assign, c-bit, c-body, c-bool, c-break, c-byte, c-chan, c-channel, c-choice, c-complement, c-constant, c-declared, c-decrement, c-do, c-else, c-end, c-end-body, c-end-closed, c-end-option, c-equal, c-express, c-false, c-fi, c-field, c-global, c-goto, c-group, c-if, c-increment, c-index, c-init, c-int, c-into, c-label, c-len, c-local, c-message, c-minus, c-mtype, c-mtypes, c-named, c-negate, c-not, c-od, c-option, c-otherwise, c-parameter, c-pid, c-plain, c-proctype, c-receive, c-run, c-send, c-set-run, c-short, c-size, c-skip, c-target, c-timeout, c-true, c-value}
+use Rattle.base_codes.specs.Codes.{c-active, c-active-many, c-argument, c-assert, c-assign, c-bit, c-body, c-bool, c-break, c-byte, c-chan, c-channel, c-choice, c-complement, c-constant, c-declared, c-decrement, c-do, c-else, c-end, c-end-body, c-end-closed, c-end-option, c-equal, c-express, c-false, c-fi, c-field, c-global, c-goto, c-group, c-if, c-increment, c-index, c-init, c-int, c-into, c-label, c-len, c-local, c-message, c-minus, c-mtype, c-mtypes, c-name, c-named, c-negate, c-not, c-number, c-od, c-option, c-otherwise, c-parameter, c-pid, c-plain, c-proctype, c-receive, c-run, c-send, c-set-run, c-short, c-size, c-skip, c-target, c-text, c-timeout, c-true, c-value}
 use Rattle.text_pens.specs.Sheet.{flat}
 use Rattle.text_pens.specs.Sheet.{padded}
 
@@ -21,9 +22,9 @@ row s c xs = s ∷ c ∷ padded 8 xs
 -- expressions; the binary operators have no row
 abbrev pub expressions : List (List ℕ)
 expressions =
-    row 101 71 (99 ∷ []) ∷ row 101 c-true (65 ∷ []) ∷ row 101 c-false (52 ∷ []) ∷ row 101 c-plain (120 ∷ []) ∷ row 101 c-index (24 ∷ 101 ∷ 23 ∷ 120 ∷ []) ∷
+    row 101 c-number (99 ∷ []) ∷ row 101 c-true (65 ∷ []) ∷ row 101 c-false (52 ∷ []) ∷ row 101 c-plain (120 ∷ []) ∷ row 101 c-index (24 ∷ 101 ∷ 23 ∷ 120 ∷ []) ∷
     row 101 c-len (22 ∷ 112 ∷ 21 ∷ 57 ∷ []) ∷ row 101 c-negate (111 ∷ 15 ∷ []) ∷ row 101 c-not (111 ∷ 19 ∷ []) ∷ row 101 c-complement (111 ∷ 20 ∷ []) ∷
-    row 101 c-choice (22 ∷ 101 ∷ 123 ∷ 101 ∷ 31 ∷ 101 ∷ 21 ∷ []) ∷ row 120 70 (99 ∷ []) ∷ row 120 71 (99 ∷ []) ∷ row 121 c-target (112 ∷ []) ∷ row 123 c-otherwise (29 ∷ []) ∷
+    row 101 c-choice (22 ∷ 101 ∷ 123 ∷ 101 ∷ 31 ∷ 101 ∷ 21 ∷ []) ∷ row 120 c-name (99 ∷ []) ∷ row 120 c-number (99 ∷ []) ∷ row 121 c-target (112 ∷ []) ∷ row 123 c-otherwise (29 ∷ []) ∷
     []
 
 -- what stands before a value, a size and a declared name, by the mark at its end
@@ -35,7 +36,7 @@ variables s before after =
 
 abbrev pub declarations : List (List ℕ)
 declarations =
-    row 134 c-field (27 ∷ 122 ∷ 134 ∷ []) ∷ row 134 c-channel (25 ∷ 59 ∷ 24 ∷ 124 ∷ []) ∷ row 124 71 (99 ∷ 23 ∷ 32 ∷ 135 ∷ []) ∷
+    row 134 c-field (27 ∷ 122 ∷ 134 ∷ []) ∷ row 134 c-channel (25 ∷ 59 ∷ 24 ∷ 124 ∷ []) ∷ row 124 c-number (99 ∷ 23 ∷ 32 ∷ 135 ∷ []) ∷
     row 135 c-size (24 ∷ 120 ∷ 23 ∷ 136 ∷ []) ∷ row 135 c-declared (120 ∷ []) ∷ row 136 c-declared (120 ∷ []) ∷ row 137 c-local (122 ∷ []) ∷ row 137 c-global (122 ∷ []) ∷
     row 122 c-bit (38 ∷ []) ∷ row 122 c-bool (39 ∷ []) ∷ row 122 c-byte (40 ∷ []) ∷ row 122 c-mtype (41 ∷ []) ∷ row 122 c-pid (42 ∷ []) ∷ row 122 c-chan (43 ∷ []) ∷
     row 122 c-short (44 ∷ []) ∷ row 122 c-int (45 ∷ []) ∷
@@ -54,7 +55,7 @@ statements s behind =
 abbrev pub arguments : ℕ → List ℕ → List (List ℕ)
 arguments s behind =
     row s c-argument (behind ++ 101 ∷ 133 ∷ []) ∷ row s c-into (behind ++ 112 ∷ 133 ∷ []) ∷ row s c-equal (behind ++ 22 ∷ 101 ∷ 21 ∷ 51 ∷ 133 ∷ []) ∷ row s c-constant (behind ++ 101 ∷ 133 ∷ []) ∷
-    row s c-send (19 ∷ 112 ∷ []) ∷ row s c-receive (35 ∷ 112 ∷ []) ∷ row s 72 (behind ++ 99 ∷ 21 ∷ 60 ∷ []) ∷ row s c-run (21 ∷ 120 ∷ 62 ∷ []) ∷ row s c-set-run (21 ∷ 120 ∷ 62 ∷ 32 ∷ 121 ∷ []) ∷ []
+    row s c-send (19 ∷ 112 ∷ []) ∷ row s c-receive (35 ∷ 112 ∷ []) ∷ row s c-text (behind ++ 99 ∷ 21 ∷ 60 ∷ []) ∷ row s c-run (21 ∷ 120 ∷ 62 ∷ []) ∷ row s c-set-run (21 ∷ 120 ∷ 62 ∷ 32 ∷ 121 ∷ []) ∷ []
 
 -- what a body belongs to: a process with its parameters, or `init`; behind them stands `)` or nothing
 abbrev pub heads : ℕ → List ℕ → List (List ℕ)

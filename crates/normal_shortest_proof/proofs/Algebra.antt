@@ -6,32 +6,30 @@ use mathlib.Core.Path.{_≡_, refl, sym as inv, _∙_, ap}
 use mathlib.Core.Bool.{Bool, true, false, not, cond}
 use mathlib.Core.Option.{Option, none, some}
 use mathlib.Core.List.{List, [], _∷_, _++_, append-assoc}
-use lib.ListN.{length, getD, length-append}
+use lib.ListN.{length, length-append}
 use lib.Dec.{eqb, ltb, leb}
-use borrow.Author.Tests.{lt-leb, leb-false, lt-ltb, le-ltb, not-true}
+use borrow.Author.Tests.{lt-leb, leb-false, le-ltb, not-true}
 use Rattle.base_bytes.specs.Choice.{pick, both}
 use Rattle.base_bytes.specs.Lists.{same}
-use Rattle.base_bytes.proofs.Tests.{true-false, both-true}
-use Rattle.base_kinds.specs.Kinds.{Token, sym, name, number, text, kindOf}
+use Rattle.base_bytes.proofs.Tests.{both-true, either-no}
+use Rattle.base_kinds.specs.Kinds.{Token, sym, name, number, text}
 use Rattle.text_spellings.specs.Find.{find}
 use Rattle.text_spacing_proof.specs.Spelled.{joins, mark}
-use Rattle.text_spacing_proof.specs.Writing.{spell, Sound, AllSound, apart, writeBehind}
+use Rattle.text_spacing_proof.specs.Writing.{spell, AllSound, apart, writeBehind}
+use Rattle.text_spacing_proof.proofs.Written.{spaceIf}
 use Rattle.spec_grammar.specs.Marks.{'lpar, 'rpar, '[, '], 'lbrace, 'rbrace, 'comma, 'semi, '->, 'if, 'fi, 'do, 'od}
-use Rattle.parse_proof.specs.Engine.{either, both as and}
 use Rattle.parse_proof.specs.Depth.{opens-bracket, closes-bracket, opens-selection, closes-selection, count-after, passes, one-later, deep-from}
+use Rattle.parse_proof.proofs.Tests.{some-none, later-none}
 use Rattle.normal_shortest_proof.specs.Lighter.{brackets, selections, Even, Shorter, Lighter}
 
 -- ---- what is written behind a token differs by one space at most
-abbrev gap : Bool → List ℕ
-gap b = pick b (32 ∷ []) []
-
-space-one : (b : Bool) → length (gap b) ≤ 1
+space-one : (b : Bool) → length (spaceIf b) ≤ 1
 space-one true = omega arith
 space-one false = omega arith
 
-written-cons : (a c : Token) (vs : List Token) → length (writeBehind a (c ∷ vs)) ≡ length (gap (apart a c)) + (length (spell c) + length (writeBehind c vs))
+written-cons : (a c : Token) (vs : List Token) → length (writeBehind a (c ∷ vs)) ≡ length (spaceIf (apart a c)) + (length (spell c) + length (writeBehind c vs))
 unfolding writeBehind
-written-cons a c vs = omega (arith, length-append (gap (apart a c)) (spell c ++ writeBehind c vs), length-append (spell c) (writeBehind c vs))
+written-cons a c vs = omega (arith, length-append (spaceIf (apart a c)) (spell c ++ writeBehind c vs), length-append (spell c) (writeBehind c vs))
 
 near : (a c : Token) (vs : List Token) → length (writeBehind a vs) ≤ 1 + length (writeBehind c vs)
 unfolding writeBehind
@@ -50,7 +48,7 @@ comma-first b = refl
 unspaced : (d c : Token) → ((b : Token) → apart d b ≡ false) → (vs : List Token) → length (writeBehind d vs) ≤ length (writeBehind c vs)
 unfolding writeBehind
 unspaced d c e [] = omega arith
-unspaced d c e (b ∷ vs) = omega (arith, written-cons d b vs, written-cons c b vs, ap (λ (t : Bool). length (gap t)) (e b))
+unspaced d c e (b ∷ vs) = omega (arith, written-cons d b vs, written-cons c b vs, ap (λ (t : Bool). length (spaceIf t)) (e b))
 
 abbrev none-join : ℕ → Bool
 none-join zero = true
@@ -104,13 +102,6 @@ brackets-append (t ∷ x) y b = brackets-append x y (count-after (opens-bracket 
 selections-append : (x y : List Token) (s : ℕ) → selections s (x ++ y) ≡ selections (selections s x) y
 selections-append [] y s = refl
 selections-append (t ∷ x) y s = selections-append x y (count-after (opens-selection t) (closes-selection t) s)
-
-some-none : (i : ℕ) → some i ≡ none → ⊥
-some-none i e = let z : _≡_ {A = ℕ} 0 1 = cc in omega arith
-
-later-none : (o : Option ℕ) → one-later o ≡ none → o ≡ none
-later-none none e = refl
-later-none (some i) e = absurd (some-none (suc i) e)
 
 -- the token passes no ceiling, and neither do those behind it
 step-none : (b s : ℕ) (t : Token) (ts : List Token) → deep-from b s (t ∷ ts) ≡ none
@@ -240,18 +231,14 @@ module _ (o c : Token) (x y : ℕ) (in-b : (b : ℕ) → count-after (opens-brac
 below : (k b d : ℕ) → d ≤ b → leb k b ≡ false → leb k d ≡ false
 below k b d h e = lt-leb k d (omega (arith, leb-false k b e))
 
-either-left : (t : Bool) → either t false ≡ t
-either-left true = refl
-either-left false = refl
-
 pub in-parentheses : {us ts : List Token} → Lighter us ts → Lighter ('lpar ∷ us ++ 'rpar ∷ []) ('lpar ∷ ts ++ 'rpar ∷ [])
-in-parentheses p = around 'lpar 'rpar 1 0 (λ b. refl) (λ s. omega arith) (λ b. omega arith) (λ s. omega arith) (λ b d s h e. either-left (leb 32 d) ∙ below 32 b d h (inv (either-left (leb 32 b)) ∙ e)) (λ b s. refl) p
+in-parentheses p = around 'lpar 'rpar 1 0 (λ b. refl) (λ s. omega arith) (λ b. omega arith) (λ s. omega arith) (λ b d s h e. either-no (leb 32 d) ∙ below 32 b d h (inv (either-no (leb 32 b)) ∙ e)) (λ b s. refl) p
 
 pub in-squares : {us ts : List Token} → Lighter us ts → Lighter ('[ ∷ us ++ '] ∷ []) ('[ ∷ ts ++ '] ∷ [])
-in-squares p = around '[ '] 1 0 (λ b. refl) (λ s. omega arith) (λ b. omega arith) (λ s. omega arith) (λ b d s h e. either-left (leb 32 d) ∙ below 32 b d h (inv (either-left (leb 32 b)) ∙ e)) (λ b s. refl) p
+in-squares p = around '[ '] 1 0 (λ b. refl) (λ s. omega arith) (λ b. omega arith) (λ s. omega arith) (λ b d s h e. either-no (leb 32 d) ∙ below 32 b d h (inv (either-no (leb 32 b)) ∙ e)) (λ b s. refl) p
 
 pub in-braces : {us ts : List Token} → Lighter us ts → Lighter ('lbrace ∷ us ++ 'rbrace ∷ []) ('lbrace ∷ ts ++ 'rbrace ∷ [])
-in-braces p = around 'lbrace 'rbrace 1 0 (λ b. refl) (λ s. omega arith) (λ b. omega arith) (λ s. omega arith) (λ b d s h e. either-left (leb 32 d) ∙ below 32 b d h (inv (either-left (leb 32 b)) ∙ e)) (λ b s. refl) p
+in-braces p = around 'lbrace 'rbrace 1 0 (λ b. refl) (λ s. omega arith) (λ b. omega arith) (λ s. omega arith) (λ b d s h e. either-no (leb 32 d) ∙ below 32 b d h (inv (either-no (leb 32 b)) ∙ e)) (λ b s. refl) p
 
 pub in-if : {us ts : List Token} → Lighter us ts → Lighter ('if ∷ us ++ 'fi ∷ []) ('if ∷ ts ++ 'fi ∷ [])
 in-if p = around 'if 'fi 0 1 (λ b. omega arith) (λ s. refl) (λ b. omega arith) (λ s. omega arith) (λ b d s h e. e) (λ b s. refl) p
@@ -273,7 +260,7 @@ peeled {us} {ts} p =
 
 called-short : (vs ws : List Token) → Shorter vs ws → Shorter ('comma ∷ vs) ('lpar ∷ ws)
 called-short vs ws h a =
-    omega (arith, written-cons a 'comma vs, written-cons a 'lpar ws, h 'lpar, unspaced 'comma 'lpar comma-first vs, ap (λ (t : Bool). length (gap t)) (comma-behind a))
+    omega (arith, written-cons a 'comma vs, written-cons a 'lpar ws, h 'lpar, unspaced 'comma 'lpar comma-first vs, ap (λ (t : Bool). length (spaceIf t)) (comma-behind a))
 
 pub called : {us ts : List Token} → Lighter us ts → Lighter ('comma ∷ us) ('lpar ∷ ts ++ 'rpar ∷ [])
 unfolding find same

@@ -1,18 +1,17 @@
 -- THE PRINTED TOKENS OF A TREE MAY STAND FOR ANY TOKENS OF IT: written they are no longer, they are tokens that a text can hold, and they nest no deeper.
-use mathlib.Core.Path.{_≡_, refl, sym as inv, _∙_, ap}
+use mathlib.Core.Path.{_≡_, refl, sym as inv}
 use mathlib.Core.Bool.{Bool, true, false, not}
-use mathlib.Core.Option.{none, some}
 use mathlib.Core.List.{List, [], _∷_, _++_, append-assoc, append-nil}
 use Prim.Native.Nat.{ℕ, suc, _≤_, _<_, _+_}
 use native.Mathlib.Omega.{arith}
-use lib.Dec.{eqb, leb}
-use borrow.Author.Tests.{le-leb, leb-true, leb-false, ne-eqb, not-true}
+use lib.Dec.{leb}
+use borrow.Author.Tests.{le-leb, leb-true, ne-eqb, not-true}
 use Rattle.base_bytes.specs.Choice.{both}
 use Rattle.base_bytes.proofs.Tests.{both-true, true-false}
-use Rattle.base_kinds.specs.Kinds.{Token, sym, name, number, text}
-use Rattle.spec_grammar.specs.Marks.{'-, '!, 'lpar, 'rpar, '[, '], 'lbrace, 'rbrace, 'comma, 'semi, ':, '::, '->, '=, '++, '--, '?, 'mtype, 'active, 'assert, 'break, 'else, 'eval, 'false, 'goto, 'init, 'len, 'of, 'printf, 'proctype, 'run, 'skip, 'timeout, 'true}
+use Rattle.base_kinds.specs.Kinds.{Token, sym, name, number, text, level}
+use Rattle.spec_grammar.specs.Marks.{'-, '!, 'lpar, 'rpar, 'comma, 'semi, ':, '::, '->, '=, '++, '--, '?, 'mtype, 'active, 'assert, 'break, 'else, 'eval, 'false, 'goto, 'init, 'len, 'of, 'printf, 'proctype, 'run, 'skip, 'timeout, 'true}
 use Rattle.spec_grammar.specs.Tree.{Name, num, tru, fls, get, len, unary, binary, choice, Expr, Ref, Received, Sort, sequence, Tree, Value, Variable, Declaration, Group, Body, body, Activity, Part, Model}
-use Rattle.spec_grammar.specs.Grammar.{Listed, one, more, Maybe-listed, no-list, a-list, Message, commas, call, Semicolons, no-semi, semi, Trailing, none-trails, semi-trails, arrow-trails, Parted, by-semi, by-arrow, A-name, a-name, Is-type, is-bit, is-bool, is-byte, is-mtype, is-pid, is-chan, is-short, is-int, A-type, a-type, level, Is-unary, is-minus, is-not, is-flip, E, e-plain, e-index, e-number, e-true, e-false, e-len, e-group, e-choice, e-unary, e-binary, e-up, An-expression, A-reference, A-received, r-into, r-eval, r-number, r-true, r-false, D, s-express, s-assign, s-increment, s-decrement, s-send, s-receive, s-assert, s-print-alone, s-print, s-skip, s-goto, s-break, s-timeout, s-else, s-run, s-set-run, s-if, s-do, s-bare, s-label, q-last, q-then, o-last, o-also, A-value, v-number, v-minus, v-true, v-false, v-name, A-variable, x-bare, x-set, x-array, x-array-set, x-channel, A-declaration, declaration, A-group, a-group, Items, statements, declared, A-body, a-body, An-activity, not-active, active, active-times, A-unit, u-mtypes, u-global, u-process, u-init, Gram, g-last, g-more}
+use Rattle.spec_grammar.specs.Grammar.{Listed, one, more, Maybe-listed, no-list, a-list, Message, commas, call, Semicolons, no-semi, semi, Trailing, none-trails, semi-trails, arrow-trails, Parted, by-semi, by-arrow, A-name, a-name, Is-type, is-bit, is-bool, is-byte, is-mtype, is-pid, is-chan, is-short, is-int, A-type, a-type, Is-unary, is-minus, is-not, is-flip, E, e-plain, e-index, e-number, e-true, e-false, e-len, e-group, e-choice, e-unary, e-binary, e-up, An-expression, A-reference, A-received, r-into, r-eval, r-number, r-true, r-false, D, s-express, s-assign, s-increment, s-decrement, s-send, s-receive, s-assert, s-print-alone, s-print, s-skip, s-goto, s-break, s-timeout, s-else, s-run, s-set-run, s-if, s-do, s-bare, s-label, q-last, q-then, o-last, o-also, A-value, v-number, v-minus, v-true, v-false, v-name, A-variable, x-bare, x-set, x-array, x-array-set, x-channel, A-declaration, declaration, A-group, a-group, Items, statements, declared, A-body, a-body, An-activity, not-active, active, active-times, A-unit, u-mtypes, u-global, u-process, u-init, Gram, g-last, g-more}
 use Rattle.spec_grammar.specs.Print.{wrap, print-exp, print-whole, join, print-received, print-tree, print-type, print-value, print-variable, print-declaration, print-name, print-group, print-items, print-body, print-activity, print-part, print-model}
 use Rattle.spec_grammar.proofs.Levels.{operator-small}
 use Rattle.spec_grammar.proofs.Printed.{join-more, further-more, sequence-before}

@@ -1,3 +1,4 @@
+-- Mechanism, held to the specification by `text-normal` (crate `normal_proof`).
 -- The normal text of a tree: document 01, "Normal text": "the fewest parentheses, `;`, comma notation, no optional separator, and one space exactly where two tokens
 -- side by side would read otherwise".
 use mathlib.Core.List.{List}

@@ -1,20 +1,20 @@
 -- The stack and the tokens in their arrays, and one item after the other.
-use Prim.Native.Nat.{ℕ, zero, suc, _+_, _-_, _*_, _≤_, _<_, min}
+use Prim.Native.Nat.{ℕ, suc, _+_, _-_, _*_, _≤_, _<_, min}
 use mathlib.Core.Path.{_≡_, refl, sym, _∙_, ap, ap₂}
 use mathlib.Core.Bool.{Bool, true, false}
 use mathlib.Core.List.{List, [], _∷_}
 use native.Mathlib.Omega.{arith}
 use native.Mathlib.Nat.{add-zero}
 use native.Mathlib.Numerals.{add-one}
-use lib.ListN.{length, getD, drop, set, length-set, length-drop, drop-of-length-le}
+use lib.ListN.{length, getD, drop, set, length-set, drop-of-length-le}
 use lib.Seq.{drop-cons, drop-set-lt, drop-drop, getD-drop, getD-set-same}
 use lib.Dec.{eqb, ltb}
 use native.Mathlib.Decide.{decLt}
-use borrow.Author.Tests.{lt-ltb, le-ltb, eq-eqb, ne-eqb}
+use borrow.Author.Tests.{ne-eqb}
 use Rattle.base_codes.specs.Codes.{c-negate}
-use Rattle.base_bytes.specs.Choice.{pick, both, either}
+use Rattle.base_bytes.specs.Choice.{pick, both}
 use Rattle.base_values.specs.Operators.{levelOf}
-use Rattle.normal_writer.specs.Turning.{cell, rowOf, said, unless-none, laid, operated, shared, turned, isToken, kept, told, walk}
+use Rattle.normal_writer.specs.Turning.{cell, rowOf, said, unless-none, laid, operated, shared, turned, isToken, kept, told, walk, turnRoom}
 use Rattle.normal_writer.specs.Places.{Pushed, Flushed}
 
 -- ---- one symbol
@@ -30,10 +30,6 @@ pub push-some : (old : List ℕ) (sp v p : ℕ) → p ≡ sp - 1 → 0 < sp → 
 push-some old sp v p q h l n =
     let e : sp ≡ suc p = omega arith in
     record { holds = rw (ne-eqb v 0 n, e) (set-front old p v (omega arith)); low = omega arith; high = omega arith; size = length-set old p v }
-
--- symbols on symbols
-pub push-then : (a b c : List ℕ) (p q r : ℕ) (x y : List ℕ) (m n k : ℕ) → Pushed a p b q x m → Pushed b q c r y n → k ≡ m + n → Pushed a p c r y k
-push-then a b c p q r x y m n k s t e = record { holds = t .holds; low = omega (arith, s .low, t .low); high = omega (arith, s .high, t .high); size = t .size ∙ s .size }
 
 -- ---- a row
 -- p is where the stack begins before symbol k, that is with the symbols from k on
@@ -136,17 +132,17 @@ step-row old new sp r s c i x b e h q y = record { holds = y .holds ∙ rw (← 
 -- ---- all items: i are left
 pub record Going (codes stack : List ℕ) (sp : ℕ) (toks : List ℕ) (tp i : ℕ) : Type 0 where
   pub goes : walk (λ (v : ℕ). v) codes i (drop sp stack) (drop tp toks) ≡ walk (λ (v : ℕ). v) codes (length codes) (143 ∷ []) []
-  pub room : 131088 ≤ sp + tp + 8 * (length codes - i) + 1
-  pub low : sp ≤ 65544
-  pub high : tp ≤ 65544
+  pub room : 2 * turnRoom ≤ sp + tp + 8 * (length codes - i) + 1
+  pub low : sp ≤ turnRoom
+  pub high : tp ≤ turnRoom
   pub few : i ≤ length codes
-  pub stack-size : length stack ≡ 65544
-  pub toks-size : length toks ≡ 65544
+  pub stack-size : length stack ≡ turnRoom
+  pub toks-size : length toks ≡ turnRoom
 
-pub turn-start : (codes stack new toks : List ℕ) (sp : ℕ) → length stack ≡ 65544 → length toks ≡ 65544 → Pushed stack 65544 new sp (unless-none 143 (drop 65544 stack)) 1 → Going codes new sp toks 65544 (length codes)
+pub turn-start : (codes stack new toks : List ℕ) (sp : ℕ) → length stack ≡ turnRoom → length toks ≡ turnRoom → Pushed stack turnRoom new sp (unless-none 143 (drop turnRoom stack)) 1 → Going codes new sp toks turnRoom (length codes)
 turn-start codes stack new toks sp a b y =
     record {
-      goes = rw (y .holds, drop-of-length-le stack {i = 65544} (omega arith), drop-of-length-le toks {i = 65544} (omega arith)) refl;
+      goes = rw (y .holds, drop-of-length-le stack {i = turnRoom} (omega arith), drop-of-length-le toks {i = turnRoom} (omega arith)) refl;
       room = omega (arith, y .low);
       low = y .high;
       high = omega arith;
@@ -159,15 +155,15 @@ turn-start codes stack new toks sp a b y =
 top-of : (stack : List ℕ) (p : ℕ) → getD (drop p stack) 0 0 ≡ getD stack p 0
 top-of stack p = getD-drop p stack 0 0 ∙ ap (λ (k : ℕ). getD stack k 0) (add-zero p)
 
-under : (stack : List ℕ) (p m : ℕ) → length stack ≡ 65544 → p ≤ 65544 → m ≡ min 65544 (p + 1) → drop 1 (drop p stack) ≡ drop m stack
-under stack p m l h e = drop-drop 1 p stack ∙ go (decLt p 65544)
+under : (stack : List ℕ) (p m : ℕ) → length stack ≡ turnRoom → p ≤ turnRoom → m ≡ min turnRoom (p + 1) → drop 1 (drop p stack) ≡ drop m stack
+under stack p m l h e = drop-drop 1 p stack ∙ go (decLt p turnRoom)
   where
-    go : Dec (p < 65544) → drop (p + 1) stack ≡ drop m stack
+    go : Dec (p < turnRoom) → drop (p + 1) stack ≡ drop m stack
     go (yes z) = let q : m ≡ p + 1 = omega arith in rw q
     go (no z) = drop-of-length-le stack {i = p + 1} (omega arith) ∙ sym (drop-of-length-le stack {i = m} (omega arith))
 
 pub turn-more : (codes stack toks stack′ toks′ : List ℕ) (sp tp i i1 p q r s c m : ℕ) → Going codes stack sp toks tp i → 0 < i → i1 ≡ i - 1 → Flushed stack sp toks tp toks′ p q
-    → s ≡ getD stack p 0 → m ≡ min 65544 (p + 1) → c ≡ getD codes i1 0 → Pushed stack m stack′ r (turned s c i1 (drop m stack)) 8 → Going codes stack′ r toks′ q i1
+    → s ≡ getD stack p 0 → m ≡ min turnRoom (p + 1) → c ≡ getD codes i1 0 → Pushed stack m stack′ r (turned s c i1 (drop m stack)) 8 → Going codes stack′ r toks′ q i1
 unfolding walk
 turn-more codes stack toks stack′ toks′ sp tp i i1 p q r s c m y h e f a b d z =
     let n : i ≡ suc i1 = omega arith in
@@ -186,7 +182,7 @@ turn-more codes stack toks stack′ toks′ sp tp i i1 p q r s c m y h e f a b d
     }
 
 pub turn-end : (codes stack toks new : List ℕ) (sp tp i p q : ℕ) → Going codes stack sp toks tp i → i ≤ 0 → Flushed stack sp toks tp new p q
-    → (q ≤ 65544) × (drop q new ≡ walk (λ (v : ℕ). v) codes (length codes) (143 ∷ []) [])
+    → (q ≤ turnRoom) × (drop q new ≡ walk (λ (v : ℕ). v) codes (length codes) (143 ∷ []) [])
 unfolding walk
 turn-end codes stack toks new sp tp i p q y h f =
     let n : i ≡ 0 = omega arith in

@@ -9,6 +9,7 @@ use lib.ListN.{length, getD, take, drop, set, length-set, length-append, length-
 use lib.Seq.{take-suc-set, append-snoc, take-at, take-all, drop-cons}
 use lib.Dec.{eqb, ltb}
 use borrow.Author.Tests.{lt-ltb, le-ltb, eq-eqb, ne-eqb}
+use Rattle.base_ceilings.specs.Ceilings.{itemsMost}
 use Rattle.base_bytes.specs.Choice.{pick}
 use Rattle.base_kinds.specs.Kinds.{Token, sym as symbol, name, number, text, kindOf}
 use Rattle.text_pieces.specs.Bytes.{quote}
@@ -22,7 +23,7 @@ use Rattle.text_pens.proofs.After.{write-after}
 use Rattle.text_pens.proofs.Sheet.{spelled-short}
 use Rattle.table_layout.specs.Access.{itemsOf, codeOf, numberOf, nameLength, nameByte}
 use Rattle.table_layout.specs.Back.{upto}
-use Rattle.normal_writer.specs.Turning.{isToken, turned, kept, told, walk, whole, marked, after, marks}
+use Rattle.normal_writer.specs.Turning.{isToken, turned, kept, told, walk, whole, marked, after, marks, turnRoom}
 use Rattle.normal_letters.specs.Tokens.{tokenBy}
 use Rattle.normal_writer.specs.Normal.{codesIn, tokensOf, normalOf}
 
@@ -63,10 +64,10 @@ walk-map f cs (suc i) st out =
     ∙ ap (walk f cs i (turned (getD (kept st) 0 0) (getD cs i 0) i (drop 1 (kept st)))) (told-map f st out)
 
 -- ---- the whole
-pub normal-is : (t codes toks cs : List ℕ) (n first : ℕ) (w x : Pen) → n ≡ min 8192 (itemsOf t) → take n codes ≡ marks false (codeOf t) 0 n → cs ≡ take (n - 0) codes → drop first toks ≡ whole (λ (v : ℕ). v) cs → length toks ≡ 65544
-    → x ≡ puts (write (map (tokenBy t) (take (65544 - first) (drop first toks)))) w → x ≡ puts (normalOf t) w
+pub normal-is : (t codes toks cs : List ℕ) (n first : ℕ) (w x : Pen) → n ≡ min itemsMost (itemsOf t) → take n codes ≡ marks false (codeOf t) 0 n → cs ≡ take (n - 0) codes → drop first toks ≡ whole (λ (v : ℕ). v) cs → length toks ≡ turnRoom
+    → x ≡ puts (write (map (tokenBy t) (take (turnRoom - first) (drop first toks)))) w → x ≡ puts (normalOf t) w
 unfolding tokensOf codesIn
 normal-is t codes toks cs n first w x a b c d l e =
     let z : n - 0 ≡ n = omega arith in
-    e ∙ ap (λ (z : List ℕ). puts (write (map (tokenBy t) z)) w) (take-all (65544 - first) (drop first toks) (omega (arith, length-drop first toks)) ∙ d)
+    e ∙ ap (λ (z : List ℕ). puts (write (map (tokenBy t) z)) w) (take-all (turnRoom - first) (drop first toks) (omega (arith, length-drop first toks)) ∙ d)
     ∙ ap (λ (z : List Token). puts (write z) w) (walk-map (tokenBy t) cs (length cs) (143 ∷ []) [] ∙ ap (whole (tokenBy t)) (c ∙ ap (λ (k : ℕ). take k codes) z ∙ b ∙ ap (marks false (codeOf t) 0) a))

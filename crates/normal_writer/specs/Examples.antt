@@ -1,3 +1,4 @@
+-- Mechanism, held to the specification by `text-normal` (crate `normal_proof`).
 -- Normal texts of a few trees, from their tables.
 use mathlib.Core.Path.{_≡_, refl}
 use mathlib.Core.List.{List, [], _∷_}

@@ -1,7 +1,9 @@
+-- Mechanism, held to the specification by `text-normal` (crate `normal_proof`).
 -- The normal text that tables hold: document 01, "Normal text". It is defined for any numbers; that it is the normal text of the tree is proved in `normal_reprint_proof`.
 use mathlib.Core.Bool.{false}
 use mathlib.Core.List.{List}
 use Prim.Native.Nat.{ℕ, min}
+use Rattle.base_ceilings.specs.Ceilings.{itemsMost}
 use Rattle.base_kinds.specs.Kinds.{Token}
 use Rattle.text_spacing_proof.specs.Writing.{write}
 use Rattle.table_layout.specs.Access.{itemsOf, codeOf}
@@ -11,7 +13,7 @@ use Rattle.normal_writer.specs.Turning.{whole, marks}
 module _ (t : List ℕ) where
   -- the codes of at most 8,192 items
   unfoldable pub codesIn : List ℕ
-  codesIn = marks false (codeOf t) 0 (min 8192 (itemsOf t))
+  codesIn = marks false (codeOf t) 0 (min itemsMost (itemsOf t))
 
   unfoldable pub tokensOf : List Token
   tokensOf = whole (tokenBy t) codesIn

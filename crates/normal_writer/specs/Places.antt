@@ -1,3 +1,4 @@
+-- Mechanism, held to the specification by `text-normal` (crate `normal_proof`).
 -- A stack and a list of tokens that grow downwards in lent arrays: what they hold begins at a place.
 use mathlib.Core.Path.{_≡_}
 use mathlib.Core.List.{List}

@@ -1,14 +1,20 @@
+-- Mechanism, held to the specification by `text-normal` (crate `normal_proof`).
 -- Items turned into tokens from the back, by the rows of specs/Rules.antt of `normal_rows`. Binary operators by their levels (document 01, "Operators follow table 3.2 of 002"):
 -- parentheses exactly around what is looser than what is asked for, so a right operand of the same level keeps them.
 use mathlib.Core.Bool.{Bool, true, false}
 use mathlib.Core.List.{List, [], _∷_, _++_}
-use Prim.Native.Nat.{ℕ, zero, suc, _+_, _-_}
+use Prim.Native.Nat.{ℕ, zero, suc, _+_, _-_, _*_}
 use lib.ListN.{length, getD, drop}
 use lib.Dec.{eqb, ltb}
-use Rattle.base_codes.specs.Codes.{c-end, c-end-closed, c-negate, c-receive, c-run, c-send, c-set-run}
+use Rattle.base_ceilings.specs.Ceilings.{itemsMost}
+use Rattle.base_codes.specs.Codes.{c-end, c-end-closed, c-negate, c-receive, c-run, c-send, c-set-run, c-text}
 use Rattle.base_bytes.specs.Choice.{pick, both, either}
 use Rattle.base_values.specs.Operators.{levelOf}
 use Rattle.normal_rows.specs.Rules.{rows}
+
+-- room for what the items become, at most eight symbols for each
+abbrev pub turnRoom : ℕ
+turnRoom = 8 * itemsMost + 8
 
 unfoldable pub cell : ℕ → ℕ → ℕ
 cell r k = getD (getD rows r []) k 0
@@ -75,7 +81,7 @@ whole f cs = walk f cs (length cs) (143 ∷ []) []
 
 -- which `end` closes arguments in parentheses: those of a format, `run` and `v = run`, not those of a send or a receive. The last of these items decides
 abbrev pub after : Bool → ℕ → Bool
-after b c = pick (either (eqb c c-send) (eqb c c-receive)) false (pick (either (eqb c 72) (either (eqb c c-run) (eqb c c-set-run))) true b)
+after b c = pick (either (eqb c c-send) (eqb c c-receive)) false (pick (either (eqb c c-text) (either (eqb c c-run) (eqb c c-set-run))) true b)
 
 abbrev pub marked : Bool → ℕ → ℕ
 marked b c = pick (both (eqb c c-end) b) c-end-closed c

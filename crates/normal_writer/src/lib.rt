@@ -3,22 +3,21 @@ ghost use mathlib.Core.Path.{_≡_};
 ghost use mathlib.Core.Bool.{false};
 ghost use Prim.Native.Nat.{_+_, _-_, _≤_, _<_, _*_, min};
 ghost use lib.ListN.{length, getD, drop, take};
+ghost use Rattle.base_ceilings.specs.Ceilings.{itemsMost};
 ghost use Rattle.base_pens.specs.Pen.{pen, puts};
 ghost use Rattle.table_layout.specs.Access.{codeOf};
 ghost use Rattle.normal_rows.specs.Rules.{cells};
 ghost use Rattle.normal_writer.specs.Turning as turning;
 ghost use Rattle.base_bytes.specs.Choice.{pick};
-ghost use Rattle.normal_writer.specs.Turning.{rowOf, unless-none, laid, operated, isBinary, turned, whole, marks};
+ghost use Rattle.normal_writer.specs.Turning.{rowOf, unless-none, laid, operated, isBinary, turned, whole, marks, turnRoom};
 ghost use Rattle.normal_writer.specs.Normal.{normalOf};
 ghost use Rattle.normal_writer.specs.Places.{Pushed, Flushed};
 
 // How many rows there are (specs/Rules.antt of `normal_rows`).
 const ROWS: usize = 134;
 
-// The most items; and room for what they become, at most eight symbols for each.
-const ITEMS_MOST: usize = 8192;
-
-const ROOM: usize = 65544;
+// Room for what items become, at most eight symbols for each.
+const ROOM: usize = 8 * base_ceilings::ITEMS_MOST + 8;
 
 // Where the stack begins, and the tokens.
 struct Ends {
@@ -95,7 +94,7 @@ fn push(stack: &mut [u32], sp: usize, v: u32) -> usize
 
 // 99 stands for item i.
 fn said(i: usize, v: u32) -> u32
-    requires { ⌜ i < 8192 ⌝ }
+    requires { ⌜ i < itemsMost ⌝ }
     ensures { λ r. ⌜ r ≡ turning.said i v ⌝ }
 {
     if v == 99 { 256 + i as u32 } else { v }
@@ -103,7 +102,7 @@ fn said(i: usize, v: u32) -> u32
 
 // Puts the symbols of row r on the stack, for item i.
 fn lay(rows: &[u8], stack: &mut [u32], sp: usize, r: usize, i: usize) -> usize
-    requires { ⌜ (now rows ≡ cells) × (8 ≤ sp) × (sp ≤ length (now stack)) × (r ≤ 134) × (i < 8192) ⌝ }
+    requires { ⌜ (now rows ≡ cells) × (8 ≤ sp) × (sp ≤ length (now stack)) × (r ≤ 134) × (i < itemsMost) ⌝ }
     ensures { λ q. ⌜ Pushed (now (stack .entry)) sp (now (stack .exit)) q (laid r i 8 (drop sp (now (stack .entry)))) 8 ⌝ }
 {
     let mut p = sp;
@@ -158,7 +157,7 @@ fn operator(c: u8) -> u8
 
 // What the symbol s becomes at item i of code c.
 fn step(rows: &[u8], stack: &mut [u32], sp: usize, s: u32, c: u8, i: usize) -> usize
-    requires { ⌜ (now rows ≡ cells) × (8 ≤ sp) × (sp ≤ length (now stack)) × (i < 8192) ⌝ }
+    requires { ⌜ (now rows ≡ cells) × (8 ≤ sp) × (sp ≤ length (now stack)) × (i < itemsMost) ⌝ }
     ensures { λ r. ⌜ Pushed (now (stack .entry)) sp (now (stack .exit)) r (turned s c i (drop sp (now (stack .entry)))) 8 ⌝ }
 {
     if is_binary(s, c) {
@@ -216,8 +215,8 @@ fn next(n: usize, p: usize) -> usize
 
 // Items turned into tokens, from the back: the tokens stand from the answer on.
 fn turn(rows: &[u8], codes: &[u8], stack: &mut [u32], toks: &mut [u32]) -> usize
-    requires { ⌜ (now rows ≡ cells) × (length (now codes) ≤ 8192) × (length (now stack) ≡ 65544) × (length (now toks) ≡ 65544) ⌝ }
-    ensures { λ r. ⌜ (r ≤ 65544) × (drop r (now (toks .exit)) ≡ whole (λ v. v) (now (codes .entry))) ⌝ }
+    requires { ⌜ (now rows ≡ cells) × (length (now codes) ≤ itemsMost) × (length (now stack) ≡ turnRoom) × (length (now toks) ≡ turnRoom) ⌝ }
+    ensures { λ r. ⌜ (r ≤ turnRoom) × (drop r (now (toks .exit)) ≡ whole (λ v. v) (now (codes .entry))) ⌝ }
 {
     let mut sp = push(stack, ROOM, 143);
     let mut tp = ROOM;
@@ -254,7 +253,7 @@ fn after(b: bool, c: u8) -> bool
     if c == base_codes::RECEIVE {
         return false;
     }
-    if c == 72 {
+    if c == base_codes::TEXT {
         return true;
     }
     if c == base_codes::RUN {
@@ -282,13 +281,13 @@ fn mark(t: &[u32], codes: &mut [u8], n: usize)
 pub fn write_normal(t: &[u32], out: &mut [u8]) -> usize
     ensures { λ r. ⌜ pen (now (out .exit)) r ≡ puts (normalOf (now (t .entry))) (pen (now (out .entry)) 0) ⌝ }
 {
-    let n = base_bytes::least(ITEMS_MOST, table_layout::items(t));
+    let n = base_bytes::least(base_ceilings::ITEMS_MOST, table_layout::items(t));
     let mut rows = [0u8; 1340];
     normal_rows::lay_cells(&mut rows);
-    let mut codes = [0u8; 8192];
+    let mut codes = [0u8; base_ceilings::ITEMS_MOST];
     mark(t, &mut codes, n);
-    let mut stack = [0u32; 65544];
-    let mut toks = [0u32; 65544];
+    let mut stack = [0u32; ROOM];
+    let mut toks = [0u32; ROOM];
     let first = turn(&rows, &codes[0..n], &mut stack, &mut toks);
     normal_letters::put_tokens(t, &toks[first..65544], out)
 }

@@ -6,23 +6,24 @@ use mathlib.Core.List.{List}
 use lib.ListN.{length, getD, drop, drop-of-length-le}
 use lib.Seq.{drop-cons}
 use borrow.Author.Tests.{lt-ltb, le-ltb}
+use Rattle.base_ceilings.specs.Ceilings.{bracketsMost, selectionsMost}
 use Rattle.parse_machine_proof.specs.Depth.{deep, brackets, selections}
 
 -- at place i
 module _ (ks : List ℕ) (b s i b' s' whole : ℕ) (h : i < length ks)
     (eb : b' ≡ brackets (getD ks i 0) b) (es : s' ≡ selections (getD ks i 0) s)
     (inv : whole ≡ deep (drop i ks) b s i) where
-  pub many-brackets : 32 < b' → i ≡ whole
+  pub many-brackets : bracketsMost < b' → i ≡ whole
   unfolding deep
-  many-brackets l = sym (inv ∙ rw (drop-cons ks i 0 h, ← eb, lt-ltb 32 b' l))
+  many-brackets l = sym (inv ∙ rw (drop-cons ks i 0 h, ← eb, lt-ltb bracketsMost b' l))
 
-  pub many-selections : b' ≤ 32 → 8 < s' → i ≡ whole
+  pub many-selections : b' ≤ bracketsMost → selectionsMost < s' → i ≡ whole
   unfolding deep
-  many-selections m l = sym (inv ∙ rw (drop-cons ks i 0 h, ← eb, ← es, le-ltb 32 b' m, lt-ltb 8 s' l))
+  many-selections m l = sym (inv ∙ rw (drop-cons ks i 0 h, ← eb, ← es, le-ltb bracketsMost b' m, lt-ltb selectionsMost s' l))
 
-  pub none-yet : b' ≤ 32 → s' ≤ 8 → whole ≡ deep (drop (i + 1) ks) b' s' (i + 1)
+  pub none-yet : b' ≤ bracketsMost → s' ≤ selectionsMost → whole ≡ deep (drop (i + 1) ks) b' s' (i + 1)
   unfolding deep
-  none-yet m l = inv ∙ rw (drop-cons ks i 0 h, ← eb, ← es, le-ltb 32 b' m, le-ltb 8 s' l, add-one)
+  none-yet m l = inv ∙ rw (drop-cons ks i 0 h, ← eb, ← es, le-ltb bracketsMost b' m, le-ltb selectionsMost s' l, add-one)
 
 pub none-deep : (ks : List ℕ) (b s i whole : ℕ) → length ks ≤ i → whole ≡ deep (drop i ks) b s i → i + 1 ≡ whole
 unfolding deep

@@ -48,10 +48,6 @@ unfolding span
 span-length i zero = refl
 span-length i (suc n) = ap suc (span-length (i + 1) n)
 
-pub length-marked : (b : ℕ) (r : List ℕ) → length (marked b r) ≡ length r
-length-marked b [] = refl
-length-marked b (x ∷ r) = ap suc (length-marked b r)
-
 -- ---- what is added to its symbols
 pub mark-now : (v pos n : ℕ) → v % 256 < 143 → (o : List ℕ) → length o ≡ n → 256 * pos + 1048576 * n ≡ mark v pos o
 mark-now v pos n h o e = simp (lt-ltb (v % 256) 143 h, e)

@@ -6,12 +6,13 @@ use mathlib.Core.List.{List, [], _∷_, map}
 use lib.ListN.{length, take, drop, set, length-set, drop-of-length-le}
 use lib.Seq.{length-take-le, drop-cons, getD-set-same}
 use borrow.Author.Tests.{lt-ltb, le-ltb, le-leb, lt-leb}
+use Rattle.base_ceilings.specs.Ceilings.{itemsMost, tokensMost}
 use Rattle.base_kinds.specs.Kinds.{Token, kindOf}
 use Rattle.parse_proof.specs.Depth.{judge}
 use Rattle.parse_machine_proof.specs.Depth.{too-deep}
 use Rattle.parse_machine_proof.specs.Items.{All-proper, meant}
 use Rattle.parse_machine_proof.proofs.Judge.{same-judgement}
-use Rattle.parse_machine_proof.specs.Machine.{Outcome, done, refused, spent, Next, Config, step, next, run, start, machine}
+use Rattle.parse_machine_proof.specs.Machine.{Outcome, done, refused, spent, Next, Config, step, next, run, start, machine, most-stack}
 use Rattle.parse_machine_proof.specs.Answer.{items, refuse, judged, parsed}
 use Rattle.parse_items.specs.Parse.{Parses}
 use Rattle.parse_items.specs.Views.{conf, Stepped, Ran, Spread}
@@ -27,8 +28,8 @@ one-left l j x h e =
     drop-cons (set l j x) j 0 (rw (length-set l j x) h)
     ∙ rw (getD-set-same l j x 0 h, drop-of-length-le (set l j x) {i = suc j} (rw (length-set l j x) (omega arith)))
 
-pub start-law : (ks l o : List ℕ) (f : ℕ) → length l ≡ 40960 → run ks f start ≡ run ks f (conf (set l 40959 141) o (record { sp = 40959; pos = 0; n = 0 }))
-start-law ks l o f h = ap (λ (s : List ℕ). run ks f (record { st = s; pos = 0; out = [] })) (sym (one-left l 40959 141 (omega arith) h))
+pub start-law : (ks l o : List ℕ) (f : ℕ) → length l ≡ most-stack → run ks f start ≡ run ks f (conf (set l (most-stack - 1) 141) o (record { sp = (most-stack - 1); pos = 0; n = 0 }))
+start-law ks l o f h = ap (λ (s : List ℕ). run ks f (record { st = s; pos = 0; out = [] })) (sym (one-left l (most-stack - 1) 141 (omega arith) h))
 
 turn : (ks : List ℕ) (f : ℕ) (c : Config) → 0 < f → run ks f c ≡ next (run ks (f - 1)) (step ks c)
 unfolding run
@@ -49,39 +50,39 @@ module _ (ks a o a' o' : List ℕ) (s : State) (f : ℕ) (res : Outcome) (x : St
   after : (n : Next) → step ks (conf a o s) ≡ n → res ≡ next (run ks (f - 1)) n
   after n e = r ∙ turn ks f (conf a o s) h ∙ ap (next (run ks (f - 1))) e
 
-  pub go-run : (s' : State) → x ≡ Go s' → (s' .sp ≤ 40960) × (s' .n ≤ 8192) × (s' .pos ≤ 2048) × (res ≡ run ks (f - 1) (conf a' o' s'))
+  pub go-run : (s' : State) → x ≡ Go s' → (s' .sp ≤ most-stack) × (s' .n ≤ itemsMost) × (s' .pos ≤ tokensMost) × (res ≡ run ks (f - 1) (conf a' o' s'))
   go-run s' e = let w = at-variant (Go s') e in (w .1, w .2, w .3, after _ (w .0))
 
   pub stop-run : (i : ℕ) → x ≡ Stop i → res ≡ refused i
   stop-run i e = after _ (at-variant (Stop i) e)
 
-  pub done-run : (n : ℕ) → x ≡ Done n → (res ≡ done (take n o')) × (n ≤ 8192)
+  pub done-run : (n : ℕ) → x ≡ Done n → (res ≡ done (take n o')) × (n ≤ itemsMost)
   done-run n e = let w = at-variant (Done n) e in (after _ (w .0), w .1)
 
   pub spent-run : x ≡ Spent → res ≡ spent
   spent-run e = after _ (at-variant Spent e)
 
 -- ---- the entry
-means-law : (ks : List ℕ) (room : ℕ) (ts : List Token) → map kindOf ts ≡ ks → All-proper ts → length ts ≤ 2048 → 8192 ≤ room → meant ts (parsed ks room) ≡ judge ts
+means-law : (ks : List ℕ) (room : ℕ) (ts : List Token) → map kindOf ts ≡ ks → All-proper ts → length ts ≤ tokensMost → itemsMost ≤ room → meant ts (parsed ks room) ≡ judge ts
 means-law ks room ts e proper short enough = rw (← e) (same-judgement ts proper short room enough)
 
 module _ (ks codes tokens sizes : List ℕ) (room : ℕ) where
   pub refusing : (k i : ℕ) → parsed ks room ≡ refuse k i → Parses ks room (Refused k i) codes codes tokens tokens sizes sizes
   refusing k i e = record { answered = rw e; codes-are = rw e; tokens-are = rw e; sizes-are = rw e; means = means-law ks room }
 
-  pub no-room : room < 8192 → parsed ks room ≡ refuse 7 0
+  pub no-room : room < itemsMost → parsed ks room ≡ refuse 7 0
   unfolding parsed
-  no-room h = simp (lt-ltb room 8192 h)
+  no-room h = simp (lt-ltb room itemsMost h)
 
-  module _ (h : 8192 ≤ room) where
-    pub too-long : 2048 < length ks → parsed ks room ≡ refuse 2 2048
+  module _ (h : itemsMost ≤ room) where
+    pub too-long : tokensMost < length ks → parsed ks room ≡ refuse 2 tokensMost
     unfolding parsed
-    too-long g = simp (le-ltb room 8192 h, lt-ltb 2048 (length ks) g)
+    too-long g = simp (le-ltb room itemsMost h, lt-ltb tokensMost (length ks) g)
 
-    module _ (g : length ks ≤ 2048) (d : ℕ) (ed : d ≡ too-deep ks) (x : Halt) (o : List ℕ) (k : Ran (machine ks) x o) where
+    module _ (g : length ks ≤ tokensMost) (d : ℕ) (ed : d ≡ too-deep ks) (x : Halt) (o : List ℕ) (k : Ran (machine ks) x o) where
       is-judged : parsed ks room ≡ judged d (length ks) (machine ks)
       unfolding parsed
-      is-judged = simp (le-ltb room 8192 h, le-ltb 2048 (length ks) g, ← ed)
+      is-judged = simp (le-ltb room itemsMost h, le-ltb tokensMost (length ks) g, ← ed)
 
       variant : (y : Halt) → x ≡ y → Ran (machine ks) y o
       variant y e = subst (λ (z : Halt). Ran (machine ks) z o) e k
@@ -98,10 +99,10 @@ module _ (ks codes tokens sizes : List ℕ) (room : ℕ) where
       pub exhausted : x ≡ Exhausted → parsed ks room ≡ refuse 6 0
       exhausted e = is-judged ∙ ap (judged d (length ks)) (variant Exhausted e)
 
-      pub small : (n : ℕ) → x ≡ Accepted n → n ≤ 8192
+      pub small : (n : ℕ) → x ≡ Accepted n → n ≤ itemsMost
       small n e = variant (Accepted n) e .1
 
-      module _ (n : ℕ) (e : x ≡ Accepted n) (l : length ks < d) (lo : length o ≡ 8192) where
+      module _ (n : ℕ) (e : x ≡ Accepted n) (l : length ks < d) (lo : length o ≡ itemsMost) where
         accepted : parsed ks room ≡ items (take n o)
         accepted = is-judged ∙ ap (judged d (length ks)) (variant (Accepted n) e .0) ∙ simp (lt-leb d (length ks) l)
 

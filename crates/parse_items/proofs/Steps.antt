@@ -7,49 +7,50 @@ use mathlib.Core.List.{List, [], _∷_, _++_}
 use lib.ListN.{length, getD, take, drop, set, length-drop, drop-of-length-le}
 use lib.Seq.{drop-cons, length-take-le, take-suc-set}
 use borrow.Author.Tests.{eq-eqb, ne-eqb, lt-ltb, le-ltb, le-leb, lt-leb}
+use Rattle.base_ceilings.specs.Ceilings.{itemsMost}
 use Rattle.base_codes.specs.Codes.{c-or-else}
 use Rattle.parse_tables.specs.Tables.{production, right, span, rights}
-use Rattle.parse_machine_proof.specs.Machine.{Next, go, stop, done, refused, spent, packed, symbol-of, place-of, count-of, column, write, eat, mark, marked, expand, step, step-on}
+use Rattle.parse_machine_proof.specs.Machine.{Next, go, stop, done, refused, spent, packed, symbol-of, place-of, count-of, column, write, eat, mark, marked, expand, step, step-on, most-stack}
 use Rattle.parse_items.specs.Views.{conf, Stepped}
 use Rattle.parse_items.specs.declared.State.{State}
 use Rattle.parse_items.specs.declared.Step.{Step}
 use Rattle.parse_items.proofs.Laws.{span-length}
 
 -- ---- writing
-module _ (v at : ℕ) (st : List ℕ) (pos : ℕ) (l : List ℕ) (n : ℕ) (hl : length l ≡ 8192) where
-  pub write-law : (w m : ℕ) → n < 8192 → m ≡ n - count-of v → w ≡ packed (symbol-of v) at m →
+module _ (v at : ℕ) (st : List ℕ) (pos : ℕ) (l : List ℕ) (n : ℕ) (hl : length l ≡ itemsMost) where
+  pub write-law : (w m : ℕ) → n < itemsMost → m ≡ n - count-of v → w ≡ packed (symbol-of v) at m →
       write v at st pos (take n l) ≡ go (record { st = st; pos = pos; out = take (n + 1) (set l n w) })
   unfolding write
   write-law w m h em ew =
       let k : n < length l = omega arith in
       let e : length (take n l) ≡ n = length-take-le n l (omega arith) in
       let q : take (n + 1) (set l n w) ≡ take n l ++ w ∷ [] = rw add-one (take-suc-set l n w k) in
-      simp (e, lt-ltb n 8192 h) (ap (λ (o : List ℕ). go (record { st = st; pos = pos; out = o })) (sym (q ∙ rw (ew, em))))
+      simp (e, lt-ltb n itemsMost h) (ap (λ (o : List ℕ). go (record { st = st; pos = pos; out = o })) (sym (q ∙ rw (ew, em))))
 
-  pub full-law : n ≤ 8192 → 8192 ≤ n → write v at st pos (take n l) ≡ stop spent
+  pub full-law : n ≤ itemsMost → itemsMost ≤ n → write v at st pos (take n l) ≡ stop spent
   unfolding write
   full-law g h =
       let e : length (take n l) ≡ n = length-take-le n l (omega arith) in
-      simp (e, le-ltb n 8192 h)
+      simp (e, le-ltb n itemsMost h)
 
 -- ---- a right side
-module _ (v : ℕ) (stk : List ℕ) (sp pos n p size : ℕ) (o : List ℕ) (hs : sp < 40960) (ls : length stk ≡ 40960) (es : size ≡ getD rights (p * 13) 0) (ne : p ≡ 0 → ⊥) where
+module _ (v : ℕ) (stk : List ℕ) (sp pos n p size : ℕ) (o : List ℕ) (hs : sp < most-stack) (ls : length stk ≡ most-stack) (es : size ≡ getD rights (p * 13) 0) (ne : p ≡ 0 → ⊥) where
   right-size : length (right p) ≡ size
   unfolding right
   right-size = span-length (p * 13 + 1) (getD rights (p * 13) 0) ∙ sym es
 
-  left-over : length (drop (sp + 1) stk) ≡ 40960 - (sp + 1)
+  left-over : length (drop (sp + 1) stk) ≡ most-stack - (sp + 1)
   left-over = length-drop (sp + 1) stk ∙ ap (λ (k : ℕ). k - (sp + 1)) ls
 
   pub no-room-law : sp + 1 < size → expand v (drop (sp + 1) stk) pos o p ≡ stop spent
   unfolding expand
-  no-room-law h = simp (ne-eqb p 0 ne, right-size, left-over, lt-leb (size + (40960 - (sp + 1))) 40960 (omega arith))
+  no-room-law h = simp (ne-eqb p 0 ne, right-size, left-over, lt-leb (size + (most-stack - (sp + 1))) most-stack (omega arith))
 
   pub expand-law : size ≤ sp + 1 → (stk' : List ℕ) (top m : ℕ) → m ≡ mark v pos o → drop top stk' ≡ marked m (span (p * 13 + 1) size) ++ drop (sp + 1) stk →
       expand v (drop (sp + 1) stk) pos o p ≡ go (record { st = drop top stk'; pos = pos; out = o })
   unfolding expand right
   expand-law h stk' top m em e =
-      simp (ne-eqb p 0 ne, right-size, left-over, le-leb (size + (40960 - (sp + 1))) 40960 (omega arith))
+      simp (ne-eqb p 0 ne, right-size, left-over, le-leb (size + (most-stack - (sp + 1))) most-stack (omega arith))
       (ap (λ (s : List ℕ). go (record { st = s; pos = pos; out = o })) (rw (e, ← em, ← es)))
 
 -- ---- the step

@@ -1,13 +1,15 @@
+-- Mechanism, held to the specification by `same-answer` (crate `parse_machine_proof`).
 -- What the entry promises of an answer (specs/Answer.antt of `parse_machine_proof`) and of the lent arrays: "A refusal changes no lent number or byte .. What lies beyond the
 -- written part stays" (document 01, "What is answered, and what stays behind").
 use Prim.Native.Nat.{ℕ, _≤_}
 use mathlib.Core.Path.{_≡_}
 use mathlib.Core.List.{List, _++_, map}
 use lib.ListN.{length, drop}
+use Rattle.base_ceilings.specs.Ceilings.{itemsMost, tokensMost}
 use Rattle.base_kinds.specs.Kinds.{Token, kindOf}
 use Rattle.parse_proof.specs.Depth.{judge}
-use Rattle.parse_machine_proof.specs.Machine.{symbol-of, place-of, count-of, most-items}
-use Rattle.parse_machine_proof.specs.Answer.{Answer, items, refuse, parsed, most-tokens}
+use Rattle.parse_machine_proof.specs.Machine.{symbol-of, place-of, count-of}
+use Rattle.parse_machine_proof.specs.Answer.{Answer, items, refuse, parsed}
 use Rattle.parse_machine_proof.specs.Items.{All-proper, meant}
 use Rattle.parse_items.specs.declared.Parsed.{Parsed}
 use Rattle.parse_items.specs.declared.Parsed.the-variants.{Items, Refused}
@@ -28,4 +30,4 @@ pub record Parses (ks : List ℕ) (room : ℕ) (r : Parsed) (codes codes' tokens
   pub codes-are : codes' ≡ filled symbol-of (parsed ks room) codes
   pub tokens-are : tokens' ≡ filled place-of (parsed ks room) tokens
   pub sizes-are : sizes' ≡ filled count-of (parsed ks room) sizes
-  pub means : (ts : List Token) → map kindOf ts ≡ ks → All-proper ts → length ts ≤ most-tokens → most-items ≤ room → meant ts (parsed ks room) ≡ judge ts
+  pub means : (ts : List Token) → map kindOf ts ≡ ks → All-proper ts → length ts ≤ tokensMost → itemsMost ≤ room → meant ts (parsed ks room) ≡ judge ts

@@ -3,22 +3,21 @@ ghost use mathlib.Core.Path.{_≡_};
 ghost use mathlib.Core.List.{List, _++_};
 ghost use Prim.Native.Nat.{ℕ, _+_, _-_, _*_, _≤_, _<_, min};
 ghost use lib.ListN.{length, take, drop};
+ghost use Rattle.base_ceilings.specs.Ceilings.{itemsMost, tokensMost};
 ghost use Rattle.parse_tables.specs.Tables.{choices, rights, span};
-ghost use Rattle.parse_machine_proof.specs.Machine.{symbol-of, place-of, count-of, clipped, column, marked, mark, write, expand, step, machine};
+ghost use Rattle.parse_machine_proof.specs.Machine.{symbol-of, place-of, count-of, clipped, column, marked, mark, write, expand, step, machine, most-stack, placeRoom};
 ghost use Rattle.parse_items.specs.Parse.{Parses};
 ghost use Rattle.parse_items.specs.Views.{Stepped, Ran, Spread, conf};
 
-// Document 01, "Ceilings".
-const MOST_TOKENS: usize = 2048;
-
-// What the tokens can ask of the loop at most: four items, 19 places of the stack and 37 turns for each.
-pub const ITEMS: usize = 8192;
-
-const STACK: usize = 40960;
+// What the tokens can ask of the loop at most: 19 places of the stack and 37 turns for each.
+const STACK: usize = 20 * base_ceilings::TOKENS_MOST;
 
 const BOTTOM: usize = STACK - 1;
 
-const TURNS: usize = 81920;
+const TURNS: usize = 40 * base_ceilings::TOKENS_MOST;
+
+// Room for a place in a packed number (specs/Machine.antt of `parse_machine_proof`).
+const PLACE_ROOM: usize = 4096;
 
 // Where the numbers of symbols change (specs/Numbering.antt of `parse_tables`): from terminals that write to nonterminals, to those that go on with what was begun, to items.
 const NAME: u8 = 70;
@@ -68,13 +67,6 @@ fn wide(x: u8) -> usize
     x as usize
 }
 
-// a - b, or 0 where b is more.
-fn minus(a: usize, b: usize) -> usize
-    ensures { λ r. ⌜ r ≡ a - b ⌝ }
-{
-    if b <= a { a - b } else { 0 }
-}
-
 // The column of the tables for a kind: 73 for what is none.
 fn clip(k: u8) -> u8
     ensures { λ r. ⌜ r ≡ clipped k ⌝ }
@@ -98,12 +90,12 @@ fn column(kinds: &[u8], pos: usize) -> u8
 
 // An item for the stack's number v and the token at, if there is room.
 fn write(out: &mut [usize], v: usize, at: usize, s: State) -> Step
-    requires { ⌜ (at < 4096) × (s .sp ≤ 40960) × (s .n ≤ 8192) × (s .pos ≤ 2048) × (length (now out) ≡ 8192) ⌝ }
+    requires { ⌜ (at < placeRoom) × (s .sp ≤ most-stack) × (s .n ≤ itemsMost) × (s .pos ≤ tokensMost) × (length (now out) ≡ itemsMost) ⌝ }
     ensures { λ r. ⌜ ((a : List ℕ) → Stepped (write v at (drop (s .sp) a) (s .pos) (take (s .n) (now (out .entry)))) r a (now (out .exit))) ⌝ }
 {
     let n = s.n;
-    if n < ITEMS {
-        out[n] = v % 256 + 256 * at + 1048576 * minus(n, v / 1048576 % 65536);
+    if n < base_ceilings::ITEMS_MOST {
+        out[n] = v % 256 + 256 * at + 1048576 * base_bytes::minus(n, v / 1048576 % 65536);
         return Step::Go(State {
             sp: s.sp,
             pos: s.pos,
@@ -122,7 +114,7 @@ fn push(
     n: usize,
     marking: usize,
 ) -> usize
-    requires { ⌜ (now sides ≡ rights) × (n ≤ top) × (top ≤ length (now stack)) × (first < 8192) × (n < 256) × (marking ≤ 18446744073709551360) ⌝ }
+    requires { ⌜ (now sides ≡ rights) × (n ≤ top) × (top ≤ length (now stack)) × (first < itemsMost) × (n < 256) × (marking ≤ 18446744073709551360) ⌝ }
     ensures { λ r. ⌜ (drop r (now (stack .exit)) ≡ marked marking (span first n) ++ drop top (now (stack .entry))) × (r ≡ top - n) × (length (now (stack .exit)) ≡ length (now (stack .entry))) ⌝ }
 {
     let mut k = n;
@@ -137,7 +129,7 @@ fn push(
 
 // What is added to each symbol of a right side.
 fn mark_of(v: usize, pos: usize, n: usize) -> usize
-    requires { ⌜ (pos ≤ 2048) × (n ≤ 8192) ⌝ }
+    requires { ⌜ (pos ≤ tokensMost) × (n ≤ itemsMost) ⌝ }
     ensures { λ r. ⌜ ((o : List ℕ) → length o ≡ n → r ≡ mark v pos o) × (r ≤ 18446744073709551360) ⌝ }
 {
     if v % 256 < LATE {
@@ -149,8 +141,8 @@ fn mark_of(v: usize, pos: usize, n: usize) -> usize
 
 // The symbols of the right side p take the place of v, which is on top.
 fn expand(sides: &[u8], stack: &mut [usize], v: usize, p: usize, s: State) -> Step
-    requires { ⌜ (now sides ≡ rights) × (p < 512) × (s .sp < 40960) × (s .n ≤ 8192) × (s .pos ≤ 2048) × (length (now stack) ≡ 40960) ⌝ }
-    ensures { λ r. ⌜ ((o : List ℕ) → length o ≡ 8192 → Stepped (expand v (drop (s .sp + 1) (now (stack .entry))) (s .pos) (take (s .n) o) p) r (now (stack .exit)) o) ⌝ }
+    requires { ⌜ (now sides ≡ rights) × (p < 512) × (s .sp < most-stack) × (s .n ≤ itemsMost) × (s .pos ≤ tokensMost) × (length (now stack) ≡ most-stack) ⌝ }
+    ensures { λ r. ⌜ ((o : List ℕ) → length o ≡ itemsMost → Stepped (expand v (drop (s .sp + 1) (now (stack .entry))) (s .pos) (take (s .n) o) p) r (now (stack .exit)) o) ⌝ }
 {
     let sp = s.sp;
     let pos = s.pos;
@@ -181,7 +173,7 @@ fn step_on(
     out: &mut [usize],
     s: State,
 ) -> Step
-    requires { ⌜ (now rows ≡ choices) × (now sides ≡ rights) × (s .sp ≤ 40960) × (s .n ≤ 8192) × (s .pos ≤ 2048) × (length (now kinds) ≤ 2048) × (length (now stack) ≡ 40960) × (length (now out) ≡ 8192) ⌝ }
+    requires { ⌜ (now rows ≡ choices) × (now sides ≡ rights) × (s .sp ≤ most-stack) × (s .n ≤ itemsMost) × (s .pos ≤ tokensMost) × (length (now kinds) ≤ tokensMost) × (length (now stack) ≡ most-stack) × (length (now out) ≡ itemsMost) ⌝ }
     ensures { λ r. ⌜ Stepped (step (now (kinds .entry)) (conf (now (stack .entry)) (now (out .entry)) s)) r (now (stack .exit)) (now (out .exit)) ⌝ }
 {
     let sp = s.sp;
@@ -224,12 +216,12 @@ fn step_on(
     if x < WRITTEN {
         return expand(sides, stack, v, parse_tables::production(rows, x, k), s);
     }
-    write(out, v, v / 256 % 4096, State { sp: sp + 1, pos, n })
+    write(out, v, v / 256 % PLACE_ROOM, State { sp: sp + 1, pos, n })
 }
 
 // The loop.
 fn run(rows: &[u8], sides: &[u8], kinds: &[u8], stack: &mut [usize], out: &mut [usize]) -> Halt
-    requires { ⌜ (now rows ≡ choices) × (now sides ≡ rights) × (length (now kinds) ≤ 2048) × (length (now stack) ≡ 40960) × (length (now out) ≡ 8192) ⌝ }
+    requires { ⌜ (now rows ≡ choices) × (now sides ≡ rights) × (length (now kinds) ≤ tokensMost) × (length (now stack) ≡ most-stack) × (length (now out) ≡ itemsMost) ⌝ }
     ensures { λ r. ⌜ Ran (machine (now (kinds .entry))) r (now (out .exit)) ⌝ }
 {
     stack[BOTTOM] = MODEL;
@@ -262,7 +254,7 @@ fn run(rows: &[u8], sides: &[u8], kinds: &[u8], stack: &mut [usize], out: &mut [
 
 // The loop, with its tables laid out.
 fn drive(kinds: &[u8], stack: &mut [usize], out: &mut [usize]) -> Halt
-    requires { ⌜ (length (now kinds) ≤ 2048) × (length (now stack) ≡ 40960) × (length (now out) ≡ 8192) ⌝ }
+    requires { ⌜ (length (now kinds) ≤ tokensMost) × (length (now stack) ≡ most-stack) × (length (now out) ≡ itemsMost) ⌝ }
     ensures { λ r. ⌜ Ran (machine (now (kinds .entry))) r (now (out .exit)) ⌝ }
 {
     let mut rows = [0u8; 5476];
@@ -275,7 +267,7 @@ fn drive(kinds: &[u8], stack: &mut [usize], out: &mut [usize]) -> Halt
 fn token_of(v: usize) -> u32
     ensures { λ r. ⌜ r ≡ place-of v ⌝ }
 {
-    (v / 256 % 4096) as u32
+    (v / 256 % PLACE_ROOM) as u32
 }
 
 fn size_of(v: usize) -> u32
@@ -303,15 +295,17 @@ fn spread(work: &[usize], n: usize, codes: &mut [u8], tokens: &mut [u32], sizes:
 pub fn parse(kinds: &[u8], codes: &mut [u8], tokens: &mut [u32], sizes: &mut [u32]) -> Parsed
     ensures { λ r. ⌜ Parses (now (kinds .entry)) (min (length (now (codes .entry))) (min (length (now (tokens .entry))) (length (now (sizes .entry))))) r (now (codes .entry)) (now (codes .exit)) (now (tokens .entry)) (now (tokens .exit)) (now (sizes .entry)) (now (sizes .exit)) ⌝ }
 {
-    if base_bytes::least(codes.len(), base_bytes::least(tokens.len(), sizes.len())) < ITEMS {
+    if base_bytes::least(codes.len(), base_bytes::least(tokens.len(), sizes.len()))
+        < base_ceilings::ITEMS_MOST
+    {
         return Parsed::Refused(7, 0);
     }
-    if kinds.len() > MOST_TOKENS {
-        return Parsed::Refused(2, MOST_TOKENS);
+    if kinds.len() > base_ceilings::TOKENS_MOST {
+        return Parsed::Refused(2, base_ceilings::TOKENS_MOST);
     }
     let d = parse_depth::first_too_deep(kinds);
     let mut stack = [0usize; STACK];
-    let mut work = [0usize; ITEMS];
+    let mut work = [0usize; base_ceilings::ITEMS_MOST];
     let a = drive(kinds, &mut stack, &mut work);
     match a {
         Halt::Stopped(i) => {

@@ -12,7 +12,7 @@ use lib.Dec.{eqb, ltb}
 use borrow.Author.Tests.{eq-eqb, ne-eqb, lt-ltb, eqb-true, eqb-false}
 use Rattle.base_kinds.specs.Kinds.{Token, sym, name, number, text, kindOf}
 use Rattle.base_bytes.specs.Choice.{pick}
-use Rattle.spec_grammar.specs.Code.{Item}
+use Rattle.base_codes.specs.Items.{Item}
 use Rattle.parse_proof.specs.Productions.{Ter, sy, any-name, any-number, any-text, eats}
 use Rattle.parse_tables.specs.Numbering.{terminal}
 use Rattle.parse_machine_proof.specs.Machine.{clipped}

@@ -10,20 +10,21 @@ use mathlib.Core.Logic.{⊎-elim}
 use lib.ListN.{length, length-map}
 use lib.Dec.{ltb, leb, lit≤}
 use borrow.Author.Tests.{lt-ltb, le-ltb, le-leb, lt-leb, ltb-false}
+use Rattle.base_ceilings.specs.Ceilings.{bracketsMost, itemsMost, selectionsMost, tokensMost}
 use Rattle.base_kinds.specs.Kinds.{Token, kindOf}
-use Rattle.base_bytes.specs.Choice.{pick}
-use Rattle.spec_grammar.specs.Code.{Item}
-use Rattle.parse_proof.specs.Engine.{nt, Answer as Parse, ok, bad, either, both, later, ended, Moved, next, bound, step, finish, parse}
+use Rattle.base_bytes.specs.Choice.{pick, both, either}
+use Rattle.base_codes.specs.Items.{Item}
+use Rattle.parse_proof.specs.Engine.{nt, Answer as Parse, ok, bad, later, ended, Moved, next, bound, step, finish, parse}
 use Rattle.parse_proof.specs.Productions.{NT, n-model, Ter, Right, G}
 use Rattle.parse_proof.specs.Guide.{U, parse-model}
 use Rattle.parse_proof.specs.Depth.{opens-bracket, closes-bracket, opens-selection, closes-selection, count-after, passes, one-later, deep-from, refused-2, refused-3, judged as judged-by, judge}
-use Rattle.parse_proof.specs.Depth as parsing
 use Rattle.parse_machine_proof.specs.Depth.{deep, too-deep}
-use Rattle.parse_machine_proof.specs.Machine.{Outcome, done, refused, spent, machine, most-items}
-use Rattle.parse_machine_proof.specs.Answer.{refuse, judged, parsed, most-tokens}
+use Rattle.parse_machine_proof.specs.Machine.{Outcome, done, refused, spent, machine}
+use Rattle.parse_machine_proof.specs.Answer.{refuse, judged, parsed}
 use Rattle.parse_machine_proof.specs.Items.{answer-of, All-proper, meant}
 use Rattle.parse_machine_proof.proofs.Never.{lt-or-ge, Fine, never-spent}
 use Rattle.parse_machine_proof.proofs.Same.{same-answer}
+use Rattle.parse_proof.specs.Depth as parsing
 
 -- ---- depth
 over : (u d : Bool) (n m : ℕ) → n ≤ m → ltb m (count-after u d n) ≡ both u (leb m n)
@@ -59,21 +60,21 @@ neither : (a b : Bool) → either a b ≡ false → (a ≡ false) × (b ≡ fals
 neither true b e = absurd (let z : _≡_ {A = ℕ} 0 1 = ap (λ (c : Bool). cond c 1 0) (inv e) in omega arith)
 neither false b e = (refl, e)
 
-deep-same : (ts : List Token) (b s i : ℕ) → b ≤ 32 → s ≤ 8 → deep (map kindOf ts) b s i ≡ placed i (length ts) (deep-from b s ts)
+deep-same : (ts : List Token) (b s i : ℕ) → b ≤ bracketsMost → s ≤ selectionsMost → deep (map kindOf ts) b s i ≡ placed i (length ts) (deep-from b s ts)
 unfolding deep
 deep-same [] b s i hb hs = omega arith
 deep-same (t ∷ ts) b s i hb hs =
     let b' : ℕ = count-after (opens-bracket t) (closes-bracket t) b in
     let s' : ℕ = count-after (opens-selection t) (closes-selection t) s in
-    let x : ltb 32 b' ≡ both (opens-bracket t) (leb 32 b) = over (opens-bracket t) (closes-bracket t) b 32 hb in
-    let y : ltb 8 s' ≡ both (opens-selection t) (leb 8 s) = over (opens-selection t) (closes-selection t) s 8 hs in
-    picks (ltb 32 b') (ltb 8 s') i (deep (map kindOf ts) b' s' (i + 1))
-    ∙ placed-cond (either (ltb 32 b') (ltb 8 s')) i (suc (length ts)) (deep (map kindOf ts) b' s' (i + 1)) (one-later (deep-from b' s' ts))
+    let x : ltb bracketsMost b' ≡ both (opens-bracket t) (leb bracketsMost b) = over (opens-bracket t) (closes-bracket t) b bracketsMost hb in
+    let y : ltb selectionsMost s' ≡ both (opens-selection t) (leb selectionsMost s) = over (opens-selection t) (closes-selection t) s selectionsMost hs in
+    picks (ltb bracketsMost b') (ltb selectionsMost s') i (deep (map kindOf ts) b' s' (i + 1))
+    ∙ placed-cond (either (ltb bracketsMost b') (ltb selectionsMost s')) i (suc (length ts)) (deep (map kindOf ts) b' s' (i + 1)) (one-later (deep-from b' s' ts))
     (λ e.
-    let n = neither (ltb 32 b') (ltb 8 s') e in
-    deep-same ts b' s' (i + 1) (ltb-false 32 b' (n .0)) (ltb-false 8 s' (n .1)) ∙ placed-later i (length ts) (deep-from b' s' ts))
-    ∙ ap (λ (c : Bool). placed i (suc (length ts)) (cond (either c (ltb 8 s')) (some 0) (one-later (deep-from b' s' ts)))) x
-    ∙ ap (λ (c : Bool). placed i (suc (length ts)) (cond (either (both (opens-bracket t) (leb 32 b)) c) (some 0) (one-later (deep-from b' s' ts)))) y
+    let n = neither (ltb bracketsMost b') (ltb selectionsMost s') e in
+    deep-same ts b' s' (i + 1) (ltb-false bracketsMost b' (n .0)) (ltb-false selectionsMost s' (n .1)) ∙ placed-later i (length ts) (deep-from b' s' ts))
+    ∙ ap (λ (c : Bool). placed i (suc (length ts)) (cond (either c (ltb selectionsMost s')) (some 0) (one-later (deep-from b' s' ts)))) x
+    ∙ ap (λ (c : Bool). placed i (suc (length ts)) (cond (either (both (opens-bracket t) (leb bracketsMost b)) c) (some 0) (one-later (deep-from b' s' ts)))) y
 
 -- a place that is some token's
 inside : (ts : List Token) (b s j : ℕ) → deep-from b s ts ≡ some j → j < length ts
@@ -122,13 +123,13 @@ module _ (ts : List Token) where
       rw (← e, z) (by-place (leb j i) j i)
   all-told spent p d fine e h g = absurd fine
 
-  module _ (proper : All-proper ts) (short : length ts ≤ most-tokens) (room : ℕ) (enough : most-items ≤ room) where
+  module _ (proper : All-proper ts) (short : length ts ≤ tokensMost) (room : ℕ) (enough : itemsMost ≤ room) where
     many : length (map kindOf ts) ≡ length ts
     many = length-map ts kindOf
 
     is-judged : parsed (map kindOf ts) room ≡ judged (placed 0 (length ts) (parsing.too-deep ts)) (length ts) (machine (map kindOf ts))
     unfolding parsed
-    is-judged = simp (le-ltb room most-items enough, many, le-ltb most-tokens (length ts) short) (rw (deep-same ts 0 0 0 (lit≤ tt) (lit≤ tt)))
+    is-judged = simp (le-ltb room itemsMost enough, many, le-ltb tokensMost (length ts) short) (rw (deep-same ts 0 0 0 (lit≤ tt) (lit≤ tt)))
 
     -- THE SAME JUDGEMENT
     pub same-judgement : meant ts (parsed (map kindOf ts) room) ≡ judge ts

@@ -11,15 +11,17 @@ use lib.Dec.{eqb}
 use Rattle.base_kinds.specs.Kinds.{Token, kindOf}
 use Rattle.spec_grammar.specs.Tree.{Model}
 use Rattle.spec_grammar.specs.Grammar.{Gram}
-use Rattle.spec_grammar.specs.Code.{Item, code}
+use Rattle.base_codes.specs.Items.{Item}
+use Rattle.parse_code.specs.Code.{code}
 use Rattle.parse_proof.specs.Depth.{too-deep, accepted, refused-2, refused-3, judge}
-use Rattle.parse_proof.proofs.Judged.{judge-sound, judge-complete, Two, judge-two, Three, judge-three}
-use Rattle.parse_machine_proof.specs.Machine.{most-items}
-use Rattle.parse_machine_proof.specs.Answer.{Answer, items, refuse, parsed, most-tokens}
+use Rattle.parse_proof.specs.Refusals.{Two, Three}
+use Rattle.parse_proof.proofs.Judged.{judge-sound, judge-complete, judge-two, judge-three}
+use Rattle.parse_machine_proof.specs.Answer.{Answer, items, refuse, parsed}
 use Rattle.parse_machine_proof.specs.Items.{read, All-proper, meant}
 use Rattle.parse_machine_proof.proofs.Judge.{same-judgement}
+use Rattle.base_ceilings.specs.Ceilings.{itemsMost, tokensMost}
 
-module _ (ts : List Token) (proper : All-proper ts) (short : length ts ≤ most-tokens) (room : ℕ) (enough : most-items ≤ room) where
+module _ (ts : List Token) (proper : All-proper ts) (short : length ts ≤ tokensMost) (room : ℕ) (enough : itemsMost ≤ room) where
   judged-as : (a : Answer) → parsed (map kindOf ts) room ≡ a → judge ts ≡ meant ts a
   judged-as a e = inv (same-judgement ts proper short room enough) ∙ ap (meant ts) e
 

@@ -11,14 +11,14 @@ use mathlib.Core.Logic.{_⊎_, inl, inr, ⊎-elim}
 use native.Mathlib.Decide.{decLt}
 use lib.ListN.{length, getD, length-append}
 use lib.Dec.{T, eqb, ltb, leb, leb→le, lit≤}
-use borrow.Author.Tests.{eq-eqb, ne-eqb, lt-ltb, le-ltb, eqb-false, ltb-true, ltb-false, leb-false}
+use borrow.Author.Tests.{ne-eqb, lt-ltb, le-ltb, eqb-false, ltb-true, ltb-false, leb-false}
+use Rattle.base_ceilings.specs.Ceilings.{itemsMost, tokensMost}
 use Rattle.base_codes.specs.Codes.{c-or-else}
 use Rattle.base_bytes.specs.Choice.{pick, either}
 use Rattle.parse_proof.proofs.Tests.{below-out}
 use Rattle.parse_tables.specs.Tables.{choices, bases, rights, production, productionBy, span, right}
 use Rattle.parse_tables.proofs.Tables.{each-right, at-right}
-use Rattle.parse_machine_proof.specs.Machine.{symbol-of, column, Config, Outcome, done, refused, spent, Next, go, written, write, eat, mark, marked, expand, step-on, next, run, start, machine, most-steps, most-stack, most-items}
-use Rattle.parse_machine_proof.specs.Answer.{most-tokens}
+use Rattle.parse_machine_proof.specs.Machine.{symbol-of, column, Config, Outcome, done, refused, spent, Next, go, outputOf, write, eat, mark, marked, expand, step-on, next, run, start, machine, most-steps, most-stack}
 
 pub lt-or-ge : (a b : ℕ) → (a < b) ⊎ (b ≤ a)
 lt-or-ge a b = elim (decLt a b) [ yes h ↦ inl h | no h ↦ inr (omega arith) ]
@@ -32,14 +32,6 @@ column-low ks pos = go (ltb pos (length ks)) (eqb (getD ks pos 0) 0)
     go true true = lit≤ tt
     go true false = omega arith
     go false b = lit≤ tt
-
-pub column-some : (ks : List ℕ) (pos : ℕ) → pos < length ks → 1 ≤ column ks pos
-unfolding column
-column-some ks pos h = simp (lt-ltb pos (length ks) h) (⊎-elim (λ e. simp (eq-eqb (getD ks pos 0) 0 e) (lit≤ tt)) (λ e. simp (ne-eqb (getD ks pos 0) 0 (λ z. omega arith)) (omega arith)) (zero-or (getD ks pos 0)))
-  where
-    zero-or : (k : ℕ) → (k ≡ 0) ⊎ (0 < k)
-    zero-or zero = inl refl
-    zero-or (suc k) = inr (omega arith)
 
 pub column-end : (ks : List ℕ) (pos : ℕ) → length ks ≤ pos → column ks pos ≡ 0
 unfolding column
@@ -285,13 +277,13 @@ record Lower (ks st : List ℕ) (pos : ℕ) (out : List ℕ) (c : Config) : Type
   stack : potential w-stack 19 (c .st) (length ks - c .pos) ≤ potential w-stack 19 st (length ks - pos)
   items : length (c .out) + potential w-items 4 (c .st) (length ks - c .pos) ≤ length out + potential w-items 4 st (length ks - pos)
 
-length-written : (v at : ℕ) (out : List ℕ) → length (written v at out) ≡ length out + 1
+pub length-written : (v at : ℕ) (out : List ℕ) → length (outputOf v at out) ≡ length out + 1
 length-written v at out = length-append out _
 
 module _ (ks : List ℕ) (f : Config → Outcome) (v : ℕ) (st : List ℕ) (pos : ℕ) (out : List ℕ)
     (ih : (c : Config) → Lower ks (v ∷ st) pos out c → Fine (f c))
-    (room : potential w-stack 19 (v ∷ st) (length ks - pos) ≤ most-stack) (space : length out + potential w-items 4 (v ∷ st) (length ks - pos) ≤ most-items) where
-  act-lower : (at : ℕ) → c-or-else ≤ v % 256 → Lower ks (v ∷ st) pos out (record { st = st; pos = pos; out = written v at out })
+    (room : potential w-stack 19 (v ∷ st) (length ks - pos) ≤ most-stack) (space : length out + potential w-items 4 (v ∷ st) (length ks - pos) ≤ itemsMost) where
+  act-lower : (at : ℕ) → c-or-else ≤ v % 256 → Lower ks (v ∷ st) pos out (record { st = st; pos = pos; out = outputOf v at out })
   act-lower at h =
       record {
         steps = omega (arith, act-pays w-steps 37 1 steps-paid v st (length ks - pos) h, steps-one (v % 256) (inr h));
@@ -302,8 +294,8 @@ module _ (ks : List ℕ) (f : Config → Outcome) (v : ℕ) (st : List ℕ) (pos
   act-fine : (at : ℕ) → c-or-else ≤ v % 256 → Fine (next f (write v at st pos out))
   unfolding write
   act-fine at h =
-      fine-pick (ltb (length out) most-items) (go (record { st = st; pos = pos; out = written v at out })) _ f (λ e. ih _ (act-lower at h))
-      (λ e. omega (arith, ltb-false (length out) most-items e, act-pays w-items 4 0 items-paid v st (length ks - pos) h, items-one (v % 256) (inr h)))
+      fine-pick (ltb (length out) itemsMost) (go (record { st = st; pos = pos; out = outputOf v at out })) _ f (λ e. ih _ (act-lower at h))
+      (λ e. omega (arith, ltb-false (length out) itemsMost e, act-pays w-items 4 0 items-paid v st (length ks - pos) h, items-one (v % 256) (inr h)))
 
   module _ (low : v % 256 < 73) (here : pos < length ks) where
     left : length ks - pos ≡ suc (length ks - (pos + 1))
@@ -321,9 +313,9 @@ module _ (ks : List ℕ) (f : Config → Outcome) (v : ℕ) (st : List ℕ) (pos
     name-fine : 70 ≤ v % 256 → Fine (next f (write v pos st (pos + 1) out))
     unfolding write
     name-fine h =
-        fine-pick (ltb (length out) most-items) (go (record { st = st; pos = pos + 1; out = written v pos out })) _ f
+        fine-pick (ltb (length out) itemsMost) (go (record { st = st; pos = pos + 1; out = outputOf v pos out })) _ f
         (λ e. ih _ (record { steps = eat-steps; stack = eat-stack; items = omega (arith, eat-items, items-one (v % 256) (inl (h, low)), length-written v pos out) }))
-        (λ e. omega (arith, ltb-false (length out) most-items e, eat-items, items-one (v % 256) (inl (h, low))))
+        (λ e. omega (arith, ltb-false (length out) itemsMost e, eat-items, items-one (v % 256) (inl (h, low))))
 
     eat-fine : Fine (next f (pick (ltb (symbol-of v) 70) (go (record { st = st; pos = pos + 1; out = out })) (write v pos st (pos + 1) out)))
     eat-fine =
@@ -362,7 +354,7 @@ module _ (ks : List ℕ) (f : Config → Outcome) (v : ℕ) (st : List ℕ) (pos
       (λ g. omega (arith, leb-false (length (right p) + length st) most-stack g, fits lo hi p ep (eqb-false p 0 e))))
 
 turn-fine : (ks : List ℕ) (f : Config → Outcome) (st : List ℕ) (pos : ℕ) (out : List ℕ) → ((c : Config) → Lower ks st pos out c → Fine (f c)) →
-    potential w-stack 19 st (length ks - pos) ≤ most-stack → length out + potential w-items 4 st (length ks - pos) ≤ most-items → Fine (next f (step-on ks st pos out))
+    potential w-stack 19 st (length ks - pos) ≤ most-stack → length out + potential w-items 4 st (length ks - pos) ≤ itemsMost → Fine (next f (step-on ks st pos out))
 unfolding step-on
 turn-fine ks f [] pos out ih room space = fine-end (ltb pos (length ks)) pos out
 turn-fine ks f (v ∷ st) pos out ih room space =
@@ -372,7 +364,7 @@ turn-fine ks f (v ∷ st) pos out ih room space =
     (λ g. act-fine ks f v st pos out ih room space _ (ltb-false (symbol-of v) c-or-else g)))
 
 safe : (ks : List ℕ) (f : ℕ) (c : Config) → potential w-steps 37 (c .st) (length ks - c .pos) < f → potential w-stack 19 (c .st) (length ks - c .pos) ≤ most-stack →
-    length (c .out) + potential w-items 4 (c .st) (length ks - c .pos) ≤ most-items → Fine (run ks f c)
+    length (c .out) + potential w-items 4 (c .st) (length ks - c .pos) ≤ itemsMost → Fine (run ks f c)
 unfolding run
 safe ks zero c h room space = absurd (not-suc-le-zero h)
 safe ks (suc f) c h room space =
@@ -391,7 +383,7 @@ price-4 zero = refl
 price-4 (suc n) = omega (arith, price-4 n)
 
 -- NEVER SPENT, for any list of at most 2,048 kinds: 37 steps a token, 19 places of the stack, 4 items
-pub never-spent : (ks : List ℕ) → length ks ≤ most-tokens → Fine (machine ks)
+pub never-spent : (ks : List ℕ) → length ks ≤ tokensMost → Fine (machine ks)
 unfolding w-steps w-stack w-items by-list steps-list stack-list items-list
 never-spent ks h =
     safe ks most-steps start (omega (arith, due-le 37 (length ks - 0) (leads (141 ∷ [])), price-37 (length ks - 0)))

@@ -11,11 +11,12 @@ use lib.ListN.{length, getD, drop, length-map, List·getD-map, drop-of-length-le
 use lib.Seq.{drop-cons}
 use lib.Dec.{T, eqb, ltb, leb, ltb→lt, lit≤}
 use borrow.Author.Tests.{eq-eqb, ne-eqb, lt-ltb, le-ltb, eqb-false, eqb-true, ltb-true, ltb-false}
+use Rattle.base_ceilings.specs.Ceilings.{itemsMost, tokensMost}
 use Rattle.base_codes.specs.Codes.{c-or-else}
 use Rattle.base_kinds.specs.Kinds.{Token, sym, kindOf}
-use Rattle.base_bytes.specs.Choice.{pick}
-use Rattle.spec_grammar.specs.Code.{Item}
-use Rattle.parse_proof.specs.Engine.{both, Sym, nt, tm, act, Answer, ok, bad, later, left-out, ended, Moved, chosen, next as nexts, choose, bound, step as steps, finish, parse}
+use Rattle.base_bytes.specs.Choice.{pick, both}
+use Rattle.base_codes.specs.Items.{Item}
+use Rattle.parse_proof.specs.Engine.{Sym, nt, tm, act, Answer, ok, bad, later, left-out, ended, Moved, chosen, next as nexts, choose, bound, step as steps, finish, parse}
 use Rattle.parse_proof.specs.Productions.{NT, Ter, Right, eats, G}
 use Rattle.parse_proof.specs.Guide.{U, parse-model}
 use Rattle.parse_proof.proofs.Core.{pre, on-act, on-eat, on-use, finish-app}
@@ -24,11 +25,10 @@ use Rattle.parse_proof.proofs.Inst.{K, good}
 use Rattle.parse_tables.specs.Numbering.{symbol, terminal, nonterminal, item}
 use Rattle.parse_tables.specs.Tables.{bases, rights, production, span, right}
 use Rattle.parse_tables.proofs.Tables.{refuses, uses, no-kind-table, no-kind-guide, not-empty, empty, each-right, at-right}
-use Rattle.parse_machine_proof.specs.Machine.{packed, symbol-of, place-of, clipped, column, Config, Outcome, done, refused, Next, go, written, write, eat, mark, marked, expand, step-on, next, run, start, machine, most-steps, most-stack, most-items}
+use Rattle.parse_machine_proof.specs.Machine.{packed, symbol-of, place-of, clipped, column, Config, Outcome, done, refused, Next, go, outputOf, write, eat, mark, marked, expand, step-on, next, run, start, machine, most-steps, most-stack, placeRoom}
 use Rattle.parse_machine_proof.specs.Items.{held, read, answer-of, All-proper}
 use Rattle.parse_machine_proof.proofs.Never.{lt-or-ge, Fine, never-spent, column-low, column-end, mark-plain}
 use Rattle.parse_machine_proof.proofs.Eaten.{eaten-items, eats-same, eats-other, proper-at}
-use Rattle.parse_machine_proof.specs.Answer.{most-tokens}
 
 -- ---- numbers of symbols
 abbrev pub solid? : List ℕ → Bool
@@ -113,10 +113,10 @@ map-snoc f (y ∷ o) x = ap (f y ∷_) (map-snoc f o x)
 symbol-packed : (x at n : ℕ) → x < 256 → symbol-of (packed x at n) ≡ x
 symbol-packed x at n h = omega arith
 
-place-packed : (x at n : ℕ) → x < 256 → at < 4096 → place-of (packed x at n) ≡ at
+place-packed : (x at n : ℕ) → x < 256 → at < placeRoom → place-of (packed x at n) ≡ at
 place-packed x at n h g = omega arith
 
-read-held : (ts : List Token) (x at n : ℕ) → x < c-or-else → at < 4096 → read ts (packed x at n) ≡ held (getD ts at (sym 0))
+read-held : (ts : List Token) (x at n : ℕ) → x < c-or-else → at < placeRoom → read ts (packed x at n) ≡ held (getD ts at (sym 0))
 read-held ts x at n h g = simp (symbol-packed x at n (omega arith), place-packed x at n (omega arith) g, lt-ltb x c-or-else h)
 
 read-act : (ts : List Token) (x at n : ℕ) → c-or-else ≤ x → x < 256 → read ts (packed x at n) ≡ item x
@@ -172,10 +172,10 @@ module _ (ts : List Token) where
   ended-at : (pos : ℕ) → length ts ≤ pos → drop pos ts ≡ []
   ended-at pos h = drop-of-length-le ts h
 
-  module _ (proper : All-proper ts) (short : length ts ≤ most-tokens) (f : Config → Outcome) (ih : (c : Config) → Solid (c .st) → Says (f c) (rest (c .st) (c .pos) (c .out)))
+  module _ (proper : All-proper ts) (short : length ts ≤ tokensMost) (f : Config → Outcome) (ih : (c : Config) → Solid (c .st) → Says (f c) (rest (c .st) (c .pos) (c .out)))
       (v : ℕ) (st : List ℕ) (pos : ℕ) (out : List ℕ) (solid : Solid (v ∷ st)) where
     -- an item to write
-    act-is : c-or-else ≤ v % 256 → rest st pos (written v (place-of v) out) ≡ rest (v ∷ st) pos out
+    act-is : c-or-else ≤ v % 256 → rest st pos (outputOf v (place-of v) out) ≡ rest (v ∷ st) pos out
     act-is h =
         let a : Answer Item = parse G U (symbols st) (drop pos ts) in
         ap (λ (o : List Item). moved pos o a) (map-snoc (read ts) out _ ∙ ap (λ (i : Item). map (read ts) out ++ i ∷ []) (read-act ts (v % 256) (place-of v) _ h (omega arith)))
@@ -186,8 +186,8 @@ module _ (ts : List Token) where
     act-says : c-or-else ≤ v % 256 → Says (next f (write v (place-of v) st pos out)) (rest (v ∷ st) pos out)
     unfolding write
     act-says h =
-        says-pick (ltb (length out) most-items) _ _ f (rest (v ∷ st) pos out)
-        (λ e fine. ih (record { st = st; pos = pos; out = written v (place-of v) out }) (solid .1) fine ∙ act-is h) (λ e fine. absurd fine)
+        says-pick (ltb (length out) itemsMost) _ _ f (rest (v ∷ st) pos out)
+        (λ e fine. ih (record { st = st; pos = pos; out = outputOf v (place-of v) out }) (solid .1) fine ∙ act-is h) (λ e fine. absurd fine)
 
     -- a terminal
     module _ (low : v % 256 < 73) where
@@ -219,7 +219,7 @@ module _ (ts : List Token) where
             (inv (append-nil (map (read ts) out)) ∙ ap (λ (b : Bool). map (read ts) out ++ pick b [] (held (getD ts pos (sym 0)) ∷ [])) (inv (lt-ltb (v % 256) 70 h)))
             ∙ go-on e
 
-        heard : 70 ≤ v % 256 → v % 256 ≡ clipped (kindOf (getD ts pos (sym 0))) → rest st (pos + 1) (written v pos out) ≡ rest (v ∷ st) pos out
+        heard : 70 ≤ v % 256 → v % 256 ≡ clipped (kindOf (getD ts pos (sym 0))) → rest st (pos + 1) (outputOf v pos out) ≡ rest (v ∷ st) pos out
         heard h e =
             ap (λ (o : List Item). moved (pos + 1) o (parse G U (symbols st) (drop (pos + 1) ts)))
             (map-snoc (read ts) out _ ∙ ap (λ (i : Item). map (read ts) out ++ i ∷ []) (read-held ts (v % 256) pos _ (omega arith) (omega arith))
@@ -229,8 +229,8 @@ module _ (ts : List Token) where
         name-says : 70 ≤ v % 256 → v % 256 ≡ clipped (kindOf (getD ts pos (sym 0))) → Says (next f (write v pos st (pos + 1) out)) (rest (v ∷ st) pos out)
         unfolding write
         name-says h e =
-            says-pick (ltb (length out) most-items) _ _ f (rest (v ∷ st) pos out)
-            (λ g fine. ih (record { st = st; pos = pos + 1; out = written v pos out }) (solid .1) fine ∙ heard h e) (λ g fine. absurd fine)
+            says-pick (ltb (length out) itemsMost) _ _ f (rest (v ∷ st) pos out)
+            (λ g fine. ih (record { st = st; pos = pos + 1; out = outputOf v pos out }) (solid .1) fine ∙ heard h e) (λ g fine. absurd fine)
 
         eat-says : v % 256 ≡ clipped (kindOf (getD ts pos (sym 0))) → Says (next f (pick (ltb (symbol-of v) 70) (go (record { st = st; pos = pos + 1; out = out })) (write v pos st (pos + 1) out))) (rest (v ∷ st) pos out)
         eat-says e =
@@ -312,7 +312,7 @@ module _ (ts : List Token) where
       over : length ts ≤ pos → answer-of ts (pick (ltb pos (length (map kindOf ts))) (refused pos) (done out)) ≡ rest [] pos out
       over h = simp (many, le-ltb pos (length ts) h) (inv (ap (λ (l : List Token). moved pos (map (read ts) out) (parse G U [] l)) (ended-at pos h) ∙ ap ok (append-nil (map (read ts) out))))
 
-  module _ (proper : All-proper ts) (short : length ts ≤ most-tokens) where
+  module _ (proper : All-proper ts) (short : length ts ≤ tokensMost) where
     turn-says : (f : Config → Outcome) → ((c : Config) → Solid (c .st) → Says (f c) (rest (c .st) (c .pos) (c .out))) → (st : List ℕ) (pos : ℕ) (out : List ℕ) → Solid st →
         Says (next f (step-on (map kindOf ts) st pos out)) (rest st pos out)
     unfolding step-on

@@ -1,5 +1,6 @@
--- What the machine's numbers say of a list of tokens: the items of `spec_grammar`, each name, number and string with what its token holds; and the answer as `parse_proof` gives it.
--- THE LAYOUT OF ITEMS (their order is that of specs/Code.antt of `spec_grammar`, their numbers those of specs/Numbering.antt of `parse_tables`). Each has a token and a size,
+-- Mechanism, held to the specification by `same-answer` (crate `parse_machine_proof`).
+-- What the machine's numbers say of a list of tokens: the items of a tree's code, each name, number and string with what its token holds; and the answer as `parse_proof` gives it.
+-- THE LAYOUT OF ITEMS (their order is that of specs/Code.antt of `parse_code`, their numbers those of specs/Numbering.antt of `parse_tables`). Each has a token and a size,
 -- the number of items just before it that belong to it. Token and size are
 --   binary: the operator, its right operand · unary: the operator, its operand · index: `[`, the index · len: `len`, the reference · plain: the token after the name, 0
 --   otherwise: `->`, the part between `->` and `:` · choice: `->`, that part, otherwise and the last part
@@ -17,7 +18,7 @@ use lib.ListN.{getD}
 use lib.Dec.{eqb, ltb}
 use Rattle.base_codes.specs.Codes.{c-or-else}
 use Rattle.base_kinds.specs.Kinds.{Token, sym, name, number, text}
-use Rattle.spec_grammar.specs.Code.{Item, i-name, i-number, i-text, i-plain}
+use Rattle.base_codes.specs.Items.{Item, i-name, i-number, i-plain, i-text}
 use Rattle.parse_proof.specs.Engine.{Answer as Parse, ok, bad}
 use Rattle.parse_proof.specs.Depth.{Judged, accepted, refused-2, refused-3}
 use Rattle.parse_tables.specs.Numbering.{item}

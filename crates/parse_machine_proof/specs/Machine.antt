@@ -1,3 +1,4 @@
+-- Mechanism, held to the specification by `same-answer` (crate `parse_machine_proof`).
 -- The parsing machine: a stack of symbols (specs/Numbering.antt of `parse_tables`), top first, a place in the list of kinds, and the items written so far.
 -- Document 01, "first token that can continue no text of the grammar", is the place where it refuses (proofs/Same.antt, proofs/Main.antt).
 -- A number on the stack is a symbol, with the place and the count of items at which its right side was begun. An item is a symbol, with the place of its token
@@ -6,6 +7,7 @@ use Prim.Native.Nat.{ℕ, zero, suc, _+_, _-_, _*_, _/_, _%_, min}
 use mathlib.Core.List.{List, [], _∷_, _++_}
 use lib.ListN.{length, getD}
 use lib.Dec.{ltb, leb, eqb}
+use Rattle.base_ceilings.specs.Ceilings.{itemsMost, tokensMost}
 use Rattle.base_codes.specs.Codes.{c-or-else}
 use Rattle.base_bytes.specs.Choice.{pick}
 use Rattle.parse_tables.specs.Tables.{production, right}
@@ -17,8 +19,12 @@ packed x at n = x + 256 * at + 1048576 * n
 abbrev pub symbol-of : ℕ → ℕ
 symbol-of v = v % 256
 
+-- room for a place, more than tokens need
+abbrev pub placeRoom : ℕ
+placeRoom = 4096
+
 abbrev pub place-of : ℕ → ℕ
-place-of v = v / 256 % 4096
+place-of v = v / 256 % placeRoom
 
 abbrev pub count-of : ℕ → ℕ
 count-of v = v / 1048576 % 65536
@@ -46,23 +52,20 @@ pub data Next : Type 0 where
   go : Config → Next
   stop : Outcome → Next
 
--- the fuel and the rooms
+-- the fuel and the room of the stack, by what a token asks for at most
 abbrev pub most-steps : ℕ
-most-steps = 81920
+most-steps = 40 * tokensMost
 
 abbrev pub most-stack : ℕ
-most-stack = 40960
-
-abbrev pub most-items : ℕ
-most-items = 8192
+most-stack = 20 * tokensMost
 
 -- an item at the end, for the stack's number v and a token
-abbrev pub written : ℕ → ℕ → List ℕ → List ℕ
-written v at out = out ++ packed (symbol-of v) at (length out - count-of v) ∷ []
+abbrev pub outputOf : ℕ → ℕ → List ℕ → List ℕ
+outputOf v at out = out ++ packed (symbol-of v) at (length out - count-of v) ∷ []
 
 -- a symbol that writes
 unfoldable pub write : ℕ → ℕ → List ℕ → ℕ → List ℕ → Next
-write v at st pos out = pick (ltb (length out) most-items) (go (record { st = st; pos = pos; out = written v at out })) (stop spent)
+write v at st pos out = pick (ltb (length out) itemsMost) (go (record { st = st; pos = pos; out = outputOf v at out })) (stop spent)
 
 -- a terminal is eaten where its kind stands; a name, a number or a string writes its item
 unfoldable pub eat : List ℕ → ℕ → List ℕ → ℕ → List ℕ → Next

@@ -1,7 +1,7 @@
 -- The machine's theorems, over any grammar and guide that pass the conditions of `Good`: what it accepts is derived, what is derived it accepts, and the place
 -- where it refuses is the first token that can continue nothing derived (document 01, refusal 3). The conditions are tests that antt computes.
 use mathlib.Core.Path.{_≡_, refl, ap, sym, _∙_, subst}
-use mathlib.Core.Bool.{Bool, true, false, cond}
+use mathlib.Core.Bool.{Bool, true, false}
 use mathlib.Core.Logic.{_⊎_, inl, inr}
 use mathlib.Core.Option.{Option, none, some}
 use mathlib.Core.List.{List, [], _∷_, _++_, append-assoc}
@@ -9,8 +9,9 @@ use Prim.Native.Nat.{ℕ, zero, suc, _<_, _≤_, _+_}
 use native.Mathlib.Omega.{arith}
 use lib.Dec.{T}
 use lib.ListN.{length, take}
-use Rattle.parse_proof.specs.Engine.{Sym, nt, tm, act, In, here, there, Grammar, Guide, Answer, ok, bad, either, both, isSome, pick, later, wrote, left-out, ended, L, done, emit, eat, by, Moved, written, eaten, chosen, next, or-more, first, choose, bound, step, finish, parse}
-use Rattle.parse_proof.proofs.Tests.{never, implies, implies-out, both-left, both-right, both-in, either-left, either-right, either-out, below, below-out, is-some, none-of, one-of, none-of-out, pick-sel, pick-in, Fits}
+use Rattle.base_bytes.specs.Choice.{both, either}
+use Rattle.parse_proof.specs.Engine.{Sym, nt, tm, act, In, Grammar, Guide, Answer, ok, bad, isSome, later, wrote, left-out, ended, L, done, emit, eat, by, Moved, emitted, eaten, chosen, next, or-more, first, choose, bound, step, finish, parse}
+use Rattle.parse_proof.proofs.Tests.{never, implies, implies-out, both-left, both-right, both-in, either-left, either-right, either-out, below, below-out, is-some, one-of, pick-sel, pick-in, Fits}
 
 module _ {C S N A : Type 0} (G : Grammar C S N A) (U : Guide C S N A) (K : ℕ) where
   -- after each nonterminal comes only what `fol` says
@@ -181,7 +182,7 @@ module _ {C S N A : Type 0} (G : Grammar C S N A) (U : Guide C S N A) (K : ℕ) 
         go none = omega arith
         go (some a) = omega arith
 
-    view-act : (a : A) (k : List (Sym N S A)) (c : C) (x : Option (Moved N S A)) → View k c x → View (act a ∷ k) c (written (a ∷ []) x)
+    view-act : (a : A) (k : List (Sym N S A)) (c : C) (x : Option (Moved N S A)) → View k c x → View (act a ∷ k) c (emitted (a ∷ []) x)
     view-act a k c (some p) (moved f g s) =
         moved {p = (a ∷ p .0, p .1)} (λ w o d. emit (f w o d))
         (λ w o t d. let (q, e, d′) = inv-act d in let (q′, e′, d″) = g w q t d′ in (q′, e ∙ ap (a ∷_) e′, d″)) s
@@ -358,7 +359,7 @@ module _ {C S N A : Type 0} (G : Grammar C S N A) (U : Guide C S N A) (K : ℕ) 
     stable (suc f) zero (tm t ∷ k) c h i = absurd (omega arith)
     stable (suc f) zero (nt n ∷ k) c h i = dry n k c (suc f) i
     stable (suc f) (suc g) [] c h i = refl
-    stable (suc f) (suc g) (act a ∷ k) c h i = ap (written (a ∷ [])) (stable f g k c (omega arith) (omega arith))
+    stable (suc f) (suc g) (act a ∷ k) c h i = ap (emitted (a ∷ [])) (stable f g k c (omega arith) (omega arith))
     stable (suc f) (suc g) (tm t ∷ k) c h i = refl
     stable (suc f) (suc g) (nt n ∷ k) c h i =
         stable-nt n k c f g (choose G U n (U .kind c)) refl (λ r m. stable f g (r ++ k) c (bound-less n r k f m h) (bound-less n r k g m i))
@@ -379,7 +380,7 @@ module _ {C S N A : Type 0} (G : Grammar C S N A) (U : Guide C S N A) (K : ℕ) 
         go (some o) = refl
     on-act a k (c ∷ w) = go (step G U (bound G U k) k c)
       where
-        go : (x : Option (Moved N S A)) → next (written (a ∷ []) x) (λ k′. parse G U k′ w) ≡ pre (a ∷ []) (next x (λ k′. parse G U k′ w))
+        go : (x : Option (Moved N S A)) → next (emitted (a ∷ []) x) (λ k′. parse G U k′ w) ≡ pre (a ∷ []) (next x (λ k′. parse G U k′ w))
         go none = refl
         go (some p) = pre-later a (p .0) (parse G U (p .1) w)
 

@@ -11,11 +11,13 @@ use borrow.Author.Tests.{leb-true, leb-false}
 use Rattle.base_kinds.specs.Kinds.{Token}
 use Rattle.spec_grammar.specs.Tree.{Model}
 use Rattle.spec_grammar.specs.Grammar.{Gram}
-use Rattle.spec_grammar.specs.Code.{Item, code}
+use Rattle.base_codes.specs.Items.{Item}
+use Rattle.parse_code.specs.Code.{code}
 use Rattle.parse_proof.specs.Engine.{Answer, ok, bad}
 use Rattle.parse_proof.specs.Guide.{parse-model}
 use Rattle.parse_proof.specs.Depth.{too-deep, Judged, accepted, refused-2, refused-3, judged, judge}
-use Rattle.parse_proof.proofs.Main.{parse-sound, parse-complete, Refused, parse-refused}
+use Rattle.parse_proof.specs.Refusals.{Two, Three}
+use Rattle.parse_proof.proofs.Main.{parse-sound, parse-complete, parse-refused}
 
 -- accepted exactly where there is a tree and no token passes a ceiling
 pub judge-sound : (ts : List Token) (o : List Item) → judge ts ≡ accepted o → (m : Model) × Gram ts m × (o ≡ code m) × (too-deep ts ≡ none)
@@ -34,11 +36,7 @@ judge-sound ts o e = go (parse-model ts) refl (too-deep ts) refl e
 pub judge-complete : (ts : List Token) (m : Model) → Gram ts m → too-deep ts ≡ none → judge ts ≡ accepted (code m)
 judge-complete ts m x h = rw (parse-complete ts m x, h)
 
--- refusal 3 is at the exact place of the grammar, and no token up to there passes a ceiling
-pub record Three (ts : List Token) (i : ℕ) : Type 0 where
-  pub place : Refused ts i
-  pub first : (k : ℕ) → too-deep ts ≡ some k → i < k
-
+-- refusal 3 is at the exact place of the grammar
 pub judge-three : (ts : List Token) (i : ℕ) → judge ts ≡ refused-3 i → Three ts i
 judge-three ts i e = go (parse-model ts) refl (too-deep ts) refl e
   where
@@ -53,11 +51,6 @@ judge-three ts i e = go (parse-model ts) refl (too-deep ts) refl e
     go (bad j) h (some k) g e =
         let (x, q) = pick (leb k j) k j e in
         record { place = parse-refused ts i (rw q at h); first = λ k′ f. let r : k ≡ k′ = cc in omega (arith, leb-false k j x) }
-
--- refusal 2 is at the first token that passes a ceiling, and what stands before it can be continued to a text of the grammar
-pub record Two (ts : List Token) (i : ℕ) : Type 0 where
-  pub place : too-deep ts ≡ some i
-  pub viable : (us : List Token) × (m : Model) × Gram (take i ts ++ us) m
 
 take-take : {A : Type 0} (i j : ℕ) (l : List A) → i ≤ j → (us : List A) × (take i l ++ us ≡ take j l)
 take-take zero j l h = (take j l, refl)

@@ -13,7 +13,3 @@ pub mod Main
 pub mod Judged
 pub mod Numbered
 pub mod Bound
-pub mod Weights
-pub mod Steps
-pub mod Items
-pub mod Stack

@@ -1,16 +1,18 @@
 -- Declarations, units, models: what the grammar says, the grammar as data derives.
 use mathlib.Core.Path.{_≡_, refl}
 use mathlib.Core.List.{List, [], _∷_, _++_, append-assoc, append-nil}
-use Prim.Native.Nat.{ℕ, zero, suc}
+use Prim.Native.Nat.{ℕ}
 use native.Mathlib.Omega.{arith}
 use Rattle.base_kinds.specs.Kinds.{Token, sym}
 use Rattle.spec_grammar.specs.Marks.{'lpar, 'rpar, 'rbrace, 'comma, 'semi}
-use Rattle.spec_grammar.specs.Tree.{Name, Value, Variable, Declaration, Group, Body, body, Part, Model}
+use Rattle.spec_grammar.specs.Tree.{Name, Value, Variable, Declaration, Group, Body, Part, Model}
 use Rattle.spec_grammar.specs.Grammar.{Listed, Maybe-listed, no-list, a-list, Semicolons, no-semi, semi, Trailing, none-trails, semi-trails, arrow-trails, Parted, by-semi, by-arrow, A-name, a-name, Is-type, is-bit, is-bool, is-byte, is-mtype, is-pid, is-chan, is-short, is-int, A-type, a-type, A-value, v-number, v-minus, v-true, v-false, v-name, A-variable, x-bare, x-set, x-array, x-array-set, x-channel, A-declaration, declaration, A-group, a-group, Items, statements, declared, A-body, a-body, not-active, active, active-times, A-unit, u-mtypes, u-global, u-process, u-init, Gram, g-last, g-more}
-use Rattle.spec_grammar.specs.Code.{Item, i-body, i-end-body, i-field, i-global, i-group, i-local, i-type, each, code-tree, code-field, code-value, code-variable, code-declaration, code-parameter, code-group, code-body, code-message, code-part, code}
+use Rattle.base_codes.specs.Items.{Item, i-body, i-end-body, i-field, i-global, i-group, i-local, i-type}
+use Rattle.parse_code.specs.Code.{each, code-tree, code-field, code-value, code-variable, code-declaration, code-parameter, code-group, code-body, code-message, code-part, code}
 use Rattle.parse_proof.specs.Engine.{nt, act, here, there, L, done, emit, eat, by}
 use Rattle.parse_proof.specs.Productions.{n-type, n-value, n-variable, n-more-variables, n-chan-variable, n-field, n-more-fields, n-more-chan-variables, n-declaration, n-body, n-items, n-parted, n-more-parted, n-parameters, n-group, n-more-groups, n-parameter, n-more-parameters, n-unit, n-message, n-more-messages, n-process, n-model, n-more-units, Right, key, G}
 use Rattle.parse_proof.proofs.LinkS.{Derives, list-in, d-in}
+use Rattle.parse_proof.proofs.Meaning.{code-items, code-body-items}
 
 -- types
 type-in : {t : ℕ} → Is-type t → Derives (nt n-type ∷ []) (sym t ∷ []) (i-type t ∷ [])
@@ -85,12 +87,6 @@ separators-in (arrow-trails u) k w o d = by (there here) (eat refl (separators-i
 between-in : {us : List Token} → Parted us → (k : Right) (w : List Token) (o : List Item) → L G (nt n-items ∷ k) w o → L G (nt n-parted ∷ k) (us ++ w) o
 between-in (by-semi u) k w o d = by here (eat refl (separators-in u k w o (by (there (there here)) d)))
 between-in (by-arrow u) k w o d = by (there here) (eat refl (separators-in u k w o (by (there (there here)) d)))
-
-abbrev code-items : Body → List Item
-code-items (body ds q) = each (code-declaration i-local) ds ++ code-tree q
-
-code-body-items : (b : Body) → code-body b ≡ i-body ∷ code-items b ++ i-end-body ∷ []
-code-body-items (body ds q) = refl
 
 items-in : {ts : List Token} {b : Body} → Items ts b → Derives (nt n-items ∷ []) ts (code-items b)
 items-in (statements x) = λ k w o d. by (there here) (d-in x k w o d)

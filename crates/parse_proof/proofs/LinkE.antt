@@ -3,19 +3,21 @@ use mathlib.Core.Path.{_≡_, refl}
 use mathlib.Core.Bool.{Bool, true, false}
 use mathlib.Core.Option.{some}
 use mathlib.Core.List.{List, [], _∷_, _++_, append-assoc, map}
-use Prim.Native.Nat.{ℕ, zero, suc, _<_, _≤_}
+use Prim.Native.Nat.{ℕ, zero, suc, _≤_}
 use native.Mathlib.Omega.{arith}
-use lib.Dec.{T, eqb, leb, eqb→eq, leb→le, eqb·suc-zero}
-use Rattle.base_kinds.specs.Kinds.{Token, sym}
+use lib.Dec.{T, eqb, eqb→eq, eqb·suc-zero}
+use Rattle.base_kinds.specs.Kinds.{Token, sym, level}
 use Rattle.spec_grammar.specs.Marks.{'rpar, '], ':, '->}
-use Rattle.spec_grammar.specs.Tree.{Expr, statement, then}
-use Rattle.spec_grammar.specs.Grammar.{level, is-minus, is-not, is-flip, E, e-plain, e-index, e-number, e-true, e-false, e-len, e-group, e-choice, e-unary, e-binary, e-up}
-use Rattle.spec_grammar.specs.Code.{Item, i-binary, i-choice, i-express, i-index, i-len, i-otherwise, i-unary, code-exp}
+use Rattle.spec_grammar.specs.Tree.{Expr}
+use Rattle.spec_grammar.specs.Grammar.{is-minus, is-not, is-flip, E, e-plain, e-index, e-number, e-true, e-false, e-len, e-group, e-choice, e-unary, e-binary, e-up}
+use Rattle.base_codes.specs.Items.{Item, i-binary, i-choice, i-express, i-index, i-len, i-otherwise, i-unary}
+use Rattle.parse_code.specs.Code.{code-exp}
 use Rattle.spec_grammar.proofs.Levels.{operator-small, level-top}
-use Rattle.parse_proof.specs.Engine.{Sym, nt, tm, act, In, here, there, L, done, emit, eat, by, either, both}
+use Rattle.parse_proof.specs.Engine.{nt, tm, act, In, here, there, L, emit, eat, by}
 use Rattle.parse_proof.specs.Productions.{NT, e1, e2, e3, e4, e5, e6, e7, e8, e9, e10, t1, t2, t3, t4, t5, t6, t7, t8, t9, t10, n-operand, n-ref, n-ix, n-closing, n-action, n-after-ref, sy, any-name, Right, key, eats, operators, operation, tails, prods, G}
-use Rattle.parse_proof.proofs.Tests.{below-out, both-left, both-right}
+use Rattle.parse_proof.proofs.Tests.{below-out}
 use Rattle.parse_proof.proofs.Inst.{eqb-same}
+use Rattle.base_bytes.specs.Choice.{either}
 
 -- the nonterminal of a level; the operators that may still follow there; and those of all looser levels too
 abbrev pub ne : ℕ → NT

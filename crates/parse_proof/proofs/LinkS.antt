@@ -8,7 +8,8 @@ use Rattle.base_kinds.specs.Kinds.{Token, name, kindOf}
 use Rattle.spec_grammar.specs.Marks.{'!, 'lpar, 'rpar, 'comma, '=, '++, '--, '?, 'fi, 'od, 'run}
 use Rattle.spec_grammar.specs.Tree.{Expr, Received, Sort, action, statement, sequence, options, Tree}
 use Rattle.spec_grammar.specs.Grammar.{Listed, one, more, Maybe-listed, no-list, a-list, Message, commas, call, Trailing, none-trails, semi-trails, arrow-trails, Parted, by-semi, by-arrow, An-expression, A-received, r-into, r-eval, r-number, r-true, r-false, D, s-express, s-assign, s-increment, s-decrement, s-send, s-receive, s-assert, s-print-alone, s-print, s-skip, s-goto, s-break, s-timeout, s-else, s-run, s-set-run, s-if, s-do, s-bare, s-label, q-last, q-then, o-last, o-also, statements}
-use Rattle.spec_grammar.specs.Code.{Item, i-name, i-argument, i-assert, i-assign, i-decrement, i-end, i-end-option, i-equal, i-express, i-fi, i-increment, i-into, i-od, i-receive, i-send, i-set-run, i-target, each, code-exp, code-argument, code-received, code-tree, code}
+use Rattle.base_codes.specs.Items.{Item, i-argument, i-assert, i-assign, i-decrement, i-end, i-end-option, i-equal, i-express, i-fi, i-increment, i-into, i-name, i-od, i-receive, i-send, i-set-run, i-target}
+use Rattle.parse_code.specs.Code.{each, code-exp, code-argument, code-received, code-tree}
 use Rattle.parse_proof.specs.Engine.{nt, tm, act, In, here, there, L, emit, eat, by}
 use Rattle.parse_proof.specs.Productions.{NT, n-ix, n-argument, n-arguments, n-more-arguments, n-sent, n-received, n-more-received, n-got, n-statement, n-after-name, n-action, n-after-ref, n-sequence, n-more-statements, n-after-separator, n-option, n-more-options, Ter, sy, any-name, Right, key, eats, prods, G}
 use Rattle.parse_proof.proofs.Inst.{Each, each-in}

@@ -1,14 +1,15 @@
 -- THE THEOREMS that make the machine exact (document 01, refusal 3: "first token that can continue no text of the grammar, or end of text").
 use mathlib.Core.Path.{_≡_, refl, ap, sym as inv, _∙_}
 use mathlib.Core.List.{List, [], _∷_, _++_}
-use Prim.Native.Nat.{ℕ, suc, _<_}
+use Prim.Native.Nat.{ℕ}
 use native.Mathlib.Omega.{arith}
-use lib.ListN.{length, take}
 use Rattle.base_kinds.specs.Kinds.{Token}
 use Rattle.spec_grammar.specs.Tree.{Model}
 use Rattle.spec_grammar.specs.Grammar.{Gram}
-use Rattle.spec_grammar.specs.Code.{Item, code}
+use Rattle.base_codes.specs.Items.{Item}
+use Rattle.parse_code.specs.Code.{code}
 use Rattle.spec_grammar.specs.Print.{print-model}
+use Rattle.spec_grammar.specs.Viable.{StrayAt}
 use Rattle.parse_proof.specs.Engine.{nt, Answer, ok, bad, L}
 use Rattle.parse_proof.specs.Productions.{n-model, G}
 use Rattle.parse_proof.specs.Guide.{U, parse-model}
@@ -16,7 +17,7 @@ use Rattle.parse_proof.proofs.Core.{Ran, fine, refused, ran, sound, com
 use Rattle.parse_proof.proofs.Inst.{K, good, start}
 use Rattle.parse_proof.proofs.Link.{into-table}
 use Rattle.parse_proof.proofs.Table.{from-table}
-use Rattle.spec_grammar.proofs.Built.{code-injective}
+use Rattle.parse_code.proofs.Built.{code-injective}
 use Rattle.spec_grammar.proofs.Printed.{print-in}
 
 -- what is accepted is a text of the grammar, and the answer is the code of its tree
@@ -32,21 +33,16 @@ pub one-tree : (ts : List Token) (m n : Model) → Gram ts m → Gram ts n → m
 one-tree ts m n x y =
     let p : code m ≡ code n = (let a = parse-complete ts m x in let b = parse-complete ts n y in cc) in code-injective m n p
 
--- THE VIABLE PREFIX: what stands before the refused token can be continued to a text of the grammar; with that token it cannot; and the whole is no text of the grammar
-pub record Refused (ts : List Token) (i : ℕ) : Type 0 where
-  pub viable : (us : List Token) × (m : Model) × Gram (take i ts ++ us) m
-  pub dead : i < length ts → (us : List Token) (m : Model) → Gram (take (suc i) ts ++ us) m → ⊥
-  pub no-text : (m : Model) → Gram ts m → ⊥
-
-pub parse-refused : (ts : List Token) (i : ℕ) → parse-model ts ≡ bad i → Refused ts i
+-- where it stops is the first token that can continue no text
+pub parse-refused : (ts : List Token) (i : ℕ) → parse-model ts ≡ bad i → StrayAt ts i
 parse-refused ts i e = go (parse-model ts) (ran G U K good (nt n-model ∷ []) ts start) e
   where
-    go : (x : Answer Item) → Ran G U K good (nt n-model ∷ []) ts x → x ≡ bad i → Refused ts i
+    go : (x : Answer Item) → Ran G U K good (nt n-model ∷ []) ts x → x ≡ bad i → StrayAt ts i
     go (ok o) r e′ = absurd (let z : _≡_ {A = ℕ} 0 1 = cc in omega arith)
     go (bad j) (refused (us, o, d) f g) e′ =
         let h : j ≡ i = cc in
         let (m, x, w) = from-table d in
-        let z : Refused ts j = record { viable = (us, m, x); dead = λ l vs n y. f l vs (code n) (into-table y); no-text = λ n y. g (code n) (into-table y) } in
+        let z : StrayAt ts j = record { viable = (us, m, x); dead = λ l vs n y. f l vs (code n) (into-table y); no-text = λ n y. g (code n) (into-table y) } in
         rw h at z
 
 -- the printed tokens of a text's tree read back to the same code

@@ -1,13 +1,14 @@
 -- What each nonterminal means in the words of the grammar, and what follows for derivations once every right side is shown to mean that.
-use mathlib.Core.Path.{_≡_}
+use mathlib.Core.Path.{_≡_, refl}
 use mathlib.Core.Option.{Option, none, some}
 use mathlib.Core.List.{List, [], _∷_, _++_, append-assoc}
 use Prim.Native.Nat.{ℕ}
 use Rattle.base_kinds.specs.Kinds.{Token, sym, name, number, text}
 use Rattle.spec_grammar.specs.Marks.{'lpar, '[, '], 'comma, 'semi, '::, '=, 'mtype, 'active, 'proctype}
 use Rattle.spec_grammar.specs.Tree.{Name, Expr, Ref, action, statement, sequence, options, Tree, over, Value, unset, Variable, Declaration, Body, body, Activity, Part, Model}
-use Rattle.spec_grammar.specs.Grammar.{Listed, Maybe-listed, Message, Semicolons, Parted, A-name, A-type, level, E, An-expression, A-reference, A-received, D, A-value, A-variable, A-declaration, A-group, Items, A-body, An-activity, A-unit, Gram}
-use Rattle.spec_grammar.specs.Code.{Item, i-name, i-number, i-text, i-declared, i-end-option, i-local, i-option, i-target, i-type, each, code-exp, code-argument, code-received, code-tree, code-field, code-size, code-value, code-variable, code-declaration, code-parameter, code-group, code-body, code-activity, code-message, code-part, code}
+use Rattle.spec_grammar.specs.Grammar.{Listed, Maybe-listed, Message, Semicolons, Parted, A-name, A-type, E, An-expression, A-reference, A-received, D, A-value, A-variable, A-declaration, A-group, Items, A-body, An-activity, A-unit, Gram}
+use Rattle.base_codes.specs.Items.{Item, i-body, i-declared, i-end-body, i-end-option, i-local, i-name, i-number, i-option, i-target, i-text, i-type}
+use Rattle.parse_code.specs.Code.{each, code-exp, code-argument, code-received, code-tree, code-field, code-size, code-value, code-variable, code-declaration, code-parameter, code-group, code-body, code-activity, code-message, code-part, code}
 use Rattle.parse_proof.specs.Engine.{nt, tm, act, In, L, done, emit, eat, by}
 use Rattle.parse_proof.specs.Productions.{NT, e1, e2, e3, e4, e5, e6, e7, e8, e9, e10, t1, t2, t3, t4, t5, t6, t7, t8, t9, t10, n-operand, n-ref, n-ix, n-opened, n-closing, n-argument, n-arguments, n-more-arguments, n-sent, n-received, n-more-received, n-got, n-statement, n-after-name, n-action, n-after-ref, n-right-side, n-other, n-sequence, n-more-statements, n-after-separator, n-option, n-more-options, n-plain-type, n-type, n-value, n-set, n-variable, n-size, n-more-variables, n-chan-variable, n-chan-rest, n-chan-value, n-field, n-more-fields, n-more-chan-variables, n-declaration, n-body, n-items, n-parted, n-more-parted, n-parameters, n-group, n-more-groups, n-parameter, n-more-parameters, n-unit, n-after-mtype, n-message, n-more-messages, n-activity, n-process, n-model, n-more-units, Ter, sy, any-name, any-number, any-text, Right, eats, prods, G}
 use Rattle.parse_proof.proofs.Tests.{is-some}
@@ -61,6 +62,9 @@ code-type t = i-type t ∷ []
 
 abbrev pub code-items : Body → List Item
 code-items (body ds q) = each (code-declaration i-local) ds ++ code-tree q
+
+pub code-body-items : (b : Body) → code-body b ≡ i-body ∷ code-items b ++ i-end-body ∷ []
+code-body-items (body ds q) = refl
 
 -- WHAT EACH NONTERMINAL MEANS: a phrase and its code, given what stands before it
 abbrev pub NG : NT → List Token → List Item → Type 0

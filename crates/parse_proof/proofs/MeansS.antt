@@ -6,7 +6,8 @@ use Rattle.base_kinds.specs.Kinds.{Token, name, text}
 use Rattle.spec_grammar.specs.Marks.{'!, 'lpar, 'rpar, 'comma, 'semi, ':, '::, '->, '=, '++, '--, '?, 'assert, 'break, 'do, 'else, 'fi, 'goto, 'if, 'od, 'printf, 'run, 'skip, 'timeout}
 use Rattle.spec_grammar.specs.Tree.{get, Expr, Ref, Received, action, statement, sequence, options, Tree, express, assign, increment, decrement, send, receive, assert, print, skip, goto, break, timeout, else, run, set-run, select, loop, bare, labelled, end, then, over, option}
 use Rattle.spec_grammar.specs.Grammar.{Message, Trailing, none-trails, semi-trails, arrow-trails, Parted, by-semi, by-arrow, e-up, An-expression, A-reference, A-received, D, s-express, s-assign, s-increment, s-decrement, s-send, s-receive, s-assert, s-print-alone, s-print, s-skip, s-goto, s-break, s-timeout, s-else, s-run, s-set-run, s-if, s-do, s-bare, s-label, q-last, q-then, o-last, o-also, statements}
-use Rattle.spec_grammar.specs.Code.{Item, i-name, i-assert, i-assign, i-break, i-decrement, i-do, i-else, i-end, i-end-option, i-express, i-fi, i-goto, i-if, i-increment, i-label, i-od, i-option, i-receive, i-run, i-send, i-set-run, i-skip, i-target, i-timeout, each, code-exp, code-argument, code-received, code-tree}
+use Rattle.base_codes.specs.Items.{Item, i-assert, i-assign, i-break, i-decrement, i-do, i-else, i-end, i-end-option, i-express, i-fi, i-goto, i-if, i-increment, i-label, i-name, i-od, i-option, i-receive, i-run, i-send, i-set-run, i-skip, i-target, i-timeout}
+use Rattle.parse_code.specs.Code.{each, code-exp, code-argument, code-received, code-tree}
 use Rattle.parse_proof.specs.Engine.{nt, tm, act}
 use Rattle.parse_proof.specs.Productions.{e1, n-ix, n-opened, n-argument, n-arguments, n-more-arguments, n-sent, n-received, n-got, n-statement, n-after-name, n-action, n-after-ref, n-right-side, n-other, n-sequence, n-more-statements, n-after-separator, n-option, n-more-options, any-name, any-text, key, tails}
 use Rattle.parse_proof.proofs.Meaning.{Further, no-further, further, An-option, an-option, code-option, More-options, no-options, some-options, Means}

@@ -7,10 +7,11 @@ use Rattle.base_kinds.specs.Kinds.{Token, name, number}
 use Rattle.spec_grammar.specs.Marks.{'chan, '-, 'lpar, 'rpar, '[, '], 'lbrace, 'rbrace, 'comma, 'semi, '->, '=, 'mtype, 'active, 'false, 'init, 'of, 'proctype, 'true}
 use Rattle.spec_grammar.specs.Tree.{Name, Value, unset, set-number, set-minus, set-true, set-false, set-name, set-channel, Variable, variable, Declaration, declare, Group, group, Body, body, Activity, idle, once, times, Part, mtypes, global, process, init, Model}
 use Rattle.spec_grammar.specs.Grammar.{Listed, one, more, Maybe-listed, no-list, a-list, Semicolons, no-semi, semi, none-trails, Parted, by-semi, by-arrow, A-name, a-name, Is-type, is-mtype, is-chan, A-type, a-type, v-number, v-minus, v-true, v-false, v-name, A-variable, x-bare, x-set, x-array, x-array-set, x-channel, A-declaration, declaration, A-group, a-group, Items, statements, declared, A-body, a-body, An-activity, not-active, active, active-times, A-unit, u-mtypes, u-global, u-process, u-init, Gram, g-last, g-more}
-use Rattle.spec_grammar.specs.Code.{Item, i-name, i-number, i-active, i-active-many, i-body, i-channel, i-declared, i-end-body, i-false, i-field, i-global, i-group, i-init, i-local, i-message, i-minus, i-mtypes, i-named, i-parameter, i-proctype, i-size, i-true, i-type, i-value, each, code-tree, code-field, code-size, code-value, code-variable, code-declaration, code-parameter, code-group, code-body, code-activity, code-message, code-part, code}
+use Rattle.base_codes.specs.Items.{Item, i-active, i-active-many, i-body, i-channel, i-declared, i-end-body, i-false, i-field, i-global, i-group, i-init, i-local, i-message, i-minus, i-mtypes, i-name, i-named, i-number, i-parameter, i-proctype, i-size, i-true, i-type, i-value}
+use Rattle.parse_code.specs.Code.{each, code-tree, code-field, code-size, code-value, code-variable, code-declaration, code-parameter, code-group, code-body, code-activity, code-message, code-part, code}
 use Rattle.parse_proof.specs.Engine.{nt, tm, act}
 use Rattle.parse_proof.specs.Productions.{n-sequence, n-plain-type, n-type, n-value, n-set, n-variable, n-size, n-more-variables, n-chan-variable, n-chan-rest, n-chan-value, n-field, n-more-fields, n-more-chan-variables, n-declaration, n-body, n-items, n-parted, n-more-parted, n-parameters, n-group, n-more-groups, n-parameter, n-more-parameters, n-unit, n-after-mtype, n-message, n-more-messages, n-activity, n-process, n-model, n-more-units, any-name, any-number, key, is-of-type}
-use Rattle.parse_proof.proofs.Meaning.{Phrase, Further, Setting, not-set, set-to, Sizing, no-size, sized, Any-variable, code-items, Means}
+use Rattle.parse_proof.proofs.Meaning.{Phrase, Further, Setting, not-set, set-to, Sizing, no-size, sized, Any-variable, code-items, Means, code-body-items}
 use Rattle.parse_proof.proofs.MeansE.{joined, out-two, moved, moved-one, none-after, carry, carry-on}
 use Rattle.parse_proof.proofs.MeansS.{parted-semi, parted-arrow}
 
@@ -145,9 +146,6 @@ more-items xs us vs d (body ds q) p x u y h =
 
 pub means-parted-items : Means n-more-parted (nt n-items ∷ [])
 means-parted-items vs p (b, y, h) xs us d x u = more-items xs us vs d b p x u y h
-
-code-body-items : (b : Body) → code-body b ≡ i-body ∷ code-items b ++ i-end-body ∷ []
-code-body-items (body ds q) = refl
 
 pub means-body : Means n-body (key 'lbrace ∷ act i-body ∷ nt n-items ∷ key 'rbrace ∷ act i-end-body ∷ [])
 means-body ts p (b, x, h) = (b, a-body x, rw (h, code-body-items b))

@@ -9,7 +9,9 @@ use native.Mathlib.Omega.{arith}
 use native.Mathlib.Decide.{decLt}
 use native.Mathlib.Nat.{not-suc-le-zero}
 use lib.Dec.{T}
-use Rattle.parse_proof.specs.Engine.{In, here, there, either, both, isSome, pick}
+use Rattle.base_bytes.specs.Choice.{both, either}
+use Rattle.parse_proof.specs.Engine.{In, here, there, isSome, pick}
+use Rattle.parse_proof.specs.Depth.{one-later}
 
 -- tests
 abbrev pub never : ℕ → Bool
@@ -101,3 +103,10 @@ abbrev pub Fits : {A : Type 0} → Option (List A) → Option (List A) → Type 
 Fits none y = Unit {0}
 Fits (some a) none = ⊥
 Fits (some a) (some b) = a ≡ b
+
+pub some-none : (i : ℕ) → some i ≡ none → ⊥
+some-none i e = let z : _≡_ {A = ℕ} 0 1 = cc in omega arith
+
+pub later-none : (o : Option ℕ) → one-later o ≡ none → o ≡ none
+later-none none e = refl
+later-none (some i) e = absurd (some-none (suc i) e)

@@ -1,21 +1,18 @@
+-- Mechanism, held to the specification by `parse-sound`, `parse-complete` (crate `parse_proof`).
 -- How deep brackets and selections may nest, and the answer of the grammar's whole pass. Document 01, "Ceilings": "open brackets 32; open if/do 8"; refusals 2 and 3 are
 -- judged in one pass: "Within a pass the smallest place wins, then the smallest number." One count runs over `(`, `[` and `{`, another over `if` and `do`.
-use mathlib.Core.Bool.{Bool, true, false, cond}
+use mathlib.Core.Bool.{Bool, cond}
 use mathlib.Core.Option.{Option, none, some}
 use mathlib.Core.List.{List, [], _∷_}
 use Prim.Native.Nat.{ℕ, suc, _+_, _-_}
 use lib.Dec.{eqb, leb}
+use Rattle.base_ceilings.specs.Ceilings.{bracketsMost, selectionsMost}
 use Rattle.base_kinds.specs.Kinds.{Token, kindOf}
 use Rattle.spec_grammar.specs.Marks.{'lpar, 'rpar, '[, '], 'lbrace, 'rbrace, 'do, 'if, 'fi, 'od}
-use Rattle.spec_grammar.specs.Code.{Item}
-use Rattle.parse_proof.specs.Engine.{Answer, ok, bad, either, both}
+use Rattle.base_codes.specs.Items.{Item}
+use Rattle.parse_proof.specs.Engine.{Answer, ok, bad}
 use Rattle.parse_proof.specs.Guide.{parse-model}
-
-abbrev pub most-brackets : ℕ
-most-brackets = 32
-
-abbrev pub most-selections : ℕ
-most-selections = 8
+use Rattle.base_bytes.specs.Choice.{both, either}
 
 abbrev is : Token → Token → Bool
 is c t = eqb (kindOf t) (kindOf c)
@@ -38,7 +35,7 @@ count-after opens closes n = cond opens (n + 1) (cond closes (n - 1) n)
 
 -- the token passes a ceiling where b brackets and s selections are open
 abbrev pub passes : ℕ → ℕ → Token → Bool
-passes b s t = either (both (opens-bracket t) (leb most-brackets b)) (both (opens-selection t) (leb most-selections s))
+passes b s t = either (both (opens-bracket t) (leb bracketsMost b)) (both (opens-selection t) (leb selectionsMost s))
 
 abbrev pub one-later : Option ℕ → Option ℕ
 one-later none = none

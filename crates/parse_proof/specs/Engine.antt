@@ -1,3 +1,4 @@
+-- Mechanism, held to the specification by `parse-sound`, `parse-complete` (crate `parse_proof`).
 -- A grammar as data, with outputs; what it derives; and a predictive machine over it, with one token of lookahead.
 -- Document 01, "first token that can continue no text of the grammar", is answered by this machine for any grammar that passes the tests of proofs/Core.antt.
 use mathlib.Core.Path.{_≡_}
@@ -5,6 +6,7 @@ use mathlib.Core.Bool.{Bool, true, false, cond}
 use mathlib.Core.Option.{Option, none, some}
 use mathlib.Core.List.{List, [], _∷_, _++_}
 use Prim.Native.Nat.{ℕ, zero, suc, _+_}
+use Rattle.base_bytes.specs.Choice.{both, either}
 
 -- a symbol of a right side: a nonterminal, a terminal, or an output to write
 pub data Sym (N S A : Type 0) : Type 0 where
@@ -34,14 +36,6 @@ pub record Guide (C S N A : Type 0) : Type 0 where
 pub data Answer (A : Type 0) : Type 0 where
   ok : List A → Answer A
   bad : ℕ → Answer A
-
-abbrev pub either : Bool → Bool → Bool
-either true b = true
-either false b = b
-
-abbrev pub both : Bool → Bool → Bool
-both true b = b
-both false b = false
 
 abbrev pub isSome : {X : Type 0} → Option X → Bool
 isSome none = false
@@ -78,9 +72,9 @@ module _ {C S N A : Type 0} (G : Grammar C S N A) where
 abbrev pub Moved : Type 0 → Type 0 → Type 0 → Type 0
 Moved N S A = List A × List (Sym N S A)
 
-abbrev pub written : {N S A : Type 0} → List A → Option (Moved N S A) → Option (Moved N S A)
-written a none = none
-written a (some p) = some (a ++ p .0, p .1)
+abbrev pub emitted : {N S A : Type 0} → List A → Option (Moved N S A) → Option (Moved N S A)
+emitted a none = none
+emitted a (some p) = some (a ++ p .0, p .1)
 
 abbrev pub eaten : {N S A : Type 0} → Option (List A) → List (Sym N S A) → Option (Moved N S A)
 eaten none k = none
@@ -121,7 +115,7 @@ module _ {C S N A : Type 0} (G : Grammar C S N A) (U : Guide C S N A) where
   abbrev pub step : ℕ → List (Sym N S A) → C → Option (Moved N S A)
   step zero k c = none
   step (suc f) [] c = none
-  step (suc f) (act a ∷ k) c = written (a ∷ []) (step f k c)
+  step (suc f) (act a ∷ k) c = emitted (a ∷ []) (step f k c)
   step (suc f) (tm t ∷ k) c = eaten (G .eats t c) k
   step (suc f) (nt n ∷ k) c = chosen (choose n (U .kind c)) (λ r. step f (r ++ k) c)
 

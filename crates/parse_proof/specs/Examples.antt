@@ -1,3 +1,4 @@
+-- Mechanism, held to the specification by `parse-sound`, `parse-complete` (crate `parse_proof`).
 -- Worked examples, computed: every form of statement, declaration and unit, the message notations, conditionals, labels, refusals with their places, normal text.
 use mathlib.Core.Path.{_≡_, refl}
 use mathlib.Core.Option.{none, some}
@@ -7,7 +8,7 @@ use lib.ListN.{replicate}
 use Rattle.base_kinds.specs.Kinds.{bytes, Token, name, number, text}
 use Rattle.spec_grammar.specs.Marks.{'||, '&&, '==, '+, '-, '*, '!, 'lpar, 'rpar, '[, '], 'lbrace, 'rbrace, 'comma, 'semi, ':, '::, '->, '=, '++, '--, '?, '!!, 'bool, 'byte, 'mtype, 'chan, 'int, 'active, 'assert, 'break, 'do, 'else, 'eval, 'false, 'fi, 'goto, 'if, 'init, 'len, 'od, 'of, 'printf, 'proctype, 'run, 'skip, 'timeout, 'true}
 use Rattle.spec_grammar.specs.Tree.{plain, indexed, num, tru, fls, get, len, unary, binary, choice, into, equal, exactly, exactly-true, exactly-false, action, statement, Tree, express, assign, increment, decrement, send, receive, assert, print, skip, goto, break, timeout, else, run, set-run, select, loop, bare, labelled, end, then, over, option, unset, set-number, set-minus, set-true, set-false, set-name, set-channel, variable, declare, group, body, idle, once, times, mtypes, global, process, init, Name}
-use Rattle.spec_grammar.specs.Code.{code}
+use Rattle.parse_code.specs.Code.{code}
 use Rattle.parse_proof.specs.Engine.{ok, bad}
 use Rattle.parse_proof.specs.Guide.{parse-model}
 use Rattle.parse_proof.specs.Depth.{accepted, refused-2, refused-3, judge}

@@ -1,15 +1,17 @@
+-- Mechanism, held to the specification by `parse-sound`, `parse-complete` (crate `parse_proof`).
 -- What helps the machine choose, as data: for each nonterminal the kinds of tokens that may begin it and that may follow it, what is written where it is empty,
 -- and a bound on the choices before a token is eaten. Nothing here need be believed: proofs/Inst.antt has the tests that these numbers pass.
 -- A kind past the last, which no token of a text has, counts as 73.
-use mathlib.Core.Bool.{Bool, true, false}
+use mathlib.Core.Bool.{Bool, false}
 use mathlib.Core.Option.{Option, none, some}
 use mathlib.Core.List.{List, [], _∷_}
 use Prim.Native.Nat.{ℕ, min}
 use lib.Dec.{eqb, leb}
 use Rattle.base_kinds.specs.Kinds.{Token, kindOf}
-use Rattle.spec_grammar.specs.Code.{Item, i-express, i-plain}
-use Rattle.parse_proof.specs.Engine.{nt, Guide, Answer, either, both, parse}
+use Rattle.base_codes.specs.Items.{Item, i-express, i-plain}
+use Rattle.parse_proof.specs.Engine.{nt, Guide, Answer, parse}
 use Rattle.parse_proof.specs.Productions.{NT, e1, e2, e3, e4, e5, e6, e7, e8, e9, e10, t1, t2, t3, t4, t5, t6, t7, t8, t9, t10, n-operand, n-ref, n-ix, n-opened, n-closing, n-argument, n-arguments, n-more-arguments, n-sent, n-received, n-more-received, n-got, n-statement, n-after-name, n-action, n-after-ref, n-right-side, n-other, n-sequence, n-more-statements, n-after-separator, n-option, n-more-options, n-plain-type, n-type, n-value, n-set, n-variable, n-size, n-more-variables, n-chan-variable, n-chan-rest, n-chan-value, n-field, n-more-fields, n-more-chan-variables, n-declaration, n-body, n-items, n-parted, n-more-parted, n-parameters, n-group, n-more-groups, n-parameter, n-more-parameters, n-unit, n-after-mtype, n-message, n-more-messages, n-activity, n-process, n-model, n-more-units, Ter, sy, any-name, any-number, any-text, G}
+use Rattle.base_bytes.specs.Choice.{both, either}
 
 -- from the first kind through the second
 pub data Span : Type 0 where

@@ -2,6 +2,6 @@ pub mod Engine
 pub mod Productions
 pub mod Numbers
 pub mod Guide
-pub mod Loop
 pub mod Depth
 pub mod Examples
+pub mod Refusals

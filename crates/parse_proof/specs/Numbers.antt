@@ -1,3 +1,4 @@
+-- Mechanism, held to the specification by `parse-sound`, `parse-complete` (crate `parse_proof`).
 -- The nonterminals by number, for tables.
 use mathlib.Core.List.{List, [], _∷_}
 use Prim.Native.Nat.{ℕ}

@@ -1,14 +1,14 @@
+-- Mechanism, held to the specification by `parse-sound`, `parse-complete` (crate `parse_proof`).
 -- THE GRAMMAR AS DATA, left-factored so that one token of lookahead chooses: named nonterminals, their right sides, and the items that are written on the way.
 -- It derives exactly the texts of specs/Grammar.antt, each with the code of its tree (proofs/Link.antt, proofs/Table.antt).
-use mathlib.Core.Bool.{Bool, true, false, cond}
+use mathlib.Core.Bool.{cond}
 use mathlib.Core.Option.{Option, none, some}
 use mathlib.Core.List.{List, [], _∷_, _++_, map}
 use Prim.Native.Nat.{ℕ}
 use lib.Dec.{eqb}
-use Rattle.base_kinds.specs.Kinds.{Token, sym, name, number, text, kindOf}
+use Rattle.base_kinds.specs.Kinds.{Token, sym, name, number, text, kindOf, level}
 use Rattle.spec_grammar.specs.Marks.{'!, '++, '-, '--, '->, ':, '::, '=, '?, '[, '], 'active, 'assert, 'break, 'chan, 'comma, 'do, 'else, 'eval, 'false, 'fi, 'goto, 'if, 'init, 'lbrace, 'len, 'lpar, 'mtype, 'od, 'of, 'printf, 'proctype, 'rbrace, 'rpar, 'run, 'semi, 'skip, 'timeout, 'true, '~}
-use Rattle.spec_grammar.specs.Grammar.{level}
-use Rattle.spec_grammar.specs.Code.{Item, i-name, i-number, i-text, i-active, i-active-many, i-argument, i-assert, i-assign, i-binary, i-body, i-break, i-channel, i-choice, i-constant, i-declared, i-decrement, i-do, i-else, i-end, i-end-body, i-end-option, i-equal, i-express, i-false, i-fi, i-field, i-global, i-goto, i-group, i-if, i-increment, i-index, i-init, i-into, i-label, i-len, i-local, i-message, i-minus, i-mtypes, i-named, i-od, i-option, i-otherwise, i-parameter, i-plain, i-proctype, i-receive, i-run, i-send, i-set-run, i-size, i-skip, i-target, i-timeout, i-true, i-type, i-unary, i-value}
+use Rattle.base_codes.specs.Items.{Item, i-active, i-active-many, i-argument, i-assert, i-assign, i-binary, i-body, i-break, i-channel, i-choice, i-constant, i-declared, i-decrement, i-do, i-else, i-end, i-end-body, i-end-option, i-equal, i-express, i-false, i-fi, i-field, i-global, i-goto, i-group, i-if, i-increment, i-index, i-init, i-into, i-label, i-len, i-local, i-message, i-minus, i-mtypes, i-name, i-named, i-number, i-od, i-option, i-otherwise, i-parameter, i-plain, i-proctype, i-receive, i-run, i-send, i-set-run, i-size, i-skip, i-target, i-text, i-timeout, i-true, i-type, i-unary, i-value}
 use Rattle.parse_proof.specs.Engine.{Sym, nt, tm, act, Grammar}
 
 pub data NT : Type 0 where

@@ -11,7 +11,7 @@ use lib.ListN.{length, getD}
 use lib.Dec.{T, eqb, ltb, eqb→eq}
 use borrow.Author.Tests.{ne-eqb}
 use Rattle.base_codes.specs.Codes.{c-or-else}
-use Rattle.spec_grammar.specs.Code.{Item}
+use Rattle.base_codes.specs.Items.{Item}
 use Rattle.parse_proof.specs.Engine.{In, here, there, isSome, pick, first, choose, finish}
 use Rattle.parse_proof.specs.Productions.{NT, e1, Right, prods, G}
 use Rattle.parse_proof.specs.Guide.{U}
@@ -59,10 +59,6 @@ by-kind n i r = first G U r (U .fol n) i
 
 abbrev by-end : Right → Bool
 by-end r = isSome (finish G U r)
-
-abbrev pickℕ : Bool → ℕ → ℕ → ℕ
-pickℕ true a b = a
-pickℕ false a b = b
 
 -- column 0 is the end of the text
 abbrev chosen : NT → ℕ → ℕ
@@ -123,10 +119,6 @@ no-end j = unless (ltb 0 (which by-end 1 (prods (nth nonterminals j e1)))) (isSo
 no-end-all : (j : ℕ) → j < 74 → T (no-end j)
 unfolding no-end unless
 no-end-all j h = below-out 74 no-end tt j h
-
-is-none : {X : Type 0} (o : Option X) → isSome o ≡ false → o ≡ none
-is-none none e = refl
-is-none (some x) e = absurd (subst (λ (b : Bool). T (cond b true false)) e tt)
 
 fits-eq : {A : Type 0} (x y : Option (List A)) → Fits x y → T (isSome x) → x ≡ y
 fits-eq none y f t = absurd t

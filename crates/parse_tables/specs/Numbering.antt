@@ -1,14 +1,15 @@
+-- Mechanism, held to the specification by `same-answer` (crate `parse_machine_proof`).
 -- The numbering of symbols, the one place that says so. A stack holds these numbers; an item that is written has the number of the symbol that it was.
 --   1 to 69    the fixed tokens, by their kinds (specs/Kinds.antt of `base_kinds`)
 --   70 71 72   any name, any number, any string: a token of that kind is eaten and its item written
 --   73 to 146  the nonterminals, in the order of the list below; from 143 on those that go on with what another one began
---   147 to 228 items to write, in the order of the list below: 146 + o for the binary operator o, 165 166 167 for unary `-` `!` `~`, 130 + k for the type k, 176 to 228 the others
+--   147 to 228 items to write, by their codes (specs/Items.antt of `base_codes`): 146 + o for the binary operator o, 165 166 167 for unary `-` `!` `~`, 130 + k for the type k, 176 to 228 the marks
 use mathlib.Core.Bool.{cond}
 use mathlib.Core.List.{List, [], _∷_}
 use Prim.Native.Nat.{ℕ, zero, suc, _-_}
 use lib.Dec.{eqb, ltb}
-use Rattle.base_codes.specs.Codes.{c-or-else}
-use Rattle.spec_grammar.specs.Code.{Item, i-active, i-active-many, i-argument, i-assert, i-assign, i-binary, i-body, i-break, i-channel, i-choice, i-constant, i-declared, i-decrement, i-do, i-else, i-end, i-end-body, i-end-option, i-equal, i-express, i-false, i-fi, i-field, i-global, i-goto, i-group, i-if, i-increment, i-index, i-init, i-into, i-label, i-len, i-local, i-message, i-minus, i-mtypes, i-named, i-od, i-option, i-otherwise, i-parameter, i-plain, i-proctype, i-receive, i-run, i-send, i-set-run, i-size, i-skip, i-target, i-timeout, i-true, i-type, i-unary, i-value}
+use Rattle.base_codes.specs.Codes.{c-bit, c-negate, c-or-else, c-plain}
+use Rattle.base_codes.specs.Items.{Item, i-type, i-unary, i-binary, i-mark}
 use Rattle.parse_proof.specs.Engine.{Sym, nt, tm, act}
 use Rattle.parse_proof.specs.Productions.{NT, e1, e2, e3, e4, e5, e6, e7, e8, e9, e10, t1, t2, t3, t4, t5, t6, t7, t8, t9, t10, n-operand, n-ref, n-ix, n-opened, n-closing, n-argument, n-arguments, n-more-arguments, n-sent, n-received, n-more-received, n-got, n-statement, n-after-name, n-action, n-after-ref, n-right-side, n-other, n-sequence, n-more-statements, n-after-separator, n-option, n-more-options, n-plain-type, n-type, n-value, n-set, n-variable, n-size, n-more-variables, n-chan-variable, n-chan-rest, n-chan-value, n-field, n-more-fields, n-more-chan-variables, n-declaration, n-body, n-items, n-parted, n-more-parted, n-parameters, n-group, n-more-groups, n-parameter, n-more-parameters, n-unit, n-after-mtype, n-message, n-more-messages, n-activity, n-process, n-model, n-more-units, Ter, sy, any-name, any-number, any-text}
 
@@ -21,20 +22,6 @@ nonterminals =
     n-chan-variable ∷ n-chan-rest ∷ n-chan-value ∷ n-field ∷ n-more-fields ∷ n-more-chan-variables ∷ n-declaration ∷ n-body ∷ n-items ∷ n-parted ∷ n-more-parted ∷ n-parameters ∷
     n-group ∷ n-more-groups ∷ n-parameter ∷ n-more-parameters ∷ n-unit ∷ n-message ∷ n-more-messages ∷ n-process ∷ n-model ∷ n-more-units ∷ n-after-name ∷ n-after-ref ∷
     n-after-mtype ∷ n-activity ∷
-    []
-
-abbrev pub items : List Item
-items =
-    i-binary 1 ∷ i-binary 2 ∷ i-binary 3 ∷ i-binary 4 ∷ i-binary 5 ∷ i-binary 6 ∷ i-binary 7 ∷ i-binary 8 ∷ i-binary 9 ∷
-    i-binary 10 ∷ i-binary 11 ∷ i-binary 12 ∷ i-binary 13 ∷ i-binary 14 ∷ i-binary 15 ∷ i-binary 16 ∷ i-binary 17 ∷ i-binary 18 ∷
-    i-unary 15 ∷ i-unary 19 ∷ i-unary 20 ∷ i-type 38 ∷ i-type 39 ∷ i-type 40 ∷ i-type 41 ∷ i-type 42 ∷ i-type 43 ∷
-    i-type 44 ∷ i-type 45 ∷ i-plain ∷ i-index ∷ i-true ∷ i-false ∷ i-len ∷ i-otherwise ∷ i-choice ∷
-    i-argument ∷ i-into ∷ i-equal ∷ i-constant ∷ i-end ∷ i-label ∷ i-express ∷ i-target ∷ i-assign ∷
-    i-increment ∷ i-decrement ∷ i-send ∷ i-receive ∷ i-assert ∷ i-skip ∷ i-goto ∷ i-break ∷ i-timeout ∷
-    i-else ∷ i-run ∷ i-set-run ∷ i-if ∷ i-fi ∷ i-do ∷ i-od ∷ i-option ∷ i-end-option ∷
-    i-local ∷ i-global ∷ i-declared ∷ i-size ∷ i-value ∷ i-minus ∷ i-named ∷ i-channel ∷ i-field ∷
-    i-mtypes ∷ i-message ∷ i-group ∷ i-parameter ∷ i-proctype ∷ i-active ∷ i-active-many ∷ i-init ∷ i-body ∷
-    i-end-body ∷
     []
 
 -- what stands at a place of a list, or else d
@@ -50,7 +37,7 @@ abbrev pub nonterminal : ℕ → NT
 nonterminal x = nth nonterminals (x - 73) e1
 
 abbrev pub item : ℕ → Item
-item x = nth items (x - c-or-else) i-plain
+item x = cond (ltb x c-negate) (i-binary (x - 146)) (cond (ltb x c-bit) (i-unary (cond (eqb x c-negate) 15 (x - c-or-else))) (cond (ltb x c-plain) (i-type (x - 130)) (i-mark x)))
 
 -- the symbol of a number
 abbrev pub symbol : ℕ → Sym NT Ter Item

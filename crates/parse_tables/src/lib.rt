@@ -13,13 +13,6 @@ fn wide(x: u8) -> usize
     x as usize
 }
 
-// a - b, or 0 where b is more.
-fn minus(a: usize, b: usize) -> usize
-    ensures { λ r. ⌜ r ≡ a - b ⌝ }
-{
-    if b <= a { a - b } else { 0 }
-}
-
 // A row for each nonterminal, and in it a column for the end of the text, for each kind from 1 to 72 and for what is no kind. A table is laid out once and lent
 // from then on, since a fixed byte string is stored anew wherever it is named.
 pub fn lay_choices(out: &mut [u8])
@@ -311,7 +304,7 @@ pub fn lay_rights(out: &mut [u8])
 pub fn production(rows: &[u8], x: u8, k: u8) -> usize
     ensures { λ r. ⌜ Numbered (now (rows .entry)) x k r ⌝ }
 {
-    let row = minus(wide(x), 73);
-    let c = minus(wide(base_bytes::byte_at(rows, row * 74 + wide(k))), 48);
+    let row = base_bytes::minus(wide(x), 73);
+    let c = base_bytes::minus(wide(base_bytes::byte_at(rows, row * 74 + wide(k))), 48);
     if c == 0 { 0 } else { wide(base_at(row)) + c }
 }

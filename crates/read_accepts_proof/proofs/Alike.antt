@@ -11,14 +11,14 @@ use lib.ListN.{length, getD, take, drop, replicate, length-map, length-append}
 use lib.Seq.{take-at}
 use lib.Dec.{ltb, leb}
 use borrow.Author.Tests.{lt-ltb, le-ltb}
-use Rattle.base_codes.specs.Codes.{c-or-else}
+use Rattle.base_ceilings.specs.Ceilings.{itemsMost, numberMost, tokensMost}
+use Rattle.base_codes.specs.Codes.{c-or-else, c-name, c-number, c-text}
 use Rattle.base_bytes.specs.Choice.{pick}
-use Rattle.base_kinds.specs.Kinds.{sym, number}
+use Rattle.base_bytes.specs.Lists.{piece}
+use Rattle.base_kinds.specs.Kinds.{sym}
 use Rattle.text_pieces.specs.Bytes.{quote}
 use Rattle.text_pieces.specs.Spans.{decimal}
-use Rattle.text_pieces.specs.Ceilings.{number-most}
 use Rattle.spec_grammar.specs.Grammar.{Gram}
-use Rattle.spec_grammar.specs.Code.{Item, i-plain, code}
 use Rattle.text_tokens.specs.Reading.{Placed, tokens, reading}
 use Rattle.text_spacing_proof.specs.Spelled.{Spelled, word, digits, string, mark}
 use Rattle.text_spacing_proof.specs.Writing.{tokenOf, tokenIn, partOf, tokensIn}
@@ -26,7 +26,6 @@ use Rattle.text_spacing_proof.proofs.Exact.{reading-exact}
 use Rattle.text_spacing_proof.proofs.Written.{tokens-ordered, tokens-spelled}
 use Rattle.text_spacing_proof.proofs.Tables.{mark-range, word-range}
 use Rattle.parse_proof.specs.Depth.{too-deep}
-use Rattle.parse_tables.specs.Numbering.{item}
 use Rattle.parse_machine_proof.specs.Machine.{Outcome, done, refused, spent, machine, symbol-of, place-of}
 use Rattle.parse_machine_proof.specs.Depth.{too-deep as first-deep}
 use Rattle.parse_machine_proof.specs.Answer.{items, refuse, parsed, judged}
@@ -39,18 +38,20 @@ use Rattle.table_entries.proofs.Items.{mark-entry}
 use Rattle.table_proof.specs.Read.{nowhere, Right}
 use Rattle.table_proof.proofs.Read.{get-only, ordered-at}
 use Rattle.table_proof.proofs.Wrote.{machine-right}
-use Rattle.rule_sheets.specs.Payload.{piece, spelled}
+use Rattle.rule_sheets.specs.Payload.{spelled}
 use Rattle.rule_sheets.proofs.Meaning.{Alike, args-alike}
 use Rattle.rule_least.proofs.Theorems.{places-free}
 use Rattle.read_passes.specs.declared.Judged.the-variants.{Accepted}
 use Rattle.read_passes.specs.Judging.{payload, judgeOf}
 use Rattle.read_accepts_proof.specs.Meaning.{Accepts}
 use Rattle.read_accepts_proof.proofs.Main.{kinds-are, all-proper, short, means-accepted}
+use Rattle.base_codes.specs.Items.{Item, i-plain}
+use Rattle.parse_code.specs.Code.{code}
 
 -- ---- the parser's items are the machine's
-pub parsed-done : (ks o : List ℕ) → parsed ks 8192 ≡ items o → machine ks ≡ done o
+pub parsed-done : (ks o : List ℕ) → parsed ks itemsMost ≡ items o → machine ks ≡ done o
 unfolding parsed
-parsed-done ks o e = go (ltb 2048 (length ks)) (machine ks) refl e
+parsed-done ks o e = go (ltb tokensMost (length ks)) (machine ks) refl e
   where
     deep : (b : Bool) (d : ℕ) (p : List ℕ) → pick b (refuse 2 d) (items p) ≡ items o → p ≡ o
     deep true d p q = absurd (let z : _≡_ {A = ℕ} 0 1 = cc in omega arith)
@@ -60,7 +61,7 @@ parsed-done ks o e = go (ltb 2048 (length ks)) (machine ks) refl e
     bad true d i q = absurd (let z : _≡_ {A = ℕ} 0 1 = cc in omega arith)
     bad false d i q = absurd (let z : _≡_ {A = ℕ} 0 1 = cc in omega arith)
 
-    go : (b : Bool) (r : Outcome) → machine ks ≡ r → pick b (refuse 2 2048) (judged (first-deep ks) (length ks) r) ≡ items o → machine ks ≡ done o
+    go : (b : Bool) (r : Outcome) → machine ks ≡ r → pick b (refuse 2 tokensMost) (judged (first-deep ks) (length ks) r) ≡ items o → machine ks ≡ done o
     go true r h q = absurd (let z : _≡_ {A = ℕ} 0 1 = cc in omega arith)
     go false (done p) h q = h ∙ ap done (deep (leb (first-deep ks) (length ks)) (first-deep ks) p q)
     go false (refused i) h q = absurd (bad (leb (first-deep ks) i) (first-deep ks) i q)
@@ -73,7 +74,7 @@ whole-piece t s e h g =
     let b : min s e ≡ s = omega arith in
     rw (a, b)
 
-text-spells : {k : ℕ} {x : List ℕ} → Spelled k x → k ≡ 72 → quote ∷ (take (length x - 2) (drop 1 x) ++ quote ∷ []) ≡ x
+text-spells : {k : ℕ} {x : List ℕ} → Spelled k x → k ≡ c-text → quote ∷ (take (length x - 2) (drop 1 x) ++ quote ∷ []) ≡ x
 text-spells (word {b = b} {s = s} l a n) h = absurd (omega (arith, word-range (b ∷ s) .1))
 text-spells (digits p q r) h = absurd (omega arith)
 text-spells (string {s = s} p q) h = ap (λ (z : List ℕ). quote ∷ (z ++ quote ∷ [])) (take-at s (quote ∷ []) (suc (length (s ++ quote ∷ [])) - 2) (omega (arith, length-append s (quote ∷ []))))
@@ -94,37 +95,37 @@ module _ (t : List ℕ) (ps : List Placed) (e : reading t ≡ tokens ps) where
 
   -- one number of the parser
   module _ (v : ℕ) where
-    token-at : symbol-of v ≤ 72 → place-of v < length ps → getD ps (place-of v) nowhere .kind ≡ symbol-of v → read (tokensIn t ps) v ≡ held (tokenOf (symbol-of v) (partOf t (getD ps (place-of v) nowhere)))
+    token-at : symbol-of v ≤ c-text → place-of v < length ps → getD ps (place-of v) nowhere .kind ≡ symbol-of v → read (tokensIn t ps) v ≡ held (tokenOf (symbol-of v) (partOf t (getD ps (place-of v) nowhere)))
     token-at b l q =
         rw (lt-ltb (symbol-of v) c-or-else (omega arith), get-only (tokenIn t) ps (place-of v) nowhere (sym 0) l) (ap (λ (z : ℕ). held (tokenOf z (partOf t (getD ps (place-of v) nowhere)))) q)
 
-    holds : (c : ℕ) → c ≤ 72 → symbol-of v ≡ c → Right ps (symbol-of v) (place-of v)
+    holds : (c : ℕ) → c ≤ c-text → symbol-of v ≡ c → Right ps (symbol-of v) (place-of v)
         → (place-of v < length ps) × (getD ps (place-of v) nowhere .kind ≡ c) × (read (tokensIn t ps) v ≡ held (tokenOf c (partOf t (getD ps (place-of v) nowhere))))
     holds c b h (inl r) = (r .2, r .3 ∙ h, token-at (r .1) (r .2) (r .3) ∙ ap (λ (z : ℕ). held (tokenOf z (partOf t (getD ps (place-of v) nowhere)))) h)
     holds c b h (inr r) = absurd (omega (arith, r .0))
 
-    pub name-says : symbol-of v ≡ 70 → Right ps (symbol-of v) (place-of v) → spelled t (map Placed.start ps) (map Placed.end ps) (place-of v) ≡ entryOf (read (tokensIn t ps) v) .bytes
-    name-says h r = let (l, q, i) = holds 70 (omega arith) h r in spelling (place-of v) l ∙ inv (ap (λ (z : Item). entryOf z .bytes) i)
+    pub name-says : symbol-of v ≡ c-name → Right ps (symbol-of v) (place-of v) → spelled t (map Placed.start ps) (map Placed.end ps) (place-of v) ≡ entryOf (read (tokensIn t ps) v) .bytes
+    name-says h r = let (l, q, i) = holds c-name (omega arith) h r in spelling (place-of v) l ∙ inv (ap (λ (z : Item). entryOf z .bytes) i)
 
-    number-says : symbol-of v ≡ 71 → Right ps (symbol-of v) (place-of v) → decimal (spelled t ss es (place-of v)) ≡ entryOf (read (tokensIn t ps) v) .value
-    number-says h r = let (l, q, i) = holds 71 (omega arith) h r in ap decimal (spelling (place-of v) l) ∙ inv (ap (λ (z : Item). entryOf z .value) i)
+    number-says : symbol-of v ≡ c-number → Right ps (symbol-of v) (place-of v) → decimal (spelled t ss es (place-of v)) ≡ entryOf (read (tokensIn t ps) v) .value
+    number-says h r = let (l, q, i) = holds c-number (omega arith) h r in ap decimal (spelling (place-of v) l) ∙ inv (ap (λ (z : Item). entryOf z .value) i)
 
-    pub text-says : symbol-of v ≡ 72 → Right ps (symbol-of v) (place-of v) → spelled t (map Placed.start ps) (map Placed.end ps) (place-of v) ≡ quote ∷ (entryOf (read (tokensIn t ps) v) .bytes ++ quote ∷ [])
+    pub text-says : symbol-of v ≡ c-text → Right ps (symbol-of v) (place-of v) → spelled t (map Placed.start ps) (map Placed.end ps) (place-of v) ≡ quote ∷ (entryOf (read (tokensIn t ps) v) .bytes ++ quote ∷ [])
     text-says h r =
-        let (l, q, i) = holds 72 (omega arith) h r in
+        let (l, q, i) = holds c-text (omega arith) h r in
         spelling (place-of v) l ∙ inv (text-spells (tokens-spelled t ps e (place-of v) l) q) ∙ inv (ap (λ (z : Item). quote ∷ (entryOf z .bytes ++ quote ∷ [])) i)
 
     code-says : Right ps (symbol-of v) (place-of v) → symbol-of v ≡ entryOf (read (tokensIn t ps) v) .code
     code-says (inr r) = rw (le-ltb (symbol-of v) c-or-else (r .0)) (inv (ap Entry.code (mark-entry (symbol-of v) (r .0) (r .1))))
-    code-says (inl r) = go (ℕ-discrete (symbol-of v) 70) (ℕ-discrete (symbol-of v) 71)
+    code-says (inl r) = go (ℕ-discrete (symbol-of v) c-name) (ℕ-discrete (symbol-of v) c-number)
       where
-        there : (c : ℕ) → c ≤ 72 → symbol-of v ≡ c → c ≡ entryOf (held (tokenOf c (partOf t (getD ps (place-of v) nowhere)))) .code → symbol-of v ≡ entryOf (read (tokensIn t ps) v) .code
+        there : (c : ℕ) → c ≤ c-text → symbol-of v ≡ c → c ≡ entryOf (held (tokenOf c (partOf t (getD ps (place-of v) nowhere)))) .code → symbol-of v ≡ entryOf (read (tokensIn t ps) v) .code
         there c b h s = h ∙ s ∙ inv (ap (λ (z : Item). entryOf z .code) (holds c b h (inl r) .2))
 
-        go : Dec (symbol-of v ≡ 70) → Dec (symbol-of v ≡ 71) → symbol-of v ≡ entryOf (read (tokensIn t ps) v) .code
-        go (yes h) d = there 70 (omega arith) h refl
-        go (no n) (yes h) = there 71 (omega arith) h refl
-        go (no n) (no m) = there 72 (omega arith) (omega (arith, r .0, r .1)) refl
+        go : Dec (symbol-of v ≡ c-name) → Dec (symbol-of v ≡ c-number) → symbol-of v ≡ entryOf (read (tokensIn t ps) v) .code
+        go (yes h) d = there c-name (omega arith) h refl
+        go (no n) (yes h) = there c-number (omega arith) h refl
+        go (no n) (no m) = there c-text (omega arith) (omega (arith, r .0, r .1)) refl
 
 -- ---- lists
 map-same : {A : Type 0} (f g : ℕ → A) (l : List ℕ) → ((j : ℕ) → j < length l → f (getD l j 0) ≡ g (getD l j 0)) → map f l ≡ map g l
@@ -194,21 +195,21 @@ module _ (t : List ℕ) (ps : List Placed) (e : reading t ≡ tokens ps) (o : Li
       record {
         names = λ j q.
             let b = both j 69 q in
-            place-one j 70 b ∙ name-says t ps e (getD o j 0) (b .code-one) (right j (b .one)) ∙ ap (λ (i : Item). entryOf i .bytes) (b .item-same)
-            ∙ inv (name-says t2 ps2 e2 (getD o2 j 0) (b .code-two) (right2 j (b .two))) ∙ place-two j 70 b;
+            place-one j c-name b ∙ name-says t ps e (getD o j 0) (b .code-one) (right j (b .one)) ∙ ap (λ (i : Item). entryOf i .bytes) (b .item-same)
+            ∙ inv (name-says t2 ps2 e2 (getD o2 j 0) (b .code-two) (right2 j (b .two))) ∙ place-two j c-name b;
         numbers = λ j q.
-            let b = both j 70 q in
-            ap (min (number-most + 1)) (ap decimal (place-one j 71 b) ∙ number-says t ps e (getD o j 0) (b .code-one) (right j (b .one)) ∙ ap (λ (i : Item). entryOf i .value) (b .item-same)
-            ∙ inv (number-says t2 ps2 e2 (getD o2 j 0) (b .code-two) (right2 j (b .two))) ∙ ap decimal (place-two j 71 b));
+            let b = both j c-name q in
+            ap (min (numberMost + 1)) (ap decimal (place-one j c-number b) ∙ number-says t ps e (getD o j 0) (b .code-one) (right j (b .one)) ∙ ap (λ (i : Item). entryOf i .value) (b .item-same)
+            ∙ inv (number-says t2 ps2 e2 (getD o2 j 0) (b .code-two) (right2 j (b .two))) ∙ ap decimal (place-two j c-number b));
         strings = λ j q.
-            let b = both j 71 q in
-            place-one j 72 b ∙ text-says t ps e (getD o j 0) (b .code-one) (right j (b .one)) ∙ ap (λ (i : Item). quote ∷ (entryOf i .bytes ++ quote ∷ [])) (b .item-same)
-            ∙ inv (text-says t2 ps2 e2 (getD o2 j 0) (b .code-two) (right2 j (b .two))) ∙ place-two j 72 b;
+            let b = both j c-number q in
+            place-one j c-text b ∙ text-says t ps e (getD o j 0) (b .code-one) (right j (b .one)) ∙ ap (λ (i : Item). quote ∷ (entryOf i .bytes ++ quote ∷ [])) (b .item-same)
+            ∙ inv (text-says t2 ps2 e2 (getD o2 j 0) (b .code-two) (right2 j (b .two))) ∙ place-two j c-text b;
       }
 
 -- ---- the items of two texts of one tree, and what they say
-module _ (t : List ℕ) (ps : List Placed) (e : reading t ≡ tokens ps) (o : List ℕ) (w : parsed (map Placed.kind ps) 8192 ≡ items o)
-    (u : List ℕ) (qs : List Placed) (f : reading u ≡ tokens qs) (p : List ℕ) (v : parsed (map Placed.kind qs) 8192 ≡ items p)
+module _ (t : List ℕ) (ps : List Placed) (e : reading t ≡ tokens ps) (o : List ℕ) (w : parsed (map Placed.kind ps) itemsMost ≡ items o)
+    (u : List ℕ) (qs : List Placed) (f : reading u ≡ tokens qs) (p : List ℕ) (v : parsed (map Placed.kind qs) itemsMost ≡ items p)
     (same : map (read (tokensIn t ps)) o ≡ map (read (tokensIn u qs)) p) where
   right-t : (j : ℕ) → j < length o → Right ps (symbol-of (getD o j 0)) (place-of (getD o j 0))
   right-t = machine-right ps o (reading-exact t ps .0 e .2) (parsed-done (map Placed.kind ps) o w)
@@ -222,7 +223,7 @@ module _ (t : List ℕ) (ps : List Placed) (e : reading t ≡ tokens ps) (o : Li
   pub same-payload : payload t (map Placed.start ps) (map Placed.end ps) (map symbol-of o) (map place-of o) ≡ payload u (map Placed.start qs) (map Placed.end qs) (map symbol-of p) (map place-of p)
   same-payload =
       args-alike (map symbol-of o) t (map Placed.start ps) (map Placed.end ps) (map place-of o) u (map Placed.start qs) (map Placed.end qs) (map place-of p)
-      (alike t ps e o right-t u qs f p right-u same) (replicate 8192 0) (reading-exact t ps .0 e .1) (reading-exact u qs .0 f .1)
+      (alike t ps e o right-t u qs f p right-u same) (replicate itemsMost 0) (reading-exact t ps .0 e .1) (reading-exact u qs .0 f .1)
       ∙ ap (λ (cs : List ℕ). payload u (map Placed.start qs) (map Placed.end qs) cs (map place-of p)) same-codes
 
 -- ---- a text of an accepted text's tree that is not too deep is accepted
@@ -230,8 +231,8 @@ pub same-tree : (t u : List ℕ) (a : Accepts t) (qs : List Placed) → reading 
 same-tree t u a qs e g d =
     let ps = a .parts in
     let o = a .numbers in
-    let (p, h, c) = accepts (tokensIn u qs) (all-proper u qs) (short u qs e) 8192 (omega arith) (a .tree) g d in
-    let w : parsed (map Placed.kind qs) 8192 ≡ items p = ap (λ (ks : List ℕ). parsed ks 8192) (inv (kinds-are u qs)) ∙ h in
+    let (p, h, c) = accepts (tokensIn u qs) (all-proper u qs) (short u qs e) itemsMost (omega arith) (a .tree) g d in
+    let w : parsed (map Placed.kind qs) itemsMost ≡ items p = ap (λ (ks : List ℕ). parsed ks itemsMost) (inv (kinds-are u qs)) ∙ h in
     let k = same-codes t ps (a .reads) o (a .written) u qs e p w (a .coded ∙ inv c) in
     let v = same-payload t ps (a .reads) o (a .written) u qs e p w (a .coded ∙ inv c) in
     means-accepted u

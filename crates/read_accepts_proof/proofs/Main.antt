@@ -9,6 +9,7 @@ use mathlib.Core.List.{List, [], _∷_, map}
 use mathlib.Core.Bool.{Bool, true, false}
 use lib.ListN.{length, getD, length-map}
 use lib.Dec.{ltb}
+use Rattle.base_ceilings.specs.Ceilings.{itemsMost, tokensMost}
 use Rattle.parse_machine_proof.proofs.Never.{lt-or-ge}
 use Rattle.base_bytes.specs.Choice.{pick}
 use Rattle.base_kinds.specs.Kinds.{sym, kindOf}
@@ -23,6 +24,7 @@ use Rattle.rule_least.specs.declared.Fault.the-variants.{None, At}
 use Rattle.read_passes.specs.declared.Judged.the-variants.{Accepted, Refused}
 use Rattle.read_passes.specs.Judging.{atToken, ruled, byRules, grammatical, byGrammar, lexical, judgeOf}
 use Rattle.read_accepts_proof.specs.Meaning.{Accepts}
+use Rattle.base_codes.specs.Codes.{c-name, c-number, c-text}
 
 -- ---- a token has its kind, and only names, numbers and strings have theirs
 pub record Known (k : ℕ) (x : List ℕ) : Type 0 where
@@ -30,17 +32,17 @@ pub record Known (k : ℕ) (x : List ℕ) : Type 0 where
   pub proper : Proper (tokenOf k x)
 
 pub known : (k : ℕ) (x : List ℕ) → Known k x
-known k x = go (ℕ-discrete k 70) (ℕ-discrete k 71) (ℕ-discrete k 72)
+known k x = go (ℕ-discrete k c-name) (ℕ-discrete k c-number) (ℕ-discrete k c-text)
   where
-    go : Dec (k ≡ 70) → Dec (k ≡ 71) → Dec (k ≡ 72) → Known k x
+    go : Dec (k ≡ c-name) → Dec (k ≡ c-number) → Dec (k ≡ c-text) → Known k x
     go (yes e) b c = rw e record { kind = refl; proper = tt }
     go (no a) (yes e) c = rw e record { kind = refl; proper = tt }
     go (no a) (no b) (yes e) = rw e record { kind = refl; proper = tt }
     go (no a) (no b) (no c) =
-        let e : tokenOf k x ≡ sym k = rw (ne-eqb k 70 a, ne-eqb k 71 b, ne-eqb k 72 c) in
-        record { kind = ap kindOf e; proper = subst Proper (inv e) (out (lt-or-ge k 70)) }
+        let e : tokenOf k x ≡ sym k = rw (ne-eqb k c-name a, ne-eqb k c-number b, ne-eqb k c-text c) in
+        record { kind = ap kindOf e; proper = subst Proper (inv e) (out (lt-or-ge k c-name)) }
       where
-        out : (k < 70) ⊎ (70 ≤ k) → (k < 70) ⊎ (72 < k)
+        out : (k < c-name) ⊎ (c-name ≤ k) → (k < c-name) ⊎ (c-text < k)
         out (inl h) = inl h
         out (inr h) = inr (omega (arith, a, b, c))
 
@@ -72,22 +74,22 @@ module _ (t : List ℕ) where
       go true e = absurd (let z : _≡_ {A = ℕ} 0 1 = cc in omega arith)
       go false e = absurd (let z : _≡_ {A = ℕ} 0 1 = cc in omega arith)
 
-  pub short : (ps : List Placed) → reading t ≡ tokens ps → length (tokensIn t ps) ≤ 2048
+  pub short : (ps : List Placed) → reading t ≡ tokens ps → length (tokensIn t ps) ≤ tokensMost
   short ps e = omega (arith, length-map ps (tokenIn t), reading-exact t ps .0 e .2)
 
-  from-grammar : (ps : List Placed) → reading t ≡ tokens ps → (a : Answer) → parsed (map Placed.kind ps) 8192 ≡ a
+  from-grammar : (ps : List Placed) → reading t ≡ tokens ps → (a : Answer) → parsed (map Placed.kind ps) itemsMost ≡ a
       → grammatical t (map Placed.start ps) (map Placed.end ps) a ≡ Accepted → Accepts t
   unfolding byRules
   from-grammar ps e (refuse x k) h q = absurd (not-there (length t) x k (map Placed.start ps) (map Placed.end ps) q)
   from-grammar ps e (items o) h q =
-      let (m, g, c, d) = items-mean (tokensIn t ps) (all-proper t ps) (short ps e) 8192 (omega arith) o (ap (λ ks. parsed ks 8192) (kinds-are t ps) ∙ h) in
+      let (m, g, c, d) = items-mean (tokensIn t ps) (all-proper t ps) (short ps e) itemsMost (omega arith) o (ap (λ ks. parsed ks itemsMost) (kinds-are t ps) ∙ h) in
       let (f, w) = from-rules ps _ _ q in
       record { parts = ps; reads = e; tree = m; gram = g; shallow = d; numbers = o; written = h; coded = c; faultless = f; within = w }
 
   from-reading : (r : Reading) → reading t ≡ r → lexical t r ≡ Accepted → Accepts t
   unfolding byGrammar
   from-reading (refused x i n) e q = absurd (let z : _≡_ {A = ℕ} 0 1 = cc in omega arith)
-  from-reading (tokens ps) e q = from-grammar ps e (parsed (map Placed.kind ps) 8192) refl q
+  from-reading (tokens ps) e q = from-grammar ps e (parsed (map Placed.kind ps) itemsMost) refl q
 
   pub accepted-means : judgeOf t ≡ Accepted → Accepts t
   accepted-means q = from-reading (reading t) refl q

@@ -2,13 +2,14 @@
 -- what the reader leaves is the tables, and behind them what was there. Assumes nothing.
 use Prim.Native.Nat.{ℕ, _≤_}
 use mathlib.Core.Path.{_≡_, refl, sym as inv, ap, ap₂, _∙_}
-use mathlib.Core.List.{List, [], _∷_, _++_, map}
+use mathlib.Core.List.{List, [], _++_, map, append-nil}
 use native.Mathlib.Omega.{arith}
 use lib.ListN.{length, drop}
+use Rattle.base_ceilings.specs.Ceilings.{tablesRoom}
 use Rattle.text_tokens.specs.Reading.{Placed}
 use Rattle.text_spacing_proof.specs.Writing.{tokensIn}
 use Rattle.text_spacing_proof.proofs.Exact.{reading-exact}
-use Rattle.spec_grammar.specs.Code.{code}
+use Rattle.parse_code.specs.Code.{code}
 use Rattle.parse_machine_proof.specs.Machine.{symbol-of, place-of}
 use Rattle.parse_machine_proof.specs.Items.{read}
 use Rattle.base_pens.specs.Pen.{pen, puts}
@@ -18,27 +19,16 @@ use Rattle.table_layout.specs.Tables.{tablesOf}
 use Rattle.table_layout.specs.Trees.{entriesIn, tablesIn}
 use Rattle.table_layout.proofs.Fits.{written}
 use Rattle.table_proof.proofs.Accepted.{accepted-trees, accepted-fits}
-use Rattle.table_proof.proofs.Built.{accepted-entries, machine-built}
+use Rattle.table_proof.proofs.Built.{accepted-entries}
 use Rattle.table_proof.proofs.Wrote.{machine-right}
 use Rattle.read_passes.specs.Judging.{laid, tablesFrom, tablesAt, tablesText}
 use Rattle.read_accepts_proof.specs.Meaning.{Accepts, linksAt}
 use Rattle.read_accepts_proof.proofs.Alike.{parsed-done, same-codes, same-payload}
 
--- x, y and z are what lies beyond the written parts of the arrays
-pub built-tables : (t : List ℕ) (a : Accepts t) (x y z ls old new : List ℕ) (r : ℕ) → 16384 ≤ length old
-    → pen new r ≡ puts (tablesOf (entriesOf t (map Placed.start (a .parts) ++ x) (map Placed.end (a .parts) ++ y) (map symbol-of (a .numbers)) (map place-of (a .numbers) ++ z)) ls) (pen old 0)
-    → (new ≡ tablesIn (a .tree) ls ++ drop (length (tablesIn (a .tree) ls)) old) × (r ≡ length (tablesIn (a .tree) ls))
-built-tables t a x y z ls old new r =
-    machine-built t (a .parts) (a .tree) (a .reads) (a .gram) x y z (a .numbers) (parsed-done (map Placed.kind (a .parts)) (a .numbers) (a .written)) (a .coded) ls old new r
-
 pub equal-tables : (t u : List ℕ) (a : Accepts t) (b : Accepts u) (ls ms : List ℕ) → tablesIn (a .tree) ls ≡ tablesIn (b .tree) ms → a .tree ≡ b .tree
 equal-tables t u a b ls ms = accepted-trees t u (a .parts) (b .parts) (a .tree) (b .tree) (a .reads) (a .gram) (b .reads) (b .gram) ls ms
 
 -- ---- the tables that the passes build
-no-more : (l : List ℕ) → l ++ [] ≡ l
-no-more [] = refl
-no-more (a ∷ l) = ap (a ∷_) (no-more l)
-
 module _ (t : List ℕ) (a : Accepts t) where
   abbrev ss : List ℕ
   ss = map Placed.start (a .parts)
@@ -54,18 +44,18 @@ module _ (t : List ℕ) (a : Accepts t) where
 
   entries-are : entriesOf t ss es cs ks ≡ entriesIn (a .tree)
   entries-are =
-      rw (← no-more ss, ← no-more es, ← no-more ks) (accepted-entries t (a .parts) (a .tree) (a .reads) (a .gram) [] [] [] symbol-of place-of (a .numbers)
+      rw (← append-nil ss, ← append-nil es, ← append-nil ks) (accepted-entries t (a .parts) (a .tree) (a .reads) (a .gram) [] [] [] symbol-of place-of (a .numbers)
       (machine-right (a .parts) (a .numbers) (reading-exact t (a .parts) .0 (a .reads) .2) (parsed-done (map Placed.kind (a .parts)) (a .numbers) (a .written))) (a .coded))
 
   pub text-tables : tablesText t ≡ tablesIn (a .tree) (linksAt t a)
   unfolding tablesAt tablesFrom
   text-tables = rw (a .reads, a .written) (ap (λ (x : List Entry). tablesOf x (linksAt t a)) entries-are)
 
-  pub text-fits : length (tablesText t) ≤ 16384
+  pub text-fits : length (tablesText t) ≤ tablesRoom
   text-fits = rw text-tables (accepted-fits t (a .parts) (a .tree) (a .reads) (a .gram) (linksAt t a))
 
   -- in the room of document 01 the tables stand at the front, and behind them what was there
-  pub text-laid : (old : List ℕ) → 16384 ≤ length old → laid (tablesText t) old ≡ tablesText t ++ drop (length (tablesText t)) old
+  pub text-laid : (old : List ℕ) → tablesRoom ≤ length old → laid (tablesText t) old ≡ tablesText t ++ drop (length (tablesText t)) old
   text-laid old h = written (tablesText t) old (laid (tablesText t) old) (puts (tablesText t) (pen old 0) .at) (omega (arith, text-fits)) refl .0
 
 module _ (t u : List ℕ) (a : Accepts t) (b : Accepts u) where

@@ -1,3 +1,4 @@
+-- Mechanism, held to the specification by `read-legal`, `legal-read` (crate `legal_texts`).
 -- What it means that a text is accepted: document 01, "What is answered", all rows that refuse a text turned round.
 use mathlib.Core.Path.{_≡_}
 use mathlib.Core.Option.{none}
@@ -5,9 +6,10 @@ use mathlib.Core.Bool.{false}
 use mathlib.Core.List.{List, map}
 use Prim.Native.Nat.{ℕ}
 use lib.ListN.{replicate}
+use Rattle.base_ceilings.specs.Ceilings.{itemsMost}
 use Rattle.spec_grammar.specs.Tree.{Model}
 use Rattle.spec_grammar.specs.Grammar.{Gram}
-use Rattle.spec_grammar.specs.Code.{code}
+use Rattle.parse_code.specs.Code.{code}
 use Rattle.text_tokens.specs.Reading.{Placed, tokens, reading}
 use Rattle.text_spacing_proof.specs.Writing.{tokensIn}
 use Rattle.parse_proof.specs.Depth.{too-deep}
@@ -20,6 +22,24 @@ use Rattle.rule_ceilings.specs.Ceilings.{passed}
 use Rattle.link_items.specs.Links.{linksOf}
 use Rattle.read_passes.specs.Judging.{payload}
 
+-- a text that is right by its tokens and by the grammar, with its one tree and that tree's items
+pub record Grammatical (t : List ℕ) : Type 0 where
+  pub parts : List Placed
+  pub reads : reading t ≡ tokens parts
+  pub tree : Model
+  pub gram : Gram (tokensIn t parts) tree
+  pub shallow : too-deep (tokensIn t parts) ≡ none
+  pub numbers : List ℕ
+  pub written : parsed (map Placed.kind parts) itemsMost ≡ items numbers
+  pub coded : map (read (tokensIn t parts)) numbers ≡ code tree
+
+-- the codes of its items, and what their tokens say
+abbrev pub codesOf : (t : List ℕ) → Grammatical t → List ℕ
+codesOf t g = map symbol-of (g .numbers)
+
+abbrev pub said : (t : List ℕ) → Grammatical t → List ℕ
+said t g = payload t (map Placed.start (g .parts)) (map Placed.end (g .parts)) (codesOf t g) (map place-of (g .numbers))
+
 -- the text has tokens, they have a tree and are not too deep, and the items of that tree, in the tree's order, have no fault and pass no ceiling
 pub record Accepts (t : List ℕ) : Type 0 where
   pub parts : List Placed
@@ -28,7 +48,7 @@ pub record Accepts (t : List ℕ) : Type 0 where
   pub gram : Gram (tokensIn t parts) tree
   pub shallow : too-deep (tokensIn t parts) ≡ none
   pub numbers : List ℕ
-  pub written : parsed (map Placed.kind parts) 8192 ≡ items numbers
+  pub written : parsed (map Placed.kind parts) itemsMost ≡ items numbers
   pub coded : map (read (tokensIn t parts)) numbers ≡ code tree
   pub faultless : checked (map symbol-of numbers) (payload t (map Placed.start parts) (map Placed.end parts) (map symbol-of numbers) (map place-of numbers)) (map place-of numbers) ≡ None
   pub within : passed (map symbol-of numbers) (payload t (map Placed.start parts) (map Placed.end parts) (map symbol-of numbers) (map place-of numbers)) ≡ false
@@ -36,4 +56,4 @@ pub record Accepts (t : List ℕ) : Type 0 where
 -- the links of an accepted text: of its items and what they say, so of its tree
 abbrev pub linksAt : (t : List ℕ) → Accepts t → List ℕ
 linksAt t a =
-    linksOf (map symbol-of (a .numbers)) (payload t (map Placed.start (a .parts)) (map Placed.end (a .parts)) (map symbol-of (a .numbers)) (map place-of (a .numbers))) (replicate 8192 0)
+    linksOf (map symbol-of (a .numbers)) (payload t (map Placed.start (a .parts)) (map Placed.end (a .parts)) (map symbol-of (a .numbers)) (map place-of (a .numbers))) (replicate itemsMost 0)

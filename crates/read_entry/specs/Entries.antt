@@ -1,21 +1,19 @@
+-- Mechanism, held to the specification by `read-legal`, `legal-read` (crate `legal_texts`).
 -- The entries of the reader, each with one answer and one content of lent memory: document 01, "What is answered, and what stays behind".
 use mathlib.Core.Path.{_≡_}
 use mathlib.Core.List.{List, [], _++_}
 use Prim.Native.Nat.{ℕ, _+_, _-_, _≤_}
 use lib.Dec.{ltb, leb}
 use lib.ListN.{length, take, drop}
+use Rattle.base_ceilings.specs.Ceilings.{tablesRoom}
 use Rattle.base_bytes.specs.Choice.{pick}
 use Rattle.read_passes.specs.declared.Judged.{Judged}
 use Rattle.read_passes.specs.declared.Judged.the-variants.{Accepted, Refused}
 use Rattle.read_passes.specs.Judging.{judgeOf, tablesText}
 
--- "tables are lent as 16,384 unsigned 32-bit numbers"
-abbrev pub room : ℕ
-room = 16384
-
 -- "7 first .. then length, then bytes and tokens (1, 2), then grammar .. (2, 3), then names and rules (2, 4, 5), then 6": the answer for a text and lent tables
 unfoldable pub readOf : List ℕ → List ℕ → Judged
-readOf t old = pick (ltb (length old) room) (Refused 7 0 0) (judgeOf t)
+readOf t old = pick (ltb (length old) tablesRoom) (Refused 7 0 0) (judgeOf t)
 
 -- "A refusal changes no lent number .. What lies beyond the written part stays"
 abbrev pub stays : Judged → List ℕ → List ℕ → List ℕ

@@ -5,15 +5,12 @@ ghost use Rattle.read_passes.specs.Judging.{judgeOf};
 ghost use Rattle.read_entry.specs.Entries.{readOf, leftOf, part, Bounded};
 use read_passes::Judged;
 
-// The numbers that are lent for tables.
-const TABLES_ROOM: usize = 16384;
-
 // The answer for a text; of an accepted one the tables, at the front of what is lent.
 pub fn read(text: &[u8], tables: &mut [u32]) -> Judged
     ensures { λ r. ⌜ r ≡ readOf (now (text .entry)) (now (tables .entry)) ⌝ }
     ensures { λ r. ⌜ now (tables .exit) ≡ leftOf (now (text .entry)) (now (tables .entry)) ⌝ }
 {
-    if tables.len() < TABLES_ROOM {
+    if tables.len() < base_ceilings::TABLES_ROOM {
         return Judged::Refused(7, 0, 0);
     }
     read_passes::pass(text, tables)
@@ -50,7 +47,7 @@ fn named(j: Judged, n: usize) -> Bounds
 pub fn refused_part(text: &[u8]) -> &[u8]
     ensures { λ r. ⌜ now r ≡ part (now (text .entry)) (judgeOf (now (text .entry))) ⌝ }
 {
-    let mut tables = [0u32; 16384];
+    let mut tables = [0u32; base_ceilings::TABLES_ROOM];
     let b = named(read(text, &mut tables), text.len());
     let s = b.start;
     let e = b.end;

@@ -1,23 +1,22 @@
 -- The laws that the passes cite: what a pass left at the front of its arrays, and the answer that follows.
 use mathlib.Core.Path.{_≡_, refl, sym, ap, _∙_}
 use mathlib.Core.Bool.{Bool, true, false}
-use mathlib.Core.List.{List, [], _∷_, _++_, map}
-use Prim.Native.Nat.{ℕ, zero, suc, _+_, _-_, _≤_, _<_, min}
+use mathlib.Core.List.{List, _++_, map}
+use Prim.Native.Nat.{ℕ, _+_, _-_, _≤_, _<_, min}
 use native.Mathlib.Omega.{arith}
-use borrow.Author.Tests.{le-leb, lt-leb, lt-ltb, le-ltb}
-use lib.Dec.{leb, ltb}
+use borrow.Author.Tests.{lt-ltb, le-ltb}
+use lib.Dec.{ltb}
 use lib.ListN.{length, getD, take, drop, replicate, length-append, length-map, length-drop}
-use lib.Seq.{take-at, take-all, length-take-le}
+use lib.Seq.{take-at, length-take-le}
+use Rattle.base_ceilings.specs.Ceilings.{itemsMost, tokensMost}
 use Rattle.base_bytes.specs.Choice.{pick}
 use Rattle.text_tokens.specs.Reading.{Placed, Reading, tokens, refused, reading}
-use Rattle.text_tokens.specs.Answers.{lexing, left-in, Answered}
+use Rattle.text_tokens.specs.Answers.{lexing, Answered}
 use Rattle.text_tokens.specs.declared.Lexed.{Lexed}
-use Rattle.text_tokens.specs.declared.Lexed.the-variants as lexed
 use Rattle.parse_machine_proof.specs.Machine.{symbol-of, place-of}
 use Rattle.parse_machine_proof.specs.Answer.{Answer, items, refuse, parsed}
 use Rattle.parse_items.specs.Parse.{answer, filled, Parses}
 use Rattle.parse_items.specs.declared.Parsed.{Parsed}
-use Rattle.parse_items.specs.declared.Parsed.the-variants as parsed-as
 use Rattle.rule_least.specs.Faults.{checked}
 use Rattle.rule_least.specs.declared.Fault.{Fault}
 use Rattle.rule_least.specs.declared.Fault.the-variants.{None, At}
@@ -30,6 +29,8 @@ use Rattle.table_layout.specs.Tables.{tablesOf}
 use Rattle.read_passes.specs.Judging.{payload, atToken, byRules, grammatical, byGrammar, lexical, judgeOf, laid, left, tablesFrom, tablesBy, tablesAt, tablesRead, tablesText}
 use Rattle.read_passes.specs.declared.Judged.{Judged}
 use Rattle.read_passes.specs.declared.Judged.the-variants.{Accepted, Refused}
+use Rattle.text_tokens.specs.declared.Lexed.the-variants as lexed
+use Rattle.parse_items.specs.declared.Parsed.the-variants as parsed-as
 
 -- ---- the front of an array that was filled
 module _ {A : Type 0} (f : A → ℕ) (xs : List A) (old new : List ℕ) (m most : ℕ) (e : new ≡ map f xs ++ drop (length xs) old) (lo : length old ≡ most) (ln : length new ≡ most) where
@@ -42,16 +43,13 @@ module _ {A : Type 0} (f : A → ℕ) (xs : List A) (old new : List ℕ) (m most
 pub front-size : (m n most : ℕ) (xs : List ℕ) → m ≡ min n most → length xs ≡ most → m ≡ length (take m xs)
 front-size m n most xs e l = sym (length-take-le m xs (omega arith))
 
-pub front-fits : (m n most : ℕ) (xs : List ℕ) → m ≡ min n most → length xs ≡ most → m ≤ length xs
-front-fits m n most xs e l = omega arith
-
 -- ---- tokens
-pub in-room : (t zk zs ze : List ℕ) → length zk ≡ 2048 → length zs ≡ 2048 → length ze ≡ 2048 → lexing t zk zs ze ≡ reading t
+pub in-room : (t zk zs ze : List ℕ) → length zk ≡ tokensMost → length zs ≡ tokensMost → length ze ≡ tokensMost → lexing t zk zs ze ≡ reading t
 in-room t zk zs ze a b c = rw (a, b, c)
 
 module _ (t : List ℕ) (r : Lexed) (zk ks zs ss ze es : List ℕ) (z : Answered (lexing t zk zs ze) r zk ks zs ss ze es)
-    (a : length zk ≡ 2048) (a′ : length ks ≡ 2048) (b : length zs ≡ 2048) (b′ : length ss ≡ 2048) (c : length ze ≡ 2048) (c′ : length es ≡ 2048) where
-  pub tokens-judged : (n m : ℕ) (j : Judged) → r ≡ lexed.Tokens n → m ≡ min n 2048 → j ≡ byGrammar t (take m ks) (take m ss) (take m es) → j ≡ judgeOf t
+    (a : length zk ≡ tokensMost) (a′ : length ks ≡ tokensMost) (b : length zs ≡ tokensMost) (b′ : length ss ≡ tokensMost) (c : length ze ≡ tokensMost) (c′ : length es ≡ tokensMost) where
+  pub tokens-judged : (n m : ℕ) (j : Judged) → r ≡ lexed.Tokens n → m ≡ min n tokensMost → j ≡ byGrammar t (take m ks) (take m ss) (take m es) → j ≡ judgeOf t
   tokens-judged n m j q h g = go (reading t) (rw (in-room t zk zs ze a b c) at z)
     where
       go : (x : Reading) → Answered x r zk ks zs ss ze es → j ≡ lexical t x
@@ -59,13 +57,13 @@ module _ (t : List ℕ) (r : Lexed) (zk ks zs ss ze es : List ℕ) (z : Answered
           let w = y .answer in
           let l : n ≡ length ps = cc in
           g ∙ rw (
-            filled-front Placed.kind ps zk ks m 2048 (y .kinds) a a′ (omega arith),
-            filled-front Placed.start ps zs ss m 2048 (y .starts) b b′ (omega arith),
-            filled-front Placed.end ps ze es m 2048 (y .ends) c c′ (omega arith),
+            filled-front Placed.kind ps zk ks m tokensMost (y .kinds) a a′ (omega arith),
+            filled-front Placed.start ps zs ss m tokensMost (y .starts) b b′ (omega arith),
+            filled-front Placed.end ps ze es m tokensMost (y .ends) c c′ (omega arith),
           )
       go (refused x i k) y = absurd (let w = y .answer in let f : _≡_ {A = ℕ} 0 1 = cc in omega arith)
 
-  pub tokens-left : (n m : ℕ) (j : Judged) (old new : List ℕ) → r ≡ lexed.Tokens n → m ≡ min n 2048
+  pub tokens-left : (n m : ℕ) (j : Judged) (old new : List ℕ) → r ≡ lexed.Tokens n → m ≡ min n tokensMost
       → new ≡ left j (tablesAt t (take m ks) (take m ss) (take m es)) old → new ≡ left j (tablesText t) old
   tokens-left n m j old new q h g = go (reading t) (rw (in-room t zk zs ze a b c) at z)
     where
@@ -74,9 +72,9 @@ module _ (t : List ℕ) (r : Lexed) (zk ks zs ss ze es : List ℕ) (z : Answered
           let w = y .answer in
           let l : n ≡ length ps = cc in
           g ∙ ap (λ (v : List ℕ). left j v old) (rw (
-            filled-front Placed.kind ps zk ks m 2048 (y .kinds) a a′ (omega arith),
-            filled-front Placed.start ps zs ss m 2048 (y .starts) b b′ (omega arith),
-            filled-front Placed.end ps ze es m 2048 (y .ends) c c′ (omega arith),
+            filled-front Placed.kind ps zk ks m tokensMost (y .kinds) a a′ (omega arith),
+            filled-front Placed.start ps zs ss m tokensMost (y .starts) b b′ (omega arith),
+            filled-front Placed.end ps ze es m tokensMost (y .ends) c c′ (omega arith),
           ))
       go (refused x i k) y = absurd (let w = y .answer in let f : _≡_ {A = ℕ} 0 1 = cc in omega arith)
 
@@ -94,45 +92,45 @@ module _ (t : List ℕ) (r : Lexed) (zk ks zs ss ze es : List ℕ) (z : Answered
           rw (u, v, o)
 
 -- ---- items
-module _ (t ks ss es : List ℕ) (r : Parsed) (room : ℕ) (zc cs zk os zs sz : List ℕ) (z : Parses ks room r zc cs zk os zs sz) (e : room ≡ 8192)
-    (a : length zc ≡ 8192) (a′ : length cs ≡ 8192) (b : length zk ≡ 8192) (b′ : length os ≡ 8192) where
-  answers : {x : Answer} → parsed ks 8192 ≡ x → parsed ks room ≡ x
+module _ (t ks ss es : List ℕ) (r : Parsed) (room : ℕ) (zc cs zk os zs sz : List ℕ) (z : Parses ks room r zc cs zk os zs sz) (e : room ≡ itemsMost)
+    (a : length zc ≡ itemsMost) (a′ : length cs ≡ itemsMost) (b : length zk ≡ itemsMost) (b′ : length os ≡ itemsMost) where
+  answers : {x : Answer} → parsed ks itemsMost ≡ x → parsed ks room ≡ x
   answers q = ap (parsed ks) e ∙ q
 
-  pub items-judged : (n m : ℕ) (j : Judged) → r ≡ parsed-as.Items n → m ≡ min n 8192 → j ≡ byRules t ss es (take m cs) (take m os) → j ≡ byGrammar t ks ss es
+  pub items-judged : (n m : ℕ) (j : Judged) → r ≡ parsed-as.Items n → m ≡ min n itemsMost → j ≡ byRules t ss es (take m cs) (take m os) → j ≡ byGrammar t ks ss es
   unfolding byGrammar
-  items-judged n m j q h g = go (parsed ks 8192) refl
+  items-judged n m j q h g = go (parsed ks itemsMost) refl
     where
-      go : (x : Answer) → parsed ks 8192 ≡ x → j ≡ grammatical t ss es x
+      go : (x : Answer) → parsed ks itemsMost ≡ x → j ≡ grammatical t ss es x
       go (items is) y =
           let w : r ≡ parsed-as.Items (length is) = z .answered ∙ ap answer (answers y) in
           let l : n ≡ length is = cc in
           g ∙ rw (
-            filled-front symbol-of is zc cs m 8192 (z .codes-are ∙ ap (λ (v : Answer). filled symbol-of v zc) (answers y)) a a′ (omega arith),
-            filled-front place-of is zk os m 8192 (z .tokens-are ∙ ap (λ (v : Answer). filled place-of v zk) (answers y)) b b′ (omega arith),
+            filled-front symbol-of is zc cs m itemsMost (z .codes-are ∙ ap (λ (v : Answer). filled symbol-of v zc) (answers y)) a a′ (omega arith),
+            filled-front place-of is zk os m itemsMost (z .tokens-are ∙ ap (λ (v : Answer). filled place-of v zk) (answers y)) b b′ (omega arith),
           )
       go (refuse x k) y = absurd (let w : r ≡ parsed-as.Refused x k = z .answered ∙ ap answer (answers y) in let f : _≡_ {A = ℕ} 0 1 = cc in omega arith)
 
-  pub items-left : (n m : ℕ) (j : Judged) (old new : List ℕ) → r ≡ parsed-as.Items n → m ≡ min n 8192
+  pub items-left : (n m : ℕ) (j : Judged) (old new : List ℕ) → r ≡ parsed-as.Items n → m ≡ min n itemsMost
       → new ≡ left j (tablesFrom t ss es (take m cs) (take m os)) old → new ≡ left j (tablesAt t ks ss es) old
   unfolding tablesAt
-  items-left n m j old new q h g = go (parsed ks 8192) refl
+  items-left n m j old new q h g = go (parsed ks itemsMost) refl
     where
-      go : (x : Answer) → parsed ks 8192 ≡ x → new ≡ left j (tablesBy t ss es x) old
+      go : (x : Answer) → parsed ks itemsMost ≡ x → new ≡ left j (tablesBy t ss es x) old
       go (items is) y =
           let w : r ≡ parsed-as.Items (length is) = z .answered ∙ ap answer (answers y) in
           let l : n ≡ length is = cc in
           g ∙ ap (λ (v : List ℕ). left j v old) (rw (
-            filled-front symbol-of is zc cs m 8192 (z .codes-are ∙ ap (λ (v : Answer). filled symbol-of v zc) (answers y)) a a′ (omega arith),
-            filled-front place-of is zk os m 8192 (z .tokens-are ∙ ap (λ (v : Answer). filled place-of v zk) (answers y)) b b′ (omega arith),
+            filled-front symbol-of is zc cs m itemsMost (z .codes-are ∙ ap (λ (v : Answer). filled symbol-of v zc) (answers y)) a a′ (omega arith),
+            filled-front place-of is zk os m itemsMost (z .tokens-are ∙ ap (λ (v : Answer). filled place-of v zk) (answers y)) b b′ (omega arith),
           ))
       go (refuse x k) y = absurd (let w : r ≡ parsed-as.Refused x k = z .answered ∙ ap answer (answers y) in let f : _≡_ {A = ℕ} 0 1 = cc in omega arith)
 
   pub refusal-judged : (x k : ℕ) (j : Judged) → r ≡ parsed-as.Refused x k → j ≡ atToken (length t) ss es x k → j ≡ byGrammar t ks ss es
   unfolding byGrammar
-  refusal-judged x k j q g = go (parsed ks 8192) refl
+  refusal-judged x k j q g = go (parsed ks itemsMost) refl
     where
-      go : (y : Answer) → parsed ks 8192 ≡ y → j ≡ grammatical t ss es y
+      go : (y : Answer) → parsed ks itemsMost ≡ y → j ≡ grammatical t ss es y
       go (items is) y = absurd (let w : r ≡ parsed-as.Items (length is) = z .answered ∙ ap answer (answers y) in let f : _≡_ {A = ℕ} 0 1 = cc in omega arith)
       go (refuse x′ k′) y =
           let w : r ≡ parsed-as.Refused x′ k′ = z .answered ∙ ap answer (answers y) in
@@ -155,7 +153,7 @@ module _ (t ss es cs ks args : List ℕ) (ea : args ≡ payload t ss es cs ks) w
   unfolding byRules
   good-judged f b c q p h = rw (← ea, ← c, q, ← p, h)
 
-  pub good-laid : (old new : List ℕ) → new ≡ laid (tablesOf (entriesOf t ss es cs ks) (linksOf cs args (replicate 8192 0))) old → new ≡ left Accepted (tablesFrom t ss es cs ks) old
+  pub good-laid : (old new : List ℕ) → new ≡ laid (tablesOf (entriesOf t ss es cs ks) (linksOf cs args (replicate itemsMost 0))) old → new ≡ left Accepted (tablesFrom t ss es cs ks) old
   unfolding tablesFrom
   good-laid old new e = rw (← ea) e
 

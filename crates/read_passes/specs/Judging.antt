@@ -1,3 +1,4 @@
+-- Mechanism, held to the specification by `read-legal`, `legal-read` (crate `legal_texts`).
 -- All passes of the reader in their order, and the place of each refusal: document 01, "What is answered, and what stays behind":
 -- "then length, then bytes and tokens (1, 2), then grammar with bracket and if/do depth (2, 3), then names and rules (2, 4, 5), then 6".
 use mathlib.Core.Bool.{Bool, true, false}
@@ -6,6 +7,7 @@ use mathlib.Core.Path.{_≡_}
 use Prim.Native.Nat.{ℕ, _+_, _-_, _≤_}
 use lib.Dec.{ltb, leb}
 use lib.ListN.{length, getD, take, drop, replicate}
+use Rattle.base_ceilings.specs.Ceilings.{itemsMost}
 use Rattle.base_bytes.specs.Choice.{pick}
 use Rattle.text_tokens.specs.Reading.{Placed, Reading, tokens, refused, reading}
 use Rattle.parse_machine_proof.specs.Machine.{symbol-of, place-of}
@@ -33,7 +35,7 @@ ruled n ss es None over = pick over (Refused 6 0 0) Accepted
 
 -- the items' payload, in room for 8,192 items
 abbrev pub payload : List ℕ → List ℕ → List ℕ → List ℕ → List ℕ → List ℕ
-payload t ss es cs ks = argsOf t ss es cs ks (replicate 8192 0)
+payload t ss es cs ks = argsOf t ss es cs ks (replicate itemsMost 0)
 
 -- a text whose grammar is right, from its items' numbers and tokens
 unfoldable pub byRules : List ℕ → List ℕ → List ℕ → List ℕ → List ℕ → Judged
@@ -46,7 +48,7 @@ grammatical t ss es (refuse x k) = atToken (length t) ss es x k
 
 -- the tokens of a text, by their kinds and places
 unfoldable pub byGrammar : List ℕ → List ℕ → List ℕ → List ℕ → Judged
-byGrammar t ks ss es = grammatical t ss es (parsed ks 8192)
+byGrammar t ks ss es = grammatical t ss es (parsed ks itemsMost)
 
 -- "then length, then bytes and tokens (1, 2)"
 abbrev pub lexical : List ℕ → Reading → Judged
@@ -58,14 +60,14 @@ judgeOf t = lexical t (reading t)
 
 -- ---- the tables that are built of a text that is accepted, and what they leave in a lent list
 unfoldable pub tablesFrom : List ℕ → List ℕ → List ℕ → List ℕ → List ℕ → List ℕ
-tablesFrom t ss es cs ks = tablesOf (entriesOf t ss es cs ks) (linksOf cs (payload t ss es cs ks) (replicate 8192 0))
+tablesFrom t ss es cs ks = tablesOf (entriesOf t ss es cs ks) (linksOf cs (payload t ss es cs ks) (replicate itemsMost 0))
 
 abbrev pub tablesBy : List ℕ → List ℕ → List ℕ → Answer → List ℕ
 tablesBy t ss es (items os) = tablesFrom t ss es (map symbol-of os) (map place-of os)
 tablesBy t ss es (refuse x k) = []
 
 unfoldable pub tablesAt : List ℕ → List ℕ → List ℕ → List ℕ → List ℕ
-tablesAt t ks ss es = tablesBy t ss es (parsed ks 8192)
+tablesAt t ks ss es = tablesBy t ss es (parsed ks itemsMost)
 
 abbrev pub tablesRead : List ℕ → Reading → List ℕ
 tablesRead t (tokens ps) = tablesAt t (map Placed.kind ps) (map Placed.start ps) (map Placed.end ps)

@@ -1,6 +1,7 @@
 // Every pass of the reader in its order, and the tables of a text that all of them let through.
 ghost use mathlib.Core.Path.{_≡_};
 ghost use lib.ListN.{length, replicate};
+ghost use Rattle.base_ceilings.specs.Ceilings.{itemsMost};
 ghost use Rattle.link_items.specs.Links.{linksOf};
 ghost use Rattle.table_entries.specs.Sources.{entriesOf};
 ghost use Rattle.table_layout.specs.Tables.{tablesOf};
@@ -20,9 +21,9 @@ fn at_token(n: usize, starts: &[u32], ends: &[u32], x: u8, k: usize) -> Judged
     ensures { λ r. ⌜ r ≡ atToken n (now (starts .entry)) (now (ends .entry)) x k ⌝ }
 {
     if k < starts.len() {
-        let from = rule_sheets::word_at(starts, k);
-        let to = rule_sheets::word_at(ends, k);
-        return Judged::Refused(x, from, rule_sheets::minus(to, from));
+        let from = base_bytes::word_at(starts, k);
+        let to = base_bytes::word_at(ends, k);
+        return Judged::Refused(x, from, base_bytes::minus(to, from));
     }
     Judged::Refused(x, n, 0)
 }
@@ -37,9 +38,9 @@ fn lay(
     args: &[u32],
     out: &mut [u32],
 )
-    ensures { λ _. ⌜ now (out .exit) ≡ laid (tablesOf (entriesOf (now (text .entry)) (now (starts .entry)) (now (ends .entry)) (now (codes .entry)) (now (toks .entry))) (linksOf (now (codes .entry)) (now (args .entry)) (replicate 8192 0))) (now (out .entry)) ⌝ }
+    ensures { λ _. ⌜ now (out .exit) ≡ laid (tablesOf (entriesOf (now (text .entry)) (now (starts .entry)) (now (ends .entry)) (now (codes .entry)) (now (toks .entry))) (linksOf (now (codes .entry)) (now (args .entry)) (replicate itemsMost 0))) (now (out .entry)) ⌝ }
 {
-    let mut links = [0u32; 8192];
+    let mut links = [0u32; base_ceilings::ITEMS_MOST];
     link_items::fill_links(codes, args, &mut links);
     table_layout::build(text, starts, ends, codes, toks, &links, out);
 }
@@ -56,7 +57,7 @@ fn by_rules(
     ensures { λ r. ⌜ r ≡ byRules (now (text .entry)) (now (starts .entry)) (now (ends .entry)) (now (codes .entry)) (now (toks .entry)) ⌝ }
     ensures { λ r. ⌜ now (out .exit) ≡ left r (tablesFrom (now (text .entry)) (now (starts .entry)) (now (ends .entry)) (now (codes .entry)) (now (toks .entry))) (now (out .entry)) ⌝ }
 {
-    let mut args = [0u32; 8192];
+    let mut args = [0u32; base_ceilings::ITEMS_MOST];
     rule_sheets::fill_args(text, starts, ends, codes, toks, &mut args);
     let f = rule_least::check(codes, &args, toks);
     match f {
@@ -76,13 +77,13 @@ fn by_grammar(text: &[u8], kinds: &[u8], starts: &[u32], ends: &[u32], out: &mut
     ensures { λ r. ⌜ r ≡ byGrammar (now (text .entry)) (now (kinds .entry)) (now (starts .entry)) (now (ends .entry)) ⌝ }
     ensures { λ r. ⌜ now (out .exit) ≡ left r (tablesAt (now (text .entry)) (now (kinds .entry)) (now (starts .entry)) (now (ends .entry))) (now (out .entry)) ⌝ }
 {
-    let mut codes = [0u8; 8192];
-    let mut toks = [0u32; 8192];
-    let mut sizes = [0u32; 8192];
+    let mut codes = [0u8; base_ceilings::ITEMS_MOST];
+    let mut toks = [0u32; base_ceilings::ITEMS_MOST];
+    let mut sizes = [0u32; base_ceilings::ITEMS_MOST];
     let p = parse_items::parse(kinds, &mut codes, &mut toks, &mut sizes);
     match p {
         Parsed::Items(n) => {
-            let m = base_bytes::least(n, 8192);
+            let m = base_bytes::least(n, base_ceilings::ITEMS_MOST);
             by_rules(text, starts, ends, &codes[..m], &toks[..m], out)
         }
         Parsed::Refused(x, k) => at_token(text.len(), starts, ends, x, k),
@@ -94,13 +95,13 @@ pub fn pass(text: &[u8], out: &mut [u32]) -> Judged
     ensures { λ r. ⌜ r ≡ judgeOf (now (text .entry)) ⌝ }
     ensures { λ r. ⌜ now (out .exit) ≡ left r (tablesText (now (text .entry))) (now (out .entry)) ⌝ }
 {
-    let mut kinds = [0u8; 2048];
-    let mut starts = [0u32; 2048];
-    let mut ends = [0u32; 2048];
+    let mut kinds = [0u8; base_ceilings::TOKENS_MOST];
+    let mut starts = [0u32; base_ceilings::TOKENS_MOST];
+    let mut ends = [0u32; base_ceilings::TOKENS_MOST];
     let a = text_tokens::lex(text, &mut kinds, &mut starts, &mut ends);
     match a {
         Lexed::Tokens(n) => {
-            let m = base_bytes::least(n, 2048);
+            let m = base_bytes::least(n, base_ceilings::TOKENS_MOST);
             by_grammar(text, &kinds[..m], &starts[..m], &ends[..m], out)
         }
         Lexed::Refused(x, i, n) => Judged::Refused(x, i, n),

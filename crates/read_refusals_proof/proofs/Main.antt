@@ -1,6 +1,6 @@
 -- EACH NUMBER OF THE TABLE EXACTLY WHEN ITS ROW SAYS, at its place, in the order given: both directions, for every text and every lent list. Assumes nothing.
-use Prim.Native.Nat.{ℕ, zero, suc, _-_, _≤_, _<_}
-use mathlib.Core.Path.{_≡_, refl, sym as inv, ap, ap₂, _∙_}
+use Prim.Native.Nat.{ℕ, suc, _-_, _≤_, _<_}
+use mathlib.Core.Path.{_≡_, refl, sym as inv, ap, _∙_}
 use mathlib.Core.Bool.{Bool, true, false, cond}
 use mathlib.Core.Logic.{_⊎_, inl, inr}
 use mathlib.Core.Option.{Option, none, some}
@@ -9,6 +9,7 @@ use native.Mathlib.Omega.{arith}
 use borrow.Author.Tests.{lt-ltb, le-ltb}
 use lib.Dec.{ltb}
 use lib.ListN.{length, getD, take, length-map}
+use Rattle.base_ceilings.specs.Ceilings.{itemsMost, tablesRoom}
 use Rattle.base_bytes.specs.Choice.{pick}
 use Rattle.parse_machine_proof.proofs.Never.{lt-or-ge}
 use Rattle.text_tokens.specs.Reading.{Placed, Reading, tokens, refused, reading}
@@ -17,9 +18,10 @@ use Rattle.text_spacing_proof.proofs.Exact.{reading-exact}
 use Rattle.base_kinds.specs.Kinds.{Token, kindOf}
 use Rattle.spec_grammar.specs.Tree.{Model}
 use Rattle.spec_grammar.specs.Grammar.{Gram}
-use Rattle.parse_proof.specs.Depth.{count-after, opens-bracket, closes-bracket, opens-selection, closes-selection, passes, one-later, deep-from, too-deep}
-use Rattle.parse_proof.proofs.Main.{Refused as Stopped}
-use Rattle.parse_proof.proofs.Judged.{Two, Three, before}
+use Rattle.parse_proof.specs.Depth.{count-after, opens-bracket, closes-bracket, opens-selection, closes-selection, passes, one-later, deep-from}
+use Rattle.spec_grammar.specs.Viable.{StrayAt}
+use Rattle.parse_proof.specs.Refusals.{Two, Three}
+use Rattle.parse_proof.proofs.Judged.{before}
 use Rattle.parse_machine_proof.specs.Machine.{symbol-of, place-of}
 use Rattle.parse_machine_proof.specs.Answer.{Answer, items, refuse, parsed}
 use Rattle.parse_machine_proof.proofs.Main.{items-mean, two-means, three-means}
@@ -27,13 +29,13 @@ use Rattle.rule_least.specs.Faults.{checked}
 use Rattle.rule_least.specs.declared.Fault.{Fault}
 use Rattle.rule_least.specs.declared.Fault.the-variants.{None, At}
 use Rattle.rule_ceilings.specs.Ceilings.{passed}
-use Rattle.read_passes.specs.declared.Judged.{Judged}
-use Rattle.read_passes.specs.declared.Judged.the-variants.{Accepted, Refused}
-use Rattle.read_passes.specs.Judging.{payload, atToken, ruled, byRules, grammatical, byGrammar, lexical, judgeOf}
+use Rattle.read_passes.specs.declared.Judged.the-variants.{Refused}
+use Rattle.read_passes.specs.Judging.{atToken, ruled, byRules, grammatical, byGrammar, lexical, judgeOf}
 use Rattle.read_accepts_proof.proofs.Main.{kinds-are, all-proper, short as few}
-use Rattle.read_entry.specs.Entries.{room, readOf}
-use Rattle.read_refusals_proof.specs.Rows.{startAt, sizeAt, Grammatical, said, Row, short, bytes, deep, stop, fault, ceiling}
+use Rattle.read_entry.specs.Entries.{readOf}
+use Rattle.read_refusals_proof.specs.Rows.{startAt, sizeAt, Row, short, bytes, deep, stop, fault, ceiling}
 use Rattle.read_refusals_proof.proofs.Numbers.{bytes-number, grammar-number, rules-number}
+use Rattle.read_accepts_proof.specs.Meaning.{Grammatical, said}
 
 -- ---- the place of a token
 number-of : {x y i j n m : ℕ} → Refused x i n ≡ Refused y j m → y ≡ x
@@ -55,7 +57,7 @@ at-token t ps x k = go (ltb k (length (map Placed.start ps)))
     go false = refl
 
 -- ---- the answer, and its row
-module _ (t old : List ℕ) (x i n : ℕ) (enough : room ≤ length old) where
+module _ (t old : List ℕ) (x i n : ℕ) (enough : tablesRoom ≤ length old) where
   by-rules : (g : Grammatical t) (f : Fault) (over : Bool) → checked (map symbol-of (g .numbers)) (said t g) (map place-of (g .numbers)) ≡ f
       → passed (map symbol-of (g .numbers)) (said t g) ≡ over → ruled (length t) (map Placed.start (g .parts)) (map Placed.end (g .parts)) f over ≡ Refused x i n → Row t old x i n
   by-rules g (At y k) over c p e =
@@ -66,37 +68,37 @@ module _ (t old : List ℕ) (x i n : ℕ) (enough : room ≤ length old) where
   by-rules g None false c p e = absurd (let z : _≡_ {A = ℕ} 0 1 = cc in omega arith)
 
   module _ (ps : List Placed) (e : reading t ≡ tokens ps) where
-    kinds : {a : Answer} → parsed (map Placed.kind ps) 8192 ≡ a → parsed (map kindOf (tokensIn t ps)) 8192 ≡ a
-    kinds h = ap (λ (ks : List ℕ). parsed ks 8192) (kinds-are t ps) ∙ h
+    kinds : {a : Answer} → parsed (map Placed.kind ps) itemsMost ≡ a → parsed (map kindOf (tokensIn t ps)) itemsMost ≡ a
+    kinds h = ap (λ (ks : List ℕ). parsed ks itemsMost) (kinds-are t ps) ∙ h
 
-    by-grammar : (a : Answer) → parsed (map Placed.kind ps) 8192 ≡ a → grammatical t (map Placed.start ps) (map Placed.end ps) a ≡ Refused x i n → Row t old x i n
+    by-grammar : (a : Answer) → parsed (map Placed.kind ps) itemsMost ≡ a → grammatical t (map Placed.start ps) (map Placed.end ps) a ≡ Refused x i n → Row t old x i n
     unfolding byRules
     by-grammar (items o) h q =
-        let (m, g, c, d) = items-mean (tokensIn t ps) (all-proper t ps) (few t ps e) 8192 (omega arith) o (kinds h) in
+        let (m, g, c, d) = items-mean (tokensIn t ps) (all-proper t ps) (few t ps e) itemsMost (omega arith) o (kinds h) in
         by-rules (record { parts = ps; reads = e; tree = m; gram = g; shallow = d; numbers = o; written = h; coded = c }) _ _ refl refl q
     by-grammar (refuse y k) h q =
         let z = inv (at-token t ps y k) ∙ q in
-        let w : parsed (map Placed.kind ps) 8192 ≡ refuse x k = rw (number-of z) h in
+        let w : parsed (map Placed.kind ps) itemsMost ≡ refuse x k = rw (number-of z) h in
         go (grammar-number (map Placed.kind ps) x k (rw length-map (reading-exact t ps .0 e .2)) w) w (place-is z) (length-is z)
       where
-        go : (x ≡ 2) ⊎ (x ≡ 3) → parsed (map Placed.kind ps) 8192 ≡ refuse x k → i ≡ startAt t ps k → n ≡ sizeAt t ps k → Row t old x i n
-        go (inl two) w p l = deep ps k enough e (two-means (tokensIn t ps) (all-proper t ps) (few t ps e) 8192 (omega arith) k (kinds (w ∙ ap (λ (v : ℕ). refuse v k) two))) two p l
-        go (inr three) w p l = stop ps k enough e (three-means (tokensIn t ps) (all-proper t ps) (few t ps e) 8192 (omega arith) k (kinds (w ∙ ap (λ (v : ℕ). refuse v k) three))) three p l
+        go : (x ≡ 2) ⊎ (x ≡ 3) → parsed (map Placed.kind ps) itemsMost ≡ refuse x k → i ≡ startAt t ps k → n ≡ sizeAt t ps k → Row t old x i n
+        go (inl two) w p l = deep ps k enough e (two-means (tokensIn t ps) (all-proper t ps) (few t ps e) itemsMost (omega arith) k (kinds (w ∙ ap (λ (v : ℕ). refuse v k) two))) two p l
+        go (inr three) w p l = stop ps k enough e (three-means (tokensIn t ps) (all-proper t ps) (few t ps e) itemsMost (omega arith) k (kinds (w ∙ ap (λ (v : ℕ). refuse v k) three))) three p l
 
   by-bytes : (r : Reading) → reading t ≡ r → lexical t r ≡ Refused x i n → Row t old x i n
   unfolding byGrammar
-  by-bytes (tokens ps) e q = by-grammar ps e (parsed (map Placed.kind ps) 8192) refl q
+  by-bytes (tokens ps) e q = by-grammar ps e (parsed (map Placed.kind ps) itemsMost) refl q
   by-bytes (refused y j m) e q =
       let z : reading t ≡ refused x i n = rw (number-of q, place-is q, length-is q) e in
       bytes enough z (bytes-number t x i n z)
 
 pub answer-row : (t old : List ℕ) (x i n : ℕ) → readOf t old ≡ Refused x i n → Row t old x i n
 unfolding readOf
-answer-row t old x i n e = go (lt-or-ge (length old) room)
+answer-row t old x i n e = go (lt-or-ge (length old) tablesRoom)
   where
-    go : (length old < room) ⊎ (room ≤ length old) → Row t old x i n
-    go (inl h) = let q : Refused 7 0 0 ≡ Refused x i n = simp (lt-ltb (length old) room h) at e in short h (number-of q) (place-is q) (length-is q)
-    go (inr h) = by-bytes t old x i n h (reading t) refl (simp (le-ltb (length old) room h) at e)
+    go : (length old < tablesRoom) ⊎ (tablesRoom ≤ length old) → Row t old x i n
+    go (inl h) = let q : Refused 7 0 0 ≡ Refused x i n = simp (lt-ltb (length old) tablesRoom h) at e in short h (number-of q) (place-is q) (length-is q)
+    go (inr h) = by-bytes t old x i n h (reading t) refl (simp (le-ltb (length old) tablesRoom h) at e)
 
 -- ---- the row, and its answer
 later-some : (d : Option ℕ) (k : ℕ) → one-later d ≡ some k → (j : ℕ) × (d ≡ some j) × (k ≡ suc j)
@@ -118,7 +120,7 @@ deep-inside b s (c ∷ ts) k e =
     go true d f q = let z : 0 ≡ k = cc in omega arith
     go false d f q = let (j, h, l) = later-some d k q in omega (arith, f j h)
 
-module _ (t old : List ℕ) (x i n : ℕ) (enough : room ≤ length old) where
+module _ (t old : List ℕ) (x i n : ℕ) (enough : tablesRoom ≤ length old) where
   -- at token j and at token k the place is the same
   abbrev Same : List Placed → ℕ → ℕ → Type 0
   Same ps j k = (startAt t ps j ≡ startAt t ps k) × (sizeAt t ps j ≡ sizeAt t ps k)
@@ -141,7 +143,7 @@ module _ (t old : List ℕ) (x i n : ℕ) (enough : room ≤ length old) where
     same-eq j k h = (ap (startAt t ps) h, ap (sizeAt t ps) h)
 
     -- two places where the grammar stops are one
-    stops-same : (j k : ℕ) → Stopped ts j → Stopped ts k → Same ps j k
+    stops-same : (j k : ℕ) → StrayAt ts j → StrayAt ts k → Same ps j k
     stops-same j k a b = go (lt-or-ge j k) (lt-or-ge k j) (lt-or-ge j (length ts)) (lt-or-ge k (length ts))
       where
         go : (j < k) ⊎ (k ≤ j) → (k < j) ⊎ (j ≤ k) → (j < length ts) ⊎ (length ts ≤ j) → (k < length ts) ⊎ (length ts ≤ k) → Same ps j k
@@ -159,33 +161,33 @@ module _ (t old : List ℕ) (x i n : ℕ) (enough : room ≤ length old) where
         let l : j < length ts = omega (arith, deep-inside 0 0 ts k (a .place)) in
         viable-before j k h l (a .viable) (b .place .dead l)
 
-    deep-answer : (k : ℕ) → Two ts k → (a : Answer) → parsed (map Placed.kind ps) 8192 ≡ a → grammatical t (map Placed.start ps) (map Placed.end ps) a ≡ Refused 2 (startAt t ps k) (sizeAt t ps k)
+    deep-answer : (k : ℕ) → Two ts k → (a : Answer) → parsed (map Placed.kind ps) itemsMost ≡ a → grammatical t (map Placed.start ps) (map Placed.end ps) a ≡ Refused 2 (startAt t ps k) (sizeAt t ps k)
     deep-answer k w (items o) h =
-        let (m, g, c, d) = items-mean ts (all-proper t ps) (few t ps e) 8192 (omega arith) o (kinds t old x i n enough ps e h) in
+        let (m, g, c, d) = items-mean ts (all-proper t ps) (few t ps e) itemsMost (omega arith) o (kinds t old x i n enough ps e h) in
         absurd (let f = w .place in let z : _≡_ {A = ℕ} 0 1 = cc in omega arith)
     deep-answer k w (refuse y j) h = go (grammar-number (map Placed.kind ps) y j (rw length-map (reading-exact t ps .0 e .2)) h)
       where
         go : (y ≡ 2) ⊎ (y ≡ 3) → grammatical t (map Placed.start ps) (map Placed.end ps) (refuse y j) ≡ Refused 2 (startAt t ps k) (sizeAt t ps k)
         go (inl two) =
-            let v = two-means ts (all-proper t ps) (few t ps e) 8192 (omega arith) j (kinds t old x i n enough ps e (h ∙ ap (λ (z : ℕ). refuse z j) two)) in
+            let v = two-means ts (all-proper t ps) (few t ps e) itemsMost (omega arith) j (kinds t old x i n enough ps e (h ∙ ap (λ (z : ℕ). refuse z j) two)) in
             let f = v .place in
             let g = w .place in
             let q : j ≡ k = cc in
             at-token t ps y j ∙ rw (two, q)
         go (inr three) =
-            absurd (deep-stops j k w (three-means ts (all-proper t ps) (few t ps e) 8192 (omega arith) j (kinds t old x i n enough ps e (h ∙ ap (λ (z : ℕ). refuse z j) three))))
+            absurd (deep-stops j k w (three-means ts (all-proper t ps) (few t ps e) itemsMost (omega arith) j (kinds t old x i n enough ps e (h ∙ ap (λ (z : ℕ). refuse z j) three))))
 
-    stop-answer : (k : ℕ) → Three ts k → (a : Answer) → parsed (map Placed.kind ps) 8192 ≡ a → grammatical t (map Placed.start ps) (map Placed.end ps) a ≡ Refused 3 (startAt t ps k) (sizeAt t ps k)
+    stop-answer : (k : ℕ) → Three ts k → (a : Answer) → parsed (map Placed.kind ps) itemsMost ≡ a → grammatical t (map Placed.start ps) (map Placed.end ps) a ≡ Refused 3 (startAt t ps k) (sizeAt t ps k)
     stop-answer k w (items o) h =
-        let (m, g, c, d) = items-mean ts (all-proper t ps) (few t ps e) 8192 (omega arith) o (kinds t old x i n enough ps e h) in
+        let (m, g, c, d) = items-mean ts (all-proper t ps) (few t ps e) itemsMost (omega arith) o (kinds t old x i n enough ps e h) in
         absurd (w .place .no-text m g)
     stop-answer k w (refuse y j) h = go (grammar-number (map Placed.kind ps) y j (rw length-map (reading-exact t ps .0 e .2)) h)
       where
         go : (y ≡ 2) ⊎ (y ≡ 3) → grammatical t (map Placed.start ps) (map Placed.end ps) (refuse y j) ≡ Refused 3 (startAt t ps k) (sizeAt t ps k)
         go (inl two) =
-            absurd (deep-stops k j (two-means ts (all-proper t ps) (few t ps e) 8192 (omega arith) j (kinds t old x i n enough ps e (h ∙ ap (λ (z : ℕ). refuse z j) two))) w)
+            absurd (deep-stops k j (two-means ts (all-proper t ps) (few t ps e) itemsMost (omega arith) j (kinds t old x i n enough ps e (h ∙ ap (λ (z : ℕ). refuse z j) two))) w)
         go (inr three) =
-            let v = three-means ts (all-proper t ps) (few t ps e) 8192 (omega arith) j (kinds t old x i n enough ps e (h ∙ ap (λ (z : ℕ). refuse z j) three)) in
+            let v = three-means ts (all-proper t ps) (few t ps e) itemsMost (omega arith) j (kinds t old x i n enough ps e (h ∙ ap (λ (z : ℕ). refuse z j) three)) in
             let s = stops-same j k (v .place) (w .place) in
             at-token t ps y j ∙ rw (three, s .0, s .1)
 
@@ -193,20 +195,20 @@ module _ (t old : List ℕ) (x i n : ℕ) (enough : room ≤ length old) where
   unfolding byGrammar byRules
   judged-row (short h a b c) = absurd (omega arith)
   judged-row (bytes h e l) = rw e
-  judged-row (deep ps k h e w a b c) = ap (lexical t) e ∙ deep-answer ps e k w (parsed (map Placed.kind ps) 8192) refl ∙ rw (a, b, c)
-  judged-row (stop ps k h e w a b c) = ap (lexical t) e ∙ stop-answer ps e k w (parsed (map Placed.kind ps) 8192) refl ∙ rw (a, b, c)
+  judged-row (deep ps k h e w a b c) = ap (lexical t) e ∙ deep-answer ps e k w (parsed (map Placed.kind ps) itemsMost) refl ∙ rw (a, b, c)
+  judged-row (stop ps k h e w a b c) = ap (lexical t) e ∙ stop-answer ps e k w (parsed (map Placed.kind ps) itemsMost) refl ∙ rw (a, b, c)
   judged-row (fault g k h f l b c) = ap (lexical t) (g .reads) ∙ rw (g .written, f, b, c) (at-token t (g .parts) x k)
   judged-row (ceiling g h f p a b c) = ap (lexical t) (g .reads) ∙ rw (g .written, f, p, a, b, c)
 
 pub row-answer : (t old : List ℕ) (x i n : ℕ) → Row t old x i n → readOf t old ≡ Refused x i n
 unfolding readOf
-row-answer t old x i n r = go (lt-or-ge (length old) room) r
+row-answer t old x i n r = go (lt-or-ge (length old) tablesRoom) r
   where
-    go : (length old < room) ⊎ (room ≤ length old) → Row t old x i n → pick (ltb (length old) room) (Refused 7 0 0) (judgeOf t) ≡ Refused x i n
-    go (inl h) (short l a b c) = rw (lt-ltb (length old) room h, a, b, c)
+    go : (length old < tablesRoom) ⊎ (tablesRoom ≤ length old) → Row t old x i n → pick (ltb (length old) tablesRoom) (Refused 7 0 0) (judgeOf t) ≡ Refused x i n
+    go (inl h) (short l a b c) = rw (lt-ltb (length old) tablesRoom h, a, b, c)
     go (inl h) (bytes l e w) = absurd (omega arith)
     go (inl h) (deep ps k l e w a b c) = absurd (omega arith)
     go (inl h) (stop ps k l e w a b c) = absurd (omega arith)
     go (inl h) (fault g k l f w b c) = absurd (omega arith)
     go (inl h) (ceiling g l f p a b c) = absurd (omega arith)
-    go (inr h) r = rw (le-ltb (length old) room h) (judged-row t old x i n h r)
+    go (inr h) r = rw (le-ltb (length old) tablesRoom h) (judged-row t old x i n h r)

@@ -1,5 +1,5 @@
 -- Which numbers each pass can answer: bytes and tokens 1 or 2, grammar 2 or 3, names and rules 2, 4 or 5.
-use Prim.Native.Nat.{ℕ, zero, suc, _+_, _-_, _/_, _%_, _≤_, _<_}
+use Prim.Native.Nat.{ℕ, zero, suc, _+_, _-_, _/_, _%_, _≤_, _<_, _*_}
 use mathlib.Core.Path.{_≡_, refl, sym, ap, _∙_}
 use mathlib.Core.Bool.{Bool, true, false}
 use mathlib.Core.Logic.{_⊎_, inl, inr}
@@ -8,13 +8,12 @@ use native.Mathlib.Omega.{arith}
 use borrow.Author.Tests.{le-ltb}
 use lib.Dec.{eqb, ltb, leb}
 use lib.ListN.{length, getD, take, drop}
-use Rattle.base_codes.specs.Codes.{c-index, c-message, c-option, c-receive, c-run, c-send, c-set-run}
+use Rattle.base_ceilings.specs.Ceilings.{arrayMost, capacityMost, fieldsMost, heightMost, itemsMost, numberMost, stringMost, textMost, tokensMost, wordMost}
+use Rattle.base_codes.specs.Codes.{c-index, c-message, c-option, c-receive, c-run, c-send, c-set-run, c-text}
 use Rattle.base_bytes.specs.Choice.{pick, both, either}
 use Rattle.base_kinds.specs.Kinds.{marks, number-kind, string-kind}
-use Rattle.text_spellings.specs.Find as spelled
 use Rattle.text_pieces.specs.Bytes.{isBlank, isLetter, isDigit, isWord, quote, slash, star}
 use Rattle.text_pieces.specs.Spans.{span, decimal, quoted, closing}
-use Rattle.text_pieces.specs.Ceilings.{word-most, string-most, number-most}
 use Rattle.text_pieces.specs.Pieces.{wordOf, numberOf, stringOf, commentOf, markOf, pieceOf}
 use Rattle.text_pieces.specs.declared.Piece.{Piece}
 use Rattle.text_pieces.specs.declared.Piece.the-variants.{Skip, Take, Stop}
@@ -24,7 +23,6 @@ use Rattle.text_pieces.specs.declared.Close.{Close}
 use Rattle.text_pieces.specs.declared.Close.the-variants.{After, Never}
 use Rattle.text_tokens.specs.Reading.{Placed, Reading, tokens, refused, before, follow, readFrom, reading}
 use Rattle.parse_machine_proof.specs.Machine.{Outcome, done, spent, machine}
-use Rattle.parse_machine_proof.specs.Machine as machines
 use Rattle.parse_machine_proof.specs.Answer.{Answer, items, refuse, judged, parsed}
 use Rattle.parse_machine_proof.specs.Depth.{too-deep}
 use Rattle.parse_machine_proof.proofs.Never.{Fine, never-spent}
@@ -32,10 +30,14 @@ use Rattle.rule_search.specs.Sets.{among}
 use Rattle.rule_search.specs.Search.{find, lookup, last, opener, count}
 use Rattle.rule_sheets.specs.Homes.{homesOf}
 use Rattle.rule_sheets.specs.Spans.{startsOf, heightsOf}
-use Rattle.rule_item.specs.Rules.{isArray, isChan, roleOf, badPlain, badIndex, globalOf, bodyOf, twin, ruleOf, badFormat, badHeight, badBreak, badElse, badSecond, badTwice, badGoto, badRun, badSize, badNamed, badField, badUse, badRef, badVariable, badPassing, badCount, badEnd, badBy}
+use Rattle.rule_item.specs.Rules.{isArray, isChan, roleOf, badPlain, badIndex, globalOf, bodyOf, twin, badFormat, badHeight, badBreak, badElse, badSecond, badTwice, badGoto, badRun, badSize, badNamed, badField, badUse, badRef, badVariable, badPassing, badCount, badEnd, badBy}
 use Rattle.rule_least.specs.Faults.{blank, checked}
 use Rattle.rule_least.specs.declared.Fault.the-variants.{At}
-use Rattle.rule_least.proofs.Theorems.{Among, here, there, checked-among}
+use Rattle.rule_least.specs.Least.{Among, here, there}
+use Rattle.rule_least.proofs.Theorems.{checked-among}
+use Rattle.base_codes.specs.Sets.{ruleOf}
+use Rattle.text_spellings.specs.Find as spelled
+use Rattle.parse_machine_proof.specs.Machine as machines
 
 -- ---- bytes and tokens
 abbrev Lexical : ℕ → Type 0
@@ -52,7 +54,7 @@ either-halts true p q h g = h
 either-halts false p q h g = g
 
 string-halts : (q : Quoted) (m : ℕ) → Halting (stringOf q m)
-string-halts (Closed n) m = either-halts (ltb (string-most + 1) n) (Stop 2 (n + 1)) (Take string-kind (n + 1)) (inr refl) tt
+string-halts (Closed n) m = either-halts (ltb (stringMost + 1) n) (Stop 2 (n + 1)) (Take string-kind (n + 1)) (inr refl) tt
 string-halts (Spoiled n) m = inl refl
 string-halts Unclosed m = inl refl
 
@@ -74,8 +76,8 @@ piece-halts (b ∷ s) =
     let string = pick (eqb b quote) (stringOf (quoted false s) (length s)) comment in
     let number = pick (isDigit b) (numberOf (b ∷ s) d) string in
     either-halts (isBlank b) (Skip 1) (pick (isLetter b) (wordOf (b ∷ s) n) number) tt
-    (either-halts (isLetter b) (wordOf (b ∷ s) n) number (either-halts (ltb word-most n) (Stop 2 n) (Take (spelled.wordKind (take n (b ∷ s))) n) (inr refl) tt)
-    (either-halts (isDigit b) (numberOf (b ∷ s) d) string (either-halts (ltb number-most (decimal (take d (b ∷ s)))) (Stop 2 d) (Take number-kind d) (inr refl) tt)
+    (either-halts (isLetter b) (wordOf (b ∷ s) n) number (either-halts (ltb wordMost n) (Stop 2 n) (Take (spelled.wordKind (take n (b ∷ s))) n) (inr refl) tt)
+    (either-halts (isDigit b) (numberOf (b ∷ s) d) string (either-halts (ltb numberMost (decimal (take d (b ∷ s)))) (Stop 2 d) (Take number-kind d) (inr refl) tt)
     (either-halts (eqb b quote) (stringOf (quoted false s) (length s)) comment (string-halts (quoted false s) (length s))
     (either-halts (both (eqb b slash) (eqb (getD s 0 0) star)) (commentOf (closing false (drop 1 s)) (length (drop 1 s))) mark (comment-halts (closing false (drop 1 s)) (length (drop 1 s)))
     (either-halts (eqb g 0) one (Take g 2) (either-halts (eqb f 0) (Stop 1 1) (Take f 1) (inl refl) tt) tt)))))
@@ -101,11 +103,11 @@ readable-from i left (suc m) (b ∷ s) = readable-from (i + 1) left m s
 readable-from i left zero (b ∷ s) = follow-readable (pieceOf (b ∷ s)) i left (λ n l. readFrom (i + 1) l (n - 1) s) (piece-halts (b ∷ s)) (λ n l. readable-from (i + 1) l (n - 1) s)
 
 readable : (t : List ℕ) → Readable (reading t)
-readable t = go (ltb 8192 (length t))
+readable t = go (ltb textMost (length t))
   where
-    go : (b : Bool) → Readable (pick b (refused 2 0 0) (readFrom 0 2048 0 t))
+    go : (b : Bool) → Readable (pick b (refused 2 0 0) (readFrom 0 tokensMost 0 t))
     go true = inr refl
-    go false = readable-from 0 2048 0 t
+    go false = readable-from 0 tokensMost 0 t
 
 pub bytes-number : (t : List ℕ) (x i n : ℕ) → reading t ≡ refused x i n → Lexical x
 bytes-number t x i n e = go (reading t) e (readable t)
@@ -115,9 +117,9 @@ bytes-number t x i n e = go (reading t) e (readable t)
     go (refused y j m) e h = let q : y ≡ x = cc in rw q at h
 
 -- ---- grammar
-pub grammar-number : (ks : List ℕ) (x k : ℕ) → length ks ≤ 2048 → parsed ks 8192 ≡ refuse x k → (x ≡ 2) ⊎ (x ≡ 3)
+pub grammar-number : (ks : List ℕ) (x k : ℕ) → length ks ≤ tokensMost → parsed ks itemsMost ≡ refuse x k → (x ≡ 2) ⊎ (x ≡ 3)
 unfolding parsed
-grammar-number ks x k short e = go (machine ks) (never-spent ks short) (rw (le-ltb 2048 (length ks) short) at e)
+grammar-number ks x k short e = go (machine ks) (never-spent ks short) (rw (le-ltb tokensMost (length ks) short) at e)
   where
     number-of : {y j : ℕ} → refuse y j ≡ refuse x k → y ≡ x
     number-of e = cc
@@ -199,7 +201,7 @@ module _ (cs vs hs ss ts : List ℕ) where
   known-end j =
       let o = opener cs j in
       let k = count cs hs 5 (getD hs j 0) o j in
-      known (eqb (getD cs o 0) 72) (known (eqb k (getD vs o 0 / 2)) none five)
+      known (eqb (getD cs o 0) c-text) (known (eqb k (getD vs o 0 / 2)) none five)
       (known (eqb (getD cs o 0) c-send) (known (ltb 4 k) five none)
       (known (eqb (getD cs o 0) c-receive) (known (ltb 4 k) five none)
       (known (eqb (getD cs o 0) c-run) (known-passing o k) (known (eqb (getD cs o 0) c-set-run) (known-passing o k) none))))
@@ -222,7 +224,7 @@ module _ (cs vs hs ss ts : List ℕ) where
 
   known-height : (j : ℕ) → Known (badHeight ts j)
   unfolding badHeight
-  known-height j = known (ltb 32 (getD ts (j - 1) 0)) two none
+  known-height j = known (ltb heightMost (getD ts (j - 1) 0)) two none
 
   known-by : (rule j : ℕ) → Known (badBy cs vs hs ss ts rule j)
   unfolding badBy badFormat badBreak badGoto badNamed badField
@@ -237,10 +239,10 @@ module _ (cs vs hs ss ts : List ℕ) where
       (known (eqb rule 8) (known-twice 1 j)
       (known (eqb rule 9) (known (ltb (find cs vs hs 2 (getD vs (j - 1) 0) (getD hs j 0) (length cs)) (length cs)) none four)
       (known (eqb rule 10) (known-run j)
-      (known (eqb rule 11) (known-size 32 j)
+      (known (eqb rule 11) (known-size arrayMost j)
       (known (eqb rule 12) (known (eqb (getD cs (lookup cs vs hs (getD vs (j - 1) 0) (getD hs j 0) (j - 1)) 0) c-message) none four)
-      (known (eqb rule 13) (known-size 8 j)
-      (known (eqb rule 14) (known (eqb (j - last cs 16 j) 9) five none)
+      (known (eqb rule 13) (known-size capacityMost j)
+      (known (eqb rule 14) (known (eqb (j - last cs 16 j) (2 * fieldsMost + 1)) five none)
       (known (eqb rule 15) (known-ref j)
       (known (eqb rule 16) (known-end j) (known (eqb rule 17) (known-height j) none))))))))))))))))
 

@@ -1,3 +1,4 @@
+-- Mechanism, held to the specification by `rules` (crate `legal_texts`).
 -- The ceilings that are judged last: document 01, "Ceilings" and row 6, "any other ceiling passed, or no process starts".
 -- `cs` are the items, `vs` what their tokens say, `hs` the bodies that they are in.
 use Prim.Native.Nat.{ℕ, _+_, _-_}
@@ -5,7 +6,8 @@ use mathlib.Core.Bool.{Bool, true}
 use mathlib.Core.List.{List}
 use lib.ListN.{length, getD, replicate}
 use lib.Dec.{eqb, ltb}
-use Rattle.base_codes.specs.Codes.{c-active, c-active-many, c-channel, c-end, c-init}
+use Rattle.base_ceilings.specs.Ceilings.{channelsMost, globalsMost, itemsMost, mtypesMost, numbersMost, printedMost, processesMost, proctypesMost, statementsMost}
+use Rattle.base_codes.specs.Codes.{c-active, c-active-many, c-channel, c-end, c-init, c-text}
 use Rattle.base_bytes.specs.Choice.{pick, either}
 use Rattle.rule_sheets.specs.Walks.{sum}
 use Rattle.rule_sheets.specs.Homes.{homesOf}
@@ -32,11 +34,11 @@ makesAt cs vs hs j = pick (eqb (getD cs j 0) c-channel) (pick (eqb (getD hs j 0)
 
 -- 1 at the end (187) of a printf with more than 4 arguments
 unfoldable pub wideAt : List ℕ → List ℕ → ℕ → ℕ
-wideAt cs hs j = pick (eqb (getD cs j 0) c-end) (pick (eqb (getD cs (opener cs j) 0) 72) (pick (ltb 4 (count cs hs 5 (getD hs j 0) (opener cs j) j)) 1 0) 0) 0
+wideAt cs hs j = pick (eqb (getD cs j 0) c-end) (pick (eqb (getD cs (opener cs j) 0) c-text) (pick (ltb printedMost (count cs hs 5 (getD hs j 0) (opener cs j) j)) 1 0) 0) 0
 
 -- 1 at a unit whose processes have more than 32 numbers, started or not
 unfoldable pub heavyAt : List ℕ → List ℕ → List ℕ → ℕ → ℕ
-heavyAt cs vs hs j = pick (among 15 (getD cs j 0)) (pick (ltb 32 (numbers cs vs hs (j + 1))) 1 0) 0
+heavyAt cs vs hs j = pick (among 15 (getD cs j 0)) (pick (ltb numbersMost (numbers cs vs hs (j + 1))) 1 0) 0
 
 unfoldable pub one : ℕ → ℕ → ℕ
 one set c = pick (among set c) 1 0
@@ -59,10 +61,10 @@ module _ (cs vs hs : List ℕ) where
   unfoldable pub anyPassed : Bool
   anyPassed =
       -- "Statements 512; mtype names 64; proctypes 16; global numbers 64"
-      either (either (either (ltb 512 (total 1)) (ltb 64 (total 2))) (either (ltb 16 (total 3)) (ltb 64 (numbers cs vs hs 0))))
+      either (either (either (ltb statementsMost (total 1)) (ltb mtypesMost (total 2))) (either (ltb proctypesMost (total 3)) (ltb globalsMost (numbers cs vs hs 0))))
       -- "numbers per process 32 .. printf arguments 4; processes 16; channels made 16", and "no process starts"
-      (either (either (ltb 0 (total 7)) (ltb 0 (total 6))) (either (either (ltb 16 (total 4)) (eqb (total 4) 0)) (ltb 16 (total 5))))
+      (either (either (ltb 0 (total 7)) (ltb 0 (total 6))) (either (either (ltb processesMost (total 4)) (eqb (total 4) 0)) (ltb channelsMost (total 5))))
 
 -- the whole question; of more than 8,192 items, too many
 unfoldable pub passed : List ℕ → List ℕ → Bool
-passed cs vs = pick (ltb 8192 (length cs)) true (anyPassed cs vs (homesOf cs (replicate 8192 0)))
+passed cs vs = pick (ltb itemsMost (length cs)) true (anyPassed cs vs (homesOf cs (replicate itemsMost 0)))

@@ -1,16 +1,14 @@
 // The ceilings that are judged last (document 01, row 6): is one passed by a model that has no fault, or does no process start?
 ghost use mathlib.Core.Path.{_≡_};
 ghost use Prim.Native.Nat.{_+_, _≤_, _<_};
-ghost use lib.ListN.{length, getD};
-ghost use lib.Dec.{ltb};
-ghost use Rattle.rule_ceilings.specs.Ceilings as tops;
+ghost use lib.ListN.{length};
+ghost use Rattle.base_ceilings.specs.Ceilings.{itemsMost};
+use base_bytes::either;
+use base_bytes::minus;
+use base_bytes::word_at;
 use rule_search::among;
 use rule_sheets::choose_size;
-use rule_sheets::either;
-use rule_sheets::minus;
-use rule_sheets::word_at;
-
-const ITEMS_MOST: usize = 8192;
+ghost use Rattle.rule_ceilings.specs.Ceilings as tops;
 
 // How many numbers item j declares for the body h.
 pub fn numbers_at(codes: &[u8], args: &[u32], homes: &[u32], h: usize, j: usize) -> usize
@@ -20,7 +18,7 @@ pub fn numbers_at(codes: &[u8], args: &[u32], homes: &[u32], h: usize, j: usize)
     if among(14, base_bytes::byte_at(codes, j)) {
         if word_at(homes, j) == h {
             if rule_item::is_array(codes, j) {
-                return rule_sheets::word_on(args, j, 1);
+                return base_bytes::word_on(args, j, 1);
             }
             return 1;
         }
@@ -30,7 +28,7 @@ pub fn numbers_at(codes: &[u8], args: &[u32], homes: &[u32], h: usize, j: usize)
 
 // The numbers of a body, or with 0 the global ones.
 fn numbers(codes: &[u8], args: &[u32], homes: &[u32], h: usize) -> usize
-    requires { ⌜ length (now codes) ≤ 8192 ⌝ }
+    requires { ⌜ length (now codes) ≤ itemsMost ⌝ }
     ensures { λ r. ⌜ r ≡ tops.numbers (now (codes .entry)) (now (args .entry)) (now (homes .entry)) h ⌝ }
 {
     let mut n: usize = 0;
@@ -77,8 +75,10 @@ fn wide_at(codes: &[u8], homes: &[u32], j: usize) -> usize
 {
     if base_bytes::byte_at(codes, j) == base_codes::END {
         let o = rule_search::opener(codes, j);
-        if base_bytes::byte_at(codes, o) == 72 {
-            if 4 < rule_search::count(codes, homes, 5, word_at(homes, j), o, j) {
+        if base_bytes::byte_at(codes, o) == base_codes::TEXT {
+            if base_ceilings::PRINTED_MOST
+                < rule_search::count(codes, homes, 5, word_at(homes, j), o, j)
+            {
                 return 1;
             }
         }
@@ -88,12 +88,12 @@ fn wide_at(codes: &[u8], homes: &[u32], j: usize) -> usize
 
 // 1 where a unit begins whose processes have more than 32 numbers.
 fn heavy_at(codes: &[u8], args: &[u32], homes: &[u32], j: usize) -> usize
-    requires { ⌜ (length (now codes) ≤ 8192) × (j < 8192) ⌝ }
+    requires { ⌜ (length (now codes) ≤ itemsMost) × (j < itemsMost) ⌝ }
     ensures { λ r. ⌜ r ≡ tops.heavyAt (now (codes .entry)) (now (args .entry)) (now (homes .entry)) j ⌝ }
     ensures { λ r. ⌜ r < 4294967296 ⌝ }
 {
     if among(15, base_bytes::byte_at(codes, j)) {
-        if 32 < numbers(codes, args, homes, j + 1) {
+        if base_ceilings::NUMBERS_MOST < numbers(codes, args, homes, j + 1) {
             return 1;
         }
     }
@@ -109,7 +109,7 @@ fn one(set: u8, c: u8) -> usize
 
 // What item j adds to a sum.
 fn weight(codes: &[u8], args: &[u32], homes: &[u32], which: u8, j: usize) -> usize
-    requires { ⌜ (length (now codes) ≤ 8192) × (j < 8192) ⌝ }
+    requires { ⌜ (length (now codes) ≤ itemsMost) × (j < itemsMost) ⌝ }
     ensures { λ r. ⌜ r ≡ tops.weight (now (codes .entry)) (now (args .entry)) (now (homes .entry)) which j ⌝ }
     ensures { λ r. ⌜ r < 4294967296 ⌝ }
 {
@@ -126,7 +126,7 @@ fn weight(codes: &[u8], args: &[u32], homes: &[u32], which: u8, j: usize) -> usi
 }
 
 fn total(codes: &[u8], args: &[u32], homes: &[u32], which: u8) -> usize
-    requires { ⌜ length (now codes) ≤ 8192 ⌝ }
+    requires { ⌜ length (now codes) ≤ itemsMost ⌝ }
     ensures { λ r. ⌜ r ≡ tops.total (now (codes .entry)) (now (args .entry)) (now (homes .entry)) which ⌝ }
 {
     let mut n: usize = 0;
@@ -139,19 +139,19 @@ fn total(codes: &[u8], args: &[u32], homes: &[u32], which: u8) -> usize
 }
 
 fn any_passed(codes: &[u8], args: &[u32], homes: &[u32]) -> bool
-    requires { ⌜ length (now codes) ≤ 8192 ⌝ }
+    requires { ⌜ length (now codes) ≤ itemsMost ⌝ }
     ensures { λ r. ⌜ r ≡ tops.anyPassed (now (codes .entry)) (now (args .entry)) (now (homes .entry)) ⌝ }
 {
     let processes = total(codes, args, homes, 4);
     either(
         either(
             either(
-                512 < total(codes, args, homes, 1),
-                64 < total(codes, args, homes, 2),
+                base_ceilings::STATEMENTS_MOST < total(codes, args, homes, 1),
+                base_ceilings::MTYPES_MOST < total(codes, args, homes, 2),
             ),
             either(
-                16 < total(codes, args, homes, 3),
-                64 < numbers(codes, args, homes, 0),
+                base_ceilings::PROCTYPES_MOST < total(codes, args, homes, 3),
+                base_ceilings::GLOBALS_MOST < numbers(codes, args, homes, 0),
             ),
         ),
         either(
@@ -160,8 +160,8 @@ fn any_passed(codes: &[u8], args: &[u32], homes: &[u32]) -> bool
                 0 < total(codes, args, homes, 6),
             ),
             either(
-                either(16 < processes, processes == 0),
-                16 < total(codes, args, homes, 5),
+                either(base_ceilings::PROCESSES_MOST < processes, processes == 0),
+                base_ceilings::CHANNELS_MOST < total(codes, args, homes, 5),
             ),
         ),
     )
@@ -171,10 +171,10 @@ fn any_passed(codes: &[u8], args: &[u32], homes: &[u32]) -> bool
 pub fn passed(codes: &[u8], args: &[u32]) -> bool
     ensures { λ r. ⌜ r ≡ tops.passed (now (codes .entry)) (now (args .entry)) ⌝ }
 {
-    if ITEMS_MOST < codes.len() {
+    if base_ceilings::ITEMS_MOST < codes.len() {
         return true;
     }
-    let mut homes = [0u32; 8192];
+    let mut homes = [0u32; base_ceilings::ITEMS_MOST];
     rule_sheets::fill_homes(codes, &mut homes);
     any_passed(codes, args, &homes)
 }

@@ -5,7 +5,6 @@ use mathlib.Core.List.{List, [], _∷_}
 use native.Mathlib.Omega.{arith}
 use native.Mathlib.Nat.{add-zero, zero-add}
 use lib.ListN.{length, getD}
-use Rattle.rule_item.specs.Rules.{ruleOf}
 
 unfoldable pub tabled : (ℕ → ℕ) → ℕ → ℕ → List ℕ
 tabled f i zero = []

@@ -1,19 +1,22 @@
+-- Mechanism, held to the specification by `rules` (crate `legal_texts`).
 -- The rules, each the number of the fault that an item has by it, 0 for none: document 01, "Names", "Ceilings" and rows 2, 4 and 5 of "What is answered".
 -- `cs` are the items, `vs` what their tokens say, `hs` the bodies that they are in, `ss` where expressions start, `ts` how high they are: no place of the text.
-use Prim.Native.Nat.{ℕ, zero, suc, _+_, _-_, _/_, _%_}
+use Prim.Native.Nat.{ℕ, zero, suc, _+_, _-_, _/_, _%_, _*_}
 use mathlib.Core.Bool.{Bool, true, false}
 use mathlib.Core.List.{List}
 use lib.ListN.{length, getD}
 use lib.Dec.{eqb, ltb, leb}
-use Rattle.base_codes.specs.Codes.{c-active-many, c-argument, c-assert, c-break, c-chan, c-channel, c-declared, c-decrement, c-do, c-else, c-end, c-equal, c-express, c-fi, c-field, c-goto, c-if, c-increment, c-index, c-init, c-into, c-label, c-len, c-message, c-mtypes, c-named, c-od, c-option, c-parameter, c-plain, c-receive, c-run, c-send, c-set-run, c-size, c-target}
+use Rattle.base_ceilings.specs.Ceilings.{arrayMost, capacityMost, fieldsMost, heightMost}
+use Rattle.base_codes.specs.Codes.{c-chan, c-decrement, c-do, c-else, c-fi, c-if, c-increment, c-index, c-into, c-len, c-message, c-od, c-option, c-receive, c-run, c-send, c-set-run, c-size, c-target, c-number, c-text}
 use Rattle.base_bytes.specs.Choice.{pick, both, either}
-use Rattle.rule_search.specs.Sets.{within, among}
+use Rattle.rule_search.specs.Sets.{among}
 use Rattle.rule_search.specs.Search.{find, lookup, last, opener, count}
+use Rattle.base_codes.specs.Sets.{within, ruleOf}
 
 -- ## variables
 -- `[size]`: a number and `size` follow
 unfoldable pub isArray : List ℕ → ℕ → Bool
-isArray cs d = both (eqb (getD cs (d + 1) 0) 71) (eqb (getD cs (d + 2) 0) c-size)
+isArray cs d = both (eqb (getD cs (d + 1) 0) c-number) (eqb (getD cs (d + 2) 0) c-size)
 
 -- the type, which stands before the last local, global or group, is `chan` (173)
 unfoldable pub isChan : List ℕ → ℕ → Bool
@@ -87,9 +90,9 @@ module _ (cs vs hs : List ℕ) where
   -- k arguments for what item o began: printf (72) as many as its `%d`; "more than 4 message arguments" (send 194, receive 195); run 202, set-run 203
   unfoldable pub badCount : ℕ → ℕ → ℕ
   badCount o k =
-      pick (eqb (getD cs o 0) 72) (pick (eqb k (getD vs o 0 / 2)) 0 5)
-      (pick (eqb (getD cs o 0) c-send) (pick (ltb 4 k) 5 0)
-      (pick (eqb (getD cs o 0) c-receive) (pick (ltb 4 k) 5 0)
+      pick (eqb (getD cs o 0) c-text) (pick (eqb k (getD vs o 0 / 2)) 0 5)
+      (pick (eqb (getD cs o 0) c-send) (pick (ltb fieldsMost k) 5 0)
+      (pick (eqb (getD cs o 0) c-receive) (pick (ltb fieldsMost k) 5 0)
       (pick (eqb (getD cs o 0) c-run) (badPassing o k)
       (pick (eqb (getD cs o 0) c-set-run) (badPassing o k) 0))))
 
@@ -133,7 +136,7 @@ badSize vs most j = pick (both (ltb 0 (getD vs (j - 1) 0)) (leb (getD vs (j - 1)
 
 -- "message fields 1 to 4": the fifth type, whose field is the tenth item behind its channel: 5
 unfoldable pub badField : List ℕ → ℕ → ℕ
-badField cs j = pick (eqb (j - last cs 16 j) 9) 5 0
+badField cs j = pick (eqb (j - last cs 16 j) (2 * fieldsMost + 1)) 5 0
 
 -- "`%` in a format not followed by `d` or `%`": 5
 unfoldable pub badFormat : List ℕ → ℕ → ℕ
@@ -141,37 +144,7 @@ badFormat vs j = pick (eqb (getD vs j 0 % 2) 1) 5 0
 
 -- "expression height 32", of the whole expression or the reference standing alone that ends before item j: 2
 unfoldable pub badHeight : List ℕ → ℕ → ℕ
-badHeight ts j = pick (ltb 32 (getD ts (j - 1) 0)) 2 0
-
--- ## which rule an item has
-unfoldable pub ruleOf : ℕ → ℕ
-ruleOf c =
-    -- 1 a string's format
-    pick (eqb c 72) 1
-    -- 2 height: argument, into, express, target, assign, increment, decrement, send, receive
-    (pick (either (within c-argument c-into c) (within c-express c-receive c)) 2
-    -- 3 break, 4 else, 5 mtypes, 6 init
-    (pick (eqb c c-break) 3
-    (pick (eqb c c-else) 4
-    (pick (eqb c c-mtypes) 5
-    (pick (eqb c c-init) 6
-    -- 7 label
-    (pick (eqb c c-label) 7
-    -- 8 declared, message, parameter, proctype, active, active-many
-    (pick (either (eqb c c-declared) (either (eqb c c-message) (within c-parameter c-active-many c))) 8
-    -- 9 goto, 10 run and set-run, 11 size, 12 named, 13 channel, 14 field
-    (pick (eqb c c-goto) 9
-    (pick (within c-run c-set-run c) 10
-    (pick (eqb c c-size) 11
-    (pick (eqb c c-named) 12
-    (pick (eqb c c-channel) 13
-    (pick (eqb c c-field) 14
-    -- 15 plain, index
-    (pick (within c-plain c-index c) 15
-    -- 16 end
-    (pick (eqb c c-end) 16
-    -- 17 height, behind a keyword and its parenthesis: equal, assert
-    (pick (either (eqb c c-equal) (eqb c c-assert)) 17 0))))))))))))))))
+badHeight ts j = pick (ltb heightMost (getD ts (j - 1) 0)) 2 0
 
 module _ (cs vs hs ss ts : List ℕ) where
   -- the number of the fault of item j by a rule
@@ -187,9 +160,9 @@ module _ (cs vs hs ss ts : List ℕ) where
       (pick (eqb rule 8) (badTwice cs vs hs 1 j)
       (pick (eqb rule 9) (badGoto cs vs hs j)
       (pick (eqb rule 10) (badRun cs vs hs j)
-      (pick (eqb rule 11) (badSize vs 32 j)
+      (pick (eqb rule 11) (badSize vs arrayMost j)
       (pick (eqb rule 12) (badNamed cs vs hs j)
-      (pick (eqb rule 13) (badSize vs 8 j)
+      (pick (eqb rule 13) (badSize vs capacityMost j)
       (pick (eqb rule 14) (badField cs j)
       (pick (eqb rule 15) (badRef cs vs hs ss j)
       (pick (eqb rule 16) (badEnd cs vs hs j)

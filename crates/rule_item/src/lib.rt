@@ -1,27 +1,31 @@
 // The rules on names and numbers, each for one item of a model: the number of the fault that the item has by it, 0 for none (document 01, rows 2, 4 and 5).
 ghost use mathlib.Core.Path.{_≡_};
 ghost use Prim.Native.Nat.{_+_, _-_, _≤_, _<_};
-ghost use Rattle.rule_item.specs.Rules as rules;
+use base_bytes::both;
+use base_bytes::either;
+use base_bytes::minus;
+use base_bytes::word_at;
+use base_codes::within;
 use rule_search::after;
 use rule_search::among;
 use rule_search::count;
 use rule_search::find;
 use rule_search::lookup;
 use rule_search::opener;
-use rule_search::within;
-use rule_sheets::both;
 use rule_sheets::byte_on;
 use rule_sheets::choose;
-use rule_sheets::either;
-use rule_sheets::minus;
-use rule_sheets::word_at;
+ghost use Rattle.base_codes.specs.Sets as sets;
+ghost use Rattle.rule_item.specs.Rules as rules;
+
+// How far a field stands behind its channel, two items for each, where it is one too many.
+const TOO_MANY_FIELDS: usize = 2 * base_ceilings::FIELDS_MOST + 1;
 
 // Is this variable an array?
 pub fn is_array(codes: &[u8], d: usize) -> bool
     ensures { λ r. ⌜ r ≡ rules.isArray (now (codes .entry)) d ⌝ }
 {
     both(
-        byte_on(codes, d, 1) == 71,
+        byte_on(codes, d, 1) == base_codes::NUMBER,
         byte_on(codes, d, 2) == base_codes::SIZE,
     )
 }
@@ -185,9 +189,9 @@ fn bad_count(codes: &[u8], args: &[u32], homes: &[u32], o: usize, k: usize) -> u
     ensures { λ r. ⌜ r ≡ rules.badCount (now (codes .entry)) (now (args .entry)) (now (homes .entry)) o k ⌝ }
 {
     match base_bytes::byte_at(codes, o) {
-        72 => choose(k == word_at(args, o) / 2, 0, 5),
-        base_codes::SEND => choose(4 < k, 5, 0),
-        base_codes::RECEIVE => choose(4 < k, 5, 0),
+        base_codes::TEXT => choose(k == word_at(args, o) / 2, 0, 5),
+        base_codes::SEND => choose(base_ceilings::FIELDS_MOST < k, 5, 0),
+        base_codes::RECEIVE => choose(base_ceilings::FIELDS_MOST < k, 5, 0),
         base_codes::RUN => bad_passing(codes, args, homes, o, k),
         base_codes::SET_RUN => bad_passing(codes, args, homes, o, k),
         _ => 0,
@@ -288,7 +292,7 @@ fn bad_size(args: &[u32], most: usize, j: usize) -> u8
 fn bad_field(codes: &[u8], j: usize) -> u8
     ensures { λ r. ⌜ r ≡ rules.badField (now (codes .entry)) j ⌝ }
 {
-    choose(minus(j, after(codes, 16, j)) == 9, 5, 0)
+    choose(minus(j, after(codes, 16, j)) == TOO_MANY_FIELDS, 5, 0)
 }
 
 fn bad_format(args: &[u32], j: usize) -> u8
@@ -300,12 +304,16 @@ fn bad_format(args: &[u32], j: usize) -> u8
 fn bad_height(heights: &[u32], j: usize) -> u8
     ensures { λ r. ⌜ r ≡ rules.badHeight (now (heights .entry)) j ⌝ }
 {
-    choose(32 < word_at(heights, minus(j, 1)), 2, 0)
+    choose(
+        base_ceilings::HEIGHT_MOST < word_at(heights, minus(j, 1)),
+        2,
+        0,
+    )
 }
 
 // Which rule an item has; 0 where it has none. Sixteen items to a line.
 pub fn rule_of(c: u8) -> u8
-    ensures { λ r. ⌜ r ≡ rules.ruleOf c ⌝ }
+    ensures { λ r. ⌜ r ≡ sets.ruleOf c ⌝ }
 {
     base_bytes::byte_at(
         b"\
@@ -352,9 +360,9 @@ pub fn bad_by(
         8 => bad_twice(codes, args, homes, 1, j),
         9 => bad_goto(codes, args, homes, j),
         10 => bad_run(codes, args, homes, j),
-        11 => bad_size(args, 32, j),
+        11 => bad_size(args, base_ceilings::ARRAY_MOST, j),
         12 => bad_named(codes, args, homes, j),
-        13 => bad_size(args, 8, j),
+        13 => bad_size(args, base_ceilings::CAPACITY_MOST, j),
         14 => bad_field(codes, j),
         15 => bad_ref(codes, args, homes, starts, j),
         16 => bad_end(codes, args, homes, j),

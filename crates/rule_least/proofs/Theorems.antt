@@ -14,6 +14,7 @@ use Rattle.rule_sheets.specs.Homes.{homesOf}
 use Rattle.rule_sheets.specs.Spans.{startsOf, heightsOf}
 use Rattle.rule_item.specs.Rules.{bad}
 use Rattle.rule_least.specs.Faults.{place, sooner, joined, leastFrom, leastOf, blank, checked}
+use Rattle.rule_least.specs.Least.{Sooner, before, level, Free, done, more, Among, here, there}
 use Rattle.rule_least.specs.declared.Fault.{Fault}
 use Rattle.rule_least.specs.declared.Fault.the-variants.{None, At}
 
@@ -30,25 +31,20 @@ sooner-some p m (At m2 p2) e = by (ltb p p2) (ltb p2 p) (ltb m2 m) e
     by false false false e = let z : _≡_ {A = ℕ} 0 1 = cc in omega arith
 
 module _ (cs vs hs ss ts : List ℕ) where
-  -- no item of k from j on has a fault
-  pub data Free : ℕ → ℕ → Type 0 where
-    done : {j : ℕ} → Free j 0
-    more : {j k : ℕ} → bad cs vs hs ss ts j ≡ 0 → Free (j + 1) k → Free j (suc k)
-
   module _ (toks : List ℕ) where
-    none-free : (j k : ℕ) → leastFrom cs vs hs ss ts toks j k ≡ None → Free j k
+    none-free : (j k : ℕ) → leastFrom cs vs hs ss ts toks j k ≡ None → Free cs vs hs ss ts j k
     unfolding leastFrom joined
     none-free j zero e = done
     none-free j (suc k) e = by (eqb (bad cs vs hs ss ts j) 0) refl (none-free (j + 1) k) e
       where
         by : (b : Bool) → eqb (bad cs vs hs ss ts j) 0 ≡ b
-            → (leastFrom cs vs hs ss ts toks (j + 1) k ≡ None → Free (j + 1) k)
+            → (leastFrom cs vs hs ss ts toks (j + 1) k ≡ None → Free cs vs hs ss ts (j + 1) k)
             → pick b (leastFrom cs vs hs ss ts toks (j + 1) k) (sooner (place cs vs hs ss ts toks j) (bad cs vs hs ss ts j) (leastFrom cs vs hs ss ts toks (j + 1) k)) ≡ None
-            → Free j (suc k)
+            → Free cs vs hs ss ts j (suc k)
         by true q go e = more (eqb-true (bad cs vs hs ss ts j) 0 q) (go e)
         by false q go e = absurd (sooner-some (place cs vs hs ss ts toks j) (bad cs vs hs ss ts j) (leastFrom cs vs hs ss ts toks (j + 1) k) e)
 
-    free-none : (j k : ℕ) → Free j k → leastFrom cs vs hs ss ts toks j k ≡ None
+    free-none : (j k : ℕ) → Free cs vs hs ss ts j k → leastFrom cs vs hs ss ts toks j k ≡ None
     unfolding leastFrom joined
     free-none j zero f = refl
     free-none j (suc k) (more e f) = rw e (free-none (j + 1) k f)
@@ -61,11 +57,6 @@ places-free cs vs toks toks2 e =
     (none-free cs vs (homesOf cs blank) (startsOf cs blank) (heightsOf cs (startsOf cs blank) blank) toks 0 (length cs) e)
 
 -- ## the answer is the least
--- number m at p is no later than number l at q
-pub data Sooner (p m q l : ℕ) : Type 0 where
-  before : p < q → Sooner p m q l
-  level : p ≡ q → m ≤ l → Sooner p m q l
-
 trans : {p m q l r n : ℕ} → Sooner p m q l → Sooner q l r n → Sooner p m r n
 trans (before a) (before b) = before (omega arith)
 trans (before a) (level b c) = before (omega arith)
@@ -116,12 +107,7 @@ picked p m (At m2 p2) q l e = by (ltb p p2) refl (ltb p2 p) refl (ltb m2 m) refl
     }
 
 module _ (cs vs hs ss ts toks : List ℕ) where
-  -- the faults of k items from j on: number l at q is one of them
-  pub data Among (q l : ℕ) : ℕ → ℕ → Type 0 where
-    here : {j k : ℕ} → (bad cs vs hs ss ts j ≡ 0 → ⊥) → q ≡ place cs vs hs ss ts toks j → l ≡ bad cs vs hs ss ts j → Among q l j (suc k)
-    there : {j k : ℕ} → Among q l (j + 1) k → Among q l j (suc k)
-
-  free-among : {j k q l : ℕ} → Free cs vs hs ss ts j k → Among q l j k → ⊥
+  free-among : {j k q l : ℕ} → Free cs vs hs ss ts j k → Among cs vs hs ss ts toks q l j k → ⊥
   free-among (more z f) (here h a b) = h z
   free-among (more z f) (there a) = free-among f a
 
@@ -139,7 +125,7 @@ module _ (cs vs hs ss ts toks : List ℕ) where
       by (no h) = fault h (rw (ne-eqb (bad cs vs hs ss ts j) 0 h))
 
   -- no fault is sooner than the answer
-  pub least-least : (j k q l r n : ℕ) → leastFrom cs vs hs ss ts toks j k ≡ At l q → Among r n j k → Sooner q l r n
+  pub least-least : (j k q l r n : ℕ) → leastFrom cs vs hs ss ts toks j k ≡ At l q → Among cs vs hs ss ts toks r n j k → Sooner q l r n
   least-least j (suc k) q l r n e (here h ep el) = by (stepped j k)
     where
       by : Stepped j k → Sooner q l r n
@@ -159,16 +145,16 @@ module _ (cs vs hs ss ts toks : List ℕ) where
           (picked (place cs vs hs ss ts toks j) (bad cs vs hs ss ts j) (leastFrom cs vs hs ss ts toks (j + 1) k) q l (sym eq ∙ e)) ih
 
   -- and the answer is one of them
-  pub least-among : (j k q l : ℕ) → leastFrom cs vs hs ss ts toks j k ≡ At l q → Among q l j k
+  pub least-among : (j k q l : ℕ) → leastFrom cs vs hs ss ts toks j k ≡ At l q → Among cs vs hs ss ts toks q l j k
   unfolding leastFrom
   least-among j zero q l e = let z : _≡_ {A = ℕ} 0 1 = cc in absurd (omega arith)
   least-among j (suc k) q l e = by (stepped j k) (λ e2. least-among (j + 1) k q l e2)
     where
-      by : Stepped j k → (leastFrom cs vs hs ss ts toks (j + 1) k ≡ At l q → Among q l (j + 1) k) → Among q l j (suc k)
+      by : Stepped j k → (leastFrom cs vs hs ss ts toks (j + 1) k ≡ At l q → Among cs vs hs ss ts toks q l (j + 1) k) → Among cs vs hs ss ts toks q l j (suc k)
       by (past z eq) ih = there (ih (sym eq ∙ e))
       by (fault g eq) ih = one (picked (place cs vs hs ss ts toks j) (bad cs vs hs ss ts j) (leastFrom cs vs hs ss ts toks (j + 1) k) q l (sym eq ∙ e) .which)
         where
-          one : ((q ≡ place cs vs hs ss ts toks j) × (l ≡ bad cs vs hs ss ts j)) ⊎ (leastFrom cs vs hs ss ts toks (j + 1) k ≡ At l q) → Among q l j (suc k)
+          one : ((q ≡ place cs vs hs ss ts toks j) × (l ≡ bad cs vs hs ss ts j)) ⊎ (leastFrom cs vs hs ss ts toks (j + 1) k ≡ At l q) → Among cs vs hs ss ts toks q l j (suc k)
           one (inl w) = here g (w .0) (w .1)
           one (inr w) = there (ih w)
 

@@ -1,3 +1,4 @@
+-- Mechanism, held to the specification by `rules` (crate `legal_texts`).
 -- The faults of a model with their places, and the least of them: document 01, "Within a pass the smallest place wins, then the smallest number".
 -- A place is a token; which one is said by the last column of "What is answered".
 use Prim.Native.Nat.{ℕ, zero, suc, _+_, _-_}
@@ -5,12 +6,14 @@ use mathlib.Core.Bool.{Bool}
 use mathlib.Core.List.{List, [], _∷_}
 use lib.ListN.{length, getD, replicate}
 use lib.Dec.{eqb, ltb}
+use Rattle.base_ceilings.specs.Ceilings.{itemsMost}
 use Rattle.base_codes.specs.Codes.{c-set-run}
+use Rattle.base_codes.specs.Sets.{ruleOf}
 use Rattle.base_bytes.specs.Choice.{pick}
 use Rattle.rule_sheets.specs.Homes.{homesOf}
 use Rattle.rule_sheets.specs.Spans.{startsOf, heightsOf}
 use Rattle.rule_search.specs.Search.{opener}
-use Rattle.rule_item.specs.Rules.{ruleOf, badBy, bad}
+use Rattle.rule_item.specs.Rules.{badBy, bad}
 use Rattle.rule_least.specs.declared.Fault.{Fault}
 use Rattle.rule_least.specs.declared.Fault.the-variants.{None, At}
 
@@ -48,7 +51,7 @@ module _ (cs vs hs ss ts toks : List ℕ) where
 
 -- arrays of 8,192 numbers 0
 abbrev pub blank : List ℕ
-blank = replicate 8192 0
+blank = replicate itemsMost 0
 
 -- the least fault of a model
 unfoldable pub checked : List ℕ → List ℕ → List ℕ → Fault

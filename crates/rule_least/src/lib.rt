@@ -1,9 +1,9 @@
 // The least fault of a model whose grammar is right, by place and then by number (document 01, "Within a pass the smallest place wins, then the smallest number").
 ghost use mathlib.Core.Path.{_≡_};
-ghost use Prim.Native.Nat.{_+_, _-_, _≤_, _<_};
+ghost use Prim.Native.Nat.{_+_, _-_, _<_};
 ghost use Rattle.rule_least.specs.Faults as faults;
-use rule_sheets::minus;
-use rule_sheets::word_at;
+use base_bytes::minus;
+use base_bytes::word_at;
 
 pub enum Fault {
     None,
@@ -98,9 +98,9 @@ fn least_fault(
 pub fn check(codes: &[u8], args: &[u32], toks: &[u32]) -> Fault
     ensures { λ r. ⌜ r ≡ faults.checked (now (codes .entry)) (now (args .entry)) (now (toks .entry)) ⌝ }
 {
-    let mut homes = [0u32; 8192];
-    let mut starts = [0u32; 8192];
-    let mut heights = [0u32; 8192];
+    let mut homes = [0u32; base_ceilings::ITEMS_MOST];
+    let mut starts = [0u32; base_ceilings::ITEMS_MOST];
+    let mut heights = [0u32; base_ceilings::ITEMS_MOST];
     rule_sheets::fill_homes(codes, &mut homes);
     rule_sheets::fill_starts(codes, &mut starts);
     rule_sheets::fill_heights(codes, &starts, &mut heights);

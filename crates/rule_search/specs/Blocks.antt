@@ -1,3 +1,4 @@
+-- Mechanism, held to the specification by `rules` (crate `legal_texts`).
 -- What a search may pass over: items none of which is of the set that is looked for.
 use Prim.Native.Nat.{ℕ, _≤_, _<_}
 use mathlib.Core.Bool.{Bool, true, false}

@@ -1,3 +1,4 @@
+-- Mechanism, held to the specification by `rules` (crate `legal_texts`).
 -- Searches over items. `cs` are the items, `vs` what their tokens say (a name's number, specs/Payload.antt of `rule_sheets`), `hs` the bodies that they are in.
 use Prim.Native.Nat.{ℕ, _+_, _-_}
 use mathlib.Core.Bool.{Bool, false}

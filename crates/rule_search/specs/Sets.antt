@@ -1,25 +1,16 @@
+-- Mechanism, held to the specification by `rules` (crate `legal_texts`).
 -- The sets of items that the rules and ceilings look for, by number. Items are numbered as the grammar's machine writes them; the comment names each.
 use Prim.Native.Nat.{ℕ}
 use mathlib.Core.Bool.{Bool, false}
-use lib.Dec.{eqb, leb}
-use Rattle.base_codes.specs.Codes.{c-active-many, c-argument, c-assign, c-channel, c-constant, c-declared, c-do, c-express, c-global, c-group, c-if, c-init, c-label, c-local, c-message, c-mtypes, c-od, c-parameter, c-proctype, c-receive, c-run, c-send, c-set-run}
-use Rattle.base_bytes.specs.Choice.{pick, both, either}
-
-abbrev pub within : ℕ → ℕ → ℕ → Bool
-within lo hi c = both (leb lo c) (leb c hi)
-
--- every statement once: printf (its string), express, assign to set-run (with send, receive, assert, skip, goto, break, timeout, else, run), if, do
-abbrev pub isStatement : ℕ → Bool
-isStatement c = either (either (eqb c 72) (eqb c c-express)) (either (within c-assign c-if c) (eqb c c-do))
-
--- what begins a list of arguments: printf (its string), send, receive, run, set-run
-abbrev pub isOpener : ℕ → Bool
-isOpener c = either (eqb c 72) (either (within c-send c-receive c) (within c-run c-set-run c))
+use lib.Dec.{eqb}
+use Rattle.base_codes.specs.Codes.{c-active-many, c-argument, c-channel, c-constant, c-declared, c-do, c-global, c-group, c-init, c-label, c-local, c-message, c-mtypes, c-od, c-parameter, c-proctype}
+use Rattle.base_codes.specs.Sets.{within, isStatement, isOpener, isNaming, isUnit}
+use Rattle.base_bytes.specs.Choice.{pick, either}
 
 unfoldable pub among : ℕ → ℕ → Bool
 among set c =
     -- 1 a name is declared: declared (a variable), message (an mtype name), parameter, proctype, active, active-many
-    pick (eqb set 1) (either (eqb c c-declared) (either (eqb c c-message) (within c-parameter c-active-many c)))
+    pick (eqb set 1) (isNaming c)
     -- 2 label
     (pick (eqb set 2) (eqb c c-label)
     -- 3 what follows a type before the names of that type: local, global, group
@@ -47,6 +38,6 @@ among set c =
     -- 14 a variable: declared, parameter
     (pick (eqb set 14) (either (eqb c c-declared) (eqb c c-parameter))
     -- 15 a unit with a body: proctype, active, active-many, init
-    (pick (eqb set 15) (within c-proctype c-init c)
+    (pick (eqb set 15) (isUnit c)
     -- 16 channel
     (pick (eqb set 16) (eqb c c-channel) false)))))))))))))))

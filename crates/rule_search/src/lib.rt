@@ -4,45 +4,18 @@ ghost use Prim.Native.Nat.{ℕ, _+_, _-_, _≤_, _<_};
 ghost use lib.ListN.{getD};
 ghost use Rattle.rule_sheets.specs.Walks.{first};
 ghost use Rattle.rule_search.specs.Blocks.{Clear};
+use base_bytes::both;
+use base_bytes::either;
+use base_bytes::minus;
+use base_bytes::word_at;
+use base_codes::is_opener;
+use base_codes::is_statement;
+use base_codes::within;
 ghost use Rattle.rule_search.specs.Sets as sets;
 ghost use Rattle.rule_search.specs.Search as finding;
-use rule_sheets::both;
-use rule_sheets::either;
-use rule_sheets::minus;
-use rule_sheets::word_at;
 
 // How many items are looked at together.
 const BLOCK: usize = 64;
-
-pub fn within(lo: u8, hi: u8, c: u8) -> bool
-    ensures { λ r. ⌜ r ≡ sets.within lo hi c ⌝ }
-{
-    both(lo <= c, c <= hi)
-}
-
-fn is_statement(c: u8) -> bool
-    ensures { λ r. ⌜ r ≡ sets.isStatement c ⌝ }
-{
-    either(
-        either(c == 72, c == base_codes::EXPRESS),
-        either(
-            within(base_codes::ASSIGN, base_codes::IF, c),
-            c == base_codes::DO,
-        ),
-    )
-}
-
-fn is_opener(c: u8) -> bool
-    ensures { λ r. ⌜ r ≡ sets.isOpener c ⌝ }
-{
-    either(
-        c == 72,
-        either(
-            within(base_codes::SEND, base_codes::RECEIVE, c),
-            within(base_codes::RUN, base_codes::SET_RUN, c),
-        ),
-    )
-}
 
 // Does an item belong to a set?
 pub fn among(set: u8, c: u8) -> bool

@@ -1,15 +1,16 @@
 -- The laws of formats: one byte more, and the end.
-use Prim.Native.Nat.{ℕ, zero, suc, _+_, _-_, _*_, _≤_, _<_}
-use mathlib.Core.Path.{_≡_, refl, sym, _∙_, ap}
+use Prim.Native.Nat.{ℕ, _+_, _-_, _*_, _≤_, _<_}
+use mathlib.Core.Path.{_≡_}
 use mathlib.Core.Bool.{Bool, true, false}
-use mathlib.Core.List.{List, [], _∷_}
+use mathlib.Core.List.{List}
 use native.Mathlib.Omega.{arith}
 use native.Mathlib.Numerals.{add-one}
-use lib.ListN.{length, getD, take, drop, length-take, length-drop, drop-of-length-le}
+use lib.ListN.{length, getD, drop, length-take, length-drop, drop-of-length-le}
 use lib.Seq.{drop-cons}
 use lib.Dec.{eqb}
+use Rattle.base_ceilings.specs.Ceilings.{itemsMost}
 use Rattle.base_bytes.specs.Choice.{pick}
-use Rattle.rule_sheets.specs.Payload.{piece}
+use Rattle.base_bytes.specs.Lists.{piece}
 use Rattle.spec_text.specs.Formats.{formatFrom, moveOf}
 
 module _ (opened : Bool) (n bad : ℕ) (s : List ℕ) (i : ℕ) where
@@ -31,7 +32,7 @@ pub chosen-most : (t : Bool) {r b : ℕ} → r ≡ pick t 1 b → b ≤ 1 → r 
 chosen-most true e h = omega arith
 chosen-most false e h = omega arith
 
-pub chosen-less : (t : Bool) {r h : ℕ} → r ≡ pick t 0 h → h < 8193 → r < 4294967296
+pub chosen-less : (t : Bool) {r h : ℕ} → r ≡ pick t 0 h → h < itemsMost + 1 → r < 4294967296
 chosen-less true e h = omega arith
 chosen-less false e h = omega arith
 

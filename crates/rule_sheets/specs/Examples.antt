@@ -1,8 +1,9 @@
+-- Mechanism, held to the specification by `rules` (crate `legal_texts`).
 -- Worked examples, computed.
 use Prim.Native.Nat.{ℕ}
 use mathlib.Core.Path.{_≡_, refl}
 use mathlib.Core.List.{List, [], _∷_}
-use Rattle.base_codes.specs.Codes.{c-add, c-body, c-end-body, c-index, c-init, c-skip}
+use Rattle.base_codes.specs.Codes.{c-add, c-body, c-end-body, c-index, c-init, c-name, c-number, c-skip}
 use Rattle.rule_sheets.specs.Walks.{filled}
 use Rattle.spec_text.specs.Formats.{formatFrom, formatOf}
 use Rattle.rule_sheets.specs.Homes.{insideOf, homeOf}
@@ -28,11 +29,11 @@ unfolding homeOf insideOf
 outer = refl
 
 -- `a[1]+2`, as a 1 index 2 +: the sum starts at 0, its first operand too
-starts : filled (startOf (70 ∷ 71 ∷ c-index ∷ 71 ∷ c-add ∷ [])) 0 5 (0 ∷ 0 ∷ 0 ∷ 0 ∷ 0 ∷ []) ≡ 0 ∷ 1 ∷ 0 ∷ 3 ∷ 0 ∷ []
+starts : filled (startOf (c-name ∷ c-number ∷ c-index ∷ c-number ∷ c-add ∷ [])) 0 5 (0 ∷ 0 ∷ 0 ∷ 0 ∷ 0 ∷ []) ≡ 0 ∷ 1 ∷ 0 ∷ 3 ∷ 0 ∷ []
 unfolding filled startOf shapeOf
 starts = refl
 
 -- and is 3 high
-heights : filled (heightOf (70 ∷ 71 ∷ c-index ∷ 71 ∷ c-add ∷ []) (0 ∷ 1 ∷ 0 ∷ 3 ∷ 0 ∷ [])) 0 5 (0 ∷ 0 ∷ 0 ∷ 0 ∷ 0 ∷ []) ≡ 1 ∷ 1 ∷ 2 ∷ 1 ∷ 3 ∷ []
+heights : filled (heightOf (c-name ∷ c-number ∷ c-index ∷ c-number ∷ c-add ∷ []) (0 ∷ 1 ∷ 0 ∷ 3 ∷ 0 ∷ [])) 0 5 (0 ∷ 0 ∷ 0 ∷ 0 ∷ 0 ∷ []) ≡ 1 ∷ 1 ∷ 2 ∷ 1 ∷ 3 ∷ []
 unfolding filled heightOf shapeOf
 heights = refl

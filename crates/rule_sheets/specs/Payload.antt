@@ -1,21 +1,19 @@
+-- Mechanism, held to the specification by `rules` (crate `legal_texts`).
 -- What the token of an item says, as one number: names by the first item that has the name, numbers by their value, formats by what they ask for.
 -- It is a function of spellings alone: no place of the text is in it. Document 01, "Names" and row 5 of "What is answered".
-use Prim.Native.Nat.{ℕ, zero, suc, _+_, _-_, _*_, min}
-use mathlib.Core.Bool.{Bool, true, false}
-use mathlib.Core.List.{List, [], _∷_}
-use lib.ListN.{length, getD, take, drop}
+use Prim.Native.Nat.{ℕ, _+_, _-_, min}
+use mathlib.Core.Bool.{Bool, false}
+use mathlib.Core.List.{List}
+use lib.ListN.{length, getD}
 use lib.Dec.{eqb, ltb}
-use Rattle.base_bytes.specs.Choice.{pick, both}
-use Rattle.base_bytes.specs.Lists.{same}
-use Rattle.text_pieces.specs.Ceilings.{number-most}
+use Rattle.base_ceilings.specs.Ceilings.{itemsMost, numberMost, textMost}
+use Rattle.base_bytes.specs.Choice.{pick}
+use Rattle.base_bytes.specs.Lists.{same, piece}
 use Rattle.text_pieces.specs.Spans.{decimal}
 use Rattle.spec_text.specs.Names.{pid}
 use Rattle.spec_text.specs.Formats.{formatOf}
 use Rattle.rule_sheets.specs.Walks.{first, filled}
-
--- the bytes from a place to a place, as far as there are any
-abbrev pub piece : List ℕ → ℕ → ℕ → List ℕ
-piece text from to = take (min to (length text) - min from (min to (length text))) (drop (min from (min to (length text))) text)
+use Rattle.base_codes.specs.Codes.{c-name, c-number, c-text}
 
 -- the spelling of token t
 unfoldable pub spelled : List ℕ → List ℕ → List ℕ → ℕ → List ℕ
@@ -27,7 +25,7 @@ module _ (text starts ends codes toks : List ℕ) where
 
   -- item i is a name, spelled as item j is
   unfoldable pub sameName : ℕ → ℕ → Bool
-  sameName j i = pick (eqb (getD codes i 0) 70) (same (wordOf i) (wordOf j)) false
+  sameName j i = pick (eqb (getD codes i 0) c-name) (same (wordOf i) (wordOf j)) false
 
   unfoldable pub firstSame : ℕ → ℕ
   firstSame j = first (sameName j) 0 j
@@ -39,10 +37,10 @@ module _ (text starts ends codes toks : List ℕ) where
   -- items 70 name, 71 number, 72 string; the others say nothing
   unfoldable pub argOf : ℕ → ℕ
   argOf j =
-      pick (eqb (getD codes j 0) 70) (nameArg j)
-      (pick (eqb (getD codes j 0) 71) (min (number-most + 1) (decimal (wordOf j)))
-      (pick (eqb (getD codes j 0) 72) (formatOf (wordOf j)) 0))
+      pick (eqb (getD codes j 0) c-name) (nameArg j)
+      (pick (eqb (getD codes j 0) c-number) (min (numberMost + 1) (decimal (wordOf j)))
+      (pick (eqb (getD codes j 0) c-text) (formatOf (wordOf j)) 0))
 
   -- the array of these; left as it is where the text or the items pass their ceiling
   unfoldable pub argsOf : List ℕ → List ℕ
-  argsOf args = pick (ltb 8192 (length text)) args (pick (ltb 8192 (length codes)) args (filled (λ l j. argOf j) 0 (length codes) args))
+  argsOf args = pick (ltb textMost (length text)) args (pick (ltb itemsMost (length codes)) args (filled (λ l j. argOf j) 0 (length codes) args))

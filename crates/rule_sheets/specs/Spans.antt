@@ -1,3 +1,4 @@
+-- Mechanism, held to the specification by `rules` (crate `legal_texts`).
 -- For an expression, which is in postfix, that ends at an item: where it starts, and its height. Document 01, "Ceilings": expression height 32 (operand 1;
 -- operator, index, `len` 1 above its highest part). Parentheses add nothing: the items have none. A conditional is 1 above its highest part; `len(c)` is 2.
 use Prim.Native.Nat.{ℕ, zero, suc, _+_, _-_, min}
@@ -5,6 +6,7 @@ use mathlib.Core.Bool.{Bool}
 use mathlib.Core.List.{List}
 use lib.ListN.{length, getD}
 use lib.Dec.{eqb, ltb, leb}
+use Rattle.base_ceilings.specs.Ceilings.{heightMost, itemsMost}
 use Rattle.base_codes.specs.Codes.{c-bit, c-choice, c-index, c-len, c-negate, c-plain, c-remainder}
 use Rattle.base_bytes.specs.Choice.{pick, both, either}
 use Rattle.rule_sheets.specs.Walks.{filled}
@@ -30,7 +32,7 @@ startOf cs starts j =
 
 -- one above h, where 33 stands for every height that is too great
 abbrev pub above : ℕ → ℕ
-above h = min 33 (h + 1)
+above h = min (heightMost + 1) (h + 1)
 
 abbrev pub greater : ℕ → ℕ → ℕ
 greater a b = pick (leb a b) b a
@@ -46,7 +48,7 @@ heightOf cs starts heights j =
 
 -- the arrays of these, each from what is filled before it; left as they are where there are too many items
 unfoldable pub startsOf : List ℕ → List ℕ → List ℕ
-startsOf cs starts = pick (ltb 8192 (length cs)) starts (filled (startOf cs) 0 (length cs) starts)
+startsOf cs starts = pick (ltb itemsMost (length cs)) starts (filled (startOf cs) 0 (length cs) starts)
 
 unfoldable pub heightsOf : List ℕ → List ℕ → List ℕ → List ℕ
-heightsOf cs starts heights = pick (ltb 8192 (length cs)) heights (filled (heightOf cs starts) 0 (length cs) heights)
+heightsOf cs starts heights = pick (ltb itemsMost (length cs)) heights (filled (heightOf cs starts) 0 (length cs) heights)

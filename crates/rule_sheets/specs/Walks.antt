@@ -1,3 +1,4 @@
+-- Mechanism, held to the specification by `rules` (crate `legal_texts`).
 -- Walks over the places of a list: the first that passes a test, the last, a sum, and an array filled from the front.
 use Prim.Native.Nat.{ℕ, zero, suc, _+_}
 use mathlib.Core.Bool.{Bool}

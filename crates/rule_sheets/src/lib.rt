@@ -1,34 +1,23 @@
 // What the rules and ceilings work on: beside the items of a model, for each item what its token says (args), the body that it is in (homes), and for an
 // expression where it starts and how high it is. After this no pass looks at the text.
 ghost use mathlib.Core.Path.{_≡_};
-ghost use Prim.Native.Nat.{_+_, _-_, _≤_, _<_, _^_, min};
+ghost use Prim.Native.Nat.{_+_, _-_, _≤_, _<_, min};
 ghost use lib.ListN.{length, getD, set};
-ghost use lib.Dec.{eqb, leb};
+ghost use lib.Dec.{leb};
+ghost use Rattle.base_ceilings.specs.Ceilings.{heightMost, itemsMost, textMost};
 ghost use Rattle.base_bytes.specs.Choice.{pick};
+ghost use Rattle.base_codes.specs.Sets.{isUnit};
+ghost use Rattle.rule_sheets.specs.Payload.{spelled, firstSame, nameArg, argOf, argsOf};
+ghost use Rattle.spec_text.specs.Formats.{formatOf};
+ghost use Rattle.rule_sheets.specs.Homes.{homesOf};
+ghost use Rattle.rule_sheets.specs.Spans.{shapeOf, startOf, heightOf, startsOf, heightsOf};
+use base_bytes::both;
+use base_bytes::either;
 ghost use Rattle.base_bytes.specs.Choice as choice;
 ghost use Rattle.base_bytes.specs.Lists as lists;
-ghost use Rattle.rule_sheets.specs.Payload.{piece, spelled, firstSame, nameArg, argOf, argsOf};
-ghost use Rattle.spec_text.specs.Formats.{formatOf};
-ghost use Rattle.spec_text.specs.Names.{pid};
-ghost use Rattle.rule_sheets.specs.Homes.{heads, homeOf, insideOf, homesOf};
-ghost use Rattle.rule_sheets.specs.Spans.{shapeOf, startOf, heightOf, startsOf, heightsOf};
 
-// The most items, and the most bytes of a text.
-const ITEMS_MOST: usize = 8192;
-
-const TEXT_MOST: usize = 8192;
-
-pub fn both(a: bool, b: bool) -> bool
-    ensures { λ r. ⌜ r ≡ choice.both a b ⌝ }
-{
-    if a { b } else { false }
-}
-
-pub fn either(a: bool, b: bool) -> bool
-    ensures { λ r. ⌜ r ≡ choice.either a b ⌝ }
-{
-    if a { true } else { b }
-}
+// The height of what is too high.
+const TOO_HIGH: usize = base_ceilings::HEIGHT_MOST + 1;
 
 pub fn choose(t: bool, a: u8, b: u8) -> u8
     ensures { λ r. ⌜ r ≡ pick t a b ⌝ }
@@ -42,26 +31,11 @@ pub fn choose_size(t: bool, a: usize, b: usize) -> usize
     if t { a } else { b }
 }
 
-// a - b, or 0 where b is more.
-pub fn minus(a: usize, b: usize) -> usize
-    ensures { λ r. ⌜ r ≡ a - b ⌝ }
-{
-    if b <= a { a - b } else { 0 }
-}
-
 // The greater of two.
 fn greater(a: usize, b: usize) -> usize
     ensures { λ r. ⌜ r ≡ pick (leb a b) b a ⌝ }
 {
     if a <= b { b } else { a }
-}
-
-// The number at a place, 0 where there is none.
-pub fn word_at(s: &[u32], i: usize) -> usize
-    ensures { λ r. ⌜ r ≡ getD (now (s .entry)) i 0 ⌝ }
-    ensures { λ r. ⌜ r < 4294967296 ⌝ }
-{
-    if i < s.len() { s[i] as usize } else { 0 }
 }
 
 // The byte k places on, 0 where there is none.
@@ -77,20 +51,6 @@ pub fn byte_on(s: &[u8], i: usize, k: usize) -> u8
     s[i + k]
 }
 
-// The number k places on.
-pub fn word_on(s: &[u32], i: usize, k: usize) -> usize
-    ensures { λ r. ⌜ r ≡ getD (now (s .entry)) (i + k) 0 ⌝ }
-    ensures { λ r. ⌜ r < 4294967296 ⌝ }
-{
-    if s.len() <= i {
-        return 0;
-    }
-    if s.len() - i <= k {
-        return 0;
-    }
-    word_at(s, i + k)
-}
-
 // A number stored at a place, if the place is there.
 fn put(s: &mut [u32], i: usize, v: usize)
     requires { ⌜ v < 4294967296 ⌝ }
@@ -101,22 +61,21 @@ fn put(s: &mut [u32], i: usize, v: usize)
     }
 }
 
-// The part of a text from a place to a place, as far as there is one.
-fn part(text: &[u8], from: usize, to: usize) -> &[u8]
-    ensures { λ r. ⌜ now r ≡ piece (now (text .entry)) from to ⌝ }
-{
-    let e = base_bytes::least(to, text.len());
-    let s = base_bytes::least(from, e);
-    &text[s..e]
-}
-
 // Are two tokens spelled alike?
 fn alike(text: &[u8], starts: &[u32], ends: &[u32], t: usize, u: usize) -> bool
     ensures { λ r. ⌜ r ≡ lists.same (spelled (now (text .entry)) (now (starts .entry)) (now (ends .entry)) t) (spelled (now (text .entry)) (now (starts .entry)) (now (ends .entry)) u) ⌝ }
 {
     base_bytes::same(
-        part(text, word_at(starts, t), word_at(ends, t)),
-        part(text, word_at(starts, u), word_at(ends, u)),
+        base_bytes::part(
+            text,
+            base_bytes::word_at(starts, t),
+            base_bytes::word_at(ends, t),
+        ),
+        base_bytes::part(
+            text,
+            base_bytes::word_at(starts, u),
+            base_bytes::word_at(ends, u),
+        ),
     )
 }
 
@@ -131,8 +90,14 @@ fn same_name(
 ) -> bool
     ensures { λ r. ⌜ r ≡ Rattle.rule_sheets.specs.Payload.sameName (now (text .entry)) (now (starts .entry)) (now (ends .entry)) (now (codes .entry)) (now (toks .entry)) j i ⌝ }
 {
-    if base_bytes::byte_at(codes, i) == 70 {
-        alike(text, starts, ends, word_at(toks, i), word_at(toks, j))
+    if base_bytes::byte_at(codes, i) == base_codes::NAME {
+        alike(
+            text,
+            starts,
+            ends,
+            base_bytes::word_at(toks, i),
+            base_bytes::word_at(toks, j),
+        )
     } else {
         false
     }
@@ -168,12 +133,19 @@ fn name_arg(
     toks: &[u32],
     j: usize,
 ) -> usize
-    requires { ⌜ j < 8192 ⌝ }
+    requires { ⌜ j < itemsMost ⌝ }
     ensures { λ r. ⌜ r ≡ nameArg (now (text .entry)) (now (starts .entry)) (now (ends .entry)) (now (codes .entry)) (now (toks .entry)) j ⌝ }
     ensures { λ r. ⌜ r < 4294967296 ⌝ }
 {
-    let t = word_at(toks, j);
-    if base_bytes::same(part(text, word_at(starts, t), word_at(ends, t)), b"_pid") {
+    let t = base_bytes::word_at(toks, j);
+    if base_bytes::same(
+        base_bytes::part(
+            text,
+            base_bytes::word_at(starts, t),
+            base_bytes::word_at(ends, t),
+        ),
+        b"_pid",
+    ) {
         return 0;
     }
     first_same(text, starts, ends, codes, toks, j) + 1
@@ -192,7 +164,7 @@ fn move_of(opened: bool, b: u8) -> u8
 
 // What a format says: twice the number of its `%d`, and one more if some `%` is bad.
 fn format_arg(s: &[u8]) -> usize
-    requires { ⌜ length (now s) ≤ 8192 ⌝ }
+    requires { ⌜ length (now s) ≤ textMost ⌝ }
     ensures { λ r. ⌜ r ≡ formatOf (now (s .entry)) ⌝ }
     ensures { λ r. ⌜ r < 4294967296 ⌝ }
 {
@@ -211,15 +183,23 @@ fn format_arg(s: &[u8]) -> usize
 }
 
 fn arg_of(text: &[u8], starts: &[u32], ends: &[u32], codes: &[u8], toks: &[u32], j: usize) -> usize
-    requires { ⌜ (j < 8192) × (length (now text) ≤ 8192) ⌝ }
+    requires { ⌜ (j < itemsMost) × (length (now text) ≤ textMost) ⌝ }
     ensures { λ r. ⌜ r ≡ argOf (now (text .entry)) (now (starts .entry)) (now (ends .entry)) (now (codes .entry)) (now (toks .entry)) j ⌝ }
     ensures { λ r. ⌜ r < 4294967296 ⌝ }
 {
-    let t = word_at(toks, j);
+    let t = base_bytes::word_at(toks, j);
     match base_bytes::byte_at(codes, j) {
-        70 => name_arg(text, starts, ends, codes, toks, j),
-        71 => text_pieces::value(part(text, word_at(starts, t), word_at(ends, t))) as usize,
-        72 => format_arg(part(text, word_at(starts, t), word_at(ends, t))),
+        base_codes::NAME => name_arg(text, starts, ends, codes, toks, j),
+        base_codes::NUMBER => text_pieces::value(base_bytes::part(
+            text,
+            base_bytes::word_at(starts, t),
+            base_bytes::word_at(ends, t),
+        )) as usize,
+        base_codes::TEXT => format_arg(base_bytes::part(
+            text,
+            base_bytes::word_at(starts, t),
+            base_bytes::word_at(ends, t),
+        )),
         _ => 0,
     }
 }
@@ -235,10 +215,10 @@ pub fn fill_args(
 )
     ensures { λ _. ⌜ now (args .exit) ≡ argsOf (now (text .entry)) (now (starts .entry)) (now (ends .entry)) (now (codes .entry)) (now (toks .entry)) (now (args .entry)) ⌝ }
 {
-    if TEXT_MOST < text.len() {
+    if base_ceilings::TEXT_MOST < text.len() {
         return;
     }
-    if ITEMS_MOST < codes.len() {
+    if base_ceilings::ITEMS_MOST < codes.len() {
         return;
     }
     let mut j: usize = 0;
@@ -250,16 +230,16 @@ pub fn fill_args(
 
 // A proctype or `init` begins here.
 fn is_head(c: u8) -> bool
-    ensures { λ r. ⌜ r ≡ heads c ⌝ }
+    ensures { λ r. ⌜ r ≡ isUnit c ⌝ }
 {
-    both(base_codes::PARAMETER < c, c < base_codes::BODY)
+    base_codes::within(base_codes::PROCTYPE, base_codes::INIT, c)
 }
 
 // The body that the items behind item j are in, where item j is in h.
 fn inside(c: u8, j: usize, h: usize) -> usize
-    requires { ⌜ (j < 8192) × (h < 8193) ⌝ }
+    requires { ⌜ (j < itemsMost) × (h < itemsMost + 1) ⌝ }
     ensures { λ r. ⌜ r ≡ Rattle.rule_sheets.specs.Homes.inside c j h ⌝ }
-    ensures { λ r. ⌜ r < 8193 ⌝ }
+    ensures { λ r. ⌜ r < itemsMost + 1 ⌝ }
 {
     if is_head(c) {
         return j + 1;
@@ -271,7 +251,7 @@ fn inside(c: u8, j: usize, h: usize) -> usize
 pub fn fill_homes(codes: &[u8], homes: &mut [u32])
     ensures { λ _. ⌜ now (homes .exit) ≡ homesOf (now (codes .entry)) (now (homes .entry)) ⌝ }
 {
-    if ITEMS_MOST < codes.len() {
+    if base_ceilings::ITEMS_MOST < codes.len() {
         return;
     }
     let mut h: usize = 0;
@@ -310,17 +290,20 @@ fn shape_of(c: u8) -> u8
 }
 
 fn start_of(codes: &[u8], starts: &[u32], j: usize) -> usize
-    requires { ⌜ j < 8192 ⌝ }
+    requires { ⌜ j < itemsMost ⌝ }
     ensures { λ r. ⌜ r ≡ startOf (now (codes .entry)) (now (starts .entry)) j ⌝ }
     ensures { λ r. ⌜ r < 4294967296 ⌝ }
 {
-    let last = word_at(starts, minus(j, 1));
+    let last = base_bytes::word_at(starts, base_bytes::minus(j, 1));
     match shape_of(base_bytes::byte_at(codes, j)) {
-        1 => minus(j, 1),
-        2 => minus(last, 1),
+        1 => base_bytes::minus(j, 1),
+        2 => base_bytes::minus(last, 1),
         3 => last,
-        4 => word_at(starts, minus(last, 1)),
-        5 => word_at(starts, minus(word_at(starts, minus(last, 2)), 1)),
+        4 => base_bytes::word_at(starts, base_bytes::minus(last, 1)),
+        5 => base_bytes::word_at(
+            starts,
+            base_bytes::minus(base_bytes::word_at(starts, base_bytes::minus(last, 2)), 1),
+        ),
         _ => j,
     }
 }
@@ -329,7 +312,7 @@ fn start_of(codes: &[u8], starts: &[u32], j: usize) -> usize
 pub fn fill_starts(codes: &[u8], starts: &mut [u32])
     ensures { λ _. ⌜ now (starts .exit) ≡ startsOf (now (codes .entry)) (now (starts .entry)) ⌝ }
 {
-    if ITEMS_MOST < codes.len() {
+    if base_ceilings::ITEMS_MOST < codes.len() {
         return;
     }
     let mut j: usize = 0;
@@ -342,28 +325,35 @@ pub fn fill_starts(codes: &[u8], starts: &mut [u32])
 
 // One above h; 33 stands for all that is higher.
 fn above(h: usize) -> usize
-    ensures { λ r. ⌜ r ≡ min 33 (h + 1) ⌝ }
+    ensures { λ r. ⌜ r ≡ min (heightMost + 1) (h + 1) ⌝ }
     ensures { λ r. ⌜ r < 4294967296 ⌝ }
 {
-    if h < 32 { h + 1 } else { 33 }
+    if h < base_ceilings::HEIGHT_MOST {
+        h + 1
+    } else {
+        TOO_HIGH
+    }
 }
 
 fn height_of(codes: &[u8], starts: &[u32], heights: &[u32], j: usize) -> usize
     ensures { λ r. ⌜ r ≡ heightOf (now (codes .entry)) (now (starts .entry)) (now (heights .entry)) j ⌝ }
     ensures { λ r. ⌜ r < 4294967296 ⌝ }
 {
-    let i = minus(j, 1);
-    let last = word_at(starts, i);
-    let h = word_at(heights, i);
+    let i = base_bytes::minus(j, 1);
+    let last = base_bytes::word_at(starts, i);
+    let h = base_bytes::word_at(heights, i);
     match shape_of(base_bytes::byte_at(codes, j)) {
         2 => above(h),
         3 => above(h),
-        4 => above(greater(h, word_at(heights, minus(last, 1)))),
+        4 => above(greater(h, base_bytes::word_at(heights, base_bytes::minus(last, 1)))),
         5 => above(greater(
             h,
             greater(
-                word_at(heights, minus(last, 2)),
-                word_at(heights, minus(word_at(starts, minus(last, 2)), 1)),
+                base_bytes::word_at(heights, base_bytes::minus(last, 2)),
+                base_bytes::word_at(
+                    heights,
+                    base_bytes::minus(base_bytes::word_at(starts, base_bytes::minus(last, 2)), 1),
+                ),
             ),
         )),
         _ => 1,
@@ -374,7 +364,7 @@ fn height_of(codes: &[u8], starts: &[u32], heights: &[u32], j: usize) -> usize
 pub fn fill_heights(codes: &[u8], starts: &[u32], heights: &mut [u32])
     ensures { λ _. ⌜ now (heights .exit) ≡ heightsOf (now (codes .entry)) (now (starts .entry)) (now (heights .entry)) ⌝ }
 {
-    if ITEMS_MOST < codes.len() {
+    if base_ceilings::ITEMS_MOST < codes.len() {
         return;
     }
     let mut j: usize = 0;

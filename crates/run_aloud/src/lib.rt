@@ -1,15 +1,15 @@
-// The automatic run, which shows what its steps print as it goes: the same run as that of `runs`.
+// The automatic run, which shows what its steps print as it goes: the same run as that of `run_entry`.
 ghost use mathlib.Core.Path.{_≡_};
-ghost use Rattle.run_entry.specs.Runs.{turnOf, runFrom, shown};
+ghost use Rattle.run_entry.specs.Runs.{turnIn, runIn, shown};
+use base_bytes::part;
 use base_outcome::Taken;
 use run_entry::Ending;
 use run_entry::Ran;
-use show_answers::part;
 use show_answers::put;
 use step_all::Offer;
 
 // The most bytes that the printed text of a step takes as it is shown: a margin and four bytes for each.
-const SHOWN_MOST: usize = 768;
+const SHOWN_MOST: usize = 6 * base_ceilings::PRINT_ROOM;
 
 // After so many steps, always, a run shows that it is alive.
 const STEPS_BETWEEN: u32 = 1000000;
@@ -29,12 +29,12 @@ fn put_printed(printed: &[u8], n: usize, line: &mut [u8]) {
 
 // The first offered step is taken, and what it prints is written; idle where none is offered.
 fn turn(t: &[u32], s: &mut [i32], line: &mut [u8]) -> Taken
-    ensures { λ r. ⌜ (r, now (s .exit)) ≡ turnOf (now (t .entry)) (now (s .entry)) ⌝ }
+    ensures { λ r. ⌜ (r, now (s .exit)) ≡ turnIn (now (t .entry)) (now (s .entry)) ⌝ }
 {
     let o = step_all::nth(t, s, 0);
     match o {
         Offer::Step(p, _, q) => {
-            let mut printed = [0u8; 128];
+            let mut printed = [0u8; base_ceilings::PRINT_ROOM];
             let n = step_prints::print_at(t, s, p, q, &mut printed);
             put_printed(&printed, n, line);
             step_take::take(t, s, p, q)
@@ -53,7 +53,7 @@ fn show_progress(n: u32) {
 
 // The run from a state on; line[0] is 10 where a line begins.
 pub fn run(t: &[u32], s: &mut [i32], limit: u32, line: &mut [u8]) -> Ran
-    ensures { λ r. ⌜ (r, now (s .exit)) ≡ shown (runFrom (now (t .entry)) limit (now (s .entry))) ⌝ }
+    ensures { λ r. ⌜ (r, now (s .exit)) ≡ shown (runIn (now (t .entry)) limit (now (s .entry))) ⌝ }
 {
     let mut n: u32 = 0;
     while n < limit {

@@ -24,7 +24,7 @@ pub enum Ran {
 
 // The first offered step is taken; idle where none is offered.
 pub fn turn(t: &[u32], s: &mut [i32]) -> Taken
-    ensures { λ r. ⌜ (r, now (s .exit)) ≡ runs.turnOf (now (t .entry)) (now (s .entry)) ⌝ }
+    ensures { λ r. ⌜ (r, now (s .exit)) ≡ runs.turnIn (now (t .entry)) (now (s .entry)) ⌝ }
 {
     let o = step_all::nth(t, s, 0);
     match o {
@@ -46,7 +46,7 @@ pub fn ending_of(v: Verdict) -> Ending
 
 // The run from a state of the model on.
 pub fn run_on(t: &[u32], s: &mut [i32], limit: u32) -> Ran
-    ensures { λ r. ⌜ (r, now (s .exit)) ≡ runs.shown (runs.runFrom (now (t .entry)) limit (now (s .entry))) ⌝ }
+    ensures { λ r. ⌜ (r, now (s .exit)) ≡ runs.shown (runs.runIn (now (t .entry)) limit (now (s .entry))) ⌝ }
 {
     let mut n: u32 = 0;
     while n < limit {

@@ -3,7 +3,6 @@ ghost use Prim.Native.Nat.{_≤_, _-_, min};
 ghost use mathlib.Core.Path.{_≡_};
 ghost use lib.ListN.{length, getD};
 ghost use lib.Dec.{eqb};
-ghost use Rattle.rule_sheets.specs.Payload.{piece};
 ghost use Rattle.rule_sheets.specs.Walks.{first};
 use libc::STDOUT_FILENO;
 
@@ -77,15 +76,6 @@ fn line_stop(text: &[u8], place: usize) -> usize {
     k
 }
 
-// The part from a to e, as far as it lies in the text.
-pub fn part(text: &[u8], a: usize, e: usize) -> &[u8]
-    ensures { λ r. ⌜ now r ≡ piece (now (text .entry)) a e ⌝ }
-{
-    let end = base_bytes::least(e, text.len());
-    let start = base_bytes::least(a, end);
-    &text[start..end]
-}
-
 // The place of the first such byte from a place on, or the end.
 pub fn seek(line: &[u8], from: usize, b: u8) -> usize
     ensures { λ r. ⌜ (min from (length (now (line .entry))) ≤ r) × (r ≤ length (now (line .entry))) × (r ≡ first (λ k. eqb (getD (now (line .entry)) k 0) b) (min from (length (now (line .entry)))) (length (now (line .entry)) - min from (length (now (line .entry))))) ⌝ }
@@ -110,13 +100,13 @@ pub fn explain(text: &[u8], place: usize, len: usize, refused: &[u8]) {
     put(b"\n  ");
     let start = line_start(text, place);
     let stop = line_stop(text, place);
-    put_bytes(part(text, start, stop));
+    put_bytes(base_bytes::part(text, start, stop));
     put(b"\n  ");
-    put_under(part(text, start, place), b' ');
-    let named = part(
+    put_under(base_bytes::part(text, start, place), b' ');
+    let named = base_bytes::part(
         refused,
         0,
-        base_bytes::least(len, rule_sheets::minus(stop, place)),
+        base_bytes::least(len, base_bytes::minus(stop, place)),
     );
     if named.len() == 0 {
         put(b"^");

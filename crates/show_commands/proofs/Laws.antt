@@ -6,10 +6,11 @@ use mathlib.Core.List.{List}
 use lib.IntN.{ℤ}
 use Rattle.table_genuine.specs.Genuine.{written}
 use Rattle.state_start.specs.Starting.{initialOf}
-use Rattle.step_all.specs.Moving.{verdictOf}
+use Rattle.spec_machine.specs.Machine as machine
+use Rattle.step_all.specs.Moving.{machineIn, verdictAs}
 use Rattle.step_all.specs.declared.Verdict.{Verdict}
 use Rattle.step_all.specs.declared.Verdict.the-variants as verdict
-use Rattle.run_entry.specs.Runs.{shown, runFrom}
+use Rattle.run_entry.specs.Runs.{shown, runIn}
 use Rattle.run_entry.specs.declared.Ending.{Ending}
 use Rattle.run_entry.specs.declared.Ending.the-variants as ending
 use Rattle.run_entry.specs.declared.Ran.{Ran}
@@ -27,13 +28,13 @@ module _ (ts t : List ℕ) (s z : List ℤ) (own : t ≡ written ts) (c : s ≡ 
   begun : z ≡ initialOf (written ts) cleared
   begun = begins ∙ ap₂ initialOf own c
 
-  pub start-status : (v : Verdict) (x : ℕ) → v ≡ verdictOf t z → x ≡ verdictStatus v → x ≡ startStatus ts
+  pub start-status : (v : Verdict) (x : ℕ) → v ≡ verdictAs (machine.verdict (machineIn t) z) → x ≡ verdictStatus v → x ≡ startStatus ts
   unfolding startStatus
-  start-status v x e f = f ∙ ap verdictStatus (e ∙ ap₂ verdictOf own begun)
+  start-status v x e f = f ∙ ap verdictStatus (e ∙ ap₂ (λ w y. verdictAs (machine.verdict (machineIn w) y)) own begun)
 
-  pub run-status : (limit : ℕ) (left : List ℤ) (r : Ran) (x : ℕ) → (r, left) ≡ shown (runFrom t limit z) → x ≡ ranStatus r → x ≡ runStatus ts limit
+  pub run-status : (limit : ℕ) (left : List ℤ) (r : Ran) (x : ℕ) → (r, left) ≡ shown (runIn t limit z) → x ≡ ranStatus r → x ≡ runStatus ts limit
   unfolding runStatus
-  run-status limit left r x e f = f ∙ ap ranStatus (ap (λ p. p .0) e ∙ ap₂ (λ w y. shown (runFrom w limit y) .0) own begun)
+  run-status limit left r x e f = f ∙ ap ranStatus (ap (λ p. p .0) e ∙ ap₂ (λ w y. shown (runIn w limit y) .0) own begun)
 
 -- ---- 0, 1 or 2
 verdict-small : (v : Verdict) → verdictStatus v ≤ 2
@@ -58,11 +59,11 @@ replayed-small (replayed.Refused x l) = omega arith
 
 pub start-small : (ts : List ℕ) → startStatus ts ≤ 2
 unfolding startStatus
-start-small ts = verdict-small (verdictOf (written ts) (initialOf (written ts) cleared))
+start-small ts = verdict-small (verdictAs (machine.verdict (machineIn (written ts)) (initialOf (written ts) cleared)))
 
 pub run-small : (ts : List ℕ) (limit : ℕ) → runStatus ts limit ≤ 2
 unfolding runStatus
-run-small ts limit = ran-small (shown (runFrom (written ts) limit (initialOf (written ts) cleared)) .0)
+run-small ts limit = ran-small (shown (runIn (written ts) limit (initialOf (written ts) cleared)) .0)
 
 pub replay-small : (ts trail : List ℕ) → replayStatus ts trail ≤ 2
 unfolding replayStatus

@@ -1,15 +1,18 @@
+-- Program: held by stored output and by `tests/program` beyond what its contracts say.
 -- THE STATUS OF AN ANSWER: 0 where nothing is wrong, 1 for a refusal, a failed assertion, a fault or a blocked state, 2 for an error. A batch counts by it, and the script ends with it.
 -- `ts` are the tables of an accepted model; the program's state is lent as zeros.
 use Prim.Native.Nat.{ℕ}
 use mathlib.Core.List.{List}
 use lib.ListN.{replicate}
 use lib.IntN.{ℤ, pos}
+use Rattle.base_ceilings.specs.Ceilings.{stateRoom}
 use Rattle.table_genuine.specs.Genuine.{written}
 use Rattle.state_start.specs.Starting.{initialOf}
-use Rattle.step_all.specs.Moving.{verdictOf}
+use Rattle.spec_machine.specs.Machine as machine
+use Rattle.step_all.specs.Moving.{machineIn, verdictAs}
 use Rattle.step_all.specs.declared.Verdict.{Verdict}
 use Rattle.step_all.specs.declared.Verdict.the-variants as verdict
-use Rattle.run_entry.specs.Runs.{shown, runFrom}
+use Rattle.run_entry.specs.Runs.{shown, runIn}
 use Rattle.run_entry.specs.declared.Ending.{Ending}
 use Rattle.run_entry.specs.declared.Ending.the-variants as ending
 use Rattle.run_entry.specs.declared.Ran.{Ran}
@@ -39,13 +42,13 @@ replayedStatus (replayed.Accepted v) = 0
 replayedStatus (replayed.Refused x line) = 1
 
 unfoldable pub cleared : List ℤ
-cleared = replicate 2048 (pos 0)
+cleared = replicate stateRoom (pos 0)
 
 unfoldable pub startStatus : List ℕ → ℕ
-startStatus ts = verdictStatus (verdictOf (written ts) (initialOf (written ts) cleared))
+startStatus ts = verdictStatus (verdictAs (machine.verdict (machineIn (written ts)) (initialOf (written ts) cleared)))
 
 unfoldable pub runStatus : List ℕ → ℕ → ℕ
-runStatus ts limit = ranStatus (shown (runFrom (written ts) limit (initialOf (written ts) cleared)) .0)
+runStatus ts limit = ranStatus (shown (runIn (written ts) limit (initialOf (written ts) cleared)) .0)
 
 unfoldable pub replayStatus : List ℕ → List ℕ → ℕ
 replayStatus ts trail = replayedStatus (replayedOf ts trail cleared .0)

@@ -2,16 +2,11 @@
 // a fault or a blocked state, 2 for an error.
 ghost use mathlib.Core.Path.{_≡_};
 ghost use Prim.Native.Nat.{_≤_};
-ghost use Rattle.show_files.specs.Statuses as statuses;
-use normal_entry::Written;
-use read_passes::Judged;
-use show_answers::part;
+ghost use Rattle.show_texts.specs.Statuses as statuses;
+use base_bytes::part;
 use show_answers::put;
 use show_answers::put_bytes;
 use show_answers::put_number;
-
-// The most bytes of a model.
-const TEXT_MOST: usize = 8192;
 
 // The steps of a run that is given no limit.
 const LIMIT: u32 = 1000000;
@@ -20,92 +15,6 @@ const LIMIT: u32 = 1000000;
 enum Loaded {
     Bytes(usize),
     Failed,
-}
-
-// A model that is refused: where, and the refusal.
-fn refuse(text: &[u8], x: u8, place: usize, len: usize) -> u8
-    ensures { λ r. ⌜ r ≡ 1 ⌝ }
-{
-    if x != 6 {
-        if text.len() <= TEXT_MOST {
-            show_answers::explain(text, place, len, read_entry::refused_part(text));
-        }
-    }
-    put(b"refused ");
-    put_number(x as usize);
-    put(b" ");
-    put_number(place);
-    put(b" ");
-    put_number(len);
-    put(b"\n");
-    1
-}
-
-// A command that there is not.
-fn unknown(command: &[u8]) -> u8
-    ensures { λ r. ⌜ r ≡ 2 ⌝ }
-{
-    put(b"error: unknown command ");
-    put_bytes(command);
-    put(b"\n");
-    2
-}
-
-// `normal MODEL`
-fn show_normal(text: &[u8]) -> u8
-    ensures { λ r. ⌜ r ≡ statuses.normalStatus (now (text .entry)) ⌝ }
-{
-    let mut out = [0u8; 8192];
-    let w = normal_entry::normal(text, &mut out);
-    match w {
-        Written::Text(n) => {
-            put(part(&out, 0, n));
-            put(b"\n");
-            0
-        }
-        Written::Refused(x, place, len) => refuse(text, x, place, len),
-    }
-}
-
-// A command on the tables of an accepted model, with its trail or its limit.
-fn perform_on(command: &[u8], tables: &[u32], trail: &[u8], limit: u32) -> u8
-    ensures { λ r. ⌜ r ≡ statuses.commandStatus (now (command .entry)) (now (tables .entry)) (now (trail .entry)) limit ⌝ }
-{
-    if base_bytes::same(command, b"read") {
-        put(b"accepted\n");
-        return 0;
-    }
-    if base_bytes::same(command, b"start") {
-        return show_commands::start(tables);
-    }
-    if base_bytes::same(command, b"run") {
-        return show_commands::run(tables, limit);
-    }
-    if base_bytes::same(command, b"replay") {
-        return show_commands::replay(tables, trail);
-    }
-    if base_bytes::same(command, b"steps") {
-        return show_commands::steps(tables, trail);
-    }
-    if base_bytes::same(command, b"state") {
-        return show_commands::state(tables, trail);
-    }
-    unknown(command)
-}
-
-// A command with the text of its model.
-fn perform_text(command: &[u8], text: &[u8], trail: &[u8], limit: u32) -> u8
-    ensures { λ r. ⌜ r ≡ statuses.textStatus (now (command .entry)) (now (text .entry)) (now (trail .entry)) limit ⌝ }
-{
-    if base_bytes::same(command, b"normal") {
-        return show_normal(text);
-    }
-    let mut tables = [0u32; 16384];
-    let j = read_entry::read(text, &mut tables);
-    match j {
-        Judged::Accepted => perform_on(command, &tables, trail, limit),
-        Judged::Refused(x, place, len) => refuse(text, x, place, len),
-    }
 }
 
 // Reads a file to its end, or as far as there is room.
@@ -180,11 +89,11 @@ fn is_replay(command: &[u8]) -> bool {
 fn perform_files(command: &[u8], model: &[u8], trail: &[u8], limit: u32) -> u8
     ensures { λ r. ⌜ r ≤ 2 ⌝ }
 {
-    let mut text = [0u8; 8193];
+    let mut text = [0u8; base_ceilings::TEXT_MOST + 1];
     let l = load(model, &mut text);
     match l {
         Loaded::Failed => unreadable(model),
-        Loaded::Bytes(n) => perform_text(command, part(&text, 0, n), trail, limit),
+        Loaded::Bytes(n) => show_texts::perform_text(command, part(&text, 0, n), trail, limit),
     }
 }
 
@@ -192,7 +101,7 @@ fn perform_files(command: &[u8], model: &[u8], trail: &[u8], limit: u32) -> u8
 fn perform_replay(command: &[u8], model: &[u8], file: &[u8]) -> u8
     ensures { λ r. ⌜ r ≤ 2 ⌝ }
 {
-    let mut trail = [0u8; 32769];
+    let mut trail = [0u8; base_ceilings::TRAIL_MOST + 1];
     let l = load(file, &mut trail);
     match l {
         Loaded::Failed => unreadable(file),
@@ -234,7 +143,7 @@ pub fn perform(command: &[u8], first: &[u8], second: &[u8], count: usize) -> u8
     ensures { λ r. ⌜ r ≤ 2 ⌝ }
 {
     if words_least(command) == 0 {
-        return unknown(command);
+        return show_texts::unknown(command);
     }
     if count < words_least(command) {
         put(b"error: a word is missing\n");

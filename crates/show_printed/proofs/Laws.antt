@@ -23,10 +23,6 @@ pub shown-end : (l : List ℕ) (k : ℕ) (f : Bool) (w : Pen) → length l ≤ k
 unfolding shown puts
 shown-end l k f w h = rw (drop-of-length-le l h)
 
-pub one-put : (b : ℕ) (w x : Pen) → x ≡ write b w → x ≡ puts (b ∷ []) w
-unfolding puts
-one-put b w x e = e
-
 pub two-put : (a b : ℕ) (w x y : Pen) → x ≡ write a w → y ≡ write b x → y ≡ puts (a ∷ b ∷ []) w
 unfolding puts
 two-put a b w x y e f = f ∙ ap (write b) e

@@ -1,3 +1,4 @@
+-- Program: held by stored output and by `tests/program` beyond what its contracts say.
 -- Worked examples: a model that prints an answer, a line in two steps, an empty line, and bytes that are not shown as themselves, on both sides.
 use mathlib.Core.Path.{_≡_, refl}
 use mathlib.Core.Bool.{true, false}

@@ -1,3 +1,4 @@
+-- Program: held by stored output and by `tests/program` beyond what its contracts say.
 -- WHAT A RUN SHOWS OF THE PRINTED TEXT: each line two blanks in; a byte that is no printable ASCII, and a backslash, as `\x` and two digits to the base 16; a line end ends a line and is not shown.
 use Prim.Native.Nat.{ℕ, _+_, _/_, _%_}
 use mathlib.Core.Bool.{Bool, true, false}

@@ -4,17 +4,6 @@ use show_answers::put_number;
 use step_eval::Located;
 use step_eval::Reached;
 
-// The most numbers of a variable, processes, channels, waiting messages and arguments of a message.
-const SIZE_MOST: usize = 32;
-
-const PROCESSES_MOST: usize = 16;
-
-const CHANNELS_MOST: usize = 16;
-
-const MESSAGES_MOST: usize = 8;
-
-const FIELDS_MOST: usize = 4;
-
 pub fn put_value(v: i32) {
     if v < 0 {
         put(b"-");
@@ -45,7 +34,7 @@ pub fn put_proctype(t: &[u32], u: usize) {
 fn put_variable(t: &[u32], s: &[i32], p: u8, j: usize) {
     let l = table_layout::link(t, j) as u32;
     put_name(t, step_eval::minus_one(j));
-    let n = base_bytes::least(step_eval::size_of(l) as usize, SIZE_MOST);
+    let n = base_bytes::least(step_eval::size_of(l) as usize, base_ceilings::ARRAY_MOST);
     let mut k: usize = 0;
     while k < n {
         put(b" ");
@@ -113,7 +102,10 @@ fn put_message(s: &[i32], c: u32, m: u32, n: u32) {
 fn put_channel(t: &[u32], s: &[i32], c: u32) {
     put_number(step_ready::capacity(t, state_layout::declared_of(s, c)));
     let fields = step_ready::fields(t, state_layout::declared_of(s, c));
-    let n = base_bytes::least(state_layout::waiting_of(s, c) as usize, MESSAGES_MOST);
+    let n = base_bytes::least(
+        state_layout::waiting_of(s, c) as usize,
+        base_ceilings::CAPACITY_MOST,
+    );
     let mut m: usize = 0;
     while m < n {
         put_message(s, c, m as u32, fields);
@@ -124,7 +116,10 @@ fn put_channel(t: &[u32], s: &[i32], c: u32) {
 
 // Channels by their numbers, from 1, with capacity and messages, the oldest first.
 pub fn put_channels(t: &[u32], s: &[i32]) {
-    let n = base_bytes::least(state_layout::channels(s) as usize, CHANNELS_MOST);
+    let n = base_bytes::least(
+        state_layout::channels(s) as usize,
+        base_ceilings::CHANNELS_MOST,
+    );
     let mut c: usize = 0;
     while c < n {
         put(b"channel ");
@@ -147,7 +142,7 @@ fn put_stored(t: &[u32], before: &[i32], after: &[i32], p: u8, from: usize, m: u
             if table_layout::code(t, r) == base_codes::INDEX {
                 let l = table_layout::link(t, d) as u32;
                 put(b"[");
-                put_number(rule_sheets::minus(i, step_eval::slot(l, p, 0)));
+                put_number(base_bytes::minus(i, step_eval::slot(l, p, 0)));
                 put(b"]");
             }
             put(b" ");
@@ -162,7 +157,7 @@ fn put_stored(t: &[u32], before: &[i32], after: &[i32], p: u8, from: usize, m: u
 fn put_received(t: &[u32], before: &[i32], after: &[i32], p: u8, a: usize) {
     let mut from = a;
     let mut n: usize = 0;
-    while n < FIELDS_MOST {
+    while n < base_ceilings::FIELDS_MOST {
         if table_layout::code(t, from) == base_codes::END {
             return;
         }

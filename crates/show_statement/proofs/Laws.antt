@@ -8,6 +8,7 @@ use mathlib.Core.List.{List, _++_, map}
 use lib.ListN.{length, getD, take, drop, drop-of-length-le, length-append, length-map, length-drop}
 use lib.Seq.{drop-cons, take-at}
 use borrow.Author.Tests.{ne-eqb}
+use Rattle.base_ceilings.specs.Ceilings.{itemsMost}
 use Rattle.text_tokens.specs.Reading.{Placed, Reading, tokens, refused}
 use Rattle.text_tokens.specs.Answers.{Answered}
 use Rattle.text_tokens.specs.declared.Lexed.{Lexed}
@@ -53,7 +54,7 @@ module _ (a : Lexed) (ks ks′ ss ss′ es es′ ts : List ℕ) where
     front ps l e = rw e (take-at (map Placed.kind ps) (drop (length ps) ks) m (omega (arith, length-map ps Placed.kind)))
 
     module _ (p : Parsed) (zc cs zs sz ts′ : List ℕ) (g : Parses (take m ks′) (min (length zc) (min (length ts) (length zs))) p zc cs ts ts′ zs sz)
-        (ec : length zc ≡ 8192) (ez : length zs ≡ 8192) where
+        (ec : length zc ≡ itemsMost) (ez : length zs ≡ itemsMost) where
       answered : (ps : List Placed) → take m ks′ ≡ map Placed.kind ps → parsed (take m ks′) (min (length zc) (min (length ts) (length zs))) ≡ parsed (map Placed.kind ps) (roomOf ts)
       answered ps e =
           let s : min (length zc) (min (length ts) (length zs)) ≡ roomOf ts = omega arith in

@@ -1,3 +1,4 @@
+-- Program: held by stored output and by `tests/program` beyond what its contracts say.
 -- Worked examples, computed.
 use Prim.Native.Nat.{ℕ}
 use mathlib.Core.Path.{_≡_, refl}

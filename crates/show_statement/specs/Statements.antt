@@ -1,3 +1,4 @@
+-- Program: held by stored output and by `tests/program` beyond what its contracts say.
 -- Which part of a normal text is shown as a statement: the token that it begins with and the token that it ends with, found from one token k of it, over the kinds of
 -- the tokens. It begins behind the last `{` `;` `:` or `::` before k, and ends before the first `}` `;` `::` `fi` or `od` from k on that neither stands in nor closes a
 -- selection opened from k on: in a normal text `;` alone parts statements. Kinds are numbered in specs/Kinds.antt of `base_kinds`.
@@ -6,9 +7,10 @@ use mathlib.Core.Bool.{Bool}
 use mathlib.Core.List.{List, [], _∷_}
 use lib.ListN.{length, getD, drop}
 use lib.Dec.{eqb, ltb}
+use Rattle.base_ceilings.specs.Ceilings.{selectionsMost}
 use Rattle.base_bytes.specs.Choice.{pick, both, either}
+use Rattle.base_bytes.specs.Lists.{piece}
 use Rattle.rule_sheets.specs.Walks.{after}
-use Rattle.rule_sheets.specs.Payload.{piece}
 
 -- a statement begins behind it: 25 `{`, 28 `;`, 29 `:`, 30 `::`
 unfoldable pub isFront : ℕ → Bool
@@ -21,7 +23,7 @@ isBack c = either (eqb c 26) (either (eqb c 28) (either (eqb c 30) (either (eqb 
 -- how many selections are open behind a token, where d are before it: 49 `do` and 55 `if` open one, 53 `fi` and 58 `od` close one. More than 9 are not told apart: an
 -- accepted text has at most 8.
 unfoldable pub depthBehind : ℕ → ℕ → ℕ
-depthBehind c d = pick (either (eqb c 49) (eqb c 55)) (min d 8 + 1) (pick (either (eqb c 53) (eqb c 58)) (d - 1) d)
+depthBehind c d = pick (either (eqb c 49) (eqb c 55)) (min d selectionsMost + 1) (pick (either (eqb c 53) (eqb c 58)) (d - 1) d)
 
 -- the first token of the statement of token k: going back from k, the one behind the first that a statement begins behind; 0 where there is none. A k past the last
 -- token counts as the end.

@@ -3,8 +3,8 @@ ghost use mathlib.Core.Path.{_≡_};
 ghost use Rattle.text_tokens.specs.Answers.{lexing};
 ghost use Rattle.show_statement.specs.Statements.{isFront, isBack, depthBehind, firstToken, tokenBehind, placeOf, statementOf};
 ghost use Rattle.show_statement.specs.Tokens.{Shown};
+use base_bytes::part;
 use parse_items::Parsed;
-use show_answers::part;
 use text_tokens::Lexed;
 
 // The tokens of a normal text, and the token that each item came from; how many tokens there are.
@@ -21,8 +21,8 @@ pub fn fill(
     match a {
         Lexed::Tokens(n) => {
             let m = base_bytes::least(n, kinds.len());
-            let mut codes = [0u8; 8192];
-            let mut sizes = [0u32; 8192];
+            let mut codes = [0u8; base_ceilings::ITEMS_MOST];
+            let mut sizes = [0u32; base_ceilings::ITEMS_MOST];
             let p = parse_items::parse(&kinds[..m], &mut codes, toks, &mut sizes);
             match p {
                 Parsed::Items(_) => m,
@@ -77,10 +77,10 @@ fn depth_behind(kind: u8, depth: usize) -> usize
     ensures { λ r. ⌜ r ≡ depthBehind kind depth ⌝ }
 {
     match kind {
-        49 => base_bytes::least(depth, 8) + 1,
-        55 => base_bytes::least(depth, 8) + 1,
-        53 => rule_sheets::minus(depth, 1),
-        58 => rule_sheets::minus(depth, 1),
+        49 => base_bytes::least(depth, base_ceilings::SELECTIONS_MOST) + 1,
+        55 => base_bytes::least(depth, base_ceilings::SELECTIONS_MOST) + 1,
+        53 => base_bytes::minus(depth, 1),
+        58 => base_bytes::minus(depth, 1),
         _ => depth,
     }
 }
@@ -108,7 +108,7 @@ fn token_behind(kinds: &[u8], k: usize) -> usize
 pub fn place(kinds: &[u8], starts: &[u32], k: usize) -> usize
     ensures { λ r. ⌜ r ≡ placeOf (now (kinds .entry)) (now (starts .entry)) k ⌝ }
 {
-    rule_sheets::word_at(starts, first_token(kinds, k))
+    base_bytes::word_at(starts, first_token(kinds, k))
 }
 
 // The text of the statement of token k.
@@ -121,10 +121,10 @@ pub fn statement<'a>(
 ) -> &'a [u8]
     ensures { λ r. ⌜ now r ≡ statementOf (now (text .entry)) (now (kinds .entry)) (now (starts .entry)) (now (ends .entry)) k ⌝ }
 {
-    let last = rule_sheets::minus(token_behind(kinds, k), 1);
+    let last = base_bytes::minus(token_behind(kinds, k), 1);
     part(
         text,
         place(kinds, starts, k),
-        rule_sheets::word_at(ends, last),
+        base_bytes::word_at(ends, last),
     )
 }

@@ -1,46 +1,12 @@
--- The binding levels: table 3.2 of source document 002, written out; and that no operator binds tighter than level 10.
-use mathlib.Core.Path.{_≡_, refl}
+-- The binding levels: what is past the operators has none, and no operator binds tighter than level 10.
+use mathlib.Core.Path.{_≡_}
 use mathlib.Core.Bool.{Bool, true, false, cond}
-use mathlib.Core.List.{List, [], _∷_, map}
 use Prim.Native.Nat.{ℕ, zero, suc, _<_, _≤_}
 use native.Mathlib.Omega.{arith}
 use native.Mathlib.Decide.{decLt}
 use lib.Dec.{T, leb, leb→le}
 use borrow.Author.Tests.{le-ltb}
-use Rattle.base_kinds.specs.Kinds.{Token, kindOf}
-use Rattle.spec_grammar.specs.Marks.{'||, '&&, '|, '^, '&, '==, '!=, '<, '<=, '>, '>=, '<<, '>>, '+, '-, '*, '/, '%, '!, '~}
-use Rattle.spec_grammar.specs.Grammar.{level}
-
--- loosest first
-abbrev levels-of : List Token → List ℕ
-levels-of ts = map (λ t. level (kindOf t)) ts
-
-or-level : levels-of ('|| ∷ []) ≡ 1 ∷ []
-or-level = refl
-
-and-level : levels-of ('&& ∷ []) ≡ 2 ∷ []
-and-level = refl
-
-bit-levels : levels-of ('| ∷ '^ ∷ '& ∷ []) ≡ 3 ∷ 4 ∷ 5 ∷ []
-bit-levels = refl
-
-equality-level : levels-of ('== ∷ '!= ∷ []) ≡ 6 ∷ 6 ∷ []
-equality-level = refl
-
-order-level : levels-of ('< ∷ '<= ∷ '> ∷ '>= ∷ []) ≡ 7 ∷ 7 ∷ 7 ∷ 7 ∷ []
-order-level = refl
-
-shift-level : levels-of ('<< ∷ '>> ∷ []) ≡ 8 ∷ 8 ∷ []
-shift-level = refl
-
-sum-level : levels-of ('+ ∷ '- ∷ []) ≡ 9 ∷ 9 ∷ []
-sum-level = refl
-
-product-level : levels-of ('* ∷ '/ ∷ '% ∷ []) ≡ 10 ∷ 10 ∷ 10 ∷ []
-product-level = refl
-
-unary-level : levels-of ('! ∷ '~ ∷ []) ≡ 0 ∷ 0 ∷ []
-unary-level = refl
+use Rattle.base_kinds.specs.Kinds.{level}
 
 -- what is past the operators has no level
 pub level-big : (o : ℕ) → 19 ≤ o → level o ≡ 0

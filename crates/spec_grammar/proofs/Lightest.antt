@@ -1,17 +1,16 @@
 -- Among all token lists of a tree the printed one is the shortest and has the fewest parentheses, by one argument over the tokens' weights.
 use mathlib.Core.Path.{_≡_, refl}
 use mathlib.Core.Bool.{Bool, true, false}
-use mathlib.Core.Option.{none, some}
 use mathlib.Core.List.{List, [], _∷_, _++_, append-nil}
 use Prim.Native.Nat.{ℕ, suc, _≤_, _+_}
 use native.Mathlib.Omega.{arith}
 use lib.Dec.{T, leb, leb→le, le→leb}
 use lib.ListN.{length}
 use borrow.Author.Tests.{le-leb}
-use Rattle.base_kinds.specs.Kinds.{Token, name, text}
+use Rattle.base_kinds.specs.Kinds.{Token, name, level}
 use Rattle.spec_grammar.specs.Marks.{'!, 'lpar, 'rpar, 'rbrace, 'comma, 'semi, '->, '=, '++, '--, '?, 'fi, 'od, 'proctype, 'run}
-use Rattle.spec_grammar.specs.Tree.{Name, expression, num, tru, fls, get, len, unary, binary, choice, Expr, Ref, Received, Sort, sequence, Tree, over, Value, Variable, Declaration, Group, Body, body, Activity, Part, Model}
-use Rattle.spec_grammar.specs.Grammar.{Listed, one, more, Maybe-listed, no-list, a-list, Message, commas, call, Parted, by-semi, by-arrow, A-name, a-name, A-type, a-type, level, E, e-plain, e-index, e-number, e-true, e-false, e-len, e-group, e-choice, e-unary, e-binary, e-up, An-expression, A-reference, A-received, r-into, r-eval, r-number, r-true, r-false, D, s-express, s-assign, s-increment, s-decrement, s-send, s-receive, s-assert, s-print-alone, s-print, s-skip, s-goto, s-break, s-timeout, s-else, s-run, s-set-run, s-if, s-do, s-bare, s-label, q-last, q-then, o-last, o-also, A-value, v-number, v-minus, v-true, v-false, v-name, A-variable, x-bare, x-set, x-array, x-array-set, x-channel, A-declaration, declaration, A-group, a-group, Items, statements, declared, A-body, a-body, An-activity, not-active, active, active-times, A-unit, u-mtypes, u-global, u-process, u-init, Gram, g-last, g-more}
+use Rattle.spec_grammar.specs.Tree.{Name, num, tru, fls, get, len, unary, binary, choice, Expr, Ref, Received, Sort, sequence, Tree, Value, Variable, Declaration, Group, Body, body, Activity, Part, Model}
+use Rattle.spec_grammar.specs.Grammar.{Listed, one, more, Maybe-listed, no-list, a-list, Message, commas, call, Parted, by-semi, by-arrow, A-name, a-name, A-type, a-type, E, e-plain, e-index, e-number, e-true, e-false, e-len, e-group, e-choice, e-unary, e-binary, e-up, An-expression, A-reference, A-received, r-into, r-eval, r-number, r-true, r-false, D, s-express, s-assign, s-increment, s-decrement, s-send, s-receive, s-assert, s-print-alone, s-print, s-skip, s-goto, s-break, s-timeout, s-else, s-run, s-set-run, s-if, s-do, s-bare, s-label, q-last, q-then, o-last, o-also, A-value, v-number, v-minus, v-true, v-false, v-name, A-variable, x-bare, x-set, x-array, x-array-set, x-channel, A-declaration, declaration, A-group, a-group, Items, statements, declared, A-body, a-body, An-activity, not-active, active, active-times, A-unit, u-mtypes, u-global, u-process, u-init, Gram, g-last, g-more}
 use Rattle.spec_grammar.specs.Print.{wrap, print-exp, print-ref, print-whole, join, print-received, print-tree, print-type, print-value, print-variable, print-declaration, print-name, print-group, print-items, print-body, print-activity, print-part, print-model, total, is-parenthesis}
 use Rattle.spec_grammar.proofs.Printed.{join-more, further-more, sequence-before}
 

@@ -2,7 +2,7 @@
 use mathlib.Core.Path.{_≡_, refl}
 use mathlib.Core.Bool.{Bool, true, false}
 use mathlib.Core.Option.{none, some}
-use mathlib.Core.List.{List, [], _∷_, _++_, append-assoc, append-nil}
+use mathlib.Core.List.{List, _∷_, _++_, append-assoc, append-nil}
 use Prim.Native.Nat.{ℕ, zero, suc, _≤_}
 use native.Mathlib.Omega.{arith}
 use native.Mathlib.Decide.{decLe}
@@ -10,8 +10,8 @@ use lib.Dec.{leb}
 use borrow.Author.Tests.{leb-true}
 use Rattle.base_kinds.specs.Kinds.{Token, name, number}
 use Rattle.spec_grammar.specs.Marks.{'[, '], 'comma, 'semi}
-use Rattle.spec_grammar.specs.Tree.{Name, expression, reference, Expr, Ref, Received, Sort, sequence, Tree, Value, Variable, variable, Declaration, Group, Body, body, Activity, Part, Model}
-use Rattle.spec_grammar.specs.Grammar.{Listed, one, more, Maybe-listed, no-list, a-list, Message, commas, call, no-semi, none-trails, by-semi, A-name, a-name, A-type, a-type, level, E, e-plain, e-index, e-number, e-true, e-false, e-len, e-group, e-choice, e-unary, e-binary, e-up, An-expression, A-reference, A-received, r-into, r-eval, r-number, r-true, r-false, D, s-express, s-assign, s-increment, s-decrement, s-send, s-receive, s-assert, s-print-alone, s-print, s-skip, s-goto, s-break, s-timeout, s-else, s-run, s-set-run, s-if, s-do, s-bare, s-label, q-last, q-then, o-last, o-also, A-value, v-number, v-minus, v-true, v-false, v-name, A-variable, x-bare, x-set, x-array, x-array-set, x-channel, A-declaration, declaration, A-group, a-group, Items, statements, declared, A-body, a-body, An-activity, not-active, active, active-times, A-unit, u-mtypes, u-global, u-process, u-init, Gram, g-last, g-more}
+use Rattle.spec_grammar.specs.Tree.{Name, Expr, Ref, Received, Sort, sequence, Tree, Value, Variable, variable, Declaration, Group, Body, body, Activity, Part, Model}
+use Rattle.spec_grammar.specs.Grammar.{Listed, one, more, Maybe-listed, no-list, a-list, Message, commas, call, no-semi, none-trails, by-semi, A-name, a-name, A-type, a-type, E, e-plain, e-index, e-number, e-true, e-false, e-len, e-group, e-choice, e-unary, e-binary, e-up, An-expression, A-reference, A-received, r-into, r-eval, r-number, r-true, r-false, D, s-express, s-assign, s-increment, s-decrement, s-send, s-receive, s-assert, s-print-alone, s-print, s-skip, s-goto, s-break, s-timeout, s-else, s-run, s-set-run, s-if, s-do, s-bare, s-label, q-last, q-then, o-last, o-also, A-value, v-number, v-minus, v-true, v-false, v-name, A-variable, x-bare, x-set, x-array, x-array-set, x-channel, A-declaration, declaration, A-group, a-group, Items, statements, declared, A-body, a-body, An-activity, not-active, active, active-times, A-unit, u-mtypes, u-global, u-process, u-init, Gram, g-last, g-more}
 use Rattle.spec_grammar.specs.Print.{wrap, print-exp, print-ref, print-whole, further, join, print-received, before, print-tree, print-type, print-value, print-variable, print-declaration, print-name, print-group, print-items, print-body, print-activity, print-part, print-model}
 use Rattle.spec_grammar.proofs.Levels.{level-top}
 

@@ -2,14 +2,12 @@
 -- Read `X ts t`: the tokens ts are an X, and t is its tree. In quotes stand the paper's words. The paper goes from the whole to the parts;
 -- here each part stands before what it is a part of, so the model is at the end. How deep brackets and selections may nest is no matter of the grammar.
 use mathlib.Core.Path.{_≡_}
-use mathlib.Core.Bool.{cond}
 use mathlib.Core.Option.{none, some}
 use mathlib.Core.List.{List, [], _∷_, _++_}
 use Prim.Native.Nat.{ℕ, suc}
-use lib.Dec.{ltb}
-use Rattle.base_kinds.specs.Kinds.{Token, sym, name, number, text}
-use Rattle.spec_grammar.specs.Marks.{'-, '!, '~, 'lpar, 'rpar, '[, '], 'lbrace, 'rbrace, 'comma, 'semi, ':, '::, '->, '=, '++, '--, '?, 'mtype, 'active, 'assert, 'break, 'do, 'else, 'eval, 'false, 'fi, 'goto, 'if, 'init, 'len, 'od, 'of, 'printf, 'proctype, 'run, 'skip, 'timeout, 'true}
-use Rattle.spec_grammar.specs.Tree.{Name, Exp, plain, indexed, num, tru, fls, get, len, unary, binary, choice, Expr, Ref, Received, into, equal, exactly, exactly-true, exactly-false, Sort, action, statement, sequence, options, Tree, express, assign, increment, decrement, send, receive, assert, print, skip, goto, break, timeout, else, run, set-run, select, loop, bare, labelled, end, then, over, option, Value, unset, set-number, set-minus, set-true, set-false, set-name, set-channel, Variable, variable, Declaration, declare, Group, group, Body, body, Activity, idle, once, times, Part, mtypes, global, process, init, Model}
+use Rattle.base_kinds.specs.Kinds.{Token, sym, name, number, text, level}
+use Rattle.spec_grammar.specs.Marks.{'-, '!, 'lpar, 'rpar, '[, '], 'lbrace, 'rbrace, 'comma, 'semi, ':, '::, '->, '=, '++, '--, '?, 'mtype, 'active, 'assert, 'break, 'do, 'else, 'eval, 'false, 'fi, 'goto, 'if, 'init, 'len, 'od, 'of, 'printf, 'proctype, 'run, 'skip, 'timeout, 'true}
+use Rattle.spec_grammar.specs.Tree.{Name, plain, indexed, num, tru, fls, get, len, unary, binary, choice, Expr, Ref, Received, into, equal, exactly, exactly-true, exactly-false, Sort, action, statement, sequence, options, Tree, express, assign, increment, decrement, send, receive, assert, print, skip, goto, break, timeout, else, run, set-run, select, loop, bare, labelled, end, then, over, option, Value, unset, set-number, set-minus, set-true, set-false, set-name, set-channel, Variable, variable, Declaration, declare, Group, group, Body, body, Activity, idle, once, times, Part, mtypes, global, process, init, Model}
 
 -- LISTS: one or more X, "parted" by the token s
 pub data Listed (s : Token) {A : Type 0} (X : List Token → A → Type 0) : List Token → List A → Type 0 where
@@ -58,12 +56,6 @@ pub data A-type : List Token → ℕ → Type 0 where
   a-type : {k : ℕ} → Is-type k → A-type (sym k ∷ []) k
 
 -- EXPRESSIONS. "Operators follow table 3.2 of 002. Unary minus, absent there, binds as `!` and `~` do (001)."
--- The level of a binary operator, 1 the loosest; 0 for what is none. Kinds are numbered so that ranges give the levels.
-abbrev pub level : ℕ → ℕ
-level o =
-    cond (ltb o 1) 0 (cond (ltb o 2) 1 (cond (ltb o 3) 2 (cond (ltb o 4) 3 (cond (ltb o 5) 4 (cond (ltb o 6) 5
-    (cond (ltb o 8) 6 (cond (ltb o 12) 7 (cond (ltb o 14) 8 (cond (ltb o 16) 9 (cond (ltb o 19) 10 0))))))))))
-
 pub data Is-unary : ℕ → Type 0 where
   is-minus : Is-unary 15
   is-not : Is-unary 19

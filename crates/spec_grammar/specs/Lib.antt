@@ -1,5 +1,5 @@
 pub mod Marks
 pub mod Tree
 pub mod Grammar
-pub mod Code
 pub mod Print
+pub mod Viable

@@ -4,11 +4,9 @@ use mathlib.Core.Option.{Option, none, some}
 use mathlib.Core.List.{List, [], _∷_, _++_}
 use Prim.Native.Nat.{ℕ, suc, _+_}
 use lib.Dec.{eqb, leb}
-use Rattle.base_kinds.specs.Kinds.{Token, sym, name, number, text}
+use Rattle.base_kinds.specs.Kinds.{Token, sym, name, number, text, level}
 use Rattle.spec_grammar.specs.Marks.{'-, '!, 'lpar, 'rpar, '[, '], 'lbrace, 'rbrace, 'comma, 'semi, ':, '::, '->, '=, '++, '--, '?, 'mtype, 'active, 'assert, 'break, 'do, 'else, 'eval, 'false, 'fi, 'goto, 'if, 'init, 'len, 'od, 'of, 'printf, 'proctype, 'run, 'skip, 'timeout, 'true}
-use Rattle.spec_grammar.specs.Tree.{Name, Shape, expression, Exp, plain, indexed, num, tru, fls, get, len, unary, binary, choice, Expr, Ref, Received, into, equal, exactly, exactly-true, exactly-false, Sort, sequence, Tree, express, assign, increment, decrement, send, receive, assert, print, skip, goto, break, timeout, else, run, set-run, select, loop, bare, labelled, end, then, over, option, Value, unset, set-number, set-minus, set-true, set-false, set-name, set-channel, Variable, variable, Declaration, declare, Group, group, Body, body, Activity, idle, once, times, Part, mtypes, global, process, init, Model}
-use Rattle.spec_grammar.specs.Grammar.{level}
-use Rattle.spec_grammar.specs.Code.{each}
+use Rattle.spec_grammar.specs.Tree.{Name, Shape, Exp, plain, indexed, num, tru, fls, get, len, unary, binary, choice, Expr, Ref, Received, into, equal, exactly, exactly-true, exactly-false, Sort, sequence, Tree, express, assign, increment, decrement, send, receive, assert, print, skip, goto, break, timeout, else, run, set-run, select, loop, bare, labelled, end, then, over, option, Value, unset, set-number, set-minus, set-true, set-false, set-name, set-channel, Variable, variable, Declaration, declare, Group, group, Body, body, Activity, idle, once, times, Part, mtypes, global, process, init, Model}
 
 -- parentheses where the test fails
 abbrev pub wrap : Bool → List Token → List Token

@@ -6,7 +6,7 @@ use mathlib.Core.List.{List, [], _∷_}
 use lib.IntN.{ℤ, pos, negsuc}
 use lib.Dec.{eqb, ltb}
 use Rattle.base_bytes.specs.Choice.{pick}
-use Rattle.base_values.specs.Operators.{isTrue, same, oneIf}
+use Rattle.base_values.specs.Operators.{isTrue, equalBy}
 use Rattle.base_values.specs.declared.Fault.{Fault}
 use Rattle.base_values.specs.declared.Fault.the-variants.{Index, Channel, Fields}
 use Rattle.base_values.specs.declared.Answer.{Answer}
@@ -53,27 +53,23 @@ abbrev pub reach : {S : Type 0} → Stage S → Ref → ℕ → Reach
 reach c r n = reachAt c n (nameOf r) (aim (c .scene) r)
 
 -- ## the arguments of a send, a run or a printf
-pub data Values : Type 0 where
-  all : List ℤ → Values
-  stopped : Fault → Values
+pub data WorkedOut : Type 0 where
+  all : List ℤ → WorkedOut
+  stopped : Fault → WorkedOut
 
-abbrev pub first : ℤ → Values → Values
+abbrev pub first : ℤ → WorkedOut → WorkedOut
 first v (all vs) = all (v ∷ vs)
 first v (stopped f) = stopped f
 
-abbrev pub valuesBy : Answer → Values → Values
+abbrev pub valuesBy : Answer → WorkedOut → WorkedOut
 valuesBy (Value v) vs = first v vs
 valuesBy (Fails f) vs = stopped f
 
-unfoldable pub values : Scene → List Expr → Values
+unfoldable pub values : Scene → List Expr → WorkedOut
 values c [] = all []
 values c (e ∷ es) = valuesBy (eval c e) (values c es)
 
 -- ## the arguments of a receive, against the fields of the oldest message of channel v
-abbrev pub equalBy : Answer → ℤ → Answer
-equalBy (Value v) w = Value (oneIf (same v w))
-equalBy (Fails f) w = Fails f
-
 -- 1 where it agrees with field f, 0 where it differs; a variable agrees with every field, and is stored to later
 abbrev pub agree : {S : Type 0} → Stage S → ℤ → ℕ → Received → Answer
 agree c v f (into r) = pick (c .constant (nameOf r)) (equalBy (eval (c .scene) r) (c .oldest v f)) (Value (pos 1))

@@ -8,7 +8,7 @@ use lib.IntN.{ℤ, pos}
 use Rattle.base_values.specs.Types.{castOf}
 use Rattle.base_values.specs.Operators.{unaryOf}
 use Rattle.spec_grammar.specs.Tree.{Name, end, Value, unset, set-number, set-minus, set-true, set-false, set-name, set-channel, Body, body, Activity, idle, once, times, Part, mtypes, global, process, init, Model}
-use Rattle.spec_grammar.specs.Code.{each, code-group, code-activity, code-part}
+use Rattle.parse_code.specs.Code.{each, code-group, code-activity, code-part}
 use Rattle.spec_rules.specs.Ceilings.{startedBy}
 use Rattle.spec_machine.specs.Program.{enter, startIn, endIn}
 use Rattle.spec_machine.specs.State.{Channel, Process, State}

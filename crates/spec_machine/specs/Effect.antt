@@ -13,11 +13,11 @@ use Rattle.base_values.specs.declared.Answer.the-variants.{Value, Fails}
 use Rattle.base_outcome.specs.declared.Taken.{Taken}
 use Rattle.base_outcome.specs.declared.Taken.the-variants.{Done, Refuted, Faulted, Idle}
 use Rattle.base_values.specs.declared.Fault.{Fault}
-use Rattle.spec_text.specs.Formats.{written, opened, counted}
+use Rattle.spec_text.specs.Formats.{formatted, opened, counted}
 use Rattle.spec_grammar.specs.Tree.{Name, Received, into, equal, exactly, exactly-true, exactly-false, action, Tree, express, assign, increment, decrement, send, receive, assert, print, skip, goto, break, timeout, else, run, set-run, select, loop}
 use Rattle.spec_machine.specs.Eval.{eval}
 use Rattle.spec_machine.specs.Stage.{Stage, Ways, Change}
-use Rattle.spec_machine.specs.Arguments.{nameOf, Aim, hit, miss, aim, Reach, channel, astray, reach, Values, all, stopped, values, agrees, Aims, hits, missed, targets}
+use Rattle.spec_machine.specs.Arguments.{nameOf, Aim, hit, miss, aim, Reach, channel, astray, reach, WorkedOut, all, stopped, values, agrees, Aims, hits, missed, targets}
 
 -- what came of it, and the state after
 abbrev pub Outcome : Type 0 → Type 0
@@ -66,11 +66,11 @@ module _ {S : Type 0} (c : Stage S) where
   steppedBy n s w d (hit k) = goOn n (c .store w k (wrap32 (c .scene .element w k +ℤ d)) s)
   steppedBy n s w d (miss f) = fault s f
 
-  abbrev pub sentTo : ℕ → S → ℤ → Values → Outcome S
+  abbrev pub sentTo : ℕ → S → ℤ → WorkedOut → Outcome S
   sentTo n s v (all vs) = goOn n (c .put v vs s)
   sentTo n s v (stopped f) = fault s f
 
-  abbrev pub sentBy : ℕ → S → Values → Reach → Outcome S
+  abbrev pub sentBy : ℕ → S → WorkedOut → Reach → Outcome S
   sentBy n s vs (channel v) = sentTo n s v vs
   sentBy n s vs (astray f) = fault s f
 
@@ -88,24 +88,25 @@ module _ {S : Type 0} (c : Stage S) where
   receivedBy n s xs (channel v) = receivedIf n s v xs (agrees c v 0 xs)
   receivedBy n s xs (astray f) = fault s f
 
-  abbrev pub printedBy : ℕ → S → Values → Outcome S
+  abbrev pub printedBy : ℕ → S → WorkedOut → Outcome S
   printedBy n s (all vs) = goOn n s
   printedBy n s (stopped f) = fault s f
 
-  abbrev pub ranBy : ℕ → S → Name → Values → Outcome S
+  abbrev pub ranBy : ℕ → S → Name → WorkedOut → Outcome S
   ranBy n s w (all vs) = goOn n (c .begin w vs s)
   ranBy n s w (stopped f) = fault s f
 
   -- `v = run`: the number of the new process, stored in number k of variable x
-  abbrev pub setBy : ℕ → S → Name → ℕ → Name → Values → Outcome S
+  abbrev pub setBy : ℕ → S → Name → ℕ → Name → WorkedOut → Outcome S
   setBy n s x k w (all vs) = goOn n (c .store x k (c .newest) (c .begin w vs s))
   setBy n s x k w (stopped f) = fault s f
 
-  abbrev pub setRunBy : ℕ → S → Name → Name → Values → Aim → Outcome S
+  abbrev pub setRunBy : ℕ → S → Name → Name → WorkedOut → Aim → Outcome S
   setRunBy n s x w vs (hit k) = pick (c .room w) (setBy n s x k w vs) (goOn n (c .store x k (pos 0) s))
   setRunBy n s x w vs (miss f) = fault s f
 
   -- ## statements; `if` and `do` are "themselves no steps", and a `run` that finds no room is none
+  -- It is asked of offered steps alone (specs/Machine.antt); of a statement that is not executable it says what the statement would do, which nothing depends on.
   unfoldable pub effect : Ways → S → Tree action → Outcome S
   effect h s (express e) = expressedBy (h .next) s (eval (c .scene) e)
   effect h s (assign r e) = assignedBy (h .next) s (nameOf r) (eval (c .scene) e) (aim (c .scene) r)
@@ -129,9 +130,9 @@ module _ {S : Type 0} (c : Stage S) where
 -- the bytes of a format, behind `was`, where k values are written before (specs/Formats.antt of `spec_text`)
 unfoldable pub format : List ℤ → ℕ → ℕ → List ℕ → List ℕ
 format vs was k [] = []
-format vs was k (b ∷ bs) = written vs was b k ++ format vs (opened was b) (counted was b k) bs
+format vs was k (b ∷ bs) = formatted vs was b k ++ format vs (opened was b) (counted was b k) bs
 
-abbrev pub textBy : List ℕ → Values → List ℕ
+abbrev pub textBy : List ℕ → WorkedOut → List ℕ
 textBy w (all vs) = format vs 0 0 w
 textBy w (stopped f) = []
 

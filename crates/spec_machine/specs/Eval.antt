@@ -6,7 +6,7 @@ use mathlib.Core.Bool.{Bool}
 use lib.IntN.{ℤ, pos, negsuc}
 use lib.Dec.{eqb, ltb}
 use Rattle.base_bytes.specs.Choice.{pick}
-use Rattle.base_values.specs.Operators.{isTrue, oneIf, applyOf, unaryOf}
+use Rattle.base_values.specs.Operators.{isTrue, applyOf, unaryOf, truth}
 use Rattle.base_values.specs.declared.Fault.the-variants.{Index, Channel}
 use Rattle.base_values.specs.declared.Answer.{Answer}
 use Rattle.base_values.specs.declared.Answer.the-variants.{Value, Fails}
@@ -38,11 +38,6 @@ lengthBy c (Fails f) = Fails f
 abbrev pub signBy : ℕ → Answer → Answer
 signBy o (Value v) = Value (unaryOf o v)
 signBy o (Fails f) = Fails f
-
--- 0 or 1
-abbrev pub truth : Answer → Answer
-truth (Value v) = Value (oneIf (isTrue v))
-truth (Fails f) = Fails f
 
 -- `||`: a left operand that is not 0 decides
 abbrev pub orBy : Answer → Answer → Answer

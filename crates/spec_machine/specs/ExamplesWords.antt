@@ -8,7 +8,7 @@ use Rattle.base_kinds.specs.Kinds.{bytes}
 use Rattle.base_values.specs.Operators.{applyOf, unaryOf, divideOf, remainderOf, shiftLeftOf, shiftRightOf}
 use Rattle.base_values.specs.declared.Fault.{Fault}
 use Rattle.base_outcome.specs.declared.Taken.the-variants.{Done, Refuted, Faulted, Idle}
-use Rattle.spec_text.specs.Formats.{digitsBy, escaped, written, opened, counted}
+use Rattle.spec_text.specs.Formats.{digitsBy, escaped, formatted, opened, counted}
 use Rattle.spec_grammar.specs.Tree.{Name, Expr, plain, num, get, unary, binary, action, sequence, options, Tree, select, loop, bare, end, then, over, option, Value, set-channel, variable, Declaration, declare, Group, body, idle, once, Part, process, init, Model}
 use Rattle.spec_machine.specs.Effect.{Outcome, format}
 use Rattle.spec_machine.specs.State.{Channel, Process, State}
@@ -20,7 +20,7 @@ use Rattle.spec_machine.specs.Examples.{machine}
 
 -- to unfold this is to unfold all that the examples compute with
 unfoldable pub working : Unit {0}
-unfolding machine asked format written opened counted escaped digitsBy applyOf unaryOf divideOf remainderOf shiftLeftOf shiftRightOf
+unfolding machine asked format formatted opened counted escaped digitsBy applyOf unaryOf divideOf remainderOf shiftLeftOf shiftRightOf
 working = tt
 
 -- ## names and numbers

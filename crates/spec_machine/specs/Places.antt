@@ -6,8 +6,8 @@ use mathlib.Core.List.{List, [], _∷_, _++_}
 use Rattle.spec_grammar.specs.Tree.{action, sequence, Tree, Body, body, Part, mtypes, global, process, init, Model}
 use Rattle.spec_rules.specs.Senses.{Scope}
 use Rattle.spec_rules.specs.Statements.{Place, labelsOf}
-use Rattle.spec_rules.specs.Units.{ofGroups, ofDeclarations, ofPart, ofModel}
-use Rattle.spec_machine.specs.Program.{Within, startIn, endIn, statementsOf}
+use Rattle.spec_rules.specs.Units.{scopeOfGroups, scopeOfDeclarations, ofPart, ofModel}
+use Rattle.spec_machine.specs.Program.{Within, startIn, endIn, sequenceOf}
 use Rattle.spec_machine.specs.Names.{unitAt}
 use Rattle.spec_machine.specs.Begins.{itemsBefore, bodyIn, bodyOf}
 
@@ -30,7 +30,7 @@ endOf m k = endIn (bodyOf (unitAt m k)) (bodyAt m k)
 
 -- in unit k the statement x stands at place j, place n follows it, and place o is behind its loop
 abbrev pub At : Model → ℕ → Tree action → ℕ → ℕ → ℕ → Type 0
-At m k x j n o = Within sequence (statementsOf (bodyOf (unitAt m k))) (startOf m k) (endOf m k) 0 x j n o
+At m k x j n o = Within sequence (sequenceOf (bodyOf (unitAt m k))) (startOf m k) (endOf m k) 0 x j n o
 
 pub data Belongs (m : Model) (k j : ℕ) : Type 0 where
   ends : Bodied (unitAt m k) → j ≡ endOf m k → Belongs m k j
@@ -38,12 +38,12 @@ pub data Belongs (m : Model) (k j : ℕ) : Type 0 where
 
 -- ## what names stand for in the statements of unit k, where M are all globals of the model and g those declared before
 abbrev pub settingBy : Scope → Scope → Scope → Body → Place
-settingBy M g l (body ds q) = record { locals = l ++ ofDeclarations ds; globals = g; model = M; labels = labelsOf q }
+settingBy M g l (body ds q) = record { locals = l ++ scopeOfDeclarations ds; globals = g; model = M; labels = labelsOf q }
 
 abbrev pub settingIn : Scope → Scope → Part → Place
 settingIn M g (mtypes ws) = record { locals = []; globals = g; model = M; labels = [] }
 settingIn M g (global d) = record { locals = []; globals = g; model = M; labels = [] }
-settingIn M g (process a w gs b) = settingBy M (g ++ ofPart (process a w gs b)) (ofGroups gs) b
+settingIn M g (process a w gs b) = settingBy M (g ++ ofPart (process a w gs b)) (scopeOfGroups gs) b
 settingIn M g (init b) = settingBy M g [] b
 
 abbrev pub settingFrom : Scope → Scope → Model → ℕ → Place

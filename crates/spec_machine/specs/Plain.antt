@@ -6,8 +6,8 @@ use mathlib.Core.List.{List, [], _∷_, _++_}
 use lib.ListN.{length, getD, set, drop}
 use lib.IntN.{ℤ, pos}
 use lib.Dec.{ltb, leb}
+use Rattle.base_ceilings.specs.Ceilings.{channelsMost, processesMost}
 use Rattle.base_bytes.specs.Choice.{both}
-use Rattle.spec_text.specs.Ceilings.{processesMost, channelsMost}
 use Rattle.base_bytes.specs.Numbers.{nat}
 use Rattle.base_values.specs.Types.{castOf}
 use Rattle.spec_grammar.specs.Tree.{Name, Value, unset, set-number, set-minus, set-true, set-false, set-name, set-channel, Part, Model}
@@ -44,8 +44,8 @@ abbrev pub noVar : Var
 noVar = record { name = []; type = 0; size = 0; value = unset }
 
 -- the value of the declaration that made it
-abbrev pub madeBy : Model → Channel → Value
-madeBy m c = getD (variablesOf (unitAt m (c .unit))) (c .variable) noVar .value
+abbrev pub declaredBy : Model → Channel → Value
+declaredBy m c = getD (variablesOf (unitAt m (c .unit))) (c .variable) noVar .value
 
 -- ## changes
 abbrev pub oneStored : List (List ℤ) → ℕ → ℕ → ℤ → List (List ℤ)
@@ -83,12 +83,12 @@ module _ (m : Model) (p : ℕ) where
   numbersOf σ self = pos p ∷ []
   numbersOf σ unknown = []
 
-  abbrev pub sizeOf : Meaning → ℕ
-  sizeOf (local i x) = x .size
-  sizeOf (global i x) = x .size
-  sizeOf (message n) = 1
-  sizeOf self = 1
-  sizeOf unknown = 0
+  abbrev pub sizeMeant : Meaning → ℕ
+  sizeMeant (local i x) = x .size
+  sizeMeant (global i x) = x .size
+  sizeMeant (message n) = 1
+  sizeMeant self = 1
+  sizeMeant unknown = 0
 
   abbrev pub isMessage : Meaning → Bool
   isMessage (local i x) = false
@@ -122,7 +122,7 @@ module _ (m : Model) (p : ℕ) where
   plainScene u σ =
       record {
         number = λ w. getD (numbersOf σ (meant m u w)) 0 (pos 0);
-        size = λ w. sizeOf (meant m u w);
+        size = λ w. sizeMeant (meant m u w);
         element = λ w k. getD (numbersOf σ (meant m u w)) k (pos 0);
         made = λ v. both (ltb 0 (nat v)) (leb (nat v) (length (σ .channels)));
         waiting = λ v. length (channelAt σ v .held);
@@ -133,13 +133,13 @@ module _ (m : Model) (p : ℕ) where
       record {
         scene = plainScene u σ;
         constant = λ w. isMessage (meant m u w);
-        capacity = λ v. capacityIn (madeBy m (channelAt σ v));
-        fields = λ v. length (typesIn (madeBy m (channelAt σ v)));
+        capacity = λ v. capacityIn (declaredBy m (channelAt σ v));
+        fields = λ v. length (typesIn (declaredBy m (channelAt σ v)));
         oldest = λ v f. getD (getD (channelAt σ v .held) 0 []) f (pos 0);
         room = λ w. both (ltb (length (σ .processes)) processesMost) (leb (length (σ .channels) + madeByBody (bodyOf (unitAt m (proctypeOf m w)))) channelsMost);
         newest = pos (length (σ .processes));
         store = λ w k v x. stored (meant m u w) k v x;
-        put = λ v l x. withChannel (nat v - 1) (channelAt x v .held ++ castAll (typesIn (madeBy m (channelAt x v))) l ∷ []) x;
+        put = λ v l x. withChannel (nat v - 1) (channelAt x v .held ++ castAll (typesIn (declaredBy m (channelAt x v))) l ∷ []) x;
         take = λ v x. withChannel (nat v - 1) (drop 1 (channelAt x v .held)) x;
         begin = λ w l x. begins m (proctypeOf m w) l x;
         go = λ n x. goes n x;

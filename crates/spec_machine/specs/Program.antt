@@ -1,5 +1,5 @@
 -- Document 01, "How it moves": "(an ended option leads past `fi`, or back to `do`)", "`goto` and `break` are steps of their own (H)". The statements of a model in text order, each with its
--- place and the place that follows it. A place is the number of the item in the tree's code (crate `spec_grammar`) with which a statement begins, behind its label; the end of a process is the
+-- place and the place that follows it. A place is the number of the item in the tree's code (crate `parse_code`) with which a statement begins, behind its label; the end of a process is the
 -- item that ends its body.
 use Prim.Native.Nat.{ℕ, suc, _+_}
 use mathlib.Core.Path.{_≡_}
@@ -8,7 +8,8 @@ use lib.ListN.{length}
 use Rattle.base_bytes.specs.Choice.{pick}
 use Rattle.base_bytes.specs.Lists.{same}
 use Rattle.spec_grammar.specs.Tree.{Name, Sort, action, statement, sequence, options, Tree, express, assign, increment, decrement, send, receive, assert, print, skip, goto, break, timeout, else, run, set-run, select, loop, bare, labelled, end, then, over, option, Group, Body, body, Activity, Part, process, init, Model}
-use Rattle.spec_grammar.specs.Code.{each, code-tree, code-declaration, code-group, code-activity, code-part, i-local}
+use Rattle.base_codes.specs.Items.{i-local}
+use Rattle.parse_code.specs.Code.{each, code-tree, code-declaration, code-group, code-activity, code-part}
 use Rattle.spec_machine.specs.Stage.{Ways}
 
 -- how many items a tree has
@@ -81,19 +82,19 @@ startIn (body ds q) k = k + 1 + length (each (code-declaration i-local) ds)
 abbrev pub endIn : Body → ℕ → ℕ
 endIn (body ds q) k = startIn (body ds q) k + sizeIn q
 
-abbrev pub statementsOf : Body → Tree sequence
-statementsOf (body ds q) = q
+abbrev pub sequenceOf : Body → Tree sequence
+sequenceOf (body ds q) = q
 
 -- in the model m, the unit that item u begins has the statement a at place j, and h are the ways from there
 pub record Statement (m : Model) (u : ℕ) (a : Tree action) (j : ℕ) (h : Ways) : Type 0 where
   pub own : Body
   pub at : ℕ
   pub held : Holds m 0 u own at
-  pub inside : Within sequence (statementsOf own) (startIn own at) (endIn own at) 0 a j (h .next) (h .out)
-  pub labels : (w : Name) → h .label w ≡ labelIn w (statementsOf own) (startIn own at) 0
+  pub inside : Within sequence (sequenceOf own) (startIn own at) (endIn own at) 0 a j (h .next) (h .out)
+  pub labels : (w : Name) → h .label w ≡ labelIn w (sequenceOf own) (startIn own at) 0
 
 -- that unit ends at item j
-pub record Ending (m : Model) (u j : ℕ) : Type 0 where
+pub record BodyEnd (m : Model) (u j : ℕ) : Type 0 where
   pub own : Body
   pub at : ℕ
   pub held : Holds m 0 u own at

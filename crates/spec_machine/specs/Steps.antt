@@ -12,7 +12,7 @@ use Rattle.spec_machine.specs.Stage.{Stage, Ways}
 use Rattle.spec_machine.specs.Ready.{ready}
 use Rattle.spec_machine.specs.Effect.{Outcome, effect, prints}
 use Rattle.spec_machine.specs.Offers.{offers}
-use Rattle.spec_machine.specs.Program.{sizeIn, enter, labelIn, startIn, endIn, statementsOf}
+use Rattle.spec_machine.specs.Program.{sizeIn, enter, labelIn, startIn, endIn, sequenceOf}
 use Rattle.spec_machine.specs.State.{Process, State, noProcess}
 use Rattle.spec_machine.specs.Names.{unitAt}
 use Rattle.spec_machine.specs.Begins.{itemsBefore, bodyIn, bodyOf}
@@ -71,10 +71,10 @@ module _ (m : Model) (σ : State) (p : ℕ) where
 
   -- what stands at place j of its body
   abbrev pub standing : ℕ → Found
-  standing j = statementAt (statementsOf (bodyOf (unitAt m (me .unit)))) (startIn (bodyOf (unitAt m (me .unit))) at) (endIn (bodyOf (unitAt m (me .unit))) at) 0 j
+  standing j = statementAt (sequenceOf (bodyOf (unitAt m (me .unit)))) (startIn (bodyOf (unitAt m (me .unit))) at) (endIn (bodyOf (unitAt m (me .unit))) at) 0 j
 
   abbrev pub waysOf : ℕ → ℕ → Ways
-  waysOf n o = record { next = n; out = o; label = λ w. labelIn w (statementsOf (bodyOf (unitAt m (me .unit)))) (startIn (bodyOf (unitAt m (me .unit))) at) 0 }
+  waysOf n o = record { next = n; out = o; label = λ w. labelIn w (sequenceOf (bodyOf (unitAt m (me .unit)))) (startIn (bodyOf (unitAt m (me .unit))) at) 0 }
 
   abbrev pub stepsBy : Bool → ℕ → Found → List ℕ
   stepsBy late j nothing = []

@@ -5,6 +5,7 @@ use mathlib.Core.Bool.{Bool, true}
 use mathlib.Core.Option.{Option, none, some}
 use lib.ListN.{length}
 use lib.Dec.{leb}
+use Rattle.base_ceilings.specs.Ceilings.{channelsMost, globalsMost, mtypesMost, numbersMost, printedMost, processesMost, proctypesMost, statementsMost}
 use Rattle.base_bytes.specs.Choice.{both}
 use Rattle.spec_grammar.specs.Tree.{Value, unset, set-number, set-minus, set-true, set-false, set-name, set-channel, Declaration, declare, Group, group, Body, body, Activity, idle, once, times, Part, mtypes, global, process, init, Model}
 use Rattle.spec_grammar.specs.Tree as tree
@@ -47,7 +48,7 @@ narrow (decrement r) = true
 narrow (send r es) = true
 narrow (receive r xs) = true
 narrow (assert e) = true
-narrow (print w es) = leb (length es) 4
+narrow (print w es) = leb (length es) printedMost
 narrow skip = true
 narrow (goto w) = true
 narrow break = true
@@ -69,27 +70,27 @@ abbrev pub sizeOf : Option ℕ → ℕ
 sizeOf none = 1
 sizeOf (some n) = n
 
-abbrev pub ofVariable : tree.Variable → ℕ
-ofVariable (tree.variable w s v) = sizeOf s
+abbrev pub sizeOfVariable : tree.Variable → ℕ
+sizeOfVariable (tree.variable w s v) = sizeOf s
 
-abbrev pub ofDeclaration : Declaration → ℕ
-ofDeclaration (declare k xs) = tally ofVariable xs
+abbrev pub sizeOfDeclaration : Declaration → ℕ
+sizeOfDeclaration (declare k xs) = tally sizeOfVariable xs
 
-abbrev pub ofGroup : Group → ℕ
-ofGroup (group k ws) = length ws
+abbrev pub sizeOfGroup : Group → ℕ
+sizeOfGroup (group k ws) = length ws
 
 -- ## channels that a declaration makes
-abbrev pub madeBy : Value → ℕ
-madeBy unset = 0
-madeBy (set-number n) = 0
-madeBy (set-minus n) = 0
-madeBy set-true = 0
-madeBy set-false = 0
-madeBy (set-name w) = 0
-madeBy (set-channel n ks) = 1
+abbrev pub channelsBy : Value → ℕ
+channelsBy unset = 0
+channelsBy (set-number n) = 0
+channelsBy (set-minus n) = 0
+channelsBy set-true = 0
+channelsBy set-false = 0
+channelsBy (set-name w) = 0
+channelsBy (set-channel n ks) = 1
 
 abbrev pub madeByVariable : tree.Variable → ℕ
-madeByVariable (tree.variable w s v) = madeBy v
+madeByVariable (tree.variable w s v) = channelsBy v
 
 abbrev pub madeByDeclaration : Declaration → ℕ
 madeByDeclaration (declare k xs) = tally madeByVariable xs
@@ -98,37 +99,37 @@ abbrev pub madeByBody : Body → ℕ
 madeByBody (body ds q) = tally madeByDeclaration ds
 
 -- ## units
-abbrev pub statementsOf : Part → ℕ
-statementsOf (mtypes ws) = 0
-statementsOf (global d) = 0
-statementsOf (process a w gs (body ds q)) = statementsIn q
-statementsOf (init (body ds q)) = statementsIn q
+abbrev pub statementCount : Part → ℕ
+statementCount (mtypes ws) = 0
+statementCount (global d) = 0
+statementCount (process a w gs (body ds q)) = statementsIn q
+statementCount (init (body ds q)) = statementsIn q
 
-abbrev pub messagesOf : Part → ℕ
-messagesOf (mtypes ws) = length ws
-messagesOf (global d) = 0
-messagesOf (process a w gs b) = 0
-messagesOf (init b) = 0
+abbrev pub messageCount : Part → ℕ
+messageCount (mtypes ws) = length ws
+messageCount (global d) = 0
+messageCount (process a w gs b) = 0
+messageCount (init b) = 0
 
 -- `init` is none
-abbrev pub proctypesOf : Part → ℕ
-proctypesOf (mtypes ws) = 0
-proctypesOf (global d) = 0
-proctypesOf (process a w gs b) = 1
-proctypesOf (init b) = 0
+abbrev pub proctypeCount : Part → ℕ
+proctypeCount (mtypes ws) = 0
+proctypeCount (global d) = 0
+proctypeCount (process a w gs b) = 1
+proctypeCount (init b) = 0
 
-abbrev pub globalsOf : Part → ℕ
-globalsOf (mtypes ws) = 0
-globalsOf (global d) = ofDeclaration d
-globalsOf (process a w gs b) = 0
-globalsOf (init b) = 0
+abbrev pub globalCount : Part → ℕ
+globalCount (mtypes ws) = 0
+globalCount (global d) = sizeOfDeclaration d
+globalCount (process a w gs b) = 0
+globalCount (init b) = 0
 
 -- "numbers per process 32", started or not; and its printfs
 abbrev pub light : Part → Bool
 light (mtypes ws) = true
 light (global d) = true
-light (process a w gs (body ds q)) = both (leb (tally ofGroup gs + tally ofDeclaration ds) 32) (narrow q)
-light (init (body ds q)) = both (leb (tally ofDeclaration ds) 32) (narrow q)
+light (process a w gs (body ds q)) = both (leb (tally sizeOfGroup gs + tally sizeOfDeclaration ds) numbersMost) (narrow q)
+light (init (body ds q)) = both (leb (tally sizeOfDeclaration ds) numbersMost) (narrow q)
 
 -- "`active [0]` starts none"
 abbrev pub startedBy : Activity → ℕ
@@ -136,20 +137,20 @@ startedBy idle = 0
 startedBy once = 1
 startedBy (times n) = n
 
-abbrev pub startsOf : Part → ℕ
-startsOf (mtypes ws) = 0
-startsOf (global d) = 0
-startsOf (process a w gs b) = startedBy a
-startsOf (init b) = 1
+abbrev pub startCount : Part → ℕ
+startCount (mtypes ws) = 0
+startCount (global d) = 0
+startCount (process a w gs b) = startedBy a
+startCount (init b) = 1
 
 -- the channels of the initial state: global ones, and of each process that starts its own
-abbrev pub channelsOf : Part → ℕ
-channelsOf (mtypes ws) = 0
-channelsOf (global d) = madeByDeclaration d
-channelsOf (process a w gs b) = startedBy a * madeByBody b
-channelsOf (init b) = madeByBody b
+abbrev pub channelCount : Part → ℕ
+channelCount (mtypes ws) = 0
+channelCount (global d) = madeByDeclaration d
+channelCount (process a w gs b) = startedBy a * madeByBody b
+channelCount (init b) = madeByBody b
 
 unfoldable pub modest : Model → Bool
 modest m =
-    both (both (both (leb (tally statementsOf m) 512) (leb (tally messagesOf m) 64)) (both (leb (tally proctypesOf m) 16) (leb (tally globalsOf m) 64)))
-    (both (all light m) (both (both (leb 1 (tally startsOf m)) (leb (tally startsOf m) 16)) (leb (tally channelsOf m) 16)))
+    both (both (both (leb (tally statementCount m) statementsMost) (leb (tally messageCount m) mtypesMost)) (both (leb (tally proctypeCount m) proctypesMost) (leb (tally globalCount m) globalsMost)))
+    (both (all light m) (both (both (leb 1 (tally startCount m)) (leb (tally startCount m) processesMost)) (leb (tally channelCount m) channelsMost)))

@@ -2,6 +2,7 @@
 -- answered" ("name unknown .. of the wrong kind", "bad index use", "height"). `sense` says what a name stands for where the expression stands.
 use mathlib.Core.Bool.{Bool, true, false, not}
 use lib.Dec.{leb}
+use Rattle.base_ceilings.specs.Ceilings.{heightMost}
 use Rattle.base_bytes.specs.Choice.{pick, both}
 use Rattle.base_bytes.specs.Lists.{same}
 use Rattle.spec_text.specs.Names.{pid}
@@ -64,7 +65,7 @@ module _ (sense : Name → Sense) where
 
   -- "expression height 32", of a whole expression, or of a reference that stands alone
   unfoldable pub lawful : {s : Shape} → Role → Exp s → Bool
-  lawful role e = both (leb (height e) 32) (named role e)
+  lawful role e = both (leb (height e) heightMost) (named role e)
 
   abbrev pub whole : Expr → Bool
   whole e = lawful operand e

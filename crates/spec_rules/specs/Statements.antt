@@ -5,6 +5,7 @@ use mathlib.Core.Bool.{Bool, true, false}
 use mathlib.Core.List.{List, [], _∷_, _++_}
 use lib.ListN.{length}
 use lib.Dec.{eqb, leb}
+use Rattle.base_ceilings.specs.Ceilings.{fieldsMost}
 use Rattle.base_bytes.specs.Choice.{pick, both, either}
 use Rattle.base_bytes.specs.Lists.{same}
 use Rattle.spec_text.specs.Formats.{formatOf}
@@ -119,8 +120,8 @@ module _ (at : Place) where
   allowed loops first (increment r) = lawful sense target r
   allowed loops first (decrement r) = lawful sense target r
   -- "more than 4 message arguments"
-  allowed loops first (send r es) = both (lawful sense channel r) (both (leb (length es) 4) (all (whole sense) es))
-  allowed loops first (receive r xs) = both (lawful sense channel r) (both (leb (length xs) 4) (all receives xs))
+  allowed loops first (send r es) = both (lawful sense channel r) (both (leb (length es) fieldsMost) (all (whole sense) es))
+  allowed loops first (receive r xs) = both (lawful sense channel r) (both (leb (length xs) fieldsMost) (all receives xs))
   allowed loops first (assert e) = whole sense e
   allowed loops first (print w es) = both (formats w (length es)) (all (whole sense) es)
   allowed loops first skip = true

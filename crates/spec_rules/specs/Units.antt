@@ -6,6 +6,7 @@ use mathlib.Core.Option.{Option, none, some}
 use mathlib.Core.List.{List, [], _∷_, _++_, map}
 use lib.ListN.{length}
 use lib.Dec.{eqb, leb}
+use Rattle.base_ceilings.specs.Ceilings.{arrayLeast, arrayMost, capacityLeast, capacityMost, fieldsMost}
 use Rattle.base_bytes.specs.Choice.{both}
 use Rattle.spec_grammar.specs.Tree.{Name, Value, unset, set-number, set-minus, set-true, set-false, set-name, set-channel, Declaration, declare, Group, group, Body, body, Part, mtypes, global, process, init, Model}
 use Rattle.spec_grammar.specs.Tree as tree
@@ -18,25 +19,25 @@ abbrev pub isArray : Option ℕ → Bool
 isArray none = false
 isArray (some n) = true
 
-abbrev pub ofVariable : ℕ → tree.Variable → Declared
-ofVariable k (tree.variable w s v) = declared w (variable (eqb k 43) (isArray s))
+abbrev pub senseOfVariable : ℕ → tree.Variable → Declared
+senseOfVariable k (tree.variable w s v) = declared w (variable (eqb k 43) (isArray s))
 
-abbrev pub ofDeclaration : Declaration → Scope
-ofDeclaration (declare k xs) = map (ofVariable k) xs
+abbrev pub scopeOfDeclaration : Declaration → Scope
+scopeOfDeclaration (declare k xs) = map (senseOfVariable k) xs
 
-abbrev pub ofParameter : ℕ → Name → Declared
-ofParameter k w = declared w (variable (eqb k 43) false)
+abbrev pub senseOfParameter : ℕ → Name → Declared
+senseOfParameter k w = declared w (variable (eqb k 43) false)
 
-abbrev pub ofGroup : Group → Scope
-ofGroup (group k ws) = map (ofParameter k) ws
+abbrev pub scopeOfGroup : Group → Scope
+scopeOfGroup (group k ws) = map (senseOfParameter k) ws
 
-abbrev pub ofGroups : List Group → Scope
-ofGroups [] = []
-ofGroups (g ∷ gs) = ofGroup g ++ ofGroups gs
+abbrev pub scopeOfGroups : List Group → Scope
+scopeOfGroups [] = []
+scopeOfGroups (g ∷ gs) = scopeOfGroup g ++ scopeOfGroups gs
 
-abbrev pub ofDeclarations : List Declaration → Scope
-ofDeclarations [] = []
-ofDeclarations (d ∷ ds) = ofDeclaration d ++ ofDeclarations ds
+abbrev pub scopeOfDeclarations : List Declaration → Scope
+scopeOfDeclarations [] = []
+scopeOfDeclarations (d ∷ ds) = scopeOfDeclaration d ++ scopeOfDeclarations ds
 
 abbrev pub ofMessage : Name → Declared
 ofMessage w = declared w constant
@@ -44,8 +45,8 @@ ofMessage w = declared w constant
 -- the globals of a unit
 abbrev pub ofPart : Part → Scope
 ofPart (mtypes ws) = map ofMessage ws
-ofPart (global d) = ofDeclaration d
-ofPart (process a w gs b) = declared w (procedure (length (ofGroups gs))) ∷ []
+ofPart (global d) = scopeOfDeclaration d
+ofPart (process a w gs b) = declared w (procedure (length (scopeOfGroups gs))) ∷ []
 ofPart (init b) = []
 
 abbrev pub ofModel : Model → Scope
@@ -56,7 +57,7 @@ ofModel (u ∷ m) = ofPart u ++ ofModel m
 -- "array 1 to 32"
 abbrev pub sized : Option ℕ → Bool
 sized none = true
-sized (some n) = both (leb 1 n) (leb n 32)
+sized (some n) = both (leb arrayLeast n) (leb n arrayMost)
 
 -- an mtype name is the value of a name; "message fields 1 to 4; capacity 1 to 8"
 abbrev pub valued : (Name → Sense) → Value → Bool
@@ -66,7 +67,7 @@ valued sense (set-minus n) = true
 valued sense set-true = true
 valued sense set-false = true
 valued sense (set-name w) = isConstant (sense w)
-valued sense (set-channel n ks) = both (both (leb 1 n) (leb n 8)) (leb (length ks) 4)
+valued sense (set-channel n ks) = both (both (leb capacityLeast n) (leb n capacityMost)) (leb (length ks) fieldsMost)
 
 -- each name of a list is new in its space, and joins it
 unfoldable pub joins : Scope → Scope → Bool
@@ -75,31 +76,31 @@ joins l (d ∷ ds) = both (fresh l (d .name)) (joins (l ++ d ∷ []) ds)
 
 -- a variable of a body: its own value already sees it, "from its own name on"
 abbrev pub localLawful : Scope → Scope → ℕ → tree.Variable → Bool
-localLawful globals l k (tree.variable w s v) = both (fresh l w) (both (sized s) (valued (senseOf (l ++ ofVariable k (tree.variable w s v) ∷ []) globals) v))
+localLawful globals l k (tree.variable w s v) = both (fresh l w) (both (sized s) (valued (senseOf (l ++ senseOfVariable k (tree.variable w s v) ∷ []) globals) v))
 
 abbrev pub globalLawful : Scope → ℕ → tree.Variable → Bool
-globalLawful l k (tree.variable w s v) = both (fresh l w) (both (sized s) (valued (senseOf [] (l ++ ofVariable k (tree.variable w s v) ∷ [])) v))
+globalLawful l k (tree.variable w s v) = both (fresh l w) (both (sized s) (valued (senseOf [] (l ++ senseOfVariable k (tree.variable w s v) ∷ [])) v))
 
 unfoldable pub variables : (Scope → tree.Variable → Bool) → ℕ → Scope → List tree.Variable → Bool
 variables f k l [] = true
-variables f k l (x ∷ xs) = both (f l x) (variables f k (l ++ ofVariable k x ∷ []) xs)
+variables f k l (x ∷ xs) = both (f l x) (variables f k (l ++ senseOfVariable k x ∷ []) xs)
 
 unfoldable pub declarations : Scope → Scope → List Declaration → Bool
 declarations globals l [] = true
-declarations globals l (declare k xs ∷ ds) = both (variables (λ l x. localLawful globals l k x) k l xs) (declarations globals (l ++ ofDeclaration (declare k xs)) ds)
+declarations globals l (declare k xs ∷ ds) = both (variables (λ l x. localLawful globals l k x) k l xs) (declarations globals (l ++ scopeOfDeclaration (declare k xs)) ds)
 
 -- ## bodies and units
 -- a body behind these globals, with these parameters, in the model
 unfoldable pub bodyLawful : Scope → Scope → Scope → Body → Bool
 bodyLawful model globals parameters (body ds q) =
     both (declarations globals parameters ds)
-    (both (apart (labelsOf q)) (allowed record { locals = parameters ++ ofDeclarations ds; globals = globals; model = model; labels = labelsOf q } false false q))
+    (both (apart (labelsOf q)) (allowed record { locals = parameters ++ scopeOfDeclarations ds; globals = globals; model = model; labels = labelsOf q } false false q))
 
 abbrev pub partLawful : Scope → Scope → Part → Bool
 partLawful model globals (mtypes ws) = joins globals (map ofMessage ws)
 partLawful model globals (global (declare k xs)) = variables (λ l x. globalLawful l k x) k globals xs
 partLawful model globals (process a w gs b) =
-    both (fresh globals w) (both (joins [] (ofGroups gs)) (bodyLawful model (globals ++ ofPart (process a w gs b)) (ofGroups gs) b))
+    both (fresh globals w) (both (joins [] (scopeOfGroups gs)) (bodyLawful model (globals ++ ofPart (process a w gs b)) (scopeOfGroups gs) b))
 partLawful model globals (init b) = bodyLawful model globals [] b
 
 unfoldable pub partsLawful : Scope → Scope → Model → Bool

@@ -3,7 +3,7 @@ use Prim.Native.Nat.{ℕ}
 use mathlib.Core.Path.{_≡_, refl}
 use mathlib.Core.List.{List, [], _∷_}
 use lib.IntN.{ℤ, pos, negsuc}
-use Rattle.spec_text.specs.Formats.{formatFrom, formatOf, digitsBy, decimal, escaped, written, opened, counted}
+use Rattle.spec_text.specs.Formats.{formatFrom, formatOf, digitsBy, decimalOf, escaped, formatted, opened, counted}
 
 -- twice the number of `%d`, and one more if some `%` is bad: ``, `d`, `%d`, `%d%d`, `%%d`
 asked : (formatOf [] ≡ 0) × (formatOf (100 ∷ []) ≡ 0) × (formatOf (37 ∷ 100 ∷ []) ≡ 2) × (formatOf (37 ∷ 100 ∷ 37 ∷ 100 ∷ []) ≡ 4) × (formatOf (37 ∷ 37 ∷ 100 ∷ []) ≡ 0)
@@ -16,8 +16,8 @@ unfolding formatFrom
 bad = (refl, refl, refl, refl)
 
 -- 0, 9, 10, -1, the greatest and the least value
-numbers : (decimal (pos 0) ≡ 48 ∷ []) × (decimal (pos 9) ≡ 57 ∷ []) × (decimal (pos 10) ≡ 49 ∷ 48 ∷ []) × (decimal (negsuc 0) ≡ 45 ∷ 49 ∷ [])
-    × (decimal (pos 2147483647) ≡ 50 ∷ 49 ∷ 52 ∷ 55 ∷ 52 ∷ 56 ∷ 51 ∷ 54 ∷ 52 ∷ 55 ∷ []) × (decimal (negsuc 2147483647) ≡ 45 ∷ 50 ∷ 49 ∷ 52 ∷ 55 ∷ 52 ∷ 56 ∷ 51 ∷ 54 ∷ 52 ∷ 56 ∷ [])
+numbers : (decimalOf (pos 0) ≡ 48 ∷ []) × (decimalOf (pos 9) ≡ 57 ∷ []) × (decimalOf (pos 10) ≡ 49 ∷ 48 ∷ []) × (decimalOf (negsuc 0) ≡ 45 ∷ 49 ∷ [])
+    × (decimalOf (pos 2147483647) ≡ 50 ∷ 49 ∷ 52 ∷ 55 ∷ 52 ∷ 56 ∷ 51 ∷ 54 ∷ 52 ∷ 55 ∷ []) × (decimalOf (negsuc 2147483647) ≡ 45 ∷ 50 ∷ 49 ∷ 52 ∷ 55 ∷ 52 ∷ 56 ∷ 51 ∷ 54 ∷ 52 ∷ 56 ∷ [])
 unfolding digitsBy
 numbers = (refl, refl, refl, refl, refl, refl)
 
@@ -27,8 +27,8 @@ unfolding escaped
 escapes = (refl, refl, refl, refl)
 
 -- behind nothing `a` and `%`; behind a `%` `d`, which writes the value, and `%`; behind a backslash `n`
-writes : (written [] 0 97 0 ≡ 97 ∷ []) × (written [] 0 37 0 ≡ []) × (written (pos 7 ∷ []) 37 100 0 ≡ 55 ∷ []) × (written [] 37 37 0 ≡ 37 ∷ []) × (written [] 92 110 0 ≡ 10 ∷ [])
-unfolding written digitsBy escaped
+writes : (formatted [] 0 97 0 ≡ 97 ∷ []) × (formatted [] 0 37 0 ≡ []) × (formatted (pos 7 ∷ []) 37 100 0 ≡ 55 ∷ []) × (formatted [] 37 37 0 ≡ 37 ∷ []) × (formatted [] 92 110 0 ≡ 10 ∷ [])
+unfolding formatted digitsBy escaped
 writes = (refl, refl, refl, refl, refl)
 
 -- a `%` opens, but not behind another or behind a backslash; only `%d` counts

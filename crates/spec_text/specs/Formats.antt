@@ -34,9 +34,9 @@ abbrev pub digitsOf : ℕ → List ℕ
 digitsOf n = digitsBy 10 n
 
 -- in signed decimal
-abbrev pub decimal : ℤ → List ℕ
-decimal (pos n) = digitsOf n
-decimal (negsuc n) = 45 ∷ digitsOf (n + 1)
+abbrev pub decimalOf : ℤ → List ℕ
+decimalOf (pos n) = digitsOf n
+decimalOf (negsuc n) = 45 ∷ digitsOf (n + 1)
 
 -- ## what a format writes; `l` holds the values that it asks for
 -- the byte that a backslash and b mean
@@ -44,10 +44,10 @@ unfoldable pub escaped : ℕ → ℕ
 escaped b = pick (eqb b 110) 10 (pick (eqb b 116) 9 b)
 
 -- what the byte b writes, which stands behind `was`: a backslash (92) or a `%` (37) that is open, or 0; k numbers are written before
-unfoldable pub written : List ℤ → ℕ → ℕ → ℕ → List ℕ
-written l was b k =
+unfoldable pub formatted : List ℤ → ℕ → ℕ → ℕ → List ℕ
+formatted l was b k =
     pick (eqb was 92) (escaped b ∷ [])
-    (pick (eqb was 37) (pick (eqb b 100) (decimal (getD l k (pos 0))) (b ∷ []))
+    (pick (eqb was 37) (pick (eqb b 100) (decimalOf (getD l k (pos 0))) (b ∷ []))
     (pick (eqb b 92) [] (pick (eqb b 37) [] (b ∷ []))))
 
 -- what is open behind it

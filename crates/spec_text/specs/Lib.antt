@@ -1,4 +1,3 @@
-pub mod Ceilings
 pub mod Names
 pub mod Formats
 pub mod Examples

@@ -5,3 +5,4 @@ pub mod Examples
 pub mod ExamplesRuns
 pub mod ExamplesReplays
 pub mod ExamplesFactorial
+pub mod Texts

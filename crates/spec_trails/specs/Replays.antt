@@ -24,6 +24,10 @@ claimed (standing finished) = 3
 claimed (standing blocked) = 4
 claimed (standing «open») = 5
 
+-- and the claim with that number
+abbrev pub claimBy : ℕ → Claim
+claimBy v = pick (eqb v 1) assertion (pick (eqb v 2) fault (pick (eqb v 3) (standing finished) (pick (eqb v 4) (standing blocked) (standing «open»))))
+
 -- accepted, or refused with a number at a line
 pub data Replayed : Type 0 where
   accepted : Replayed

@@ -6,12 +6,6 @@ use lib.ListN.{getD}
 use Rattle.base_kinds.specs.Kinds.{bytes}
 use Rattle.spec_text.specs.Formats.{digitsOf}
 
-abbrev pub trail-most : ℕ
-trail-most = 32768
-
-abbrev pub steps-most : ℕ
-steps-most = 2048
-
 abbrev pub tab : ℕ
 tab = 9
 

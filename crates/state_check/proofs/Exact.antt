@@ -9,36 +9,26 @@ use lib.ListN.{length}
 use lib.IntN.{ℤ, pos, negsuc}
 use lib.Dec.{eqb, ltb, leb}
 use borrow.Author.Tests.{eq-eqb, lt-ltb, le-leb}
+use Rattle.base_ceilings.specs.Ceilings.{capacityMost, channelsMost, processesMost, stateRoom}
 use Rattle.base_codes.specs.Codes.{c-channel, c-init, c-proctype}
-use Rattle.base_bytes.specs.Choice.{pick, both, either}
-use Rattle.rule_search.specs.Sets.{within}
+use Rattle.base_codes.specs.Sets.{within}
+use Rattle.base_bytes.specs.Choice.{pick, both}
 use Rattle.table_layout.specs.Access.{codeOf, linkOf}
 use Rattle.base_values.specs.Operators.{same}
 use Rattle.base_values.specs.Types.{castOf}
-use Rattle.state_layout.specs.Layout.{stateSize, cellOf, processAt, channelAt, fieldAt, processesOf, channelsOf, unitOf, placeOf, declaredOf, waitingOf}
-use Rattle.spec_text.specs.Ceilings.{processesMost, channelsMost, messagesMost}
+use Rattle.state_layout.specs.Layout.{cellOf, processAt, channelAt, fieldAt, processesOf, channelsOf, unitOf, placeOf, declaredOf, waitingOf, keptMost}
 use Rattle.step_eval.specs.Variables.{typeOf, sizeOf, slotOf}
 use Rattle.state_start.specs.Starting.{unitLength, scanned}
 use Rattle.step_ready.specs.Channels.{capacityOf, fieldsOf}
-use Rattle.state_types.specs.Fits.{every, countsAt, countsFrom, fitsAt, elementFits, variableFits, isGlobal, isLocal, fieldType, globalFits, localFits, localsFit, fieldFits, messageFits}
+use Rattle.state_types.specs.Fits.{every, countsAt, countsFrom, fitsAt, elementFits, variableFits, isGlobal, isLocal, globalFits, localFits, localsFit, fieldFits, messageFits}
 use Rattle.state_used.specs.Shapes.{shaped, processesIn, channelsIn, messagesIn}
 use Rattle.state_check.specs.Standing.{itemsLast, placeAt, belongs, isProcess, isChannel, processSound, channelSound, sound, sameAt, sameNumbers, isStateOf}
-use Rattle.state_check.specs.Meaning.{InType, Counted, Stands}
+use Rattle.state_check.specs.Meaning.{InType, Counted, IsState}
 use Rattle.state_check.proofs.Kept.{counted-kept, shaped-same}
+use Rattle.base_bytes.proofs.Tests.{both-hold, left-holds, right-holds}
+use Rattle.step_messages.specs.Messages.{fieldType}
 
 -- ---- tests
-both-hold : (a b : Bool) → a ≡ true → b ≡ true → both a b ≡ true
-both-hold true b e f = f
-both-hold false b e f = e
-
-right-holds : (a b : Bool) → b ≡ true → either a b ≡ true
-right-holds true b e = refl
-right-holds false b e = e
-
-left-holds : (a b : Bool) → a ≡ true → either a b ≡ true
-left-holds true b e = refl
-left-holds false b e = absurd (let z : _≡_ {A = ℕ} 0 1 = ap (λ c. pick c 1 0) e in omega arith)
-
 pick-holds : (b c : Bool) → (b ≡ true → c ≡ true) → pick b c true ≡ true
 pick-holds true c h = h refl
 pick-holds false c h = refl
@@ -61,7 +51,7 @@ same-holds : (a b : ℤ) → a ≡ b → same a b ≡ true
 same-holds a b e = subst (λ c. same a c ≡ true) e (same-self a)
 
 -- ---- counts, and values in their types
-counts-hold : (s : List ℤ) (a b i : ℕ) → a ≤ 2147483647 → b ≤ 2147483647 → Counted s a i → Counted s b (i + 1) → countsFrom s a b i ≡ true
+counts-hold : (s : List ℤ) (a b i : ℕ) → a ≤ keptMost → b ≤ keptMost → Counted s a i → Counted s b (i + 1) → countsFrom s a b i ≡ true
 unfolding countsFrom countsAt
 counts-hold s a b i ha hb p q =
     both-hold (countsAt s a i) (countsAt s b (i + 1)) (same-holds (cellOf s i) _ (sym (counted-kept s a i ha p))) (same-holds (cellOf s (i + 1)) _ (sym (counted-kept s b (i + 1) hb q)))
@@ -74,7 +64,7 @@ variable-holds : (s : List ℤ) (l p : ℕ) → ((k : ℕ) → k < sizeOf l → 
 unfolding variableFits elementFits
 variable-holds s l p h = every-holds (elementFits s l p) (sizeOf l) (λ k g. fits-hold s (typeOf l) (slotOf l p k) (h k g))
 
-module _ (t : List ℕ) (s : List ℤ) (st : Stands t s) where
+module _ (t : List ℕ) (s : List ℤ) (st : IsState t s) where
   globals-hold : every (globalFits t s) 0 (scanned t) ≡ true
   unfolding globalFits
   globals-hold = every-holds (globalFits t s) (scanned t) (λ j h. pick-holds (isGlobal t j) _ (λ e. variable-holds s (linkOf t j) 0 (λ k g. st .globals j k h e g)))
@@ -109,7 +99,7 @@ module _ (t : List ℕ) (s : List ℤ) (st : Stands t s) where
   channel-holds : (c : ℕ) → c < channelsOf s → channelSound t s c ≡ true
   unfolding channelSound isChannel
   channel-holds c h =
-      both-hold (countsFrom s (itemsLast t) messagesMost (channelAt c)) (isChannel t s c) (counts-hold s (itemsLast t) messagesMost (channelAt c) (omega arith) (omega arith) (st .records c h .0) (st .records c h .1))
+      both-hold (countsFrom s (itemsLast t) capacityMost (channelAt c)) (isChannel t s c) (counts-hold s (itemsLast t) capacityMost (channelAt c) (omega arith) (omega arith) (st .records c h .0) (st .records c h .1))
       (both-hold (both (eqb (codeOf t (declaredOf s c)) c-channel) (leb (waitingOf s c) (capacityOf t (declaredOf s c)))) _
       (both-hold (eqb (codeOf t (declaredOf s c)) c-channel) _ (eq-eqb (codeOf t (declaredOf s c)) c-channel (st .declarations c h)) (le-leb (waitingOf s c) (capacityOf t (declaredOf s c)) (st .room c h)))
       (messages-hold c h))
@@ -124,9 +114,9 @@ module _ (t : List ℕ) (s : List ℤ) (st : Stands t s) where
 
   same-numbers-hold : sameNumbers (shaped t s) s ≡ true
   unfolding sameNumbers
-  same-numbers-hold = every-holds (sameAt (shaped t s) s) stateSize (λ i h. same-holds (cellOf (shaped t s) i) (cellOf s i) (shaped-same t s st i h))
+  same-numbers-hold = every-holds (sameAt (shaped t s) s) stateRoom (λ i h. same-holds (cellOf (shaped t s) i) (cellOf s i) (shaped-same t s st i h))
 
   pub stands-is-state : isStateOf t s ≡ true
   unfolding isStateOf
   stands-is-state =
-      both-hold (leb stateSize (length s)) _ (le-leb stateSize (length s) (st .long)) (both-hold (sound t s) (sameNumbers (shaped t s) s) sound-holds same-numbers-hold)
+      both-hold (leb stateRoom (length s)) _ (le-leb stateRoom (length s) (st .long)) (both-hold (sound t s) (sameNumbers (shaped t s) s) sound-holds same-numbers-hold)

@@ -10,14 +10,15 @@ use lib.Dec.{eqb, ltb, leb}
 use borrow.Author.Tests.{le-leb, lt-leb}
 use mir.Syntax.{w32}
 use mir.Val.{ofZ}
+use Rattle.base_ceilings.specs.Ceilings.{capacityMost, channelsMost, itemsMost, processesMost, stateRoom}
 use Rattle.base_codes.specs.Codes.{c-channel, c-init, c-proctype}
+use Rattle.base_codes.specs.Sets.{isPart, isAlone, isLead, within}
 use Rattle.base_bytes.specs.Choice.{both, either}
-use Rattle.rule_search.specs.Sets.{within}
-use Rattle.link_places.specs.Places.{isPart, isMark, isAlone, isLead}
+use Rattle.link_places.specs.Places.{isMark}
 use Rattle.table_layout.specs.Access.{itemsOf, codeOf, linkOf}
 use Rattle.base_values.specs.Operators.{same}
 use Rattle.base_values.proofs.Machine.{same-bits}
-use Rattle.state_layout.specs.Layout.{stateSize, processAt, channelAt, cellOf, unitOf, placeOf, declaredOf, waitingOf}
+use Rattle.state_layout.specs.Layout.{processAt, channelAt, cellOf, unitOf, placeOf, declaredOf, waitingOf}
 use Rattle.state_start.specs.Starting.{scanned}
 use Rattle.step_ready.specs.Channels.{capacityOf}
 use Rattle.state_types.specs.Fits.{every, countsAt, countsFrom, globalFits, localsFit, messageFits}
@@ -58,32 +59,32 @@ module _ (t : List ℕ) (s : List ℤ) where
   process-is p eu ec ew eq eb el ez er =
       er ∙ (λ i. both ((ew ∙ ap (within c-proctype c-init) (ec ∙ ap (codeOf t) eu)) i) ((ez ∙ (λ j. both ((eb ∙ (λ k. belongs t (eu k) (eq k))) j) ((el ∙ ap (localsFit t s p) eu) j))) i))
 
-  pub channel-is : (c : ℕ) {d k w m n : ℕ} {a b r : Bool} → d ≡ declaredOf s c → w ≡ waitingOf s c → k ≡ codeOf t d → m ≡ capacityOf t d → a ≡ both (eqb k c-channel) (leb w m) → n ≡ min 8 w
+  pub channel-is : (c : ℕ) {d k w m n : ℕ} {a b r : Bool} → d ≡ declaredOf s c → w ≡ waitingOf s c → k ≡ codeOf t d → m ≡ capacityOf t d → a ≡ both (eqb k c-channel) (leb w m) → n ≡ min capacityMost w
       → b ≡ every (messageFits t s c d) 0 n → r ≡ both a b → r ≡ isChannel t s c
   unfolding isChannel
   channel-is c ed ew ek em ea en eb er =
-      er ∙ (λ i. both ((ea ∙ (λ j. both (eqb ((ek ∙ ap (codeOf t) ed) j) c-channel) (leb (ew j) ((em ∙ ap (capacityOf t) ed) j)))) i) ((eb ∙ (λ j. every (messageFits t s c (ed j)) 0 ((en ∙ ap (min 8) ew) j))) i))
+      er ∙ (λ i. both ((ea ∙ (λ j. both (eqb ((ek ∙ ap (codeOf t) ed) j) c-channel) (leb (ew j) ((em ∙ ap (capacityOf t) ed) j)))) i) ((eb ∙ (λ j. every (messageFits t s c (ed j)) 0 ((en ∙ ap (min capacityMost) ew) j))) i))
 
   pub process-sound : (p : ℕ) {e i : ℕ} {a b r : Bool} → e ≡ itemsLast t → i ≡ processAt p → a ≡ countsFrom s e e i → b ≡ isProcess t s p → r ≡ both a b → r ≡ processSound t s p
   unfolding processSound
   process-sound p ee ei ea eb er = er ∙ (λ j. both ((ea ∙ (λ k. countsFrom s (ee k) (ee k) (ei k))) j) (eb j))
 
-  pub channel-sound : (c : ℕ) {e i : ℕ} {a b r : Bool} → e ≡ itemsLast t → i ≡ channelAt c → a ≡ countsFrom s e 8 i → b ≡ isChannel t s c → r ≡ both a b → r ≡ channelSound t s c
+  pub channel-sound : (c : ℕ) {e i : ℕ} {a b r : Bool} → e ≡ itemsLast t → i ≡ channelAt c → a ≡ countsFrom s e capacityMost i → b ≡ isChannel t s c → r ≡ both a b → r ≡ channelSound t s c
   unfolding channelSound
-  channel-sound c ee ei ea eb er = er ∙ (λ j. both ((ea ∙ (λ k. countsFrom s (ee k) 8 (ei k))) j) (eb j))
+  channel-sound c ee ei ea eb er = er ∙ (λ j. both ((ea ∙ (λ k. countsFrom s (ee k) capacityMost (ei k))) j) (eb j))
 
-  pub sound-as : {i g n m : ℕ} {h f a b y z r : Bool} → h ≡ countsFrom s 16 16 0 → i ≡ itemsOf t → g ≡ min 8192 i → f ≡ every (globalFits t s) 0 g → n ≡ processesIn s
+  pub sound-as : {i g n m : ℕ} {h f a b y z r : Bool} → h ≡ countsFrom s processesMost channelsMost 0 → i ≡ itemsOf t → g ≡ min itemsMost i → f ≡ every (globalFits t s) 0 g → n ≡ processesIn s
       → a ≡ every (processSound t s) 0 n → m ≡ channelsIn s → b ≡ every (channelSound t s) 0 m → z ≡ both a b → y ≡ both f z → r ≡ both h y → r ≡ sound t s
   unfolding sound scanned
   sound-as eh ei eg ef en ea em eb ez ey er =
       er
       ∙ (λ k. both (eh k)
       ((ey
-      ∙ (λ i. both ((ef ∙ ap (every (globalFits t s) 0) (eg ∙ ap (min 8192) ei)) i) ((ez ∙ (λ j. both ((ea ∙ ap (every (processSound t s) 0) en) j) ((eb ∙ ap (every (channelSound t s) 0) em) j))) i)))
+      ∙ (λ i. both ((ef ∙ ap (every (globalFits t s) 0) (eg ∙ ap (min itemsMost) ei)) i) ((ez ∙ (λ j. both ((ea ∙ ap (every (processSound t s) 0) en) j) ((eb ∙ ap (every (channelSound t s) 0) em) j))) i)))
       k))
 
 -- ---- the whole
-pub same-all : (x s : List ℤ) {b : Bool} → b ≡ every (sameAt x s) 0 stateSize → b ≡ sameNumbers x s
+pub same-all : (x s : List ℤ) {b : Bool} → b ≡ every (sameAt x s) 0 stateRoom → b ≡ sameNumbers x s
 unfolding sameNumbers
 same-all x s e = e
 
@@ -93,10 +94,10 @@ module _ (x s : List ℤ) (i : ℕ) {v w : ℤ} (hv : mag v < 2 ^ 31) (ev : v �
   same-at = same-bits v w (record { sfits = hv }) (record { sfits = hw }) ∙ (λ j. same (ev j) (ew j))
 
 module _ (t : List ℕ) (s : List ℤ) where
-  pub state-short : length s < stateSize → false ≡ isStateOf t s
+  pub state-short : length s < stateRoom → false ≡ isStateOf t s
   unfolding isStateOf
-  state-short h = rw (lt-leb stateSize (length s) h)
+  state-short h = rw (lt-leb stateRoom (length s) h)
 
-  pub state-as : stateSize ≤ length s → {x : List ℤ} {a b r : Bool} → x ≡ shapedOn t s (replicate 2048 (pos 0)) → a ≡ sound t s → b ≡ sameNumbers x s → r ≡ both a b → r ≡ isStateOf t s
+  pub state-as : stateRoom ≤ length s → {x : List ℤ} {a b r : Bool} → x ≡ shapedOn t s (replicate stateRoom (pos 0)) → a ≡ sound t s → b ≡ sameNumbers x s → r ≡ both a b → r ≡ isStateOf t s
   unfolding isStateOf shaped
-  state-as h ex ea eb er = rw (le-leb stateSize (length s) h) (er ∙ (λ i. both (ea i) ((eb ∙ ap (λ x. sameNumbers x s) ex) i)))
+  state-as h ex ea eb er = rw (le-leb stateRoom (length s) h) (er ∙ (λ i. both (ea i) ((eb ∙ ap (λ x. sameNumbers x s) ex) i)))

@@ -1,7 +1,7 @@
 -- `isStateOf` lets through nothing but what document 01 calls a state of the model (specs/Meaning.antt), whatever the tables are.
 use Prim.Native.Nat.{ℕ, zero, suc, min, _+_, _≤_, _<_}
 use mathlib.Core.Path.{_≡_, sym, ap, subst, _∙_}
-use mathlib.Core.Bool.{Bool, true, false}
+use mathlib.Core.Bool.{Bool, true}
 use mathlib.Core.List.{List}
 use mathlib.Core.Logic.{_⊎_, inl, inr}
 use native.Mathlib.Omega.{arith}
@@ -11,22 +11,23 @@ use lib.Seq.{getD-set-other}
 use lib.IntN.{ℤ, pos, negsuc}
 use lib.Dec.{eqb, ltb, leb}
 use borrow.Author.Tests.{eqb-true, ltb-true, leb-true}
+use Rattle.base_ceilings.specs.Ceilings.{capacityMost, channelsMost, processesMost, stateRoom}
 use Rattle.base_codes.specs.Codes.{c-channel, c-init, c-proctype}
-use Rattle.base_bytes.specs.Choice.{pick, both}
-use Rattle.base_bytes.proofs.Tests.{both-true, either-true, true-false}
+use Rattle.base_bytes.specs.Choice.{both}
+use Rattle.base_bytes.proofs.Tests.{both-true, either-true, true-false, pick-says}
 use Rattle.table_layout.specs.Access.{codeOf, linkOf}
 use Rattle.base_values.specs.Operators.{same}
 use Rattle.base_values.specs.Types.{castOf}
-use Rattle.state_layout.specs.Layout.{stateSize, kept, cellOf, countOf, processAt, channelAt, fieldAt, processesOf, channelsOf, unitOf, placeOf, declaredOf, waitingOf}
-use Rattle.spec_text.specs.Ceilings.{processesMost, channelsMost, messagesMost}
+use Rattle.state_layout.specs.Layout.{kept, cellOf, countOf, processAt, channelAt, fieldAt, processesOf, channelsOf, unitOf, placeOf, declaredOf, waitingOf, keptMost}
 use Rattle.base_bytes.specs.Numbers.{nat}
 use Rattle.step_eval.specs.Variables.{typeOf, sizeOf, slotOf}
 use Rattle.state_start.specs.Starting.{unitLength, scanned}
 use Rattle.step_ready.specs.Channels.{capacityOf, fieldsOf}
-use Rattle.state_types.specs.Fits.{every, countsAt, countsFrom, fitsAt, elementFits, variableFits, isGlobal, isLocal, fieldType, globalFits, localFits, localsFit, fieldFits, messageFits}
+use Rattle.state_types.specs.Fits.{every, countsAt, countsFrom, fitsAt, elementFits, variableFits, isGlobal, isLocal, globalFits, localFits, localsFit, fieldFits, messageFits}
 use Rattle.state_used.specs.Shapes.{shaped, processesIn, channelsIn, messagesIn}
+use Rattle.step_messages.specs.Messages.{fieldType}
 use Rattle.state_check.specs.Standing.{itemsLast, placeAt, belongs, isProcess, isChannel, processSound, channelSound, sound, sameAt, sameNumbers, isStateOf}
-use Rattle.state_check.specs.Meaning.{InType, Counted, Used, process-unit, process-place, channel-item, channel-count, Stands}
+use Rattle.state_check.specs.Meaning.{InType, Counted, Used, process-unit, process-place, channel-item, channel-count, IsState}
 use Rattle.state_check.proofs.Uses.{shaped-keeps}
 
 -- ---- tests
@@ -46,10 +47,6 @@ same-is (pos a) (negsuc b) e = absurd (true-false (sym e))
 same-is (negsuc a) (pos b) e = absurd (true-false (sym e))
 same-is (negsuc a) (negsuc b) e = ap negsuc (eqb-true a b e)
 
-pick-true : (b c : Bool) → pick b c true ≡ true → b ≡ true → c ≡ true
-pick-true true c e h = e
-pick-true false c e h = absurd (true-false (sym h))
-
 begun-free : (x : List ℤ) (a b : ℤ) (i : ℕ) → 2 ≤ i → cellOf (set (set x 0 a) 1 b) i ≡ cellOf x i
 begun-free x a b i h = getD-set-other (set x 0 a) 1 i b (pos 0) (λ e. omega arith) ∙ getD-set-other x 0 i a (pos 0) (λ e. omega arith)
 
@@ -58,7 +55,7 @@ counted-at : (s : List ℤ) (most i : ℕ) → countsAt s most i ≡ true → Co
 unfolding countsAt
 counted-at s most i e =
     let q : cellOf s i ≡ kept (min most (countOf s i)) = same-is (cellOf s i) (kept (min most (countOf s i))) e in
-    let n : countOf s i ≡ min 2147483647 (min most (countOf s i)) = ap nat q in
+    let n : countOf s i ≡ min keptMost (min most (countOf s i)) = ap nat q in
     (q ∙ ap pos (sym n), omega arith)
 
 counted-from : (s : List ℤ) (a b i : ℕ) → countsFrom s a b i ≡ true → (Counted s a i) × (Counted s b (i + 1))
@@ -76,11 +73,11 @@ variable-in s l p k e h = fits-in s (typeOf l) (slotOf l p k) (every-at (element
 module _ (t : List ℕ) (s : List ℤ) where
   global-in : (j k : ℕ) → globalFits t s j ≡ true → isGlobal t j ≡ true → k < sizeOf (linkOf t j) → InType s (typeOf (linkOf t j)) (slotOf (linkOf t j) 0 k)
   unfolding globalFits
-  global-in j k e g h = variable-in s (linkOf t j) 0 k (pick-true (isGlobal t j) _ e g) h
+  global-in j k e g h = variable-in s (linkOf t j) 0 k (pick-says (isGlobal t j) _ e g) h
 
   local-in : (p j k : ℕ) → localFits t s p j ≡ true → isLocal t j ≡ true → k < sizeOf (linkOf t j) → InType s (typeOf (linkOf t j)) (slotOf (linkOf t j) p k)
   unfolding localFits
-  local-in p j k e g h = variable-in s (linkOf t j) p k (pick-true (isLocal t j) _ e g) h
+  local-in p j k e g h = variable-in s (linkOf t j) p k (pick-says (isLocal t j) _ e g) h
 
   locals-in : (p u j : ℕ) → localsFit t s p u ≡ true → j < unitLength t u → localFits t s p (u + j) ≡ true
   unfolding localsFit
@@ -123,9 +120,9 @@ module _ (t : List ℕ) (s : List ℤ) where
   unfolding processSound
   process-both p e = both-true (countsFrom s (itemsLast t) (itemsLast t) (processAt p)) (isProcess t s p) e
 
-  channel-both : (c : ℕ) → channelSound t s c ≡ true → (countsFrom s (itemsLast t) messagesMost (channelAt c) ≡ true) × (isChannel t s c ≡ true)
+  channel-both : (c : ℕ) → channelSound t s c ≡ true → (countsFrom s (itemsLast t) capacityMost (channelAt c) ≡ true) × (isChannel t s c ≡ true)
   unfolding channelSound
-  channel-both c e = both-true (countsFrom s (itemsLast t) messagesMost (channelAt c)) (isChannel t s c) e
+  channel-both c e = both-true (countsFrom s (itemsLast t) capacityMost (channelAt c)) (isChannel t s c) e
 
   sound-parts : sound t s ≡ true
       → (countsFrom s processesMost channelsMost 0 ≡ true) × (every (globalFits t s) 0 (scanned t) ≡ true) × (every (processSound t s) 0 (processesIn s) ≡ true) × (every (channelSound t s) 0 (channelsIn s) ≡ true)
@@ -137,9 +134,9 @@ module _ (t : List ℕ) (s : List ℤ) where
       (h .0, a .0, b .0, b .1)
 
   -- ---- what is shaped
-  unused-shaped : (i : ℕ) → 2 ≤ i → i < stateSize → Used t s i ⊎ (cellOf (shaped t s) i ≡ pos 0)
+  unused-shaped : (i : ℕ) → 2 ≤ i → i < stateRoom → Used t s i ⊎ (cellOf (shaped t s) i ≡ pos 0)
   unused-shaped i h g =
-      shaped-keeps t s (λ a v. Used t s a) (λ a u. u) process-unit process-place channel-item channel-count (λ x. Used t s i ⊎ (cellOf x i ≡ pos 0)) (λ a v x u q. other a v x u q (ℕ-discrete i a)) (inr (begun-free (replicate stateSize (pos 0)) (kept (processesIn s)) (kept (channelsIn s)) i h ∙ getD-replicate stateSize i (pos 0) (pos 0) g))
+      shaped-keeps t s (λ a v. Used t s a) (λ a u. u) process-unit process-place channel-item channel-count (λ x. Used t s i ⊎ (cellOf x i ≡ pos 0)) (λ a v x u q. other a v x u q (ℕ-discrete i a)) (inr (begun-free (replicate stateRoom (pos 0)) (kept (processesIn s)) (kept (channelsIn s)) i h ∙ getD-replicate stateRoom i (pos 0) (pos 0) g))
     where
       other : (a : ℕ) (v : ℤ) (x : List ℤ) → Used t s a → Used t s i ⊎ (cellOf x i ≡ pos 0) → Dec (i ≡ a) → Used t s i ⊎ (cellOf (set x a v) i ≡ pos 0)
       other a v x u q (yes e) = inl (subst (Used t s) (sym e) u)
@@ -147,10 +144,10 @@ module _ (t : List ℕ) (s : List ℤ) where
       other a v x u (inr w) (no n) = inr (getD-set-other x a i v (pos 0) n ∙ w)
 
   -- ---- the whole
-  module _ (long : stateSize ≤ length s) (sounds : sound t s ≡ true) (keeps : sameNumbers (shaped t s) s ≡ true) where
-    cell-shaped : (i : ℕ) → i < stateSize → cellOf (shaped t s) i ≡ cellOf s i
+  module _ (long : stateRoom ≤ length s) (sounds : sound t s ≡ true) (keeps : sameNumbers (shaped t s) s ≡ true) where
+    cell-shaped : (i : ℕ) → i < stateRoom → cellOf (shaped t s) i ≡ cellOf s i
     unfolding sameNumbers
-    cell-shaped i h = same-is (cellOf (shaped t s) i) (cellOf s i) (every-at (sameAt (shaped t s) s) stateSize i keeps h)
+    cell-shaped i h = same-is (cellOf (shaped t s) i) (cellOf s i) (every-at (sameAt (shaped t s) s) stateRoom i keeps h)
 
     counts-in : Counted s processesMost 0 × Counted s channelsMost 1
     counts-in = counted-from s processesMost channelsMost 0 (sound-parts sounds .0)
@@ -161,23 +158,23 @@ module _ (t : List ℕ) (s : List ℤ) where
     channel-at : (c : ℕ) → c < channelsOf s → channelSound t s c ≡ true
     channel-at c h = every-at (channelSound t s) (channelsIn s) c (sound-parts sounds .3) (let w = counts-in .1 .1 in omega arith)
 
-    waiting-in : (c : ℕ) → c < channelsOf s → waitingOf s c ≤ messagesMost
-    waiting-in c h = counted-from s (itemsLast t) messagesMost (channelAt c) (channel-both c (channel-at c h) .0) .1 .1
+    waiting-in : (c : ℕ) → c < channelsOf s → waitingOf s c ≤ capacityMost
+    waiting-in c h = counted-from s (itemsLast t) capacityMost (channelAt c) (channel-both c (channel-at c h) .0) .1 .1
 
-    unused-zero : (i : ℕ) → 2 ≤ i → i < stateSize → Used t s i ⊎ (cellOf s i ≡ pos 0)
+    unused-zero : (i : ℕ) → 2 ≤ i → i < stateRoom → Used t s i ⊎ (cellOf s i ≡ pos 0)
     unused-zero i h g = go (unused-shaped i h g)
       where
         go : Used t s i ⊎ (cellOf (shaped t s) i ≡ pos 0) → Used t s i ⊎ (cellOf s i ≡ pos 0)
         go (inl u) = inl u
         go (inr e) = inr (sym (cell-shaped i g) ∙ e)
 
-    stands : Stands t s
+    stands : IsState t s
     stands = record {
       long = long;
       processes = counts-in .0;
       channels = counts-in .1;
       heads = λ p h. counted-from s (itemsLast t) (itemsLast t) (processAt p) (process-both p (process-at p h) .0);
-      records = λ c h. counted-from s (itemsLast t) messagesMost (channelAt c) (channel-both c (channel-at c h) .0);
+      records = λ c h. counted-from s (itemsLast t) capacityMost (channelAt c) (channel-both c (channel-at c h) .0);
       globals = λ j k h e g. global-in j k (every-at (globalFits t s) (scanned t) j (sound-parts sounds .1) h) e g;
       locals = λ p j k h g e w. local-in p (unitOf s p + j) k (locals-in p (unitOf s p) j (process-parts p (process-both p (process-at p h) .1) .3) g) e w;
       units = λ p h. let a = process-parts p (process-both p (process-at p h) .1) in (a .0, a .1);
@@ -188,9 +185,9 @@ module _ (t : List ℕ) (s : List ℤ) where
       unused = unused-zero;
     }
 
-  pub is-state-stands : isStateOf t s ≡ true → Stands t s
+  pub is-state-stands : isStateOf t s ≡ true → IsState t s
   unfolding isStateOf
   is-state-stands e =
-      let a = both-true (leb stateSize (length s)) (both (sound t s) (sameNumbers (shaped t s) s)) e in
+      let a = both-true (leb stateRoom (length s)) (both (sound t s) (sameNumbers (shaped t s) s)) e in
       let b = both-true (sound t s) (sameNumbers (shaped t s) s) (a .1) in
-      stands (leb-true stateSize (length s) (a .0)) (b .0) (b .1)
+      stands (leb-true stateRoom (length s) (a .0)) (b .0) (b .1)

@@ -6,9 +6,10 @@ use mathlib.Core.List.{List}
 use native.Mathlib.Omega.{arith}
 use lib.ListN.{set, replicate}
 use lib.IntN.{ℤ, pos}
+use Rattle.base_ceilings.specs.Ceilings.{stateRoom}
 use Rattle.base_bytes.specs.Choice.{pick}
 use Rattle.table_layout.specs.Access.{linkOf}
-use Rattle.state_layout.specs.Layout.{stateSize, kept, processAt, channelAt, fieldAt, cellOf, processesOf, channelsOf, unitOf, placeOf, declaredOf, waitingOf}
+use Rattle.state_layout.specs.Layout.{kept, processAt, channelAt, fieldAt, cellOf, processesOf, channelsOf, unitOf, placeOf, declaredOf, waitingOf}
 use Rattle.state_layout.specs.Walks.{walk}
 use Rattle.step_eval.specs.Variables.{sizeOf, slotOf}
 use Rattle.state_start.specs.Starting.{unitLength, scanned}
@@ -87,7 +88,7 @@ module _ (t : List ℕ) (s : List ℤ) (W : ℕ → ℤ → Type 0) (copy : (a :
       walk-keeps Q (messageShaped t s c (declaredOf s c)) (messagesIn s c) _ (λ m g y w. message-keeps c m h (omega arith) y w)
       (free (channelAt c + 1) _ _ (count c h) (free (channelAt c) _ x (item c h) q))
 
-  pub shaped-keeps : Q (set (set (replicate stateSize (pos 0)) 0 (kept (processesIn s))) 1 (kept (channelsIn s))) → Q (shaped t s)
+  pub shaped-keeps : Q (set (set (replicate stateRoom (pos 0)) 0 (kept (processesIn s))) 1 (kept (channelsIn s))) → Q (shaped t s)
   unfolding shaped shapedOn
   shaped-keeps q =
       walk-keeps Q (channelShaped t s) (channelsIn s) _ (λ c g y w. channel-keeps c (omega arith) y w)

@@ -1,3 +1,4 @@
+-- Mechanism, held to the specification by `demand2` (crate `demands`).
 -- What a state of the model is, in the words of document 01: "A state of the model (refusal 9): values in their types, places that belong to the process's proctype or
 -- its end, messages in their field types, counts within ceilings, channels with the capacity and fields of some declaration, unused numbers 0".
 -- `isStateOf` lets through nothing else (`is-state-stands`, proofs/Meaning.antt) and all of it (`stands-is-state`, proofs/Exact.antt), whatever the tables are.
@@ -9,15 +10,16 @@ use mathlib.Core.List.{List}
 use mathlib.Core.Logic.{_⊎_}
 use lib.ListN.{length}
 use lib.IntN.{ℤ, pos}
+use Rattle.base_ceilings.specs.Ceilings.{capacityMost, channelsMost, processesMost, stateRoom}
 use Rattle.base_codes.specs.Codes.{c-channel, c-init, c-proctype}
 use Rattle.table_layout.specs.Access.{codeOf, linkOf}
 use Rattle.base_values.specs.Types.{castOf}
-use Rattle.state_layout.specs.Layout.{stateSize, cellOf, countOf, processAt, channelAt, fieldAt, processesOf, channelsOf, unitOf, placeOf, declaredOf, waitingOf}
-use Rattle.spec_text.specs.Ceilings.{processesMost, channelsMost, messagesMost}
+use Rattle.state_layout.specs.Layout.{cellOf, countOf, processAt, channelAt, fieldAt, processesOf, channelsOf, unitOf, placeOf, declaredOf, waitingOf}
 use Rattle.step_eval.specs.Variables.{typeOf, sizeOf, slotOf}
 use Rattle.state_start.specs.Starting.{unitLength, scanned}
 use Rattle.step_ready.specs.Channels.{capacityOf, fieldsOf}
-use Rattle.state_types.specs.Fits.{isGlobal, isLocal, fieldType}
+use Rattle.state_types.specs.Fits.{isGlobal, isLocal}
+use Rattle.step_messages.specs.Messages.{fieldType}
 use Rattle.state_check.specs.Standing.{itemsLast, placeAt}
 
 -- the number at i lies in the type ty: storing keeps it
@@ -39,13 +41,13 @@ pub data Used (t : List ℕ) (s : List ℤ) : ℕ → Type 0 where
   channel-count : (c : ℕ) → c < channelsOf s → Used t s (channelAt c + 1)
   field-number : (c m f : ℕ) → c < channelsOf s → m < waitingOf s c → f < fieldsOf t (declaredOf s c) → Used t s (fieldAt c m f)
 
-pub record Stands (t : List ℕ) (s : List ℤ) : Type 0 where
-  pub long : stateSize ≤ length s
+pub record IsState (t : List ℕ) (s : List ℤ) : Type 0 where
+  pub long : stateRoom ≤ length s
   -- "counts within ceilings"; units, places and channels are told by items of the model
   pub processes : Counted s processesMost 0
   pub channels : Counted s channelsMost 1
   pub heads : (p : ℕ) → p < processesOf s → (Counted s (itemsLast t) (processAt p)) × (Counted s (itemsLast t) (processAt p + 1))
-  pub records : (c : ℕ) → c < channelsOf s → (Counted s (itemsLast t) (channelAt c)) × (Counted s messagesMost (channelAt c + 1))
+  pub records : (c : ℕ) → c < channelsOf s → (Counted s (itemsLast t) (channelAt c)) × (Counted s capacityMost (channelAt c + 1))
   -- "values in their types"
   pub globals : (j k : ℕ) → j < scanned t → isGlobal t j ≡ true → k < sizeOf (linkOf t j) → InType s (typeOf (linkOf t j)) (slotOf (linkOf t j) 0 k)
   pub locals : (p j k : ℕ) → p < processesOf s → j < unitLength t (unitOf s p) → isLocal t (unitOf s p + j) ≡ true → k < sizeOf (linkOf t (unitOf s p + j))
@@ -60,4 +62,4 @@ pub record Stands (t : List ℕ) (s : List ℤ) : Type 0 where
   -- "messages in their field types"
   pub messages : (c m f : ℕ) → c < channelsOf s → m < waitingOf s c → f < fieldsOf t (declaredOf s c) → InType s (fieldType t (declaredOf s c) f) (fieldAt c m f)
   -- "unused numbers 0"
-  pub unused : (i : ℕ) → 2 ≤ i → i < stateSize → Used t s i ⊎ (cellOf s i ≡ pos 0)
+  pub unused : (i : ℕ) → 2 ≤ i → i < stateRoom → Used t s i ⊎ (cellOf s i ≡ pos 0)

@@ -4,15 +4,9 @@ ghost use mathlib.Core.Path.{_≡_};
 ghost use Prim.Native.Nat.{_<_};
 ghost use Rattle.state_types.specs.Fits as fits;
 ghost use Rattle.state_check.specs.Standing as standing;
-use rule_search::within;
-use rule_sheets::both;
-use rule_sheets::either;
-
-// The last number that is told in 31 bits.
-const NUMBERS_LAST: usize = 2147483647;
-
-// The most items of a model.
-const ITEMS_MOST: usize = 8192;
+use base_bytes::both;
+use base_bytes::either;
+use base_codes::within;
 
 fn counts_from(s: &[i32], a: usize, b: usize, i: usize) -> bool
     requires { ⌜ i < 1099511627776 ⌝ }
@@ -28,7 +22,10 @@ fn counts_from(s: &[i32], a: usize, b: usize, i: usize) -> bool
 fn items_last(t: &[u32]) -> usize
     ensures { λ r. ⌜ r ≡ standing.itemsLast (now (t .entry)) ⌝ }
 {
-    base_bytes::least(NUMBERS_LAST, step_eval::minus_one(table_layout::items(t)))
+    base_bytes::least(
+        state_layout::KEPT_MOST,
+        step_eval::minus_one(table_layout::items(t)),
+    )
 }
 
 // Does a statement have its place at item q?
@@ -36,13 +33,13 @@ fn is_place(t: &[u32], q: u32) -> bool
     ensures { λ r. ⌜ r ≡ standing.placeAt (now (t .entry)) q ⌝ }
 {
     let c = table_layout::code(t, q as usize);
-    if link_places::is_alone(c) {
+    if base_codes::is_alone(c) {
         return true;
     }
-    if link_places::is_part(c) {
+    if base_codes::is_part(c) {
         both(
             link_places::is_mark(table_layout::code(t, step_eval::minus_one(q as usize))),
-            link_places::is_lead(table_layout::code(t, table_layout::link(t, q as usize))),
+            base_codes::is_lead(table_layout::code(t, table_layout::link(t, q as usize))),
         )
     } else {
         false
@@ -110,7 +107,13 @@ fn is_channel(t: &[u32], s: &[i32], c: u32) -> bool
             table_layout::code(t, d as usize) == base_codes::CHANNEL,
             n <= step_ready::capacity(t, d),
         ),
-        state_types::messages_fit(t, s, c, d, base_bytes::least(8, n) as u32),
+        state_types::messages_fit(
+            t,
+            s,
+            c,
+            d,
+            base_bytes::least(base_ceilings::CAPACITY_MOST, n) as u32,
+        ),
     )
 }
 
@@ -119,7 +122,12 @@ fn channel_sound(t: &[u32], s: &[i32], c: u32) -> bool
 {
     let e = items_last(t);
     both(
-        counts_from(s, e, 8, state_layout::channel_at(c)),
+        counts_from(
+            s,
+            e,
+            base_ceilings::CAPACITY_MOST,
+            state_layout::channel_at(c),
+        ),
         is_channel(t, s, c),
     )
 }
@@ -141,9 +149,18 @@ fn sound(t: &[u32], s: &[i32]) -> bool
     ensures { λ r. ⌜ r ≡ standing.sound (now (t .entry)) (now (s .entry)) ⌝ }
 {
     both(
-        counts_from(s, 16, 16, 0),
+        counts_from(
+            s,
+            base_ceilings::PROCESSES_MOST,
+            base_ceilings::CHANNELS_MOST,
+            0,
+        ),
         both(
-            state_types::globals_fit(t, s, base_bytes::least(ITEMS_MOST, table_layout::items(t))),
+            state_types::globals_fit(
+                t,
+                s,
+                base_bytes::least(base_ceilings::ITEMS_MOST, table_layout::items(t)),
+            ),
             both(
                 processes_sound(t, s, state_used::processes_in(s)),
                 channels_sound(t, s, state_used::channels_in(s)),
@@ -157,7 +174,7 @@ fn same_numbers(x: &[i32], s: &[i32]) -> bool
     ensures { λ r. ⌜ r ≡ standing.sameNumbers (now (x .entry)) (now (s .entry)) ⌝ }
 {
     let mut i: usize = 0;
-    while i < state_layout::STATE_SIZE {
+    while i < base_ceilings::STATE_ROOM {
         if state_layout::cell(x, i) != state_layout::cell(s, i) {
             return false;
         }
@@ -170,10 +187,10 @@ fn same_numbers(x: &[i32], s: &[i32]) -> bool
 pub fn is_state(t: &[u32], s: &[i32]) -> bool
     ensures { λ r. ⌜ r ≡ standing.isStateOf (now (t .entry)) (now (s .entry)) ⌝ }
 {
-    if s.len() < state_layout::STATE_SIZE {
+    if s.len() < base_ceilings::STATE_ROOM {
         return false;
     }
-    let mut x = [0i32; 2048];
+    let mut x = [0i32; base_ceilings::STATE_ROOM];
     state_used::shape(t, s, &mut x);
     both(sound(t, s), same_numbers(&x, s))
 }

@@ -5,6 +5,7 @@ use mathlib.Core.Path.{_≡_, refl, sym as inv, ap, ap₂, _∙_, subst}
 use mathlib.Core.List.{List, [], _∷_, _++_}
 use lib.ListN.{length, getD, set, length-append, length-set}
 use lib.IntN.{ℤ, pos}
+use Rattle.base_ceilings.specs.Ceilings.{channelsMost, processesMost}
 use Rattle.base_values.specs.Types.{castOf}
 use Rattle.base_values.proofs.Laws.{cast-twice}
 use Rattle.spec_grammar.specs.Tree.{Model}
@@ -12,7 +13,7 @@ use Rattle.spec_machine.specs.State.{Channel, Process, State, noChannel, noProc
 use Rattle.spec_machine.specs.Names.{Var, globalsOf}
 use Rattle.spec_machine.specs.Plain.{noVar, oneStored, withGlobals, withProcess, withChannel, castAll, goes}
 use Rattle.state_encode.specs.Encode.{flat}
-use Rattle.spec_machine.specs.Fits.{Typed, Values, Message, ChannelFits, ProcessFits, Fits}
+use Rattle.spec_machine.specs.Fits.{Typed, Filled, Fielded, ChannelFits, ProcessFits, Fits}
 use Rattle.state_encode.specs.Tabled.{offsetOf, totalOf}
 use Rattle.state_encode.proofs.Rows.{ahead}
 
@@ -48,7 +49,7 @@ flat-long (x ∷ xs) (y ∷ l) e h = length-append y (flat l) ∙ ap₂ _+_ (h 0
 typed-set : (ty : ℕ) (l : List ℤ) (k : ℕ) (v : ℤ) → Typed ty l → castOf ty v ≡ v → Typed ty (set l k v)
 typed-set ty l k v h e i g = at-set (λ j z. castOf ty z ≡ z) l k v (pos 0) h (λ q. e) i (subst (i <_) (length-set l k v) g)
 
-pub values-stored : (xs : List Var) (l : List (List ℤ)) (i k : ℕ) (v : ℤ) → i < length xs → Values xs l → Values xs (oneStored l i k (castOf (getD xs i noVar .type) v))
+pub values-stored : (xs : List Var) (l : List (List ℤ)) (i k : ℕ) (v : ℤ) → i < length xs → Filled xs l → Filled xs (oneStored l i k (castOf (getD xs i noVar .type) v))
 values-stored xs l i k v h w =
     let ty = getD xs i noVar .type in
     let y = set (getD l i []) k (castOf (getD xs i noVar .type) v) in
@@ -61,7 +62,7 @@ values-stored xs l i k v h w =
     }
 
 -- ---- messages
-pub cast-message : (ks : List ℕ) (vs : List ℤ) → length vs ≡ length ks → Message ks (castAll ks vs)
+pub cast-message : (ks : List ℕ) (vs : List ℤ) → length vs ≡ length ks → Fielded ks (castAll ks vs)
 cast-message [] vs e = record { long = refl; typed = λ i h. absurd (omega arith) }
 cast-message (k ∷ ks) [] e = absurd (omega arith)
 cast-message (k ∷ ks) (v ∷ vs) e = let r = cast-message ks vs (omega arith) in record { long = ap suc (r .long); typed = go (r .typed) }
@@ -76,13 +77,13 @@ module _ (P : ℕ → ℕ → Type 0) (m : Model) (σ : State) (f : Fits P m σ)
   process-fits p y s =
       record {
         globals = f .globals;
-        processes = subst (_≤ 16) (inv (length-set (σ .processes) p y)) (f .processes);
+        processes = subst (_≤ processesMost) (inv (length-set (σ .processes) p y)) (f .processes);
         channels = f .channels;
         each = λ q h. at-set (λ i z. ProcessFits P m z) (σ .processes) p y noProcess (f .each) (λ g. s) q (subst (q <_) (length-set (σ .processes) p y) h);
         queues = f .queues;
       }
 
-  pub globals-fit : (l : List (List ℤ)) → Values (globalsOf m) l → Fits P m (withGlobals l σ)
+  pub globals-fit : (l : List (List ℤ)) → Filled (globalsOf m) l → Fits P m (withGlobals l σ)
   globals-fit l v = record { globals = v; processes = f .processes; channels = f .channels; each = f .each; queues = f .queues }
 
   pub channel-fits : (c : ℕ) (held : List (List ℤ))
@@ -92,7 +93,7 @@ module _ (P : ℕ → ℕ → Type 0) (m : Model) (σ : State) (f : Fits P m σ)
       record {
         globals = f .globals;
         processes = f .processes;
-        channels = subst (_≤ 16) (inv (length-set (σ .channels) c y)) (f .channels);
+        channels = subst (_≤ channelsMost) (inv (length-set (σ .channels) c y)) (f .channels);
         each = f .each;
         queues = λ q h. at-set (λ i z. ChannelFits m z) (σ .channels) c y noChannel (f .queues) (λ g. s) q (subst (q <_) (length-set (σ .channels) c y) h);
       }

@@ -1,11 +1,13 @@
 -- READING AND WRITING the numbers of a plain state: padded lists, rows, lists laid end to end, and the parts of the whole.
-use Prim.Native.Nat.{ℕ, zero, suc, _+_, _<_, _≤_}
+use Prim.Native.Nat.{ℕ, zero, suc, _+_, _<_, _≤_, _*_}
 use native.Mathlib.Omega.{arith}
 use mathlib.Core.Path.{_≡_, refl, sym as inv, ap, ap₂, _∙_, subst}
 use mathlib.Core.List.{List, [], _∷_, _++_, append-assoc, append-nil}
 use lib.ListN.{length, getD, set, length-append, List·getD-append}
 use lib.Seq.{getD-append-add, set-append-left}
 use lib.IntN.{ℤ, pos}
+use Rattle.state_layout.specs.Layout.{channelAt, channelSize, processAt, processSize}
+use Rattle.base_ceilings.specs.Ceilings.{channelsMost, globalsMost, processesMost}
 use Rattle.state_encode.specs.Encode.{pad, rows, flat}
 
 -- ---- two lists
@@ -159,50 +161,53 @@ flat-reach (x ∷ l) zero k h g = let e = length-append x (flat l) in omega arit
 flat-reach (x ∷ l) (suc i) k h g = let e = length-append x (flat l) in let r = flat-reach l i k (omega arith) g in omega arith
 
 -- ---- the parts of the whole: two counts, globals, processes, channels, zeros, and what lies behind
-module _ (a b : ℤ) (g p c z t : List ℤ) (lg : length g ≡ 64) (lp : length p ≡ 544) (lc : length c ≡ 544) where
+abbrev rowsSize : ℕ
+rowsSize = processSize * processesMost + channelSize * channelsMost
+
+module _ (a b : ℤ) (g p c z t : List ℤ) (lg : length g ≡ globalsMost) (lp : length p ≡ processSize * processesMost) (lc : length c ≡ channelSize * channelsMost) where
   abbrev pub whole : List ℤ
   whole = (a ∷ b ∷ g ++ (p ++ (c ++ z))) ++ t
 
-  long-c : length (c ++ z) ≡ 544 + length z
+  long-c : length (c ++ z) ≡ channelSize * channelsMost + length z
   long-c = length-append c z ∙ ap (λ i. i + length z) lc
 
-  long-p : length (p ++ (c ++ z)) ≡ 1088 + length z
-  long-p = length-append p (c ++ z) ∙ ap₂ _+_ lp long-c ∙ (let w : 544 + (544 + length z) ≡ 1088 + length z = omega arith in w)
+  long-p : length (p ++ (c ++ z)) ≡ rowsSize + length z
+  long-p = length-append p (c ++ z) ∙ ap₂ _+_ lp long-c ∙ (let w : processSize * processesMost + (channelSize * channelsMost + length z) ≡ rowsSize + length z = omega arith in w)
 
-  long-g : length (g ++ (p ++ (c ++ z))) ≡ 1152 + length z
-  long-g = length-append g (p ++ (c ++ z)) ∙ ap₂ _+_ lg long-p ∙ (let w : 64 + (1088 + length z) ≡ 1152 + length z = omega arith in w)
+  long-g : length (g ++ (p ++ (c ++ z))) ≡ globalsMost + rowsSize + length z
+  long-g = length-append g (p ++ (c ++ z)) ∙ ap₂ _+_ lg long-p ∙ (let w : globalsMost + (rowsSize + length z) ≡ globalsMost + rowsSize + length z = omega arith in w)
 
-  pub get-process : (q : ℕ) → q < 544 → getD whole (66 + q) (pos 0) ≡ getD p q (pos 0)
+  pub get-process : (q : ℕ) → q < processSize * processesMost → getD whole (processAt 0 + q) (pos 0) ≡ getD p q (pos 0)
   get-process q h =
-      get-left (a ∷ b ∷ g ++ (p ++ (c ++ z))) t (pos 0) (66 + q) (let l = long-g in omega arith)
-      ∙ get-right (a ∷ b ∷ g) (p ++ (c ++ z)) (pos 0) 66 q (66 + q) (let l = lg in omega arith) refl ∙ get-left p (c ++ z) (pos 0) q (omega (arith, lp))
+      get-left (a ∷ b ∷ g ++ (p ++ (c ++ z))) t (pos 0) (processAt 0 + q) (let l = long-g in omega arith)
+      ∙ get-right (a ∷ b ∷ g) (p ++ (c ++ z)) (pos 0) (processAt 0) q (processAt 0 + q) (let l = lg in omega arith) refl ∙ get-left p (c ++ z) (pos 0) q (omega (arith, lp))
 
-  pub set-process : (q : ℕ) (v : ℤ) → q < 544 → set whole (66 + q) v ≡ (a ∷ b ∷ g ++ (set p q v ++ (c ++ z))) ++ t
+  pub set-process : (q : ℕ) (v : ℤ) → q < processSize * processesMost → set whole (processAt 0 + q) v ≡ (a ∷ b ∷ g ++ (set p q v ++ (c ++ z))) ++ t
   set-process q v h =
-      set-left (a ∷ b ∷ g ++ (p ++ (c ++ z))) t (66 + q) v (let l = long-g in omega arith)
+      set-left (a ∷ b ∷ g ++ (p ++ (c ++ z))) t (processAt 0 + q) v (let l = long-g in omega arith)
       ∙ ap (λ (i : List ℤ). i ++ t)
-      (set-right (a ∷ b ∷ g) (p ++ (c ++ z)) v 66 q (66 + q) (let l = lg in omega arith) refl ∙ ap (λ (i : List ℤ). a ∷ b ∷ g ++ i) (set-left p (c ++ z) q v (omega (arith, lp))))
+      (set-right (a ∷ b ∷ g) (p ++ (c ++ z)) v (processAt 0) q (processAt 0 + q) (let l = lg in omega arith) refl ∙ ap (λ (i : List ℤ). a ∷ b ∷ g ++ i) (set-left p (c ++ z) q v (omega (arith, lp))))
 
-  pub get-channel : (q : ℕ) → q < 544 → getD whole (610 + q) (pos 0) ≡ getD c q (pos 0)
+  pub get-channel : (q : ℕ) → q < channelSize * channelsMost → getD whole (channelAt 0 + q) (pos 0) ≡ getD c q (pos 0)
   get-channel q h =
-      get-left (a ∷ b ∷ g ++ (p ++ (c ++ z))) t (pos 0) (610 + q) (let l = long-g in omega arith)
-      ∙ get-right (a ∷ b ∷ g) (p ++ (c ++ z)) (pos 0) 66 (544 + q) (610 + q) (let l = lg in omega arith) (omega arith)
-      ∙ get-right p (c ++ z) (pos 0) 544 q (544 + q) lp refl ∙ get-left c z (pos 0) q (omega (arith, lc))
+      get-left (a ∷ b ∷ g ++ (p ++ (c ++ z))) t (pos 0) (channelAt 0 + q) (let l = long-g in omega arith)
+      ∙ get-right (a ∷ b ∷ g) (p ++ (c ++ z)) (pos 0) (processAt 0) (processSize * processesMost + q) (channelAt 0 + q) (let l = lg in omega arith) (omega arith)
+      ∙ get-right p (c ++ z) (pos 0) (processSize * processesMost) q (processSize * processesMost + q) lp refl ∙ get-left c z (pos 0) q (omega (arith, lc))
 
-  pub set-channel : (q : ℕ) (v : ℤ) → q < 544 → set whole (610 + q) v ≡ (a ∷ b ∷ g ++ (p ++ (set c q v ++ z))) ++ t
+  pub set-channel : (q : ℕ) (v : ℤ) → q < channelSize * channelsMost → set whole (channelAt 0 + q) v ≡ (a ∷ b ∷ g ++ (p ++ (set c q v ++ z))) ++ t
   set-channel q v h =
-      set-left (a ∷ b ∷ g ++ (p ++ (c ++ z))) t (610 + q) v (let l = long-g in omega arith)
+      set-left (a ∷ b ∷ g ++ (p ++ (c ++ z))) t (channelAt 0 + q) v (let l = long-g in omega arith)
       ∙ ap (λ (i : List ℤ). i ++ t)
-      (set-right (a ∷ b ∷ g) (p ++ (c ++ z)) v 66 (544 + q) (610 + q) (let l = lg in omega arith) (omega arith)
+      (set-right (a ∷ b ∷ g) (p ++ (c ++ z)) v (processAt 0) (processSize * processesMost + q) (channelAt 0 + q) (let l = lg in omega arith) (omega arith)
       ∙ ap (λ (i : List ℤ). a ∷ b ∷ g ++ i)
-      (set-right p (c ++ z) v 544 q (544 + q) lp refl ∙ ap (λ (i : List ℤ). p ++ i) (set-left c z q v (omega (arith, lc)))))
+      (set-right p (c ++ z) v (processSize * processesMost) q (processSize * processesMost + q) lp refl ∙ ap (λ (i : List ℤ). p ++ i) (set-left c z q v (omega (arith, lc)))))
 
-  pub get-global : (q : ℕ) → q < 64 → getD whole (2 + q) (pos 0) ≡ getD g q (pos 0)
+  pub get-global : (q : ℕ) → q < globalsMost → getD whole (2 + q) (pos 0) ≡ getD g q (pos 0)
   get-global q h =
       get-left (a ∷ b ∷ g ++ (p ++ (c ++ z))) t (pos 0) (2 + q) (let l = long-g in omega arith)
       ∙ get-right (a ∷ b ∷ []) (g ++ (p ++ (c ++ z))) (pos 0) 2 q (2 + q) refl refl ∙ get-left g (p ++ (c ++ z)) (pos 0) q (omega (arith, lg))
 
-  pub set-global : (q : ℕ) (v : ℤ) → q < 64 → set whole (2 + q) v ≡ (a ∷ b ∷ set g q v ++ (p ++ (c ++ z))) ++ t
+  pub set-global : (q : ℕ) (v : ℤ) → q < globalsMost → set whole (2 + q) v ≡ (a ∷ b ∷ set g q v ++ (p ++ (c ++ z))) ++ t
   set-global q v h =
       set-left (a ∷ b ∷ g ++ (p ++ (c ++ z))) t (2 + q) v (let l = long-g in omega arith)
       ∙ ap (λ (i : List ℤ). i ++ t)

@@ -8,11 +8,11 @@ use lib.ListN.{length}
 use Rattle.base_bytes.specs.Choice.{both}
 use Rattle.base_bytes.proofs.Tests.{both-true}
 use Rattle.spec_grammar.specs.Tree.{Name, Body, body, Activity, idle, once, times, mtypes, global, process, init, Model}
-use Rattle.spec_grammar.specs.Code.{each, code-activity, code-group, code-part}
+use Rattle.parse_code.specs.Code.{each, code-activity, code-group, code-part}
 use Rattle.spec_rules.specs.Senses.{Scope, fresh}
 use Rattle.spec_rules.specs.Statements.{labelsOf, apart, allowed}
-use Rattle.spec_rules.specs.Units.{ofGroups, ofPart, declarations, joins, bodyLawful, partLawful, partsLawful}
-use Rattle.spec_machine.specs.Program.{statementsOf, Holds, in-process, in-init, later}
+use Rattle.spec_rules.specs.Units.{scopeOfGroups, ofPart, declarations, joins, bodyLawful, partLawful, partsLawful}
+use Rattle.spec_machine.specs.Program.{sequenceOf, Holds, in-process, in-init, later}
 use Rattle.spec_machine.specs.Names.{unitAt}
 use Rattle.spec_machine.specs.Begins.{itemsBefore, bodyIn, bodyOf}
 use Rattle.state_encode.specs.Encode.{headIn}
@@ -34,25 +34,25 @@ unit-holds (init x ∷ m) zero i j e b = let z : i ≡ j = omega arith in subst 
 unit-holds (u ∷ m) (suc k) i j e b = later (unit-holds m k (i + length (code-part u)) j (omega arith) b)
 
 -- ---- lawful bodies
-body-allowed : (M g l : Scope) (b : Body) → bodyLawful M g l b ≡ true → allowed (settingBy M g l b) false false (statementsOf b) ≡ true
+body-allowed : (M g l : Scope) (b : Body) → bodyLawful M g l b ≡ true → allowed (settingBy M g l b) false false (sequenceOf b) ≡ true
 unfolding bodyLawful
 body-allowed M g l (body ds q) h =
     let p = both-true (declarations g l ds) (both (apart (labelsOf q)) (allowed (settingBy M g l (body ds q)) false false q)) h in
     both-true (apart (labelsOf q)) (allowed (settingBy M g l (body ds q)) false false q) (p .1) .1
 
-pub unit-allowed : (M g : Scope) (m : Model) (k : ℕ) → partsLawful M g m ≡ true → Bodied (unitAt m k) → allowed (settingFrom M g m k) false false (statementsOf (bodyOf (unitAt m k))) ≡ true
+pub unit-allowed : (M g : Scope) (m : Model) (k : ℕ) → partsLawful M g m ≡ true → Bodied (unitAt m k) → allowed (settingFrom M g m k) false false (sequenceOf (bodyOf (unitAt m k))) ≡ true
 unfolding partsLawful
 unit-allowed M g [] k h b = absurd b
 unit-allowed M g (mtypes ws ∷ m) zero h b = absurd b
 unit-allowed M g (global d ∷ m) zero h b = absurd b
 unit-allowed M g (process a w gs x ∷ m) zero h b =
     let p = both-true (partLawful M g (process a w gs x)) (partsLawful M (g ++ ofPart (process a w gs x)) m) h in
-    let q = both-true (fresh g w) (both (joins [] (ofGroups gs)) (bodyLawful M (g ++ ofPart (process a w gs x)) (ofGroups gs) x)) (p .0) in
-    body-allowed M (g ++ ofPart (process a w gs x)) (ofGroups gs) x (both-true (joins [] (ofGroups gs)) (bodyLawful M (g ++ ofPart (process a w gs x)) (ofGroups gs) x) (q .1) .1)
+    let q = both-true (fresh g w) (both (joins [] (scopeOfGroups gs)) (bodyLawful M (g ++ ofPart (process a w gs x)) (scopeOfGroups gs) x)) (p .0) in
+    body-allowed M (g ++ ofPart (process a w gs x)) (scopeOfGroups gs) x (both-true (joins [] (scopeOfGroups gs)) (bodyLawful M (g ++ ofPart (process a w gs x)) (scopeOfGroups gs) x) (q .1) .1)
 unit-allowed M g (init x ∷ m) zero h b = body-allowed M g [] x (both-true (partLawful M g (init x)) (partsLawful M (g ++ ofPart (init x)) m) h .0)
 unit-allowed M g (u ∷ m) (suc k) h b = unit-allowed M (g ++ ofPart u) m k (both-true (partLawful M g u) (partsLawful M (g ++ ofPart u) m) h .1) b
 
-pub setting-labels : (M g : Scope) (m : Model) (k : ℕ) → Bodied (unitAt m k) → settingFrom M g m k .labels ≡ labelsOf (statementsOf (bodyOf (unitAt m k)))
+pub setting-labels : (M g : Scope) (m : Model) (k : ℕ) → Bodied (unitAt m k) → settingFrom M g m k .labels ≡ labelsOf (sequenceOf (bodyOf (unitAt m k)))
 setting-labels M g [] k b = absurd b
 setting-labels M g (mtypes ws ∷ m) zero b = absurd b
 setting-labels M g (global d ∷ m) zero b = absurd b

@@ -1,14 +1,16 @@
+-- Mechanism, held to the specification by `demand2` (crate `demands`).
 -- A PLAIN STATE AS NUMBERS: the layout of docs/TABLES.md, "State", as a function. Units and channels are told by items of the tree's code.
 use Prim.Native.Nat.{ℕ, zero, suc, _+_, _-_}
 use mathlib.Core.List.{List, [], _∷_, _++_}
 use lib.ListN.{length, replicate}
 use lib.IntN.{ℤ, pos}
 use lib.Dec.{ltb}
+use Rattle.base_ceilings.specs.Ceilings.{capacityMost, channelsMost, fieldsMost, globalsMost, processesMost, stateRoom}
 use Rattle.base_bytes.specs.Choice.{pick}
-use Rattle.state_layout.specs.Layout.{kept, processSize, channelSize}
-use Rattle.spec_text.specs.Ceilings.{globalsMost, processesMost, channelsMost, messagesMost, fieldsMost}
+use Rattle.state_layout.specs.Layout.{kept, processSize, channelSize, channelAt}
 use Rattle.spec_grammar.specs.Tree.{Variable, variable, Declaration, declare, Group, group, Body, body, Part, mtypes, global, process, init, Model}
-use Rattle.spec_grammar.specs.Code.{i-local, code-size, code-variable, code-declaration, code-activity}
+use Rattle.base_codes.specs.Items.{i-local}
+use Rattle.parse_code.specs.Code.{code-size, code-variable, code-declaration, code-activity}
 use Rattle.spec_machine.specs.State.{Channel, Process, State}
 use Rattle.spec_machine.specs.Names.{unitAt}
 use Rattle.spec_machine.specs.Begins.{itemsBefore, bodyIn}
@@ -82,9 +84,9 @@ abbrev pub messageRow : List ℤ → List ℤ
 messageRow l = l
 
 abbrev pub channelRow : Model → Channel → List ℤ
-channelRow m c = kept (channelItem m c) ∷ kept (length (c .held)) ∷ rows messageRow fieldsMost messagesMost (c .held)
+channelRow m c = kept (channelItem m c) ∷ kept (length (c .held)) ∷ rows messageRow fieldsMost capacityMost (c .held)
 
 unfoldable pub encode : Model → State → List ℤ
 encode m σ =
     kept (length (σ .processes)) ∷ kept (length (σ .channels)) ∷ pad globalsMost (flat (σ .globals))
-    ++ (rows (processRow m) processSize processesMost (σ .processes) ++ (rows (channelRow m) channelSize channelsMost (σ .channels) ++ replicate 894 (pos 0)))
+    ++ (rows (processRow m) processSize processesMost (σ .processes) ++ (rows (channelRow m) channelSize channelsMost (σ .channels) ++ replicate (stateRoom - channelAt channelsMost) (pos 0)))

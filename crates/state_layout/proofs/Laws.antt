@@ -14,7 +14,8 @@ use borrow.Author.Tests.{ltb-true}
 use mir.Syntax.{w32}
 use mir.Val.{SFits, Fits, toZ, ofZ}
 use mir.ValLaws.{toZ-ofZ, toZ-pos}
-use Rattle.state_layout.specs.Layout.{countOf, cellOf, kept, cleared, stateSize}
+use Rattle.base_ceilings.specs.Ceilings.{stateRoom}
+use Rattle.state_layout.specs.Layout.{countOf, cellOf, kept, cleared, keptMost}
 use Rattle.base_bytes.specs.Numbers.{nat}
 
 -- a number kept in a local and read again
@@ -29,7 +30,7 @@ pub natural-fits : (v : ℤ) → SFits w32 v → ltZ v (pos 0) ≡ false → T (
 natural-fits (pos n) f e = (tt, record { fits = let h : n < 2 ^ 31 = f .sfits in omega arith })
 natural-fits (negsuc n) f e = absurd (subst T e tt)
 
-pub natural-is : (v : ℤ) → SFits w32 v → ltZ v (pos 0) ≡ false → (natAbs v ≡ nat v) × (natAbs v < 2147483648)
+pub natural-is : (v : ℤ) → SFits w32 v → ltZ v (pos 0) ≡ false → (natAbs v ≡ nat v) × (natAbs v < keptMost + 1)
 natural-is (pos n) f e = (refl, f .sfits)
 natural-is (negsuc n) f e = absurd (subst T e tt)
 
@@ -38,13 +39,13 @@ pub count-of : {v w : ℤ} {r : ℕ} → mag v < 2 ^ 31 → v ≡ w → r ≡ na
 count-of h e q = q ∙ ap nat (back h ∙ e)
 
 -- the same at a place that a callee worked out
-pub count-at : (s : List ℤ) {r i j : ℕ} → (r ≡ countOf s i) × (r < 2147483648) → i ≡ j → (r ≡ countOf s j) × (r < 2147483648)
+pub count-at : (s : List ℤ) {r i j : ℕ} → (r ≡ countOf s i) × (r < keptMost + 1) → i ≡ j → (r ≡ countOf s j) × (r < keptMost + 1)
 count-at s q e = (q .0 ∙ ap (countOf s) e, q .1)
 
 pub cell-at : (s : List ℤ) {v : ℤ} {i j : ℕ} → mag v < 2 ^ 31 → v ≡ cellOf s i → i ≡ j → toZ w32 (ofZ w32 v) ≡ cellOf s j
 cell-at s h q e = back h ∙ q ∙ ap (cellOf s) e
 
-pub kept-of : (n : ℕ) {r : ℕ} → r ≡ min 2147483647 n → toZ w32 r ≡ kept n
+pub kept-of : (n : ℕ) {r : ℕ} → r ≡ min keptMost n → toZ w32 r ≡ kept n
 kept-of n {r} e = toZ-pos w32 r (omega arith) ∙ ap pos e
 
 pub put-kept : (s s′ : List ℤ) (i : ℕ) {z w : ℤ} → mag z < 2 ^ 31 → z ≡ w → s′ ≡ set s i (toZ w32 (ofZ w32 z)) → s′ ≡ set s i w
@@ -60,11 +61,11 @@ clear-more s s′ s₀ i h e e′ =
     ∙ ap (λ l. l ++ drop (suc i) s₀) (replicate-append-replicate i 1 (pos 0))
     ∙ ap (λ n. replicate (i + 1) (pos 0) ++ drop n s₀) (sym (add-one i))
 
-pub clear-all : (s s₀ : List ℤ) (i : ℕ) → i ≡ min stateSize (length s₀) → s ≡ replicate i (pos 0) ++ drop i s₀ → s ≡ cleared s₀
+pub clear-all : (s s₀ : List ℤ) (i : ℕ) → i ≡ min stateRoom (length s₀) → s ≡ replicate i (pos 0) ++ drop i s₀ → s ≡ cleared s₀
 clear-all s s₀ i h e = e ∙ ap (λ n. replicate n (pos 0) ++ drop n s₀) h
 
 -- of a state that has just the size, every number is 0
-pub cleared-all : (s : List ℤ) → length s ≡ stateSize → cleared s ≡ replicate (length s) (pos 0)
+pub cleared-all : (s : List ℤ) → length s ≡ stateRoom → cleared s ≡ replicate (length s) (pos 0)
 cleared-all s h =
-    let q : min stateSize (length s) ≡ length s = omega arith in
+    let q : min stateRoom (length s) ≡ length s = omega arith in
     ap (λ n. replicate n (pos 0) ++ drop n s) q ∙ ap (λ l. replicate (length s) (pos 0) ++ l) (drop-length s) ∙ append-nil (replicate (length s) (pos 0))

@@ -1,3 +1,4 @@
+-- Mechanism, held to the specification by `demand2` (crate `demands`).
 -- The layout of a state, the one place that says so: document 01, "Ceilings", "a state as 2,048 signed ones .. A state is always written whole".
 --   [0] how many processes there are; [1] how many channels were made
 --   64 global numbers
@@ -9,18 +10,15 @@ use Prim.Native.Nat.{ℕ, _+_, _*_, min}
 use mathlib.Core.List.{List, _++_}
 use lib.ListN.{length, getD, replicate, drop}
 use lib.IntN.{ℤ, pos}
+use Rattle.base_ceilings.specs.Ceilings.{capacityMost, fieldsMost, globalsMost, numbersMost, processesMost, stateRoom}
 use Rattle.base_bytes.specs.Numbers.{nat}
-use Rattle.spec_text.specs.Ceilings.{globalsMost, processesMost, numbersMost, channelsMost, messagesMost, fieldsMost}
 
 -- ## strides
-abbrev pub stateSize : ℕ
-stateSize = 2048
-
 abbrev pub processSize : ℕ
 processSize = 2 + numbersMost
 
 abbrev pub channelSize : ℕ
-channelSize = 2 + messagesMost * fieldsMost
+channelSize = 2 + capacityMost * fieldsMost
 
 -- ## where each number stands
 abbrev pub globalAt : ℕ → ℕ
@@ -72,9 +70,12 @@ module _ (s : List ℤ) where
   fieldOf c m f = cellOf (fieldAt c m f)
 
 -- a natural number as a state keeps it, as far as 31 bits reach, which nothing that is counted passes
+abbrev pub keptMost : ℕ
+keptMost = 2147483647
+
 abbrev pub kept : ℕ → ℤ
-kept n = pos (min 2147483647 n)
+kept n = pos (min keptMost n)
 
 -- zeros over the whole of a state; what lies behind it stays
 abbrev pub cleared : List ℤ → List ℤ
-cleared s = replicate (min stateSize (length s)) (pos 0) ++ drop (min stateSize (length s)) s
+cleared s = replicate (min stateRoom (length s)) (pos 0) ++ drop (min stateRoom (length s)) s

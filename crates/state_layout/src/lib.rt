@@ -1,34 +1,24 @@
 // A state: 2,048 signed numbers. specs/Layout.antt says where each of them stands. Reading past the end gives 0, storing there changes nothing.
 ghost use mathlib.Core.Path.{_≡_};
-ghost use Prim.Native.Nat.{_<_};
+ghost use Prim.Native.Nat.{_<_, _+_};
 ghost use lib.ListN.{set};
+ghost use Rattle.state_layout.specs.Layout.{keptMost};
 ghost use Rattle.base_bytes.specs.Numbers.{nat};
 ghost use Rattle.state_layout.specs.Layout as layout;
 
-// Ceilings, as in specs/Ceilings.antt of `spec_text`, and strides, as in specs/Layout.antt.
-pub const STATE_SIZE: usize = 2048;
-
-pub const PROCESSES_MOST: u32 = 16;
-
-pub const NUMBERS_MOST: u32 = 32;
-
-pub const CHANNELS_MOST: u32 = 16;
-
-pub const MESSAGES_MOST: u32 = 8;
-
-pub const FIELDS_MOST: u32 = 4;
-
+// Strides, as in specs/Layout.antt.
 const GLOBALS_FROM: usize = 2;
 
-const PROCESSES_FROM: usize = 66;
+const PROCESSES_FROM: usize = GLOBALS_FROM + base_ceilings::GLOBALS_MOST;
 
-const PROCESS_SIZE: usize = 34;
+const PROCESS_SIZE: usize = 2 + base_ceilings::NUMBERS_MOST;
 
-const CHANNELS_FROM: usize = 610;
+const CHANNELS_FROM: usize = PROCESSES_FROM + PROCESS_SIZE * base_ceilings::PROCESSES_MOST;
 
-const CHANNEL_SIZE: usize = 34;
+const CHANNEL_SIZE: usize = 2 + base_ceilings::CAPACITY_MOST * base_ceilings::FIELDS_MOST;
 
-const MESSAGE_SIZE: usize = 4;
+// The greatest number that a state keeps.
+pub const KEPT_MOST: usize = 2147483647;
 
 // The number at a place, 0 where there is none.
 pub fn cell(s: &[i32], i: usize) -> i32
@@ -49,14 +39,14 @@ pub fn put(s: &mut [i32], i: usize, v: i32)
 // A number as a natural one, 0 below 0.
 pub fn natural(v: i32) -> u32
     ensures { λ r. ⌜ r ≡ nat v ⌝ }
-    ensures { λ r. ⌜ r < 2147483648 ⌝ }
+    ensures { λ r. ⌜ r < keptMost + 1 ⌝ }
 {
     if v < 0 { 0 } else { v as u32 }
 }
 
 pub fn count(s: &[i32], i: usize) -> u32
     ensures { λ r. ⌜ r ≡ layout.countOf (now (s .entry)) i ⌝ }
-    ensures { λ r. ⌜ r < 2147483648 ⌝ }
+    ensures { λ r. ⌜ r < keptMost + 1 ⌝ }
 {
     natural(cell(s, i))
 }
@@ -65,7 +55,7 @@ pub fn count(s: &[i32], i: usize) -> u32
 pub fn kept(n: usize) -> i32
     ensures { λ r. ⌜ r ≡ layout.kept n ⌝ }
 {
-    base_bytes::least(2147483647, n) as i32
+    base_bytes::least(KEPT_MOST, n) as i32
 }
 
 pub fn put_count(s: &mut [i32], i: usize, n: usize)
@@ -106,13 +96,17 @@ pub fn channel_at(c: u32) -> usize
 pub fn field_at(c: u32, m: u32, f: u32) -> usize
     ensures { λ r. ⌜ r ≡ layout.fieldAt c m f ⌝ }
 {
-    CHANNELS_FROM + CHANNEL_SIZE * c as usize + 2 + MESSAGE_SIZE * m as usize + f as usize
+    CHANNELS_FROM
+        + CHANNEL_SIZE * c as usize
+        + 2
+        + base_ceilings::FIELDS_MOST * m as usize
+        + f as usize
 }
 
 // How many processes there are.
 pub fn processes(s: &[i32]) -> u32
     ensures { λ r. ⌜ r ≡ layout.processesOf (now (s .entry)) ⌝ }
-    ensures { λ r. ⌜ r < 2147483648 ⌝ }
+    ensures { λ r. ⌜ r < keptMost + 1 ⌝ }
 {
     count(s, 0)
 }
@@ -120,7 +114,7 @@ pub fn processes(s: &[i32]) -> u32
 // How many channels were made.
 pub fn channels(s: &[i32]) -> u32
     ensures { λ r. ⌜ r ≡ layout.channelsOf (now (s .entry)) ⌝ }
-    ensures { λ r. ⌜ r < 2147483648 ⌝ }
+    ensures { λ r. ⌜ r < keptMost + 1 ⌝ }
 {
     count(s, 1)
 }
@@ -128,7 +122,7 @@ pub fn channels(s: &[i32]) -> u32
 // The item that begins the proctype of process p.
 pub fn unit_of(s: &[i32], p: u8) -> u32
     ensures { λ r. ⌜ r ≡ layout.unitOf (now (s .entry)) p ⌝ }
-    ensures { λ r. ⌜ r < 2147483648 ⌝ }
+    ensures { λ r. ⌜ r < keptMost + 1 ⌝ }
 {
     count(s, process_at(p))
 }
@@ -136,7 +130,7 @@ pub fn unit_of(s: &[i32], p: u8) -> u32
 // Its place.
 pub fn place_of(s: &[i32], p: u8) -> u32
     ensures { λ r. ⌜ r ≡ layout.placeOf (now (s .entry)) p ⌝ }
-    ensures { λ r. ⌜ r < 2147483648 ⌝ }
+    ensures { λ r. ⌜ r < keptMost + 1 ⌝ }
 {
     count(s, process_at(p) + 1)
 }
@@ -144,7 +138,7 @@ pub fn place_of(s: &[i32], p: u8) -> u32
 // The item that declares the channel of record c.
 pub fn declared_of(s: &[i32], c: u32) -> u32
     ensures { λ r. ⌜ r ≡ layout.declaredOf (now (s .entry)) c ⌝ }
-    ensures { λ r. ⌜ r < 2147483648 ⌝ }
+    ensures { λ r. ⌜ r < keptMost + 1 ⌝ }
 {
     count(s, channel_at(c))
 }
@@ -152,7 +146,7 @@ pub fn declared_of(s: &[i32], c: u32) -> u32
 // How many messages it holds.
 pub fn waiting_of(s: &[i32], c: u32) -> u32
     ensures { λ r. ⌜ r ≡ layout.waitingOf (now (s .entry)) c ⌝ }
-    ensures { λ r. ⌜ r < 2147483648 ⌝ }
+    ensures { λ r. ⌜ r < keptMost + 1 ⌝ }
 {
     count(s, channel_at(c) + 1)
 }
@@ -168,7 +162,7 @@ pub fn field_of(s: &[i32], c: u32, m: u32, f: u32) -> i32
 pub fn clear(s: &mut [i32])
     ensures { λ _. ⌜ now (s .exit) ≡ layout.cleared (now (s .entry)) ⌝ }
 {
-    let most = base_bytes::least(STATE_SIZE, s.len());
+    let most = base_bytes::least(base_ceilings::STATE_ROOM, s.len());
     let mut i: usize = 0;
     while i < most {
         s[i] = 0;

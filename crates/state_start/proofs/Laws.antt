@@ -1,32 +1,30 @@
 -- Laws that the proofs of `state_start` cite: what its callees say, put together.
-use Prim.Native.Nat.{ℕ, zero, suc, min, _+_, _-_, _/_, _%_, _≤_, _<_, _^_}
-use mathlib.Core.Path.{_≡_, refl, sym, ap, _∙_}
-use mathlib.Core.Bool.{Bool, true, false}
+use Prim.Native.Nat.{ℕ, min, _+_, _-_, _/_, _%_, _≤_, _<_, _^_}
+use mathlib.Core.Path.{_≡_, sym, ap, _∙_}
 use mathlib.Core.List.{List}
 use native.Mathlib.Omega.{arith}
 use lib.ListN.{set}
 use lib.IntN.{ℤ, pos}
 use lib.Signed.{mag}
-use lib.Dec.{eqb, ltb}
 use borrow.Author.Tests.{ne-eqb, eq-eqb, lt-ltb, le-ltb}
 use mir.Syntax.{w32}
 use mir.Val.{toZ, ofZ, SFits}
 use mir.ValLaws.{toZ-ofZ}
-use Rattle.base_codes.specs.Codes.{c-active, c-active-many, c-body, c-channel, c-declared, c-init, c-minus, c-named, c-true, c-value}
+use Rattle.base_ceilings.specs.Ceilings.{itemsMost, processesMost}
+use Rattle.base_codes.specs.Codes.{c-active, c-active-many, c-body, c-channel, c-declared, c-init, c-minus, c-named, c-true, c-value, c-number}
 use Rattle.table_layout.specs.Access.{itemsOf, codeOf, linkOf, numberOf}
 use Rattle.base_values.specs.Operators.{unaryOf}
 use Rattle.base_values.specs.Types.{castOf}
 use Rattle.state_layout.proofs.Laws.{back}
 use Rattle.state_layout.specs.Layout.{kept, cleared, processAt, channelAt, processesOf, channelsOf}
-use Rattle.spec_text.specs.Ceilings.{processesMost}
 use Rattle.state_layout.specs.Walks.{walk}
 use Rattle.step_eval.specs.Variables.{typeOf, sizeOf, slotOf}
-use Rattle.state_start.specs.Values.{valueAt, literalOf, valueOf}
+use Rattle.state_start.specs.Values.{literalOf, valueOf}
 use Rattle.state_start.specs.Starting.{filled, stored, channelMade, variableMade, declared, entered, unitLength, processMade, globalMade, startsOf, unitStarted, scanned, initialOf}
 
 -- ---- values
 module _ (t : List ℕ) (k : ℕ) {c : ℕ} (ec : c ≡ codeOf t k) where
-  pub literal-number : c ≡ 71 → {n : ℕ} {r : ℤ} → n ≡ numberOf t k → mag r < 2 ^ 31 → r ≡ kept n → toZ w32 (ofZ w32 r) ≡ literalOf t k
+  pub literal-number : c ≡ c-number → {n : ℕ} {r : ℤ} → n ≡ numberOf t k → mag r < 2 ^ 31 → r ≡ kept n → toZ w32 (ofZ w32 r) ≡ literalOf t k
   unfolding literalOf
   literal-number e en h er = rw (← ec, e) (back h ∙ er ∙ ap kept en)
 
@@ -34,9 +32,9 @@ module _ (t : List ℕ) (k : ℕ) {c : ℕ} (ec : c ≡ codeOf t k) where
   unfolding literalOf
   literal-true e = rw (← ec, e)
 
-  pub literal-none : (c ≡ 71 → ⊥) → (c ≡ c-true → ⊥) → pos 0 ≡ literalOf t k
+  pub literal-none : (c ≡ c-number → ⊥) → (c ≡ c-true → ⊥) → pos 0 ≡ literalOf t k
   unfolding literalOf
-  literal-none a b = rw (← ec, ne-eqb c 71 a, ne-eqb c c-true b)
+  literal-none a b = rw (← ec, ne-eqb c c-number a, ne-eqb c c-true b)
 
 module _ (t : List ℕ) (k : ℕ) {c : ℕ} (ec : c ≡ codeOf t (k + 1)) where
   pub value-plain : c ≡ c-value → {r : ℤ} → mag r < 2 ^ 31 → r ≡ literalOf t k → toZ w32 (ofZ w32 r) ≡ valueOf t k
@@ -124,9 +122,6 @@ pub filled-all : (l p : ℕ) (v : ℤ) (s s′ : List ℤ) {n : ℕ} → n ≡ s
 unfolding filled
 filled-all l p v s s′ en e = e ∙ ap (λ n. walk (λ k x. set x (slotOf l p k) v) 0 n s) en
 
-pub filled-one : (l p : ℕ) (v : ℤ) (s s′ : List ℤ) (k : ℕ) {i : ℕ} → SFits w32 v → i ≡ slotOf l p k → s′ ≡ set s i (toZ w32 (ofZ w32 v)) → s′ ≡ set s (slotOf l p k) v
-filled-one l p v s s′ k f ei e = e ∙ (λ j. set s (ei j) (toZ-ofZ w32 v f j))
-
 module _ (t : List ℕ) (s : List ℤ) (u : ℕ) {p : ℕ} (ep : p ≡ processesOf s) where
   pub process-full : processesMost ≤ p → s ≡ processMade t u s
   unfolding processMade
@@ -139,21 +134,21 @@ module _ (t : List ℕ) (s : List ℤ) (u : ℕ) {p : ℕ} (ep : p ≡ processes
       let q : s₂ ≡ set (set s (processAt p) (kept u)) 0 (kept (p + 1)) = e₂ ∙ ap (λ x. set x 0 (kept (p + 1))) (e₁ ∙ ap (λ i. set s i (kept u)) ei) in
       rw (← ep, lt-ltb p processesMost h) (e₃ ∙ (λ j. walk (λ k x. entered t p (u + k) x) 0 (en j) (q j)))
 
-pub unit-all : (t : List ℕ) (j : ℕ) (s s′ : List ℤ) {n m : ℕ} → m ≡ startsOf t j → n ≡ min 16 m → s′ ≡ walk (λ k x. processMade t j x) 0 n s → s′ ≡ unitStarted t j s
+pub unit-all : (t : List ℕ) (j : ℕ) (s s′ : List ℤ) {n m : ℕ} → m ≡ startsOf t j → n ≡ min processesMost m → s′ ≡ walk (λ k x. processMade t j x) 0 n s → s′ ≡ unitStarted t j s
 unfolding unitStarted
-unit-all t j s s′ em en e = e ∙ ap (λ n. walk (λ k x. processMade t j x) 0 n s) (en ∙ ap (min 16) em)
+unit-all t j s s′ em en e = e ∙ ap (λ n. walk (λ k x. processMade t j x) 0 n s) (en ∙ ap (min processesMost) em)
 
 module _ (t : List ℕ) (u : ℕ) {e : ℕ} (ee : e ≡ linkOf t u) where
   pub length-none : e < u → 0 ≡ unitLength t u
   unfolding unitLength
   length-none h = let q : linkOf t u - u ≡ 0 = omega arith in rw q
 
-  pub length-some : {r : ℕ} → r ≡ min 8192 (e - u) → r ≡ unitLength t u
+  pub length-some : {r : ℕ} → r ≡ min itemsMost (e - u) → r ≡ unitLength t u
   unfolding unitLength
-  length-some er = er ∙ ap (λ a. min 8192 (a - u)) ee
+  length-some er = er ∙ ap (λ a. min itemsMost (a - u)) ee
 
-pub whole-state : (t : List ℕ) (s s₁ s₂ s₃ : List ℤ) {n m : ℕ} → m ≡ itemsOf t → n ≡ min 8192 m → s₁ ≡ cleared s → s₂ ≡ walk (globalMade t) 0 n s₁ → s₃ ≡ walk (unitStarted t) 0 n s₂ → s₃ ≡ initialOf t s
+pub whole-state : (t : List ℕ) (s s₁ s₂ s₃ : List ℤ) {n m : ℕ} → m ≡ itemsOf t → n ≡ min itemsMost m → s₁ ≡ cleared s → s₂ ≡ walk (globalMade t) 0 n s₁ → s₃ ≡ walk (unitStarted t) 0 n s₂ → s₃ ≡ initialOf t s
 unfolding initialOf scanned
 whole-state t s s₁ s₂ s₃ em en e₁ e₂ e₃ =
-    let q : _ ≡ min 8192 (itemsOf t) = en ∙ ap (min 8192) em in
+    let q : _ ≡ min itemsMost (itemsOf t) = en ∙ ap (min itemsMost) em in
     e₃ ∙ (λ i. walk (unitStarted t) 0 (q i) ((e₂ ∙ (λ j. walk (globalMade t) 0 (q j) (e₁ j))) i))

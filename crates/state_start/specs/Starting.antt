@@ -1,3 +1,4 @@
+-- Mechanism, held to the specification by `demand2` (crate `demands`).
 -- The initial state: document 01, "How it moves", "Variables start at 0 or their value; every element of an array gets it .. Channels count from 1 as made, globals
 -- first", "Processes start in text order (`init` included) at 0; a new one takes the next number", and of parameters "those of an `active` process start at 0".
 -- `t` are tables, `s` the state before, p the number of a process.
@@ -6,12 +7,12 @@ use mathlib.Core.List.{List}
 use lib.ListN.{set}
 use lib.IntN.{ℤ, pos}
 use lib.Dec.{eqb, ltb}
+use Rattle.base_ceilings.specs.Ceilings.{itemsMost, processesMost}
 use Rattle.base_codes.specs.Codes.{c-active, c-active-many, c-body, c-channel, c-declared, c-init}
 use Rattle.base_bytes.specs.Choice.{pick}
 use Rattle.table_layout.specs.Access.{itemsOf, codeOf, linkOf, numberOf}
 use Rattle.base_values.specs.Types.{castOf}
 use Rattle.state_layout.specs.Layout.{kept, cleared, processAt, channelAt, processesOf, channelsOf}
-use Rattle.spec_text.specs.Ceilings.{processesMost}
 use Rattle.state_layout.specs.Walks.{walk}
 use Rattle.step_eval.specs.Variables.{typeOf, sizeOf, slotOf}
 use Rattle.state_start.specs.Values.{valueAt, valueOf}
@@ -47,7 +48,7 @@ module _ (t : List ℕ) where
 
   -- how many items the unit that item u begins has from there on
   unfoldable pub unitLength : ℕ → ℕ
-  unitLength u = min 8192 (linkOf t u - u)
+  unitLength u = min itemsMost (linkOf t u - u)
 
   -- the next process, of the unit that item u begins, if one more fits
   unfoldable pub processMade : ℕ → List ℤ → List ℤ
@@ -69,7 +70,7 @@ module _ (t : List ℕ) where
 
   -- as many items as a model has at most
   unfoldable pub scanned : ℕ
-  scanned = min 8192 (itemsOf t)
+  scanned = min itemsMost (itemsOf t)
 
   -- globals first, then the processes in text order
   unfoldable pub initialOf : List ℤ → List ℤ

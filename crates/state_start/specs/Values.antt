@@ -1,3 +1,4 @@
+-- Mechanism, held to the specification by `demand2` (crate `demands`).
 -- What a declaration says its variable starts with: document 01, "How it moves", "Variables start at 0 or their value".
 -- Behind the `declared` item d stand, where there are any, a number and `size` (213), then the value's item and its mark: `value` (214), `minus` (215), `named` (216) or
 -- `channel` (217).
@@ -5,7 +6,7 @@ use Prim.Native.Nat.{ℕ, _+_}
 use mathlib.Core.List.{List}
 use lib.IntN.{ℤ, pos}
 use lib.Dec.{eqb}
-use Rattle.base_codes.specs.Codes.{c-minus, c-named, c-size, c-true, c-value}
+use Rattle.base_codes.specs.Codes.{c-minus, c-named, c-number, c-size, c-true, c-value}
 use Rattle.base_bytes.specs.Choice.{pick}
 use Rattle.table_layout.specs.Access.{codeOf, linkOf, numberOf}
 use Rattle.state_layout.specs.Layout.{kept}
@@ -18,7 +19,7 @@ module _ (t : List ℕ) where
 
   -- a number, `true` (178) or `false`
   unfoldable pub literalOf : ℕ → ℤ
-  literalOf k = pick (eqb (codeOf t k) 71) (kept (numberOf t k)) (pick (eqb (codeOf t k) c-true) (pos 1) (pos 0))
+  literalOf k = pick (eqb (codeOf t k) c-number) (kept (numberOf t k)) (pick (eqb (codeOf t k) c-true) (pos 1) (pos 0))
 
   -- the value whose item is k; of a name, the number of the mtype name; 0 where there is none
   unfoldable pub valueOf : ℕ → ℤ

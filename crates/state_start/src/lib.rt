@@ -1,12 +1,13 @@
 // The initial state of a model, and one process more. No function asks anything of its caller, but that an item's number has 32 bits.
 ghost use mathlib.Core.Path.{_≡_};
 ghost use Prim.Native.Nat.{_+_, _-_, _<_, _≤_};
+ghost use Rattle.base_ceilings.specs.Ceilings.{itemsMost};
 ghost use Rattle.state_layout.specs.Walks.{walk};
 ghost use Rattle.state_start.specs.Values as values;
 ghost use Rattle.state_start.specs.Starting as starting;
 
-// The most items of a model.
-const ITEMS_MOST: usize = 8192;
+// The most processes.
+const PROCESSES_MOST: u32 = base_ceilings::PROCESSES_MOST as u32;
 
 // Where the value of the variable that item d declares stands, if it has one.
 fn value_at(t: &[u32], d: u32) -> usize
@@ -25,7 +26,7 @@ fn literal(t: &[u32], k: usize) -> i32
     ensures { λ r. ⌜ r ≡ values.literalOf (now (t .entry)) k ⌝ }
 {
     match table_layout::code(t, k) {
-        71 => state_layout::kept(table_layout::number(t, k)),
+        base_codes::NUMBER => state_layout::kept(table_layout::number(t, k)),
         base_codes::TRUE => 1,
         _ => 0,
     }
@@ -131,13 +132,13 @@ fn enter(t: &[u32], s: &mut [i32], p: u8, j: u32)
 // How many items the unit that item u begins has from there on.
 pub fn unit_length(t: &[u32], u: u32) -> u32
     ensures { λ r. ⌜ r ≡ starting.unitLength (now (t .entry)) u ⌝ }
-    ensures { λ r. ⌜ (r ≤ 8192) × (u + r < 4294967296) ⌝ }
+    ensures { λ r. ⌜ (r ≤ itemsMost) × (u + r < 4294967296) ⌝ }
 {
     let e = table_layout::link(t, u as usize);
     if e < u as usize {
         return 0;
     }
-    base_bytes::least(ITEMS_MOST, e - u as usize) as u32
+    base_bytes::least(base_ceilings::ITEMS_MOST, e - u as usize) as u32
 }
 
 // The next process, of the unit that item u begins, if one more fits.
@@ -145,7 +146,7 @@ pub fn make_process(t: &[u32], s: &mut [i32], u: u32)
     ensures { λ _. ⌜ now (s .exit) ≡ starting.processMade (now (t .entry)) u (now (s .entry)) ⌝ }
 {
     let p = state_layout::processes(s);
-    if p < state_layout::PROCESSES_MOST {
+    if p < PROCESSES_MOST {
         state_layout::put_count(s, state_layout::process_at(p as u8), u as usize);
         state_layout::put_count(s, 0, p as usize + 1);
         let n = unit_length(t, u);
@@ -190,7 +191,7 @@ fn starts_of(t: &[u32], j: u32) -> usize
 fn start_unit(t: &[u32], s: &mut [i32], j: u32)
     ensures { λ _. ⌜ now (s .exit) ≡ starting.unitStarted (now (t .entry)) j (now (s .entry)) ⌝ }
 {
-    let n = base_bytes::least(16, starts_of(t, j));
+    let n = base_bytes::least(base_ceilings::PROCESSES_MOST, starts_of(t, j));
     let mut k: usize = 0;
     while k < n {
         make_process(t, s, j);
@@ -222,7 +223,7 @@ fn start_units(t: &[u32], s: &mut [i32], n: u32)
 pub fn start(t: &[u32], s: &mut [i32])
     ensures { λ _. ⌜ now (s .exit) ≡ starting.initialOf (now (t .entry)) (now (s .entry)) ⌝ }
 {
-    let n = base_bytes::least(ITEMS_MOST, table_layout::items(t)) as u32;
+    let n = base_bytes::least(base_ceilings::ITEMS_MOST, table_layout::items(t)) as u32;
     state_layout::clear(s);
     make_globals(t, s, n);
     start_units(t, s, n);

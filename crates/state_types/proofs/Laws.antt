@@ -20,7 +20,8 @@ use Rattle.state_layout.specs.Layout.{kept, fieldAt, cellOf, countOf}
 use Rattle.step_eval.specs.Variables.{typeOf, sizeOf, slotOf}
 use Rattle.state_start.specs.Starting.{unitLength}
 use Rattle.step_ready.specs.Channels.{fieldsOf}
-use Rattle.state_types.specs.Fits.{every, countsAt, fitsAt, elementFits, variableFits, isGlobal, isLocal, fieldType, globalFits, localFits, localsFit, fieldFits, messageFits}
+use Rattle.step_messages.specs.Messages.{fieldType}
+use Rattle.state_types.specs.Fits.{every, countsAt, fitsAt, elementFits, variableFits, isGlobal, isLocal, globalFits, localFits, localsFit, fieldFits, messageFits}
 
 -- ---- items
 pub global-of : (t : List ℕ) (j : ℕ) {c l : ℕ} {b : Bool} → c ≡ codeOf t j → l ≡ linkOf t j → b ≡ both (eqb c c-declared) (eqb (l / 8 % 2) 0) → b ≡ isGlobal t j

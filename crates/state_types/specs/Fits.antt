@@ -1,6 +1,7 @@
+-- Mechanism, held to the specification by `demand2` (crate `demands`).
 -- Numbers that count, and numbers that lie in their types: document 01, "A state of the model (refusal 9): values in their types, .. messages in their field types, counts
 -- within ceilings". `t` are tables, `s` the numbers, p a process.
-use Prim.Native.Nat.{ℕ, zero, suc, _+_, _*_, _-_, _/_, _%_, min}
+use Prim.Native.Nat.{ℕ, zero, suc, _+_, _-_, _/_, _%_, min}
 use mathlib.Core.Bool.{Bool, true}
 use mathlib.Core.List.{List}
 use lib.IntN.{ℤ}
@@ -14,6 +15,7 @@ use Rattle.state_layout.specs.Layout.{cellOf, countOf, fieldAt, kept}
 use Rattle.step_eval.specs.Variables.{typeOf, sizeOf, slotOf}
 use Rattle.state_start.specs.Starting.{unitLength}
 use Rattle.step_ready.specs.Channels.{fieldsOf}
+use Rattle.step_messages.specs.Messages.{fieldType}
 
 -- do i, i + 1, .., n of them, all pass f?
 unfoldable pub every : (ℕ → Bool) → ℕ → ℕ → Bool
@@ -49,10 +51,6 @@ module _ (t : List ℕ) where
   abbrev pub isLocal : ℕ → Bool
   isLocal j = either (eqb (codeOf t j) c-declared) (eqb (codeOf t j) c-parameter)
 
-  -- the type of field f of the messages that the `channel` item d declares; the item of type k has the code 130 + k
-  abbrev pub fieldType : ℕ → ℕ → ℕ
-  fieldType d f = codeOf t (d + 1 + 2 * f) - 130
-
   module _ (s : List ℤ) where
     unfoldable pub globalFits : ℕ → Bool
     globalFits j = pick (isGlobal j) (variableFits s (linkOf t j) 0) true
@@ -66,7 +64,7 @@ module _ (t : List ℕ) where
 
     -- field f of message m in the record c, whose channel item d declares
     unfoldable pub fieldFits : ℕ → ℕ → ℕ → ℕ → Bool
-    fieldFits c d m f = fitsAt s (fieldType d f) (fieldAt c m f)
+    fieldFits c d m f = fitsAt s (fieldType t d f) (fieldAt c m f)
 
     unfoldable pub messageFits : ℕ → ℕ → ℕ → Bool
     messageFits c d m = every (fieldFits c d m) 0 (fieldsOf t d)

@@ -1,8 +1,8 @@
 // Do numbers count something, and do they lie in their types? No function asks anything of its caller.
 ghost use mathlib.Core.Path.{_≡_};
 ghost use Rattle.state_types.specs.Fits as fits;
-use rule_sheets::both;
-use rule_sheets::either;
+use base_bytes::both;
+use base_bytes::either;
 
 // Does item j make a global variable?
 pub fn is_global(t: &[u32], j: usize) -> bool
@@ -105,18 +105,14 @@ pub fn locals_fit(t: &[u32], s: &[i32], p: u8, u: u32) -> bool
     true
 }
 
-// The type of field f of the messages that item d declares.
-fn field_type(t: &[u32], d: u32, f: u32) -> u8
-    ensures { λ r. ⌜ r ≡ fits.fieldType (now (t .entry)) d f ⌝ }
-{
-    let c = table_layout::code(t, d as usize + 1 + 2 * f as usize);
-    if c < 130 { 0 } else { c - 130 }
-}
-
 fn field_fits(t: &[u32], s: &[i32], c: u32, d: u32, m: u32, f: u32) -> bool
     ensures { λ r. ⌜ r ≡ fits.fieldFits (now (t .entry)) (now (s .entry)) c d m f ⌝ }
 {
-    fits_at(s, field_type(t, d, f), state_layout::field_at(c, m, f))
+    fits_at(
+        s,
+        step_messages::field_type(t, d, f),
+        state_layout::field_at(c, m, f),
+    )
 }
 
 fn message_fits(t: &[u32], s: &[i32], c: u32, d: u32, m: u32) -> bool

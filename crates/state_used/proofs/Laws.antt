@@ -8,6 +8,7 @@ use lib.IntN.{ℤ}
 use lib.Signed.{mag}
 use mir.Syntax.{w32}
 use mir.Val.{toZ, ofZ}
+use Rattle.base_ceilings.specs.Ceilings.{capacityMost, itemsMost}
 use Rattle.base_bytes.specs.Choice.{pick}
 use Rattle.table_layout.specs.Access.{itemsOf, linkOf}
 use Rattle.state_layout.proofs.Laws.{back}
@@ -71,18 +72,18 @@ module _ (t : List ℕ) (s x : List ℤ) where
   unfolding messageShaped
   message-all c d m en e = e ∙ ap (λ n. walk (fieldShaped s c m) 0 n x) en
 
-  pub channel-as : (c : ℕ) {d w n i : ℕ} {x₁ x₂ x₃ : List ℤ} → d ≡ declaredOf s c → w ≡ waitingOf s c → n ≡ min 8 w → i ≡ channelAt c → x₁ ≡ set x i (kept d) → x₂ ≡ set x₁ (i + 1) (kept n)
+  pub channel-as : (c : ℕ) {d w n i : ℕ} {x₁ x₂ x₃ : List ℤ} → d ≡ declaredOf s c → w ≡ waitingOf s c → n ≡ min capacityMost w → i ≡ channelAt c → x₁ ≡ set x i (kept d) → x₂ ≡ set x₁ (i + 1) (kept n)
       → x₃ ≡ walk (messageShaped t s c d) 0 n x₂ → x₃ ≡ channelShaped t s c x
   unfolding channelShaped
   channel-as c ed ew en ei e₁ e₂ e₃ =
-      let q : _ ≡ messagesIn s c = en ∙ ap (min 8) ew in
+      let q : _ ≡ messagesIn s c = en ∙ ap (min capacityMost) ew in
       e₃ ∙ (λ j. walk (messageShaped t s c (ed j)) 0 (q j) ((e₂ ∙ (λ k. set ((e₁ ∙ (λ m. set x (ei m) (kept (ed m)))) k) (ei k + 1) (kept (q k)))) j))
 
-  pub shaped-as : {p c n m : ℕ} {x₁ x₂ x₃ x₄ x₅ : List ℤ} → p ≡ processesIn s → c ≡ channelsIn s → x₁ ≡ set x 0 (kept p) → x₂ ≡ set x₁ 1 (kept c) → m ≡ itemsOf t → n ≡ min 8192 m
+  pub shaped-as : {p c n m : ℕ} {x₁ x₂ x₃ x₄ x₅ : List ℤ} → p ≡ processesIn s → c ≡ channelsIn s → x₁ ≡ set x 0 (kept p) → x₂ ≡ set x₁ 1 (kept c) → m ≡ itemsOf t → n ≡ min itemsMost m
       → x₃ ≡ walk (globalShaped t s) 0 n x₂ → x₄ ≡ walk (processShaped t s) 0 p x₃ → x₅ ≡ walk (channelShaped t s) 0 c x₄ → x₅ ≡ shapedOn t s x
   unfolding shapedOn scanned
   shaped-as ep ec e₁ e₂ em en e₃ e₄ e₅ =
-      let q : _ ≡ min 8192 (itemsOf t) = en ∙ ap (min 8192) em in
+      let q : _ ≡ min itemsMost (itemsOf t) = en ∙ ap (min itemsMost) em in
       let q₂ : _ ≡ set (set x 0 (kept (processesIn s))) 1 (kept (channelsIn s)) = e₂ ∙ (λ j. set ((e₁ ∙ ap (λ p. set x 0 (kept p)) ep) j) 1 (kept (ec j))) in
-      let q₃ : _ ≡ walk (globalShaped t s) 0 (min 8192 (itemsOf t)) (set (set x 0 (kept (processesIn s))) 1 (kept (channelsIn s))) = e₃ ∙ (λ j. walk (globalShaped t s) 0 (q j) (q₂ j)) in
+      let q₃ : _ ≡ walk (globalShaped t s) 0 (min itemsMost (itemsOf t)) (set (set x 0 (kept (processesIn s))) 1 (kept (channelsIn s))) = e₃ ∙ (λ j. walk (globalShaped t s) 0 (q j) (q₂ j)) in
       e₅ ∙ (λ j. walk (channelShaped t s) 0 (ec j) ((e₄ ∙ (λ k. walk (processShaped t s) 0 (ep k) (q₃ k))) j))

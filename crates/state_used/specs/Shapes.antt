@@ -1,3 +1,4 @@
+-- Mechanism, held to the specification by `demand2` (crate `demands`).
 -- The numbers that are in use: document 01, "A state of the model (refusal 9): .. counts within ceilings, .. unused numbers 0". Into zeros go the counts, each process's
 -- unit and place, each channel's declaration and how many messages wait, and the numbers of variables and of waiting messages; nothing else.
 -- `t` are tables, `s` the numbers, x what is written so far.
@@ -5,10 +6,10 @@ use Prim.Native.Nat.{ℕ, _+_, min}
 use mathlib.Core.List.{List}
 use lib.ListN.{set, replicate}
 use lib.IntN.{ℤ, pos}
+use Rattle.base_ceilings.specs.Ceilings.{capacityMost, channelsMost, processesMost, stateRoom}
 use Rattle.base_bytes.specs.Choice.{pick}
 use Rattle.table_layout.specs.Access.{linkOf}
-use Rattle.state_layout.specs.Layout.{stateSize, processAt, channelAt, fieldAt, cellOf, processesOf, channelsOf, unitOf, placeOf, declaredOf, waitingOf, kept}
-use Rattle.spec_text.specs.Ceilings.{processesMost, channelsMost, messagesMost}
+use Rattle.state_layout.specs.Layout.{processAt, channelAt, fieldAt, cellOf, processesOf, channelsOf, unitOf, placeOf, declaredOf, waitingOf, kept}
 use Rattle.state_layout.specs.Walks.{walk}
 use Rattle.step_eval.specs.Variables.{sizeOf, slotOf}
 use Rattle.state_start.specs.Starting.{unitLength, scanned}
@@ -24,7 +25,7 @@ module _ (s : List ℤ) where
   channelsIn = min channelsMost (channelsOf s)
 
   abbrev pub messagesIn : ℕ → ℕ
-  messagesIn c = min messagesMost (waitingOf s c)
+  messagesIn c = min capacityMost (waitingOf s c)
 
   -- ## numbers
   -- the number at i
@@ -70,4 +71,4 @@ module _ (t : List ℕ) (s : List ℤ) where
   shapedOn x = walk channelShaped 0 (channelsIn s) (walk processShaped 0 (processesIn s) (walk globalShaped 0 (scanned t) (set (set x 0 (kept (processesIn s))) 1 (kept (channelsIn s)))))
 
   unfoldable pub shaped : List ℤ
-  shaped = shapedOn (replicate stateSize (pos 0))
+  shaped = shapedOn (replicate stateRoom (pos 0))

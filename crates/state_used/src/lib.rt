@@ -3,9 +3,6 @@ ghost use mathlib.Core.Path.{_≡_};
 ghost use Rattle.state_layout.specs.Walks.{walk};
 ghost use Rattle.state_used.specs.Shapes as shapes;
 
-// The most items of a model.
-const ITEMS_MOST: usize = 8192;
-
 // The number at i, copied.
 fn copy_number(s: &[i32], x: &mut [i32], i: usize)
     ensures { λ _. ⌜ now (x .exit) ≡ shapes.copied (now (s .entry)) i (now (x .entry)) ⌝ }
@@ -121,7 +118,10 @@ fn shape_channel(t: &[u32], s: &[i32], x: &mut [i32], c: u32)
     ensures { λ _. ⌜ now (x .exit) ≡ shapes.channelShaped (now (t .entry)) (now (s .entry)) c (now (x .entry)) ⌝ }
 {
     let d = state_layout::declared_of(s, c);
-    let n = base_bytes::least(8, state_layout::waiting_of(s, c) as usize);
+    let n = base_bytes::least(
+        base_ceilings::CAPACITY_MOST,
+        state_layout::waiting_of(s, c) as usize,
+    );
     let i = state_layout::channel_at(c);
     state_layout::put_count(x, i, d as usize);
     state_layout::put_count(x, i + 1, n);
@@ -142,14 +142,20 @@ fn shape_channels(t: &[u32], s: &[i32], x: &mut [i32], n: u32)
 pub fn processes_in(s: &[i32]) -> u8
     ensures { λ r. ⌜ r ≡ shapes.processesIn (now (s .entry)) ⌝ }
 {
-    base_bytes::least(16, state_layout::processes(s) as usize) as u8
+    base_bytes::least(
+        base_ceilings::PROCESSES_MOST,
+        state_layout::processes(s) as usize,
+    ) as u8
 }
 
 // How many channels were made, within the ceiling.
 pub fn channels_in(s: &[i32]) -> u32
     ensures { λ r. ⌜ r ≡ shapes.channelsIn (now (s .entry)) ⌝ }
 {
-    base_bytes::least(16, state_layout::channels(s) as usize) as u32
+    base_bytes::least(
+        base_ceilings::CHANNELS_MOST,
+        state_layout::channels(s) as usize,
+    ) as u32
 }
 
 // What is in use of s, on x.
@@ -164,7 +170,7 @@ pub fn shape(t: &[u32], s: &[i32], x: &mut [i32])
         t,
         s,
         x,
-        base_bytes::least(ITEMS_MOST, table_layout::items(t)),
+        base_bytes::least(base_ceilings::ITEMS_MOST, table_layout::items(t)),
     );
     shape_processes(t, s, x, p);
     shape_channels(t, s, x, c);

@@ -1,6 +1,9 @@
 // The steps that are offered in a state, over all its processes, and its verdict.
 ghost use mathlib.Core.Path.{_≡_};
 ghost use Prim.Native.Nat.{_≤_};
+ghost use Rattle.step_all.specs.Moving.{machineIn};
+ghost use Rattle.base_ceilings.specs.Ceilings.{processesMost};
+ghost use Rattle.spec_machine.specs.Machine as machine;
 ghost use Rattle.step_all.specs.Moving as moving;
 use step_offers::Walk;
 
@@ -19,14 +22,17 @@ pub enum Offer {
 // How many processes there are.
 fn processes(s: &[i32]) -> u32
     ensures { λ r. ⌜ r ≡ moving.processes (now (s .entry)) ⌝ }
-    ensures { λ r. ⌜ r ≤ 16 ⌝ }
+    ensures { λ r. ⌜ r ≤ processesMost ⌝ }
 {
-    base_bytes::least(16, state_layout::processes(s) as usize) as u32
+    base_bytes::least(
+        base_ceilings::PROCESSES_MOST,
+        state_layout::processes(s) as usize,
+    ) as u32
 }
 
 // Is any process offered a step?
 fn is_any(t: &[u32], s: &[i32], late: bool) -> bool
-    ensures { λ r. ⌜ r ≡ moving.anyFrom (now (t .entry)) (now (s .entry)) late 0 (moving.processes (now (s .entry))) ⌝ }
+    ensures { λ r. ⌜ r ≡ machine.anyFrom (machineIn (now (t .entry))) (now (s .entry)) late 0 (moving.processes (now (s .entry))) ⌝ }
 {
     let n = processes(s);
     let mut p: u32 = 0;
@@ -41,14 +47,14 @@ fn is_any(t: &[u32], s: &[i32], late: bool) -> bool
 
 // Is `timeout` executable?
 fn is_late(t: &[u32], s: &[i32]) -> bool
-    ensures { λ r. ⌜ r ≡ moving.lateOf (now (t .entry)) (now (s .entry)) ⌝ }
+    ensures { λ r. ⌜ r ≡ machine.late (machineIn (now (t .entry))) (now (s .entry)) ⌝ }
 {
     if is_any(t, s, false) { false } else { true }
 }
 
 // The place of the k-th step, from 1, that a process is offered.
 pub fn step_at(t: &[u32], s: &[i32], process: u32, k: u32) -> Walk
-    ensures { λ r. ⌜ r ≡ moving.stepAt (now (t .entry)) (now (s .entry)) process k ⌝ }
+    ensures { λ r. ⌜ moving.stepAs process k r ≡ machine.asked (machineIn (now (t .entry))) process k (machine.offered (machineIn (now (t .entry))) (now (s .entry))) ⌝ }
 {
     if processes(s) <= process {
         return Walk::Left(0);
@@ -61,7 +67,7 @@ pub fn step_at(t: &[u32], s: &[i32], process: u32, k: u32) -> Walk
 
 // The n-th step, from 0, of all that are offered, by process number, then text order.
 pub fn nth(t: &[u32], s: &[i32], n: u16) -> Offer
-    ensures { λ r. ⌜ r ≡ moving.nthOf (now (t .entry)) (now (s .entry)) n ⌝ }
+    ensures { λ r. ⌜ r ≡ moving.nthIn n (machine.offered (machineIn (now (t .entry))) (now (s .entry))) ⌝ }
 {
     let late = is_late(t, s);
     let count = processes(s);
@@ -84,7 +90,7 @@ pub fn nth(t: &[u32], s: &[i32], n: u16) -> Offer
 
 // Has every process ended?
 fn is_ended(t: &[u32], s: &[i32]) -> bool
-    ensures { λ r. ⌜ r ≡ moving.endedFrom (now (t .entry)) (now (s .entry)) 0 (moving.processes (now (s .entry))) ⌝ }
+    ensures { λ r. ⌜ r ≡ machine.endedFrom (machineIn (now (t .entry))) (now (s .entry)) 0 (moving.processes (now (s .entry))) ⌝ }
 {
     let n = processes(s);
     let mut p: u32 = 0;
@@ -100,7 +106,7 @@ fn is_ended(t: &[u32], s: &[i32]) -> bool
 }
 
 pub fn verdict_of(t: &[u32], s: &[i32]) -> Verdict
-    ensures { λ r. ⌜ r ≡ moving.verdictOf (now (t .entry)) (now (s .entry)) ⌝ }
+    ensures { λ r. ⌜ r ≡ moving.verdictAs (machine.verdict (machineIn (now (t .entry))) (now (s .entry))) ⌝ }
 {
     if is_ended(t, s) {
         return Verdict::Finished;

@@ -2,56 +2,56 @@
 use Prim.Native.Nat.{ℕ, _+_, _-_, _≤_, _<_}
 use mathlib.Core.Path.{_≡_, refl, sym, _∙_, ap, ap₂}
 use mathlib.Core.Bool.{Bool, true, false}
+use mathlib.Core.Option.{Option}
 use mathlib.Core.List.{List}
 use native.Mathlib.Omega.{arith}
-use borrow.Author.Tests.{lt-ltb, le-ltb, eq-eqb, ne-eqb}
+use borrow.Author.Tests.{lt-ltb, le-ltb, ne-eqb}
 use lib.ListN.{length}
 use lib.IntN.{ℤ}
-use lib.Dec.{eqb, ltb}
+use lib.Dec.{eqb}
 use Rattle.table_genuine.specs.Genuine.{written, genuine}
 use Rattle.state_start.specs.Starting.{initialOf}
 use Rattle.state_check.specs.Standing.{isStateOf}
-use Rattle.step_all.specs.Moving.{processes, stepsBy, lateOf, stepAt, listOf, nthIn, nthOf, verdictOf}
+use Rattle.spec_machine.specs.Machine.{offered, verdict}
+use Rattle.step_all.specs.Moving.{machineIn, stepAs, nthIn, verdictAs}
+use Rattle.step_all.proofs.Asked.{asked-given}
 use Rattle.step_all.specs.declared.Offer.{Offer}
-use Rattle.step_all.specs.declared.Offer.the-variants as offer
 use Rattle.step_all.proofs.Laws.{beyond-rest}
 use Rattle.step_all.specs.declared.Verdict.{Verdict}
-use mathlib.Core.Logic.{_⊎_, inl, inr}
-use Rattle.parse_machine_proof.proofs.Never.{lt-or-ge}
 use Rattle.base_bytes.specs.Choice.{pick}
-use Rattle.step_prints.specs.Printing.{Pen, pen, puts}
-use Rattle.step_offers.specs.Offers.{pickAt}
+use Rattle.step_prints.specs.Printing.{Pen, pen, puts, printedAt}
 use Rattle.step_offers.specs.declared.Walk.{Walk}
 use Rattle.step_offers.specs.declared.Walk.the-variants.{Found, Left}
 use Rattle.base_outcome.specs.declared.Taken.{Taken}
 use Rattle.step_statements.specs.Statements.{Result}
 use Rattle.step_take.specs.Effects.{takenOf}
-use Rattle.step_prints.specs.Printing.{printedAt}
-use Rattle.step_entry.specs.declared.Listed.{Listed}
-use Rattle.step_entry.specs.declared.Listed.the-variants as listed
 use Rattle.step_entry.specs.declared.Stepped.{Stepped}
-use Rattle.step_entry.specs.declared.Stepped.the-variants as stepped
 use Rattle.step_entry.specs.declared.Standing.{Standing}
 use Rattle.step_entry.specs.declared.Standing.the-variants.{Refused}
-use Rattle.step_entry.specs.Entries.{foreignOf, refusalOf, startLeft, standingOf, verdictFor, offerBy, offeredOf, tookBy, Outcome, refusedBy, tookAt, outcomeBy, stepRefusal, outcomeOf}
+use Rattle.step_entry.specs.Entries.{foreignOf, refusalOf, startLeft, standingOf, verdictFor, offerBy, offeredOf, tookBy, Outcome, refusedBy, tookAt, outcomeBy, askedIn, stepRefusal, outcomeOf}
+use Rattle.base_ceilings.specs.Ceilings.{printRoom, processesMost, stateRoom, tablesRoom}
+use Rattle.spec_machine.specs.Machine as machine
+use Rattle.step_all.specs.declared.Offer.the-variants as offer
+use Rattle.step_entry.specs.declared.Listed.the-variants as listed
+use Rattle.step_entry.specs.declared.Stepped.the-variants as stepped
 
 module _ (ts : List ℕ) (s : List ℤ) where
-  pub tables-short : length ts < 16384 → 7 ≡ foreignOf ts s
+  pub tables-short : length ts < tablesRoom → 7 ≡ foreignOf ts s
   unfolding foreignOf
-  tables-short h = simp (lt-ltb (length ts) 16384 h)
+  tables-short h = simp (lt-ltb (length ts) tablesRoom h)
 
-  pub state-short : 16384 ≤ length ts → length s < 2048 → 7 ≡ foreignOf ts s
+  pub state-short : tablesRoom ≤ length ts → length s < stateRoom → 7 ≡ foreignOf ts s
   unfolding foreignOf
-  state-short h k = simp (le-ltb (length ts) 16384 h, lt-ltb (length s) 2048 k)
+  state-short h k = simp (le-ltb (length ts) tablesRoom h, lt-ltb (length s) stateRoom k)
 
-  module _ {b : Bool} (h : 16384 ≤ length ts) (k : 2048 ≤ length s) (e : b ≡ genuine ts) where
+  module _ {b : Bool} (h : tablesRoom ≤ length ts) (k : stateRoom ≤ length s) (e : b ≡ genuine ts) where
     pub own : b ≡ true → 0 ≡ foreignOf ts s
     unfolding foreignOf
-    own q = rw (le-ltb (length ts) 16384 h, le-ltb (length s) 2048 k, ← e, q)
+    own q = rw (le-ltb (length ts) tablesRoom h, le-ltb (length s) stateRoom k, ← e, q)
 
     pub not-own : b ≡ false → 8 ≡ foreignOf ts s
     unfolding foreignOf
-    not-own q = rw (le-ltb (length ts) 16384 h, le-ltb (length s) 2048 k, ← e, q)
+    not-own q = rw (le-ltb (length ts) tablesRoom h, le-ltb (length s) stateRoom k, ← e, q)
 
   module _ {x : ℕ} (e : x ≡ foreignOf ts s) where
     pub refused-before : (x ≡ 0 → ⊥) → x ≡ refusalOf ts s
@@ -80,7 +80,7 @@ module _ (ts : List ℕ) (s : List ℤ) where
     unfolding verdictFor
     verdict-refused n = rw (← e, ne-eqb x 0 n)
 
-    pub verdict-is : {w : List ℕ} {v : Verdict} {r : Standing} → x ≡ 0 → w ≡ written ts → v ≡ verdictOf w s → r ≡ standingOf v → r ≡ verdictFor ts s
+    pub verdict-is : {w : List ℕ} {v : Verdict} {r : Standing} → x ≡ 0 → w ≡ written ts → v ≡ verdictAs (verdict (machineIn w) s) → r ≡ standingOf v → r ≡ verdictFor ts s
     unfolding verdictFor
     verdict-is z ew ev er = rw (← e, z, ← ew, ← ev) er
 
@@ -88,25 +88,22 @@ module _ (ts : List ℕ) (s : List ℤ) where
     unfolding offeredOf
     offered-refused n z = rw (← e, ne-eqb x 0 z)
 
-    pub offered-is : {w : List ℕ} {o : Offer} (n : ℕ) → x ≡ 0 → w ≡ written ts → o ≡ nthOf w s n → (o′ : Offer) → o ≡ o′ → offerBy o′ n ≡ offeredOf ts s n
+    pub offered-is : {w : List ℕ} {o : Offer} (n : ℕ) → x ≡ 0 → w ≡ written ts → o ≡ nthIn n (offered (machineIn w) s) → (o′ : Offer) → o ≡ o′ → offerBy o′ n ≡ offeredOf ts s n
     unfolding offeredOf
     offered-is n z ew eo o′ g = rw (← e, z, ← ew, ← eo, g)
 
 -- ---- the n-th step
 -- no more are left to pass than were asked for
-pub left-within : (t : List ℕ) (s : List ℤ) (n m : ℕ) {o : Offer} → o ≡ nthOf t s n → o ≡ offer.Beyond m → m ≤ n
-unfolding nthOf
-left-within t s n m e f = let h : n ≡ m + length (listOf t s) = beyond-rest n (listOf t s) m (sym e ∙ f) in omega arith
+pub left-within : (t : List ℕ) (s : List ℤ) (n m : ℕ) {o : Offer} → o ≡ nthIn n (offered (machineIn t) s) → o ≡ offer.Beyond m → m ≤ n
+left-within t s n m e f = let h : n ≡ m + length (offered (machineIn t) s) = beyond-rest n (offered (machineIn t) s) m (sym e ∙ f) in omega arith
 
 -- ---- taking a step
 -- a step that was found is of a process that there is
-pub found-process : (t : List ℕ) (s : List ℤ) (p k q : ℕ) {w : Walk} → w ≡ stepAt t s p k → w ≡ Found q → p < 16
-unfolding stepAt
-found-process t s p k q ew f = go (lt-or-ge p (processes s)) (sym ew ∙ f)
-  where
-    go : (p < processes s) ⊎ (processes s ≤ p) → pick (ltb p (processes s)) (pick (eqb k 0) (Left 0) (pickAt (k - 1) (stepsBy t s (lateOf t s) p))) (Left 0) ≡ Found q → p < 16
-    go (inl h) e = omega arith
-    go (inr h) e = absurd (let z : Left 0 ≡ Found q = simp (le-ltb p (processes s) h) at e in let v : _≡_ {A = ℕ} 0 1 = cc in omega arith)
+pub found-process : (t : List ℕ) (s : List ℤ) (p k q : ℕ) {w : Walk} → stepAs p k w ≡ askedIn t s p k → w ≡ Found q → p < processesMost
+found-process t s p k q ew f =
+    let r = asked-given (machineIn t) s p k (record { process = p; number = k; place = q }) (sym (ap (stepAs p k) (sym f) ∙ ew)) in
+    let h = r .there in
+    omega arith
 
 module _ (w : List ℕ) (s : List ℤ) (p q : ℕ) (out new : List ℕ) (n : ℕ) (e : pen new n ≡ puts (printedAt w s p q) (pen out 0)) (r : Taken) (s′ : List ℤ) (f : (r, s′) ≡ takenOf w p q s) where
   taken-is : r ≡ takenOf w p q s .0
@@ -120,30 +117,30 @@ abbrev pub Left-by : Outcome → Stepped → List ℤ → List ℕ → Type 0
 Left-by o a s′ out′ = (a ≡ o .answer) × ((s′ ≡ o .state) × (out′ ≡ o .printed))
 
 module _ (ts : List ℕ) (s : List ℤ) (p k : ℕ) (out : List ℕ) where
-  pub no-print-room : length out < 128 → Left-by (outcomeOf ts s p k out) (stepped.Refused 7) s out
+  pub no-print-room : length out < printRoom → Left-by (outcomeOf ts s p k out) (stepped.Refused 7) s out
   unfolding outcomeOf stepRefusal
-  no-print-room h = (simp (lt-ltb (length out) 128 h), (simp (lt-ltb (length out) 128 h), simp (lt-ltb (length out) 128 h)))
+  no-print-room h = (simp (lt-ltb (length out) printRoom h), (simp (lt-ltb (length out) printRoom h), simp (lt-ltb (length out) printRoom h)))
 
-  module _ {x : ℕ} (room : 128 ≤ length out) (e : x ≡ refusalOf ts s) where
+  module _ {x : ℕ} (room : printRoom ≤ length out) (e : x ≡ refusalOf ts s) where
     refusal-is : stepRefusal ts s out ≡ x
     unfolding stepRefusal
-    refusal-is = simp (le-ltb (length out) 128 room) (sym e)
+    refusal-is = simp (le-ltb (length out) printRoom room) (sym e)
 
-    by-refusal : outcomeOf ts s p k out ≡ pick (eqb x 0) (outcomeBy (stepAt (written ts) s p k) (written ts) s p out) (refusedBy x s out)
+    by-refusal : outcomeOf ts s p k out ≡ pick (eqb x 0) (outcomeBy (askedIn (written ts) s p k) (written ts) s out) (refusedBy x s out)
     unfolding outcomeOf
-    by-refusal = ap (λ (z : ℕ). pick (eqb z 0) (outcomeBy (stepAt (written ts) s p k) (written ts) s p out) (refusedBy z s out)) refusal-is
+    by-refusal = ap (λ (z : ℕ). pick (eqb z 0) (outcomeBy (askedIn (written ts) s p k) (written ts) s out) (refusedBy z s out)) refusal-is
 
     pub step-refused : (x ≡ 0 → ⊥) → Left-by (outcomeOf ts s p k out) (stepped.Refused x) s out
-    step-refused n = let o : outcomeOf ts s p k out ≡ refusedBy x s out = by-refusal ∙ ap (λ (b : Bool). pick b (outcomeBy (stepAt (written ts) s p k) (written ts) s p out) (refusedBy x s out)) (ne-eqb x 0 n) in rw o (refl, (refl, refl))
+    step-refused n = let o : outcomeOf ts s p k out ≡ refusedBy x s out = by-refusal ∙ ap (λ (b : Bool). pick b (outcomeBy (askedIn (written ts) s p k) (written ts) s out) (refusedBy x s out)) (ne-eqb x 0 n) in rw o (refl, (refl, refl))
 
-    module _ {w : List ℕ} {v : Walk} (z : x ≡ 0) (ew : w ≡ written ts) (ev : v ≡ stepAt w s p k) where
-      outcome-is : outcomeOf ts s p k out ≡ outcomeBy v w s p out
+    module _ {w : List ℕ} (z : x ≡ 0) (ew : w ≡ written ts) (v : Walk) (ev : stepAs p k v ≡ askedIn w s p k) where
+      outcome-is : outcomeOf ts s p k out ≡ outcomeBy (stepAs p k v) w s out
       outcome-is =
-          by-refusal ∙ ap (λ (y : ℕ). pick (eqb y 0) (outcomeBy (stepAt (written ts) s p k) (written ts) s p out) (refusedBy y s out)) z
-          ∙ ap (λ (u : List ℕ). outcomeBy (stepAt u s p k) u s p out) (sym ew) ∙ ap (λ (y : Walk). outcomeBy y w s p out) (sym ev)
+          by-refusal ∙ ap (λ (y : ℕ). pick (eqb y 0) (outcomeBy (askedIn (written ts) s p k) (written ts) s out) (refusedBy y s out)) z
+          ∙ ap (λ (u : List ℕ). outcomeBy (askedIn u s p k) u s out) (sym ew) ∙ ap (λ (y : Option machine.Step). outcomeBy y w s out) (sym ev)
 
       pub none-there : (n : ℕ) → v ≡ Left n → Left-by (outcomeOf ts s p k out) (stepped.Refused 11) s out
-      none-there n g = rw (outcome-is ∙ ap (λ (y : Walk). outcomeBy y w s p out) g) (refl, (refl, refl))
+      none-there n g = rw (outcome-is ∙ ap (λ (y : Walk). outcomeBy (stepAs p k y) w s out) g) (refl, (refl, refl))
 
       pub one-there : (q : ℕ) (a : Stepped) (s′ : List ℤ) (out′ : List ℕ) → v ≡ Found q → Left-by (tookAt w s p q out) a s′ out′ → Left-by (outcomeOf ts s p k out) a s′ out′
-      one-there q a s′ out′ g h = rw (outcome-is ∙ ap (λ (y : Walk). outcomeBy y w s p out) g) h
+      one-there q a s′ out′ g h = rw (outcome-is ∙ ap (λ (y : Walk). outcomeBy (stepAs p k y) w s out) g) h

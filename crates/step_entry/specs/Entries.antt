@@ -1,20 +1,20 @@
+-- Mechanism, held to the specification by `demand2` (crate `demands`).
 -- The entries of the stepper, each with one answer and one content of lent memory: document 01, "What is answered": "Stepping: 7, 8, 9, 11"; "A refusal changes no lent number or byte".
 -- `ts` are the lent tables, `s` the lent state, `out` the bytes that are lent for printed text.
 use Prim.Native.Nat.{ℕ, _-_}
+use mathlib.Core.Option.{Option, none, some}
 use mathlib.Core.List.{List}
 use lib.ListN.{length}
 use lib.IntN.{ℤ}
 use lib.Dec.{eqb, ltb}
+use Rattle.base_ceilings.specs.Ceilings.{printRoom, stateRoom, tablesRoom}
 use Rattle.base_bytes.specs.Choice.{pick}
 use Rattle.step_prints.specs.Printing.{pen, puts}
-use Rattle.read_entry.specs.Entries.{room}
 use Rattle.table_genuine.specs.Genuine.{written, genuine}
-use Rattle.state_layout.specs.Layout.{stateSize}
 use Rattle.state_start.specs.Starting.{initialOf}
 use Rattle.state_check.specs.Standing.{isStateOf}
-use Rattle.step_offers.specs.declared.Walk.{Walk}
-use Rattle.step_offers.specs.declared.Walk.the-variants.{Found, Left}
-use Rattle.step_all.specs.Moving.{stepAt, nthOf, verdictOf}
+use Rattle.spec_machine.specs.Machine as machine
+use Rattle.step_all.specs.Moving.{machineIn, nthIn, verdictAs}
 use Rattle.step_all.specs.declared.Offer.{Offer}
 use Rattle.step_all.specs.declared.Offer.the-variants as offer
 use Rattle.step_all.specs.declared.Verdict.{Verdict}
@@ -36,7 +36,7 @@ use Rattle.step_entry.specs.declared.Standing.the-variants as standing
 -- ## refusals by number, 0 for none
 -- 7 for the rooms of tables and state, then 8
 unfoldable pub foreignOf : List ℕ → List ℤ → ℕ
-foreignOf ts s = pick (ltb (length ts) room) 7 (pick (ltb (length s) stateSize) 7 (pick (genuine ts) 0 8))
+foreignOf ts s = pick (ltb (length ts) tablesRoom) 7 (pick (ltb (length s) stateRoom) 7 (pick (genuine ts) 0 8))
 
 -- then 9
 unfoldable pub refusalOf : List ℕ → List ℤ → ℕ
@@ -53,7 +53,7 @@ standingOf verdict.Blocked = Blocked
 standingOf verdict.Open = Open
 
 unfoldable pub verdictFor : List ℕ → List ℤ → Standing
-verdictFor ts s = pick (eqb (refusalOf ts s) 0) (standingOf (verdictOf (written ts) s)) (standing.Refused (refusalOf ts s))
+verdictFor ts s = pick (eqb (refusalOf ts s) 0) (standingOf (verdictAs (machine.verdict (machineIn (written ts)) s))) (standing.Refused (refusalOf ts s))
 
 -- ## the n-th step of all that are offered
 -- where n is past the last, the rest of n is known, and so how many there are
@@ -62,7 +62,7 @@ offerBy (offer.Step p k q) n = Step p k q
 offerBy (offer.Beyond left) n = Only (n - left)
 
 unfoldable pub offeredOf : List ℕ → List ℤ → ℕ → Listed
-offeredOf ts s n = pick (eqb (refusalOf ts s) 0) (offerBy (nthOf (written ts) s n) n) (listed.Refused (refusalOf ts s))
+offeredOf ts s n = pick (eqb (refusalOf ts s) 0) (offerBy (nthIn n (machine.offered (machineIn (written ts)) s)) n) (listed.Refused (refusalOf ts s))
 
 -- ## taking the k-th offered step of process p
 -- what a step that was taken answers: how many bytes it printed, or that it failed; one that does nothing was none
@@ -90,17 +90,17 @@ tookAt w s p q out =
       printed = puts (printedAt w s p q) (pen out 0) .bytes;
     }
 
-abbrev pub outcomeBy : Walk → List ℕ → List ℤ → ℕ → List ℕ → Outcome
-outcomeBy (Left n) w s p out = refusedBy 11 s out
-outcomeBy (Found q) w s p out = tookAt w s p q out
+abbrev pub outcomeBy : Option machine.Step → List ℕ → List ℤ → List ℕ → Outcome
+outcomeBy none w s out = refusedBy 11 s out
+outcomeBy (some x) w s out = tookAt w s (x .process) (x .place) out
 
--- "printed text of one step as 128 bytes"
-abbrev pub printRoom : ℕ
-printRoom = 128
+-- the k-th offered step of process p, if there is one
+abbrev pub askedIn : List ℕ → List ℤ → ℕ → ℕ → Option machine.Step
+askedIn w s p k = machine.asked (machineIn w) p k (machine.offered (machineIn w) s)
 
 -- 7 for any of the three rooms, then 8, 9 and 11
 unfoldable pub stepRefusal : List ℕ → List ℤ → List ℕ → ℕ
 stepRefusal ts s out = pick (ltb (length out) printRoom) 7 (refusalOf ts s)
 
 unfoldable pub outcomeOf : List ℕ → List ℤ → ℕ → ℕ → List ℕ → Outcome
-outcomeOf ts s p k out = pick (eqb (stepRefusal ts s out) 0) (outcomeBy (stepAt (written ts) s p k) (written ts) s p out) (refusedBy (stepRefusal ts s out) s out)
+outcomeOf ts s p k out = pick (eqb (stepRefusal ts s out) 0) (outcomeBy (askedIn (written ts) s p k) (written ts) s out) (refusedBy (stepRefusal ts s out) s out)

@@ -7,12 +7,6 @@ use step_all::Offer;
 use step_all::Verdict;
 use step_offers::Walk;
 
-// The numbers that are lent for tables.
-const TABLES_ROOM: usize = 16384;
-
-// The bytes that are lent for the printed text of one step.
-const PRINT_ROOM: usize = 128;
-
 // How a state stands, or the number of the refusal.
 pub enum Standing {
     Finished,
@@ -40,10 +34,10 @@ pub enum Stepped {
 pub fn foreign(tables: &[u32], state: &[i32]) -> u8
     ensures { λ r. ⌜ r ≡ entries.foreignOf (now (tables .entry)) (now (state .entry)) ⌝ }
 {
-    if tables.len() < TABLES_ROOM {
+    if tables.len() < base_ceilings::TABLES_ROOM {
         return 7;
     }
-    if state.len() < state_layout::STATE_SIZE {
+    if state.len() < base_ceilings::STATE_ROOM {
         return 7;
     }
     if table_genuine::is_genuine(tables) {
@@ -139,7 +133,7 @@ pub fn step(tables: &[u32], state: &mut [i32], process: u32, k: u32, printed: &m
     ensures { λ _. ⌜ now (state .exit) ≡ (entries.outcomeOf (now (tables .entry)) (now (state .entry)) process k (now (printed .entry))) .state ⌝ }
     ensures { λ _. ⌜ now (printed .exit) ≡ (entries.outcomeOf (now (tables .entry)) (now (state .entry)) process k (now (printed .entry))) .printed ⌝ }
 {
-    if printed.len() < PRINT_ROOM {
+    if printed.len() < base_ceilings::PRINT_ROOM {
         return Stepped::Refused(7);
     }
     let x = refusal(tables, state);

@@ -1,26 +1,26 @@
 -- Laws of answers and of one level of the evaluator.
-use Prim.Native.Nat.{ℕ, zero, suc, min, max, _+_, _-_, _≤_, _<_, _^_}
+use Prim.Native.Nat.{ℕ, zero, suc, _-_, _≤_, _<_, _^_, _+_}
 use mathlib.Core.Path.{_≡_, refl, sym, ap, _∙_}
 use mathlib.Core.Bool.{Bool, true, false, not}
 use mathlib.Core.List.{List}
 use native.Mathlib.Omega.{arith}
 use lib.IntN.{ℤ, pos, negsuc}
 use lib.Signed.{ltZ, mag}
-use lib.Dec.{eqb, ltb, leb}
+use lib.Dec.{eqb}
 use borrow.Author.Tests.{ne-eqb, lt-ltb, le-ltb, lt-leb, le-leb, ltb-true}
 use mir.Syntax.{w32}
 use mir.Val.{toZ, ofZ, SFits, boolByte}
 use mir.ValLaws.{toZ-ofZ, toZ-pos}
-use Rattle.base_codes.specs.Codes.{c-index, c-message}
+use Rattle.base_codes.specs.Codes.{c-index, c-message, c-name}
 use Rattle.base_bytes.specs.Choice.{pick}
 use Rattle.table_layout.specs.Access.{codeOf, linkOf, numberOf}
 use Rattle.state_layout.proofs.Laws.{back}
-use Rattle.state_layout.specs.Layout.{kept, cellOf, channelsOf, waitingOf}
+use Rattle.state_layout.specs.Layout.{kept, cellOf, channelsOf, waitingOf, keptMost}
 use Rattle.base_bytes.specs.Numbers.{nat}
-use Rattle.base_values.specs.Operators.{same, isTrue, oneIf, applyOf, unaryOf}
+use Rattle.base_values.specs.Operators.{same, isTrue, oneIf, applyOf, unaryOf, truth}
 use Rattle.base_values.specs.declared.Fault.the-variants.{Index, Channel}
 use Rattle.base_values.specs.declared.Answer.{Answer}
-use Rattle.base_values.specs.declared.Answer.the-variants.{Value, Fails}
+use Rattle.base_values.specs.declared.Answer.the-variants.{Value}
 use Rattle.step_eval.specs.declared.Located.{Located}
 use Rattle.step_eval.specs.declared.Located.the-variants.{At, Astray}
 use Rattle.step_eval.specs.declared.Reached.{Reached}
@@ -29,14 +29,14 @@ use Rattle.step_eval.specs.Variables.{variableOf, sizeOf, slotOf, elemen
 use Rattle.step_eval.specs.declared.Node.{Node}
 use Rattle.step_eval.specs.declared.Node.the-variants.{Number, True, False, Plain, Length, Unary, Lazy, Binary, Choice, Other}
 use Rattle.step_eval.specs.declared.Node.the-variants as node
-use Rattle.step_eval.specs.Expressions.{nodeOf, isFault, holds, truthOf, unaryBy, rightBy, bothBy, decided, choiceBy, startOf, plainOf, byNode, evalT, evalOf, locateOf}
+use Rattle.step_eval.specs.Expressions.{nodeOf, isFault, holds, unaryBy, rightBy, bothBy, decided, choiceBy, startOf, plainOf, byNode, evalT, evalOf, locateOf}
 
 -- ---- a value that an answer holds
 zero-test : (v : ℤ) → mag v < 2 ^ 31 → eqb (ofZ w32 v) 0 ≡ same v (pos 0)
 zero-test (pos n) h = refl
 zero-test (negsuc n) h = ne-eqb (2 ^ 32 - suc n) 0 (λ (e : 2 ^ 32 - suc n ≡ 0). omega arith)
 
-one-if : (b : Bool) → toZ w32 (boolByte b) ≡ oneIf b
+pub one-if : (b : Bool) → toZ w32 (boolByte b) ≡ oneIf b
 one-if true = refl
 one-if false = refl
 
@@ -44,8 +44,8 @@ module _ {x : Answer} {v : ℤ} (e : x ≡ Value v) (h : mag v < 2 ^ 31) where
   pub holds-value : not (eqb (ofZ w32 v) 0) ≡ holds x
   holds-value = ap not (zero-test v h) ∙ ap holds (sym e)
 
-  pub truth-value : Value (toZ w32 (boolByte (not (eqb (ofZ w32 v) 0)))) ≡ truthOf x
-  truth-value = ap Value (ap (λ b. toZ w32 (boolByte (not b))) (zero-test v h) ∙ one-if (isTrue v)) ∙ ap truthOf (sym e)
+  pub truth-value : Value (toZ w32 (boolByte (not (eqb (ofZ w32 v) 0)))) ≡ truth x
+  truth-value = ap Value (ap (λ b. toZ w32 (boolByte (not b))) (zero-test v h) ∙ one-if (isTrue v)) ∙ ap truth (sym e)
 
   pub unary-value : (op : ℕ) {r : ℤ} → mag r < 2 ^ 31 → r ≡ unaryOf op (toZ w32 (ofZ w32 v)) → Value (toZ w32 (ofZ w32 r)) ≡ unaryBy op x
   unary-value op g q = ap Value (back g ∙ q ∙ ap (unaryOf op) (back h)) ∙ ap (unaryBy op) (sym e)
@@ -108,7 +108,7 @@ module _ {x : Answer} {v : ℤ} (e : x ≡ Value v) (h : mag v < 2 ^ 31) (s : Li
 pub load-at : {x : Located} {i : ℕ} (s : List ℤ) {v : ℤ} → x ≡ At i → mag v < 2 ^ 31 → v ≡ cellOf s i → Value (toZ w32 (ofZ w32 v)) ≡ loadOf s x
 load-at s e h q = ap Value (back h ∙ q) ∙ ap (loadOf s) (sym e)
 
-pub length-of : {x : Reached} {c : ℕ} (s : List ℤ) {n : ℕ} → x ≡ Record c → n < 2147483648 → n ≡ waitingOf s c → Value (toZ w32 n) ≡ lengthOf s x
+pub length-of : {x : Reached} {c : ℕ} (s : List ℤ) {n : ℕ} → x ≡ Record c → n < keptMost + 1 → n ≡ waitingOf s c → Value (toZ w32 n) ≡ lengthOf s x
 length-of s {n} e h q = ap Value (toZ-pos w32 n h ∙ ap pos q) ∙ ap (lengthOf s) (sym e)
 
 -- ---- a plain reference
@@ -117,13 +117,13 @@ module _ (t : List ℕ) (s : List ℤ) (p d : ℕ) {c : ℕ} (ec : c ≡ codeOf 
   unfolding plainOf
   plain-message k el h er = rw (← ec, k) (ap Value (back h ∙ er ∙ ap kept el))
 
-  pub plain-pid : c ≡ 70 → p < 256 → Value (toZ w32 p) ≡ plainOf t s p d
+  pub plain-pid : c ≡ c-name → p < 256 → Value (toZ w32 p) ≡ plainOf t s p d
   unfolding plainOf
   plain-pid k h = rw (← ec, k) (ap Value (toZ-pos w32 p (omega arith)))
 
-  pub plain-variable : (c ≡ c-message → ⊥) → (c ≡ 70 → ⊥) → {l i : ℕ} {r : ℤ} → l ≡ linkOf t d → i ≡ slotOf l p 0 → mag r < 2 ^ 31 → r ≡ cellOf s i → Value (toZ w32 (ofZ w32 r)) ≡ plainOf t s p d
+  pub plain-variable : (c ≡ c-message → ⊥) → (c ≡ c-name → ⊥) → {l i : ℕ} {r : ℤ} → l ≡ linkOf t d → i ≡ slotOf l p 0 → mag r < 2 ^ 31 → r ≡ cellOf s i → Value (toZ w32 (ofZ w32 r)) ≡ plainOf t s p d
   unfolding plainOf
-  plain-variable a b el ei h er = rw (← ec, ne-eqb c c-message a, ne-eqb c 70 b) (ap Value (back h ∙ er ∙ ap (cellOf s) (ei ∙ ap (λ x. slotOf x p 0) el)))
+  plain-variable a b el ei h er = rw (← ec, ne-eqb c c-message a, ne-eqb c c-name b) (ap Value (back h ∙ er ∙ ap (cellOf s) (ei ∙ ap (λ x. slotOf x p 0) el)))
 
 -- ---- a conditional
 module _ (x y z : Answer) where
@@ -192,18 +192,18 @@ module _ (t : List ℕ) (s : List ℤ) (p h from to : ℕ) where
       left : x ≡ evalT t s p (h - 1) from (startOf t from (to - 1))
       left = ex ∙ ap (evalT t s p (h - 1) from) eb
 
-      pub decided-arm : {op : ℕ} → n ≡ Lazy op → {z : Bool} {r : Answer} → z ≡ decided op x → z ≡ true → r ≡ truthOf x → r ≡ evalT t s p h from to
+      pub decided-arm : {op : ℕ} → n ≡ Lazy op → {z : Bool} {r : Answer} → z ≡ decided op x → z ≡ true → r ≡ truth x → r ≡ evalT t s p h from to
       decided-arm {op} e ez k er =
-          er ∙ sym (ap (λ a. pick a (truthOf x) (truthOf (evalT t s p (h - 1) (startOf t from (to - 1)) (to - 1)))) (sym ez ∙ k))
-          ∙ ap (λ a. pick (decided op a) (truthOf a) (truthOf (evalT t s p (h - 1) (startOf t from (to - 1)) (to - 1)))) left ∙ sym (step (Lazy op) e)
+          er ∙ sym (ap (λ a. pick a (truth x) (truth (evalT t s p (h - 1) (startOf t from (to - 1)) (to - 1)))) (sym ez ∙ k))
+          ∙ ap (λ a. pick (decided op a) (truth a) (truth (evalT t s p (h - 1) (startOf t from (to - 1)) (to - 1)))) left ∙ sym (step (Lazy op) e)
 
       module _ {y : Answer} (ey : y ≡ evalT t s p (h - 1) b (to - 1)) where
         right : y ≡ evalT t s p (h - 1) (startOf t from (to - 1)) (to - 1)
         right = ey ∙ ap (λ a. evalT t s p (h - 1) a (to - 1)) eb
 
-        pub lazy-arm : {op : ℕ} → n ≡ Lazy op → {z : Bool} {r : Answer} → z ≡ decided op x → z ≡ false → r ≡ truthOf y → r ≡ evalT t s p h from to
+        pub lazy-arm : {op : ℕ} → n ≡ Lazy op → {z : Bool} {r : Answer} → z ≡ decided op x → z ≡ false → r ≡ truth y → r ≡ evalT t s p h from to
         lazy-arm {op} e ez k er =
-            er ∙ sym (ap (λ a. pick a (truthOf x) (truthOf y)) (sym ez ∙ k)) ∙ (λ i. pick (decided op (left i)) (truthOf (left i)) (truthOf (right i))) ∙ sym (step (Lazy op) e)
+            er ∙ sym (ap (λ a. pick a (truth x) (truth y)) (sym ez ∙ k)) ∙ (λ i. pick (decided op (left i)) (truth (left i)) (truth (right i))) ∙ sym (step (Lazy op) e)
 
         pub binary-arm : {op : ℕ} → n ≡ Binary op → {r : Answer} → r ≡ bothBy op x y → r ≡ evalT t s p h from to
         binary-arm {op} e er = er ∙ (λ i. bothBy op (left i) (right i)) ∙ sym (step (Binary op) e)

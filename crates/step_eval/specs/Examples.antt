@@ -1,3 +1,4 @@
+-- Mechanism, held to the specification by `demand2` (crate `demands`).
 -- Expressions of the sample sheet of document 01, P1 and P7, worked out over the tables of their items by the definitions.
 use Prim.Native.Nat.{ℕ}
 use mathlib.Core.Path.{_≡_, refl}

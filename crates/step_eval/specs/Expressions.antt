@@ -1,3 +1,4 @@
+-- Mechanism, held to the specification by `demand2` (crate `demands`).
 -- Working an expression out over tables `t` and a state `s`, for process `p`: document 01, "How it moves", "`&&`, `||` and the conditional evaluate only what they
 -- need". The items from `from` to before `to` hold the expression, and the last of them says what it is.
 use Prim.Native.Nat.{ℕ, zero, suc, _-_, min, max}
@@ -5,11 +6,12 @@ use mathlib.Core.Bool.{Bool, true, false, not}
 use mathlib.Core.List.{List}
 use lib.IntN.{ℤ, pos}
 use lib.Dec.{eqb, ltb, leb}
-use Rattle.base_codes.specs.Codes.{c-and-then, c-bit-or, c-choice, c-complement, c-false, c-index, c-len, c-message, c-negate, c-not, c-or-else, c-plain, c-remainder, c-true}
+use Rattle.base_ceilings.specs.Ceilings.{heightMost}
+use Rattle.base_codes.specs.Codes.{c-and-then, c-bit-or, c-choice, c-complement, c-false, c-index, c-len, c-message, c-negate, c-not, c-or-else, c-plain, c-remainder, c-true, c-name, c-number}
 use Rattle.base_bytes.specs.Choice.{pick, either}
 use Rattle.table_layout.specs.Access.{codeOf, linkOf, numberOf}
 use Rattle.state_layout.specs.Layout.{cellOf, kept}
-use Rattle.base_values.specs.Operators.{isTrue, oneIf, applyOf, unaryOf}
+use Rattle.base_values.specs.Operators.{isTrue, applyOf, unaryOf, truth}
 use Rattle.base_values.specs.declared.Answer.{Answer}
 use Rattle.base_values.specs.declared.Answer.the-variants.{Value, Fails}
 use Rattle.step_eval.specs.declared.Located.{Located}
@@ -21,7 +23,7 @@ use Rattle.step_eval.specs.Variables.{variableOf, slotOf, elementOf, loa
 -- what an item of a code is: 146 + o the binary operator o, of which 1 and 2 are `||` and `&&`; 165 to 167 the unary `-` `!` `~` (15, 19, 20)
 unfoldable pub nodeOf : ℕ → Node
 nodeOf c =
-    pick (eqb c 71) Number
+    pick (eqb c c-number) Number
     (pick (eqb c c-or-else) (Lazy 1)
     (pick (eqb c c-and-then) (Lazy 2)
     (pick (eqb c c-negate) (Unary 15)
@@ -46,11 +48,6 @@ abbrev pub holds : Answer → Bool
 holds (Value v) = isTrue v
 holds (Fails f) = false
 
--- 0 or 1
-abbrev pub truthOf : Answer → Answer
-truthOf (Value v) = Value (oneIf (isTrue v))
-truthOf (Fails f) = Fails f
-
 abbrev pub unaryBy : ℕ → Answer → Answer
 unaryBy op (Value v) = Value (unaryOf op v)
 unaryBy op (Fails f) = Fails f
@@ -69,7 +66,7 @@ abbrev pub decided : ℕ → Answer → Bool
 decided op x = either (isFault x) (pick (eqb op 1) (holds x) (not (holds x)))
 
 abbrev pub lazyBy : ℕ → Answer → Answer → Answer
-lazyBy op x y = pick (decided op x) (truthOf x) (truthOf y)
+lazyBy op x y = pick (decided op x) (truth x) (truth y)
 
 abbrev pub choiceBy : Answer → Answer → Answer → Answer
 choiceBy x y z = pick (isFault x) x (pick (holds x) y z)
@@ -84,7 +81,7 @@ module _ (t : List ℕ) (s : List ℤ) (p : ℕ) where
   unfoldable pub plainOf : ℕ → Answer
   plainOf d =
       pick (eqb (codeOf t d) c-message) (Value (kept (linkOf t d)))
-      (pick (eqb (codeOf t d) 70) (Value (pos p)) (Value (cellOf s (slotOf (linkOf t d) p 0))))
+      (pick (eqb (codeOf t d) c-name) (Value (pos p)) (Value (cellOf s (slotOf (linkOf t d) p 0))))
 
   -- the expression whose last item is j; `go` works out a part
   abbrev pub byNode : (ℕ → ℕ → Answer) → ℕ → ℕ → Node → Answer
@@ -108,7 +105,7 @@ module _ (t : List ℕ) (s : List ℤ) (p : ℕ) where
 
   -- "expression height 32"
   abbrev pub evalOf : ℕ → ℕ → Answer
-  evalOf from to = evalT 32 from to
+  evalOf from to = evalT heightMost from to
 
   -- ## references
   -- where the reference that the items from `from` to before `to` hold stands: its index is worked out, and must be in range

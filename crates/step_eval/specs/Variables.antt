@@ -1,3 +1,4 @@
+-- Mechanism, held to the specification by `demand2` (crate `demands`).
 -- Variables and channels as tables and a state have them: document 01, "How it moves", "index out of range, a channel number that was never made".
 -- A declaration's link says of its variable, in one number, its type, whether it is a local, how many numbers it has and where they begin (crate `link_items`).
 use Prim.Native.Nat.{ℕ, _+_, _-_, _/_, _%_}

@@ -1,13 +1,11 @@
 // Working expressions out over tables and a state, for a process. No function asks anything of its caller: past the end of tables and state every number is 0.
 ghost use mathlib.Core.Path.{_≡_};
-ghost use Prim.Native.Nat.{_+_, _-_, _<_, _≤_, max, min};
+ghost use Prim.Native.Nat.{_+_, _-_, _<_};
+ghost use Rattle.base_values.specs.Operators.{truth};
 ghost use Rattle.step_eval.specs.Variables as variables;
 ghost use Rattle.step_eval.specs.Expressions as expressions;
 use base_values::Answer;
 use base_values::Fault;
-
-// How high an expression is at most.
-const HEIGHT_MOST: usize = 32;
 
 // Where a variable's number stands in the state, or the fault of its index.
 pub enum Located {
@@ -131,7 +129,7 @@ fn node_of(c: u8) -> Node
     ensures { λ r. ⌜ r ≡ expressions.nodeOf c ⌝ }
 {
     match c {
-        71 => Node::Number,
+        base_codes::NUMBER => Node::Number,
         base_codes::OR_ELSE => Node::Lazy(1),
         base_codes::AND_THEN => Node::Lazy(2),
         base_codes::NEGATE => Node::Unary(15),
@@ -176,7 +174,7 @@ pub fn holds(x: Answer) -> bool
 
 // 0 or 1.
 fn truth(x: Answer) -> Answer
-    ensures { λ r. ⌜ r ≡ expressions.truthOf x ⌝ }
+    ensures { λ r. ⌜ r ≡ truth x ⌝ }
 {
     match x {
         Answer::Value(v) => Answer::Value((v != 0) as i32),
@@ -242,7 +240,7 @@ fn plain(t: &[u32], s: &[i32], p: u8, d: usize) -> Answer
 {
     match table_layout::code(t, d) {
         base_codes::MESSAGE => Answer::Value(state_layout::kept(table_layout::link(t, d))),
-        70 => Answer::Value(p as i32),
+        base_codes::NAME => Answer::Value(p as i32),
         _ => Answer::Value(state_layout::cell(s, slot(table_layout::link(t, d) as u32, p, 0))),
     }
 }
@@ -311,7 +309,7 @@ fn eval_at(t: &[u32], s: &[i32], p: u8, h: usize, from: usize, to: usize) -> Ans
 pub fn eval(t: &[u32], s: &[i32], p: u8, from: usize, to: usize) -> Answer
     ensures { λ r. ⌜ r ≡ expressions.evalOf (now (t .entry)) (now (s .entry)) p from to ⌝ }
 {
-    eval_at(t, s, p, HEIGHT_MOST, from, to)
+    eval_at(t, s, p, base_ceilings::HEIGHT_MOST, from, to)
 }
 
 // Where the reference that they hold stands.

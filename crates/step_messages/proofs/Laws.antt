@@ -1,5 +1,5 @@
 -- Laws that the proofs of `step_messages` cite: a turn of each loop, and what the callees say, put together.
-use Prim.Native.Nat.{ℕ, zero, suc, _+_, _-_, _≤_, _<_, _^_}
+use Prim.Native.Nat.{ℕ, zero, suc, _+_, _-_, _≤_, _<_, _^_, _*_}
 use mathlib.Core.Path.{_≡_, refl, sym, ap, _∙_}
 use mathlib.Core.Bool.{Bool, true, false, not}
 use mathlib.Core.List.{List}
@@ -12,6 +12,7 @@ use borrow.Author.Tests.{ne-eqb, eq-eqb}
 use mir.Syntax.{w32}
 use mir.Val.{toZ, ofZ, SFits}
 use mir.ValLaws.{toZ-ofZ}
+use Rattle.base_ceilings.specs.Ceilings.{capacityMost, fieldsMost}
 use Rattle.base_codes.specs.Codes.{c-end}
 use Rattle.base_bytes.specs.Choice.{pick}
 use Rattle.table_layout.specs.Access.{codeOf, linkOf}
@@ -113,10 +114,10 @@ appended-all t c l s s₁ s₂ ed ew en e₁ ei e₂ =
 pub copied : (s s′ : List ℤ) (to from : ℕ) {v : ℤ} → mag v < 2 ^ 31 → v ≡ cellOf s from → s′ ≡ set s to (toZ w32 (ofZ w32 v)) → s′ ≡ set s to (cellOf s from)
 copied s s′ to from h ev e = e ∙ ap (set s to) (back h ∙ ev)
 
-pub removed-all : (c : ℕ) (s s₁ s₂ s₃ : List ℤ) {w i n : ℕ} → w ≡ waitingOf s c → s₁ ≡ walk (λ i x. set x (fieldAt c 0 i) (cellOf x (fieldAt c 1 i))) 0 28 s
-    → s₂ ≡ walk (λ i x. set x (fieldAt c 7 i) (pos 0)) 0 4 s₁ → i ≡ channelAt c → n ≡ w - 1 → s₃ ≡ set s₂ (i + 1) (kept n) → s₃ ≡ removed c s
+pub removed-all : (c : ℕ) (s s₁ s₂ s₃ : List ℤ) {w i n : ℕ} → w ≡ waitingOf s c → s₁ ≡ walk (λ i x. set x (fieldAt c 0 i) (cellOf x (fieldAt c 1 i))) 0 (fieldsMost * (capacityMost - 1)) s
+    → s₂ ≡ walk (λ i x. set x (fieldAt c (capacityMost - 1) i) (pos 0)) 0 fieldsMost s₁ → i ≡ channelAt c → n ≡ w - 1 → s₃ ≡ set s₂ (i + 1) (kept n) → s₃ ≡ removed c s
 unfolding removed
-removed-all c s s₁ s₂ s₃ ew e₁ e₂ ei en e₃ = e₃ ∙ (λ j. set ((e₂ ∙ ap (walk (λ i x. set x (fieldAt c 7 i) (pos 0)) 0 4) e₁) j) (ei j + 1) (kept ((en ∙ ap (λ w. w - 1) ew) j)))
+removed-all c s s₁ s₂ s₃ ew e₁ e₂ ei en e₃ = e₃ ∙ (λ j. set ((e₂ ∙ ap (walk (λ i x. set x (fieldAt c (capacityMost - 1) i) (pos 0)) 0 fieldsMost) e₁) j) (ei j + 1) (kept ((en ∙ ap (λ w. w - 1) ew) j)))
 
 module _ (t : List ℕ) (m k : ℕ) (ps : List ℕ) (l s : List ℤ) {b : Bool} (eb : b ≡ comparedAt t m) where
   pub one-compared : b ≡ true → s ≡ deliveredOne t m k ps l s

@@ -1,3 +1,4 @@
+-- Mechanism, held to the specification by `demand2` (crate `demands`).
 -- Arguments worked out, and messages put into and taken out of channels: document 01, "How it moves", "Within a statement work goes left to right in the text",
 -- "target indices are worked out in the state before the step, then stores go left to right. Sent values are cast to field types".
 -- `t` are tables, `s` a state, p the number of the process; c is the record of a channel. Arguments begin at item a, each links to its mark, `end` (187) stands behind the last.
@@ -7,6 +8,7 @@ use mathlib.Core.List.{List}
 use lib.ListN.{getD, set}
 use lib.IntN.{ℤ, pos}
 use lib.Dec.{eqb}
+use Rattle.base_ceilings.specs.Ceilings.{capacityMost, fieldsMost}
 use Rattle.base_codes.specs.Codes.{c-end}
 use Rattle.base_bytes.specs.Choice.{pick}
 use Rattle.table_layout.specs.Access.{codeOf, linkOf}
@@ -70,7 +72,7 @@ appended t c l s =
 -- the oldest message goes, the others move up, and the last place is cleared
 unfoldable pub removed : ℕ → List ℤ → List ℤ
 removed c s =
-    set (walk (λ i x. set x (fieldAt c 7 i) (pos 0)) 0 4 (walk (λ i x. set x (fieldAt c 0 i) (cellOf x (fieldAt c 1 i))) 0 28 s))
+    set (walk (λ i x. set x (fieldAt c (capacityMost - 1) i) (pos 0)) 0 fieldsMost (walk (λ i x. set x (fieldAt c 0 i) (cellOf x (fieldAt c 1 i))) 0 (fieldsMost * (capacityMost - 1)) s))
     (channelAt c + 1) (kept (waitingOf s c - 1))
 
 -- ## stores: the values l in the places ps, where the argument with the mark m is the k-th

@@ -1,20 +1,24 @@
 // Arguments worked out, and messages put into and taken out of channels. No function asks anything of its caller.
 ghost use mathlib.Core.Path.{_≡_};
-ghost use Prim.Native.Nat.{_+_, _-_, _<_, _≤_};
+ghost use Prim.Native.Nat.{_+_, _-_, _<_, _*_};
 ghost use lib.ListN.{getD, set};
 ghost use lib.IntN.{pos};
-ghost use Rattle.state_layout.specs.Layout as layout;
+ghost use Rattle.base_ceilings.specs.Ceilings.{capacityMost, fieldsMost, numbersMost};
 ghost use Rattle.state_layout.specs.Walks.{walk};
 ghost use Rattle.base_values.specs.Types.{castOf};
+ghost use Rattle.state_layout.specs.Layout as layout;
 ghost use Rattle.step_messages.specs.Messages as messages;
 use base_values::Answer;
 use base_values::Fault;
 use step_eval::Located;
 
-// The most arguments of a statement.
-const ARGUMENTS_MOST: usize = 32;
+// The fields of a message.
+const FIELDS_MOST: u32 = base_ceilings::FIELDS_MOST as u32;
 
-const MESSAGE_MOST: usize = 4;
+// The last message of a full channel, and the numbers that stand before it.
+const LAST: u32 = base_ceilings::CAPACITY_MOST as u32 - 1;
+
+const BEFORE_LAST: u32 = FIELDS_MOST * LAST;
 
 // The item where arguments end, or the first fault among them.
 pub enum Gathered {
@@ -23,7 +27,7 @@ pub enum Gathered {
 }
 
 // The type of field f of the channels that item d declares.
-fn field_type(t: &[u32], d: u32, f: u32) -> u8
+pub fn field_type(t: &[u32], d: u32, f: u32) -> u8
     ensures { λ r. ⌜ r ≡ messages.fieldType (now (t .entry)) d f ⌝ }
 {
     let c = table_layout::code(t, d as usize + 1 + 2 * f as usize);
@@ -32,12 +36,12 @@ fn field_type(t: &[u32], d: u32, f: u32) -> u8
 
 // The values of the arguments from item a on, into `values`.
 pub fn gather(t: &[u32], s: &[i32], p: u8, a: usize, values: &mut [i32]) -> Gathered
-    ensures { λ r. ⌜ r ≡ messages.gatherEnd (now (t .entry)) (now (s .entry)) p 32 a ⌝ }
-    ensures { λ r. ⌜ now (values .exit) ≡ messages.gatherList (now (t .entry)) (now (s .entry)) p 32 a 0 (now (values .entry)) ⌝ }
+    ensures { λ r. ⌜ r ≡ messages.gatherEnd (now (t .entry)) (now (s .entry)) p numbersMost a ⌝ }
+    ensures { λ r. ⌜ now (values .exit) ≡ messages.gatherList (now (t .entry)) (now (s .entry)) p numbersMost a 0 (now (values .entry)) ⌝ }
 {
     let mut j = a;
     let mut k: usize = 0;
-    while k < ARGUMENTS_MOST {
+    while k < base_ceilings::NUMBERS_MOST {
         if table_layout::code(t, j) == base_codes::END {
             return Gathered::Upto(j);
         }
@@ -79,12 +83,12 @@ fn note(places: &mut [usize], k: usize, i: usize)
 
 // Where each of the received arguments from item a on is stored, into `places`.
 pub fn aim(t: &[u32], s: &[i32], p: u8, a: usize, places: &mut [usize]) -> Gathered
-    ensures { λ r. ⌜ r ≡ messages.aimEnd (now (t .entry)) (now (s .entry)) p 4 a ⌝ }
-    ensures { λ r. ⌜ now (places .exit) ≡ messages.aimList (now (t .entry)) (now (s .entry)) p 4 a 0 (now (places .entry)) ⌝ }
+    ensures { λ r. ⌜ r ≡ messages.aimEnd (now (t .entry)) (now (s .entry)) p fieldsMost a ⌝ }
+    ensures { λ r. ⌜ now (places .exit) ≡ messages.aimList (now (t .entry)) (now (s .entry)) p fieldsMost a 0 (now (places .entry)) ⌝ }
 {
     let mut j = a;
     let mut k: usize = 0;
-    while k < MESSAGE_MOST {
+    while k < base_ceilings::FIELDS_MOST {
         if table_layout::code(t, j) == base_codes::END {
             return Gathered::Upto(j);
         }
@@ -140,10 +144,10 @@ fn copy_cell(s: &mut [i32], to: usize, from: usize)
 
 // The messages of channel c behind the oldest move up.
 fn move_up(s: &mut [i32], c: u32)
-    ensures { λ _. ⌜ now (s .exit) ≡ walk (λ i x. set x (layout.fieldAt c 0 i) (layout.cellOf x (layout.fieldAt c 1 i))) 0 28 (now (s .entry)) ⌝ }
+    ensures { λ _. ⌜ now (s .exit) ≡ walk (λ i x. set x (layout.fieldAt c 0 i) (layout.cellOf x (layout.fieldAt c 1 i))) 0 (fieldsMost * (capacityMost - 1)) (now (s .entry)) ⌝ }
 {
     let mut i: u32 = 0;
-    while i < 28 {
+    while i < BEFORE_LAST {
         copy_cell(
             s,
             state_layout::field_at(c, 0, i),
@@ -155,11 +159,11 @@ fn move_up(s: &mut [i32], c: u32)
 
 // The place of its last message is cleared.
 fn clear_last(s: &mut [i32], c: u32)
-    ensures { λ _. ⌜ now (s .exit) ≡ walk (λ i x. set x (layout.fieldAt c 7 i) (pos 0)) 0 4 (now (s .entry)) ⌝ }
+    ensures { λ _. ⌜ now (s .exit) ≡ walk (λ i x. set x (layout.fieldAt c (capacityMost - 1) i) (pos 0)) 0 fieldsMost (now (s .entry)) ⌝ }
 {
     let mut i: u32 = 0;
-    while i < 4 {
-        state_layout::put(s, state_layout::field_at(c, 7, i), 0);
+    while i < FIELDS_MOST {
+        state_layout::put(s, state_layout::field_at(c, LAST, i), 0);
         i += 1;
     }
 }
@@ -197,11 +201,11 @@ fn deliver_one(t: &[u32], s: &mut [i32], m: usize, k: usize, places: &[usize], v
 
 // The values go where the received arguments from item a on are stored.
 pub fn deliver(t: &[u32], s: &mut [i32], a: usize, places: &[usize], values: &[i32])
-    ensures { λ _. ⌜ now (s .exit) ≡ messages.delivered (now (t .entry)) 4 a 0 (now (places .entry)) (now (values .entry)) (now (s .entry)) ⌝ }
+    ensures { λ _. ⌜ now (s .exit) ≡ messages.delivered (now (t .entry)) fieldsMost a 0 (now (places .entry)) (now (values .entry)) (now (s .entry)) ⌝ }
 {
     let mut j = a;
     let mut k: usize = 0;
-    while k < MESSAGE_MOST {
+    while k < base_ceilings::FIELDS_MOST {
         if table_layout::code(t, j) == base_codes::END {
             return;
         }

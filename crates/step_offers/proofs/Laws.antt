@@ -1,14 +1,15 @@
 -- Laws of options and of what a place offers.
-use Prim.Native.Nat.{ℕ, zero, suc, _+_, _-_, min, max, _<_, _≤_}
-use mathlib.Core.Path.{_≡_, refl, sym, _∙_, ap}
+use Prim.Native.Nat.{ℕ, suc, _+_, _-_, min, _<_}
+use mathlib.Core.Path.{_≡_, sym, _∙_, ap}
 use mathlib.Core.Bool.{Bool, true, false}
 use mathlib.Core.List.{List, [], _∷_, _++_}
 use native.Mathlib.Omega.{arith}
 use lib.IntN.{ℤ}
 use lib.Dec.{eqb, ltb}
-use borrow.Author.Tests.{ltb-true, lt-ltb, le-ltb, eq-eqb, ne-eqb}
+use borrow.Author.Tests.{ltb-true, ne-eqb}
+use Rattle.base_ceilings.specs.Ceilings.{statementsMost}
 use Rattle.base_codes.specs.Codes.{c-else, c-option}
-use Rattle.base_bytes.specs.Choice.{pick, both, either}
+use Rattle.base_bytes.specs.Choice.{pick}
 use Rattle.table_layout.specs.Access.{codeOf, linkOf}
 use Rattle.step_ready.specs.Executing.{readyOf}
 use Rattle.step_offers.specs.Offers.{isSelection, isOption, endOf, firstOf, eachOption, elseAt, offersFrom, pickAt}
@@ -16,13 +17,10 @@ use Rattle.base_bytes.specs.Lists.{orElse}
 use Rattle.step_offers.specs.declared.Walk.{Walk}
 use Rattle.step_offers.specs.declared.Walk.the-variants.{Found, Left}
 use Rattle.step_offers.proofs.Picks.{pick-none, pick-found, pick-left, or-found, or-left, or-else}
+use Rattle.base_bytes.proofs.Tests.{both-left}
 
 pub one-less : {n : ℕ} → (n ≡ 0 → ⊥) → n ≡ suc (n - 1)
 one-less h = omega arith
-
-both-left : (a b : Bool) → both a b ≡ true → a ≡ true
-both-left true b e = refl
-both-left false b e = e
 
 pub option-below : (t : List ℕ) (m stop : ℕ) {r : Bool} → r ≡ isOption t m stop → r ≡ true → m < stop
 option-below t m stop er e = ltb-true m stop (both-left (ltb m stop) (eqb (codeOf t m) c-option) (sym er ∙ e))
@@ -73,12 +71,12 @@ module _ (t : List ℕ) (s : List ℤ) (p : ℕ) (late : Bool) {d : ℕ} (q stop
     pub item-not : b ≡ false → {c : Bool} → c ≡ readyOf t s p late q → c ≡ false → Left k ≡ pickAt k (offersFrom t s p late d q stop)
     item-not e ec z = pick-none k (plain e ec ∙ ap (λ a. pick a (q ∷ []) []) z)
 
-    module _ (e : b ≡ true) {l x : ℕ} (el : l ≡ linkOf t q) (ex : x ≡ min l stop) {w : Walk} (ew : w ≡ pickAt k (eachOption t (λ a z. offersFrom t s p late d1 a z) 512 (q + 1) x)) where
-      chosen : offersFrom t s p late d q stop ≡ orElse (eachOption t (λ a z. offersFrom t s p late d1 a z) 512 (q + 1) x) (eachOption t (elseAt t) 512 (q + 1) x)
+    module _ (e : b ≡ true) {l x : ℕ} (el : l ≡ linkOf t q) (ex : x ≡ min l stop) {w : Walk} (ew : w ≡ pickAt k (eachOption t (λ a z. offersFrom t s p late d1 a z) statementsMost (q + 1) x)) where
+      chosen : offersFrom t s p late d q stop ≡ orElse (eachOption t (λ a z. offersFrom t s p late d1 a z) statementsMost (q + 1) x) (eachOption t (elseAt t) statementsMost (q + 1) x)
       unfolding offersFrom
       chosen =
           let v : min (linkOf t q) stop ≡ x = sym (ex ∙ ap (λ a. min a stop) el) in
-          rw (ed, ← eb, e) (λ i. orElse (eachOption t (λ a z. offersFrom t s p late d1 a z) 512 (q + 1) (v i)) (eachOption t (elseAt t) 512 (q + 1) (v i)))
+          rw (ed, ← eb, e) (λ i. orElse (eachOption t (λ a z. offersFrom t s p late d1 a z) statementsMost (q + 1) (v i)) (eachOption t (elseAt t) statementsMost (q + 1) (v i)))
 
       pub item-found : {i : ℕ} → w ≡ Found i → Found i ≡ pickAt k (offersFrom t s p late d q stop)
       item-found h = sym (ap (pickAt k) chosen ∙ or-found k _ _ (sym ew ∙ h))
@@ -86,5 +84,5 @@ module _ (t : List ℕ) (s : List ℤ) (p : ℕ) (late : Bool) {d : ℕ} (q stop
       pub item-left : {i : ℕ} → w ≡ Left i → (i ≡ k → ⊥) → Left i ≡ pickAt k (offersFrom t s p late d q stop)
       item-left h z = sym (ap (pickAt k) chosen ∙ or-left k _ _ (sym ew ∙ h) z)
 
-      pub item-else : {i : ℕ} {r : Walk} → w ≡ Left i → i ≡ k → r ≡ pickAt k (eachOption t (elseAt t) 512 (q + 1) x) → r ≡ pickAt k (offersFrom t s p late d q stop)
+      pub item-else : {i : ℕ} {r : Walk} → w ≡ Left i → i ≡ k → r ≡ pickAt k (eachOption t (elseAt t) statementsMost (q + 1) x) → r ≡ pickAt k (offersFrom t s p late d q stop)
       item-else h z er = er ∙ sym (ap (pickAt k) chosen ∙ or-else k _ _ (sym ew ∙ h) z)

@@ -5,7 +5,7 @@ use mathlib.Core.Bool.{Bool, true, false}
 use mathlib.Core.List.{List, [], _∷_, _++_}
 use native.Mathlib.Omega.{arith}
 use lib.ListN.{length}
-use Rattle.step_offers.specs.Offers.{pickAt, countOf, isSome}
+use Rattle.step_offers.specs.Offers.{pickAt, countOf, isSome, offersMost}
 use Rattle.base_bytes.specs.Lists.{orElse}
 use Rattle.step_offers.specs.declared.Walk.{Walk}
 use Rattle.step_offers.specs.declared.Walk.the-variants.{Found, Left}
@@ -81,8 +81,8 @@ module _ (xs : List ℕ) {w : Walk} where
       go [] e = refl
       go (x ∷ xs) e = absurd (let z = pick-less 0 (x ∷ xs) e in omega arith)
 
-  pub count-all : w ≡ pickAt 4096 xs → {i : ℕ} → w ≡ Found i → 4096 ≡ countOf xs
-  count-all e h = let z = pick-more 4096 xs (sym e ∙ h) in omega arith
+  pub count-all : w ≡ pickAt offersMost xs → {i : ℕ} → w ≡ Found i → offersMost ≡ countOf xs
+  count-all e h = let z = pick-more offersMost xs (sym e ∙ h) in omega arith
 
-  pub count-left : w ≡ pickAt 4096 xs → {l r : ℕ} → w ≡ Left l → r ≡ 4096 - l → r ≡ countOf xs
-  count-left e h er = let z = pick-less 4096 xs (sym e ∙ h) in omega arith
+  pub count-left : w ≡ pickAt offersMost xs → {l r : ℕ} → w ≡ Left l → r ≡ offersMost - l → r ≡ countOf xs
+  count-left e h er = let z = pick-less offersMost xs (sym e ∙ h) in omega arith

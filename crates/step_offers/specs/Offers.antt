@@ -1,12 +1,14 @@
+-- Mechanism, held to the specification by `demand2` (crate `demands`).
 -- Which steps a place offers, each by its own place, in text order: document 01, "How it moves", "`else` when no other option of its selection is; `if` and `do`, themselves
 -- no steps, when an option's first statement is". A selection that is an option's first statement gives its steps as the option's.
 -- `t` are tables, `s` a state, p the number of the process; `late` says whether `timeout` is executable.
-use Prim.Native.Nat.{ℕ, zero, suc, _+_, _-_, min, max}
+use Prim.Native.Nat.{ℕ, zero, suc, _+_, _-_, min, max, _*_}
 use mathlib.Core.Bool.{Bool, true, false}
 use mathlib.Core.List.{List, [], _∷_, _++_}
 use lib.ListN.{length}
 use lib.IntN.{ℤ}
 use lib.Dec.{eqb, ltb}
+use Rattle.base_ceilings.specs.Ceilings.{itemsMost, selectionsMost, statementsMost}
 use Rattle.base_codes.specs.Codes.{c-do, c-else, c-if, c-label, c-option}
 use Rattle.base_bytes.specs.Choice.{pick, both, either}
 use Rattle.base_bytes.specs.Lists.{orElse}
@@ -46,12 +48,12 @@ module _ (t : List ℕ) where
     offersFrom zero q stop = []
     offersFrom (suc d) q stop =
         pick (isSelection q)
-        (orElse (eachOption (λ f e. offersFrom d f e) 512 (q + 1) (min (linkOf t q) stop)) (eachOption elseAt 512 (q + 1) (min (linkOf t q) stop)))
+        (orElse (eachOption (λ f e. offersFrom d f e) statementsMost (q + 1) (min (linkOf t q) stop)) (eachOption elseAt statementsMost (q + 1) (min (linkOf t q) stop)))
         (pick (readyOf t s p late q) (q ∷ []) [])
 
     -- at place q: "open if/do 8", and a model has at most 8,192 items
     abbrev pub offersOf : ℕ → List ℕ
-    offersOf q = offersFrom 9 q 8192
+    offersOf q = offersFrom (selectionsMost + 1) q itemsMost
 
 -- the k-th of a list, from 0, or how many are left to pass
 unfoldable pub pickAt : ℕ → List ℕ → Walk
@@ -59,9 +61,13 @@ pickAt k [] = Left k
 pickAt zero (x ∷ xs) = Found x
 pickAt (suc k) (x ∷ xs) = pickAt k xs
 
--- how many there are, as far as 4,096
+-- how far they are counted, beyond what a model can offer
+abbrev pub offersMost : ℕ
+offersMost = 8 * statementsMost
+
+-- how many there are, as far as that
 abbrev pub countOf : List ℕ → ℕ
-countOf xs = min 4096 (length xs)
+countOf xs = min offersMost (length xs)
 
 abbrev pub isSome : List ℕ → Bool
 isSome [] = false

@@ -2,15 +2,20 @@
 ghost use mathlib.Core.Path.{_≡_};
 ghost use Prim.Native.Nat.{_+_, _-_, _<_, _≤_};
 ghost use mathlib.Core.List.{[], _∷_};
+ghost use Rattle.base_ceilings.specs.Ceilings.{itemsMost};
+ghost use Rattle.state_layout.specs.Layout.{keptMost};
 ghost use Rattle.state_layout.specs.Layout as layout;
 ghost use Rattle.step_offers.specs.Offers as offers;
 
 // The most options of a selection, and how deep selections nest, with a statement in the last.
-const OPTIONS_MOST: u32 = 512;
+const OPTIONS_MOST: u32 = base_ceilings::STATEMENTS_MOST as u32;
 
-const DEPTH_MOST: u32 = 9;
+const DEPTH_MOST: u32 = base_ceilings::SELECTIONS_MOST as u32 + 1;
 
-const ITEMS_MOST: u32 = 8192;
+const ITEMS_MOST: u32 = base_ceilings::ITEMS_MOST as u32;
+
+// How far offers are counted.
+const OFFERS_MOST: u32 = 8 * OPTIONS_MOST;
 
 // The place that was looked for, or how many are left to pass.
 pub enum Walk {
@@ -53,7 +58,7 @@ fn is_option(t: &[u32], m: u32, stop: u32) -> bool
 
 // Where the option at item m ends.
 fn end_of(t: &[u32], m: u32, stop: u32) -> u32
-    requires { ⌜ (m < stop) × (stop ≤ 8192) ⌝ }
+    requires { ⌜ (m < stop) × (stop ≤ itemsMost) ⌝ }
     ensures { λ r. ⌜ r ≡ offers.endOf (now (t .entry)) m stop ⌝ }
     ensures { λ r. ⌜ (m < r) × (r ≤ stop) ⌝ }
 {
@@ -63,7 +68,7 @@ fn end_of(t: &[u32], m: u32, stop: u32) -> u32
 
 // The place of its first statement.
 fn first_of(t: &[u32], m: u32) -> u32
-    requires { ⌜ m < 8192 ⌝ }
+    requires { ⌜ m < itemsMost ⌝ }
     ensures { λ r. ⌜ r ≡ offers.firstOf (now (t .entry)) m ⌝ }
     ensures { λ r. ⌜ r < 8196 ⌝ }
 {
@@ -94,7 +99,7 @@ fn lacking(n: u32, l: u32) -> u32
 
 // The k-th of what is offered at place q.
 fn walk_item(t: &[u32], s: &[i32], p: u8, late: bool, d: u32, q: u32, stop: u32, k: u32) -> Walk
-    requires { ⌜ (q < 2147483648) × (stop ≤ 8192) ⌝ }
+    requires { ⌜ (q < keptMost + 1) × (stop ≤ itemsMost) ⌝ }
     ensures { λ r. ⌜ r ≡ offers.pickAt k (offers.offersFrom (now (t .entry)) (now (s .entry)) p late d q stop) ⌝ }
 {
     if d == 0 {
@@ -132,7 +137,7 @@ fn walk_options(
     stop: u32,
     k: u32,
 ) -> Walk
-    requires { ⌜ stop ≤ 8192 ⌝ }
+    requires { ⌜ stop ≤ itemsMost ⌝ }
     ensures { λ r. ⌜ r ≡ offers.pickAt k (offers.eachOption (now (t .entry)) (λ f e. offers.offersFrom (now (t .entry)) (now (s .entry)) p late d f e) n m stop) ⌝ }
 {
     if n == 0 {
@@ -151,7 +156,7 @@ fn walk_options(
 
 // The k-th `else` of the options from item m on.
 fn walk_else(t: &[u32], n: u32, m: u32, stop: u32, k: u32) -> Walk
-    requires { ⌜ stop ≤ 8192 ⌝ }
+    requires { ⌜ stop ≤ itemsMost ⌝ }
     ensures { λ r. ⌜ r ≡ offers.pickAt k (offers.eachOption (now (t .entry)) (offers.elseAt (now (t .entry))) n m stop) ⌝ }
 {
     if n == 0 {
@@ -200,9 +205,9 @@ pub fn is_offered(t: &[u32], s: &[i32], p: u8, late: bool) -> bool
 pub fn count(t: &[u32], s: &[i32], p: u8, late: bool) -> u32
     ensures { λ r. ⌜ r ≡ offers.countOf (offers.offersOf (now (t .entry)) (now (s .entry)) p late (layout.placeOf (now (s .entry)) p)) ⌝ }
 {
-    let w = offered(t, s, p, late, 4096);
+    let w = offered(t, s, p, late, OFFERS_MOST);
     match w {
-        Walk::Found(_) => 4096,
-        Walk::Left(l) => lacking(4096, l),
+        Walk::Found(_) => OFFERS_MOST,
+        Walk::Left(l) => lacking(OFFERS_MOST, l),
     }
 }

@@ -12,6 +12,7 @@ use borrow.Author.Tests.{ne-eqb, eq-eqb, lt-ltb, le-ltb, ltb-true}
 use mir.Syntax.{w32}
 use mir.Val.{toZ, ofZ, SFits}
 use mir.ValLaws.{toZ-ofZ}
+use Rattle.base_ceilings.specs.Ceilings.{numbersMost}
 use Rattle.base_bytes.specs.Choice.{pick}
 use Rattle.table_layout.specs.Access.{codeOf, nameLength, nameByte}
 use Rattle.base_values.specs.declared.Fault.{Fault}
@@ -23,7 +24,8 @@ use Rattle.state_layout.proofs.Laws.{back}
 use Rattle.state_layout.specs.Layout.{cellOf}
 use Rattle.base_bytes.specs.Numbers.{nat}
 use Rattle.step_prints.specs.Printing.{Pen, pen, putP, puts, sizeOf, writtenFrom, textOf, unlessFailed, printedAt}
-use Rattle.spec_text.specs.Formats.{digitsBy, decimal, escaped, written, opened, counted}
+use Rattle.spec_text.specs.Formats.{digitsBy, decimalOf, escaped, formatted, opened, counted}
+use Rattle.base_codes.specs.Codes.{c-text}
 
 -- ---- the pen
 pub puts-append : (xs ys : List ℕ) (w : Pen) → puts (xs ++ ys) w ≡ puts ys (puts xs w)
@@ -89,46 +91,46 @@ module _ (v : ℤ) (f : SFits w32 v) where
     size : n ≡ sizeOf v
     size = en ∙ ap sizeOf same
 
-    pub number-below : ltZ (toZ w32 (ofZ w32 v)) (pos 0) ≡ true → {q r : Pen} → q ≡ puts (45 ∷ []) w → r ≡ puts (digitsBy 10 n) q → r ≡ puts (decimal v) w
+    pub number-below : ltZ (toZ w32 (ofZ w32 v)) (pos 0) ≡ true → {q r : Pen} → q ≡ puts (45 ∷ []) w → r ≡ puts (digitsBy 10 n) q → r ≡ puts (decimalOf v) w
     number-below e eq er = er ∙ (λ i. puts (digitsBy 10 (size i)) (eq i)) ∙ go v (rw same at e)
       where
-        go : (v : ℤ) → ltZ v (pos 0) ≡ true → puts (digitsBy 10 (sizeOf v)) (puts (45 ∷ []) w) ≡ puts (decimal v) w
+        go : (v : ℤ) → ltZ v (pos 0) ≡ true → puts (digitsBy 10 (sizeOf v)) (puts (45 ∷ []) w) ≡ puts (decimalOf v) w
         go (pos k) e = absurd (let h : k < 0 = ltb-true k 0 e in omega arith)
         go (negsuc k) e = sym (puts-cons 45 (digitsBy 10 (k + 1)) w)
 
-    pub number-above : ltZ (toZ w32 (ofZ w32 v)) (pos 0) ≡ false → {r : Pen} → r ≡ puts (digitsBy 10 n) w → r ≡ puts (decimal v) w
+    pub number-above : ltZ (toZ w32 (ofZ w32 v)) (pos 0) ≡ false → {r : Pen} → r ≡ puts (digitsBy 10 n) w → r ≡ puts (decimalOf v) w
     number-above e er = er ∙ ap (λ n. puts (digitsBy 10 n) w) size ∙ go v (rw same at e)
       where
-        go : (v : ℤ) → ltZ v (pos 0) ≡ false → puts (digitsBy 10 (sizeOf v)) w ≡ puts (decimal v) w
+        go : (v : ℤ) → ltZ v (pos 0) ≡ false → puts (digitsBy 10 (sizeOf v)) w ≡ puts (decimalOf v) w
         go (pos k) e = refl
         go (negsuc k) e = absurd (let z : _≡_ {A = ℕ} 0 1 = cc in omega arith)
 
 -- ---- one byte of a format
 module _ (l : List ℤ) (was b k : ℕ) (w : Pen) where
-  pub one-escaped : was ≡ 92 → {c : ℕ} {r : Pen} → c ≡ escaped b → r ≡ puts (c ∷ []) w → r ≡ puts (written l was b k) w
-  unfolding written
+  pub one-escaped : was ≡ 92 → {c : ℕ} {r : Pen} → c ≡ escaped b → r ≡ puts (c ∷ []) w → r ≡ puts (formatted l was b k) w
+  unfolding formatted
   one-escaped e ec er = rw e (er ∙ ap (λ c. puts (c ∷ []) w) ec)
 
   module _ (h : was ≡ 92 → ⊥) where
-    pub one-number : was ≡ 37 → b ≡ 100 → {v : ℤ} {r : Pen} → mag v < 2 ^ 31 → v ≡ cellOf l k → r ≡ puts (decimal (toZ w32 (ofZ w32 v))) w → r ≡ puts (written l was b k) w
-    unfolding written
-    one-number e g hv ev er = rw (ne-eqb was 92 h, eq-eqb was 37 e, eq-eqb b 100 g) (er ∙ ap (λ z. puts (decimal z) w) (back hv ∙ ev))
+    pub one-number : was ≡ 37 → b ≡ 100 → {v : ℤ} {r : Pen} → mag v < 2 ^ 31 → v ≡ cellOf l k → r ≡ puts (decimalOf (toZ w32 (ofZ w32 v))) w → r ≡ puts (formatted l was b k) w
+    unfolding formatted
+    one-number e g hv ev er = rw (ne-eqb was 92 h, eq-eqb was 37 e, eq-eqb b 100 g) (er ∙ ap (λ z. puts (decimalOf z) w) (back hv ∙ ev))
 
-    pub one-percent : was ≡ 37 → (b ≡ 100 → ⊥) → {r : Pen} → r ≡ puts (b ∷ []) w → r ≡ puts (written l was b k) w
-    unfolding written
+    pub one-percent : was ≡ 37 → (b ≡ 100 → ⊥) → {r : Pen} → r ≡ puts (b ∷ []) w → r ≡ puts (formatted l was b k) w
+    unfolding formatted
     one-percent e g er = rw (ne-eqb was 92 h, eq-eqb was 37 e, ne-eqb b 100 g) er
 
     module _ (h′ : was ≡ 37 → ⊥) where
-      pub one-backslash : b ≡ 92 → w ≡ puts (written l was b k) w
-      unfolding written
+      pub one-backslash : b ≡ 92 → w ≡ puts (formatted l was b k) w
+      unfolding formatted
       one-backslash e = rw (ne-eqb was 92 h, ne-eqb was 37 h′, eq-eqb b 92 e) (puts-none w)
 
-      pub one-opening : (b ≡ 92 → ⊥) → b ≡ 37 → w ≡ puts (written l was b k) w
-      unfolding written
+      pub one-opening : (b ≡ 92 → ⊥) → b ≡ 37 → w ≡ puts (formatted l was b k) w
+      unfolding formatted
       one-opening g e = rw (ne-eqb was 92 h, ne-eqb was 37 h′, ne-eqb b 92 g, eq-eqb b 37 e) (puts-none w)
 
-      pub one-plain : (b ≡ 92 → ⊥) → (b ≡ 37 → ⊥) → {r : Pen} → r ≡ puts (b ∷ []) w → r ≡ puts (written l was b k) w
-      unfolding written
+      pub one-plain : (b ≡ 92 → ⊥) → (b ≡ 37 → ⊥) → {r : Pen} → r ≡ puts (b ∷ []) w → r ≡ puts (formatted l was b k) w
+      unfolding formatted
       one-plain g e er = rw (ne-eqb was 92 h, ne-eqb was 37 h′, ne-eqb b 92 g, ne-eqb b 37 e) er
 
 -- ---- a format
@@ -137,27 +139,27 @@ module _ (t : List ℕ) (l : List ℤ) (j : ℕ) where
   unfolding writtenFrom puts
   format-end n i was k w e = rw e
 
-  pub format-more : (n n1 i was k : ℕ) (w : Pen) {b k′ o : ℕ} {q : Pen} → n ≡ suc n1 → b ≡ nameByte t j i → q ≡ puts (written l was b k) w → k′ ≡ counted was b k → o ≡ opened was b
+  pub format-more : (n n1 i was k : ℕ) (w : Pen) {b k′ o : ℕ} {q : Pen} → n ≡ suc n1 → b ≡ nameByte t j i → q ≡ puts (formatted l was b k) w → k′ ≡ counted was b k → o ≡ opened was b
       → puts (writtenFrom t l n1 j (i + 1) o k′) q ≡ puts (writtenFrom t l n j i was k) w
   unfolding writtenFrom
   format-more n n1 i was k w {b} en eb eq ek eo =
       (λ z. puts (writtenFrom t l n1 j (i + 1) (eo z) (ek z)) (eq z))
-      ∙ sym (puts-append (written l was b k) (writtenFrom t l n1 j (i + 1) (opened was b) (counted was b k)) w)
-      ∙ rw en (ap (λ x. puts (written l was x k ++ writtenFrom t l n1 j (i + 1) (opened was x) (counted was x k)) w) eb)
+      ∙ sym (puts-append (formatted l was b k) (writtenFrom t l n1 j (i + 1) (opened was b) (counted was b k)) w)
+      ∙ rw en (ap (λ x. puts (formatted l was x k ++ writtenFrom t l n1 j (i + 1) (opened was x) (counted was x k)) w) eb)
 
 -- ---- a step
 module _ (t : List ℕ) (s : List ℤ) (p q : ℕ) (w : Pen) {c : ℕ} (ec : c ≡ codeOf t q) where
-  pub prints-none : (c ≡ 72 → ⊥) → w ≡ puts (printedAt t s p q) w
+  pub prints-none : (c ≡ c-text → ⊥) → w ≡ puts (printedAt t s p q) w
   unfolding printedAt
-  prints-none h = rw (← ec, ne-eqb c 72 h) (puts-none w)
+  prints-none h = rw (← ec, ne-eqb c c-text h) (puts-none w)
 
-  module _ (e : c ≡ 72) {g : Gathered} (eg : g ≡ gatherEnd t s p 32 (q + 1)) where
-    chosen : printedAt t s p q ≡ unlessFailed g (textOf t (gatherList t s p 32 (q + 1) 0 (replicate 32 (pos 0))) q)
+  module _ (e : c ≡ c-text) {g : Gathered} (eg : g ≡ gatherEnd t s p numbersMost (q + 1)) where
+    chosen : printedAt t s p q ≡ unlessFailed g (textOf t (gatherList t s p numbersMost (q + 1) 0 (replicate numbersMost (pos 0))) q)
     unfolding printedAt
-    chosen = rw (← ec, e) (ap (λ x. unlessFailed x (textOf t (gatherList t s p 32 (q + 1) 0 (replicate 32 (pos 0))) q)) (sym eg))
+    chosen = rw (← ec, e) (ap (λ x. unlessFailed x (textOf t (gatherList t s p numbersMost (q + 1) 0 (replicate numbersMost (pos 0))) q)) (sym eg))
 
     pub prints-fault : {f : Fault} → g ≡ Failed f → w ≡ puts (printedAt t s p q) w
-    prints-fault k = puts-none w ∙ ap (λ l. puts l w) (sym (chosen ∙ ap (λ x. unlessFailed x (textOf t (gatherList t s p 32 (q + 1) 0 (replicate 32 (pos 0))) q)) k))
+    prints-fault k = puts-none w ∙ ap (λ l. puts l w) (sym (chosen ∙ ap (λ x. unlessFailed x (textOf t (gatherList t s p numbersMost (q + 1) 0 (replicate numbersMost (pos 0))) q)) k))
 
-    pub prints-text : {z : ℕ} {l : List ℤ} {r : Pen} → g ≡ Upto z → l ≡ gatherList t s p 32 (q + 1) 0 (replicate 32 (pos 0)) → r ≡ puts (textOf t l q) w → r ≡ puts (printedAt t s p q) w
-    prints-text k el er = er ∙ ap (λ l. puts (textOf t l q) w) el ∙ ap (λ l. puts l w) (sym (chosen ∙ ap (λ x. unlessFailed x (textOf t (gatherList t s p 32 (q + 1) 0 (replicate 32 (pos 0))) q)) k))
+    pub prints-text : {z : ℕ} {l : List ℤ} {r : Pen} → g ≡ Upto z → l ≡ gatherList t s p numbersMost (q + 1) 0 (replicate numbersMost (pos 0)) → r ≡ puts (textOf t l q) w → r ≡ puts (printedAt t s p q) w
+    prints-text k el er = er ∙ ap (λ l. puts (textOf t l q) w) el ∙ ap (λ l. puts l w) (sym (chosen ∙ ap (λ x. unlessFailed x (textOf t (gatherList t s p numbersMost (q + 1) 0 (replicate numbersMost (pos 0))) q)) k))

@@ -1,3 +1,4 @@
+-- Mechanism, held to the specification by `demand2` (crate `demands`).
 -- What a printf writes: document 01, "Strings", "a backslash must be followed by `n`, `t`, `"` or a backslash", and row 5, "`%` in a format not followed by `d` or `%`".
 -- A number is written in signed decimal, whatever its type. `l` holds the values of the arguments.
 use Prim.Native.Nat.{ℕ, zero, suc, _+_, _-_, _/_, _%_}
@@ -6,12 +7,14 @@ use mathlib.Core.List.{List, [], _∷_, _++_}
 use lib.ListN.{length, getD, set, replicate}
 use lib.IntN.{ℤ, pos, negsuc}
 use lib.Dec.{eqb, ltb}
+use Rattle.base_ceilings.specs.Ceilings.{numbersMost}
 use Rattle.base_bytes.specs.Choice.{pick}
-use Rattle.spec_text.specs.Formats.{written, opened, counted}
+use Rattle.spec_text.specs.Formats.{formatted, opened, counted}
 use Rattle.table_layout.specs.Access.{codeOf, nameLength, nameByte}
 use Rattle.step_messages.specs.declared.Gathered.{Gathered}
 use Rattle.step_messages.specs.declared.Gathered.the-variants.{Upto, Failed}
 use Rattle.step_messages.specs.Messages.{gatherEnd, gatherList}
+use Rattle.base_codes.specs.Codes.{c-text}
 
 -- ## a pen over bytes, which stops at the end
 pub record Pen : Type 0 where
@@ -38,7 +41,7 @@ sizeOf (negsuc n) = n + 1
 module _ (t : List ℕ) (l : List ℤ) where
   unfoldable pub writtenFrom : ℕ → ℕ → ℕ → ℕ → ℕ → List ℕ
   writtenFrom zero j i was k = []
-  writtenFrom (suc n) j i was k = written l was (nameByte t j i) k ++ writtenFrom n j (i + 1) (opened was (nameByte t j i)) (counted was (nameByte t j i) k)
+  writtenFrom (suc n) j i was k = formatted l was (nameByte t j i) k ++ writtenFrom n j (i + 1) (opened was (nameByte t j i)) (counted was (nameByte t j i) k)
 
   -- the text that the format which is item j writes
   abbrev pub textOf : ℕ → List ℕ
@@ -51,4 +54,4 @@ unlessFailed (Failed f) xs = []
 
 -- what the step of the statement at place q prints, in the state before it: a printf (72) its text, any other nothing
 unfoldable pub printedAt : List ℕ → List ℤ → ℕ → ℕ → List ℕ
-printedAt t s p q = pick (eqb (codeOf t q) 72) (unlessFailed (gatherEnd t s p 32 (q + 1)) (textOf t (gatherList t s p 32 (q + 1) 0 (replicate 32 (pos 0))) q)) []
+printedAt t s p q = pick (eqb (codeOf t q) c-text) (unlessFailed (gatherEnd t s p numbersMost (q + 1)) (textOf t (gatherList t s p numbersMost (q + 1) 0 (replicate numbersMost (pos 0))) q)) []

@@ -52,7 +52,7 @@ pub fn size_of(v: i32) -> u32
 }
 
 fn put_number(out: &mut [u8], w: usize, v: i32) -> usize
-    ensures { λ r. ⌜ pen (now (out .exit)) r ≡ puts (formats.decimal v) (pen (now (out .entry)) w) ⌝ }
+    ensures { λ r. ⌜ pen (now (out .exit)) r ≡ puts (formats.decimalOf v) (pen (now (out .entry)) w) ⌝ }
 {
     if v < 0 {
         let q = put(out, w, 45);
@@ -102,7 +102,7 @@ fn count_behind(was: u8, b: u8, k: usize) -> usize
 }
 
 fn put_one(values: &[i32], was: u8, b: u8, k: usize, out: &mut [u8], w: usize) -> usize
-    ensures { λ r. ⌜ pen (now (out .exit)) r ≡ puts (formats.written (now (values .entry)) was b k) (pen (now (out .entry)) w) ⌝ }
+    ensures { λ r. ⌜ pen (now (out .exit)) r ≡ puts (formats.formatted (now (values .entry)) was b k) (pen (now (out .entry)) w) ⌝ }
 {
     if was == 92 {
         return put(out, w, escape(b));
@@ -142,10 +142,10 @@ pub fn print(t: &[u32], values: &[i32], j: usize, out: &mut [u8], w: usize) -> u
 pub fn print_at(t: &[u32], s: &[i32], p: u8, q: u32, out: &mut [u8]) -> usize
     ensures { λ r. ⌜ pen (now (out .exit)) r ≡ puts (printing.printedAt (now (t .entry)) (now (s .entry)) p q) (pen (now (out .entry)) 0) ⌝ }
 {
-    if table_layout::code(t, q as usize) != 72 {
+    if table_layout::code(t, q as usize) != base_codes::TEXT {
         return 0;
     }
-    let mut values = [0i32; 32];
+    let mut values = [0i32; base_ceilings::NUMBERS_MOST];
     let g = step_messages::gather(t, s, p, q as usize + 1, &mut values);
     match g {
         Gathered::Upto(_) => print(t, &values, q as usize, out, 0),

@@ -1,37 +1,35 @@
 -- Laws that the proofs of `step_ready` cite: what its callees say, put together.
 use Prim.Native.Nat.{ℕ, zero, suc, _+_, _-_, _≤_, _<_, _^_}
 use mathlib.Core.Path.{_≡_, refl, sym, ap, _∙_}
-use mathlib.Core.Bool.{Bool, true, false, not}
+use mathlib.Core.Bool.{Bool, true, false}
 use mathlib.Core.List.{List}
 use native.Mathlib.Omega.{arith}
-use native.Mathlib.Nat.{add-zero, add-assoc}
+use native.Mathlib.Nat.{add-assoc}
 use lib.IntN.{ℤ, pos}
 use lib.Signed.{mag}
 use lib.Dec.{eqb, ltb, leb}
-use borrow.Author.Tests.{ne-eqb, eq-eqb, lt-ltb, le-ltb, not-true, not-false}
+use borrow.Author.Tests.{ne-eqb, eq-eqb, lt-ltb, le-ltb}
 use mir.Syntax.{w32}
 use mir.Val.{toZ, ofZ, SFits, boolByte}
-use mir.ValLaws.{toZ-ofZ}
+use Rattle.base_ceilings.specs.Ceilings.{channelsMost, fieldsMost, processesMost}
 use Rattle.base_codes.specs.Codes.{c-channel, c-end, c-express, c-into, c-message, c-receive, c-run, c-send, c-timeout}
-use Rattle.base_bytes.specs.Choice.{pick, both}
-use Rattle.table_layout.specs.Access.{codeOf, linkOf, numberOf}
+use Rattle.base_bytes.specs.Choice.{pick}
+use Rattle.table_layout.specs.Access.{codeOf, linkOf}
 use Rattle.state_layout.proofs.Laws.{back}
 use Rattle.state_layout.specs.Layout.{processesOf, channelsOf, declaredOf, waitingOf, fieldOf}
-use Rattle.spec_text.specs.Ceilings.{processesMost, channelsMost}
-use Rattle.base_values.specs.Operators.{same}
+use Rattle.base_values.specs.Operators.{same, equalBy}
 use Rattle.base_values.specs.declared.Fault.the-variants.{Fields}
 use Rattle.base_values.specs.declared.Answer.{Answer}
-use Rattle.base_values.specs.declared.Answer.the-variants.{Value, Fails}
+use Rattle.base_values.specs.declared.Answer.the-variants.{Value}
 use Rattle.step_eval.specs.declared.Located.{Located}
 use Rattle.step_eval.specs.declared.Reached.{Reached}
 use Rattle.step_eval.specs.declared.Reached.the-variants.{Record, Unmade}
 use Rattle.step_eval.specs.Variables.{loadOf, channelOf}
 use Rattle.step_eval.specs.Expressions.{holds, evalOf, locateOf}
-use Rattle.state_start.specs.Starting.{unitLength}
-use Rattle.step_ready.specs.Channels.{capacityOf, fieldsOf, argumentsFrom, argumentsOf, comparedAt, equalBy, reachedOf, agreesOf, matchesFrom, matchesOf, addressedOf}
-use Rattle.step_ready.specs.Executing.{passes, isAlone, isAlways, markOf, channelsFrom, channelsIn, fitsOf, sendable, receivable, messageOf, readyBy, readyOf}
-use Rattle.step_ready.proofs.Bits.{one-if}
+use Rattle.step_ready.specs.Channels.{capacityOf, fieldsOf, argumentsFrom, comparedAt, reachedOf, agreesOf, matchesFrom, matchesOf, addressedOf}
+use Rattle.step_ready.specs.Executing.{passes, isAlways, channelsFrom, channelsIn, fitsOf, sendable, receivable, messageOf, readyBy}
 use Rattle.base_values.proofs.Machine.{same-bits}
+use Rattle.step_eval.proofs.Laws.{one-if}
 
 -- ---- comparing
 pub equal-value : {x : Answer} {v : ℤ} (w : ℤ) → x ≡ Value v → mag v < 2 ^ 31 → SFits w32 w → Value (toZ w32 (boolByte (eqb (ofZ w32 v) (ofZ w32 w)))) ≡ equalBy x w
@@ -85,16 +83,16 @@ module _ (t : List ℕ) where
   none-left n a e = rw e
 
   -- a turn of the loop that counts them, of w in all
-  module _ (n j w : ℕ) (h : n ≤ 5) (inv : n + argumentsFrom t (5 - n) j ≡ w) where
-    pub arguments-end : 5 ≤ n → n ≡ w
-    arguments-end g = let q = none-left (5 - n) j (omega arith) in omega arith
+  module _ (n j w : ℕ) (h : n ≤ fieldsMost + 1) (inv : n + argumentsFrom t ((fieldsMost + 1) - n) j ≡ w) where
+    pub arguments-end : (fieldsMost + 1) ≤ n → n ≡ w
+    arguments-end g = let q = none-left ((fieldsMost + 1) - n) j (omega arith) in omega arith
 
     module _ {c : ℕ} (ec : c ≡ codeOf t j) where
       pub arguments-all : c ≡ c-end → n ≡ w
-      arguments-all e = let q = arguments-over (5 - n) j ec e in omega arith
+      arguments-all e = let q = arguments-over ((fieldsMost + 1) - n) j ec e in omega arith
 
-      pub arguments-turn : n < 5 → (c ≡ c-end → ⊥) → {l : ℕ} → l ≡ linkOf t j → n + 1 + argumentsFrom t (5 - (n + 1)) (l + 1) ≡ w
-      arguments-turn g e {l} el = let q = arguments-more (5 - n) (5 - (n + 1)) j (omega arith) ec e el in omega arith
+      pub arguments-turn : n < fieldsMost + 1 → (c ≡ c-end → ⊥) → {l : ℕ} → l ≡ linkOf t j → n + 1 + argumentsFrom t ((fieldsMost + 1) - (n + 1)) (l + 1) ≡ w
+      arguments-turn g e {l} el = let q = arguments-more ((fieldsMost + 1) - n) ((fieldsMost + 1) - (n + 1)) j (omega arith) ec e el in omega arith
 
 module _ (t : List ℕ) (s : List ℤ) (p c : ℕ) where
   pub matches-end : (n a f : ℕ) → n ≡ 0 → matchesFrom t s p n c a f ≡ Value (pos 1)

@@ -1,18 +1,20 @@
+-- Mechanism, held to the specification by `demand2` (crate `demands`).
 -- Channels as their declarations make them, and the messages that a statement means: document 01, "How it moves", "a channel number that was never made, wrong field
 -- count at run time", "a channel's number and field count are tested first". `t` are tables, `s` a state, p the number of the process.
 use Prim.Native.Nat.{ℕ, zero, suc, _+_, _-_}
-use mathlib.Core.Bool.{Bool, true, false}
+use mathlib.Core.Bool.{Bool, true}
 use mathlib.Core.List.{List}
 use lib.IntN.{ℤ, pos}
 use lib.Dec.{eqb}
+use Rattle.base_ceilings.specs.Ceilings.{fieldsMost}
 use Rattle.base_codes.specs.Codes.{c-end, c-field, c-into, c-message}
 use Rattle.base_bytes.specs.Choice.{pick}
 use Rattle.table_layout.specs.Access.{codeOf, linkOf, numberOf}
 use Rattle.state_layout.specs.Layout.{declaredOf, fieldOf}
-use Rattle.base_values.specs.Operators.{same, oneIf}
+use Rattle.base_values.specs.Operators.{equalBy}
 use Rattle.base_values.specs.declared.Fault.the-variants.{Fields}
 use Rattle.base_values.specs.declared.Answer.{Answer}
-use Rattle.base_values.specs.declared.Answer.the-variants.{Value, Fails}
+use Rattle.base_values.specs.declared.Answer.the-variants.{Value}
 use Rattle.step_eval.specs.declared.Reached.{Reached}
 use Rattle.step_eval.specs.declared.Reached.the-variants.{Record, Unmade}
 use Rattle.step_eval.specs.Variables.{loadOf, channelOf}
@@ -36,15 +38,11 @@ module _ (t : List ℕ) where
 
   -- how many there are from item a on; 5 is too many for a message
   abbrev pub argumentsOf : ℕ → ℕ
-  argumentsOf a = argumentsFrom 5 a
+  argumentsOf a = argumentsFrom (fieldsMost + 1) a
 
   -- a received argument with the mark m is compared, not stored: not `into` (184), or the mtype name (220) that it names
   unfoldable pub comparedAt : ℕ → Bool
   comparedAt m = pick (eqb (codeOf t m) c-into) (eqb (codeOf t (linkOf t (m - 1))) c-message) true
-
-abbrev pub equalBy : Answer → ℤ → Answer
-equalBy (Value v) w = Value (oneIf (same v w))
-equalBy (Fails f) w = Fails f
 
 module _ (t : List ℕ) (s : List ℤ) (p : ℕ) where
   -- the channel that the reference from `from` to before `to` means
@@ -63,7 +61,7 @@ module _ (t : List ℕ) (s : List ℤ) (p : ℕ) where
       (pick (holds (agreesOf c a (linkOf t a) f)) (matchesFrom n c (linkOf t a + 1) (f + 1)) (agreesOf c a (linkOf t a) f))
 
   abbrev pub matchesOf : ℕ → ℕ → Answer
-  matchesOf c a = matchesFrom 4 c a 0
+  matchesOf c a = matchesFrom fieldsMost c a 0
 
 -- the channel, if it has n fields
 abbrev pub addressedOf : List ℕ → List ℤ → Reached → ℕ → Reached

@@ -1,3 +1,4 @@
+-- Mechanism, held to the specification by `demand2` (crate `demands`).
 -- Which statements are executable: document 01, "How it moves", "Executable: an expression when not 0; a send when the channel is not full; a receive when it is not
 -- empty and each constant and `eval` equals its field ..; `run` when a process and its channels still fit; .. all others always", and "A statement whose test faults
 -- counts as executable (H)". `else`, `if` and `do` are judged where steps are offered. A statement is told by its place q, its mark m (crate `link_places`).
@@ -6,38 +7,31 @@ use mathlib.Core.Bool.{Bool, true, false}
 use mathlib.Core.List.{List}
 use lib.IntN.{ℤ}
 use lib.Dec.{eqb, ltb, leb}
-use Rattle.base_codes.specs.Codes.{c-assert, c-break, c-channel, c-decrement, c-do, c-else, c-end-body, c-express, c-goto, c-if, c-increment, c-receive, c-run, c-send, c-skip, c-target, c-timeout}
+use Rattle.base_ceilings.specs.Ceilings.{channelsMost, processesMost}
+use Rattle.base_codes.specs.Codes.{c-assert, c-break, c-channel, c-decrement, c-end-body, c-express, c-goto, c-increment, c-receive, c-run, c-send, c-skip, c-target, c-timeout, c-text}
 use Rattle.base_bytes.specs.Choice.{pick, both, either}
 use Rattle.table_layout.specs.Access.{codeOf, linkOf}
 use Rattle.state_layout.specs.Layout.{processesOf, channelsOf, declaredOf, waitingOf}
-use Rattle.spec_text.specs.Ceilings.{processesMost, channelsMost}
 use Rattle.base_values.specs.declared.Answer.{Answer}
 use Rattle.step_eval.specs.declared.Reached.{Reached}
 use Rattle.step_eval.specs.declared.Reached.the-variants.{Record, Unmade}
 use Rattle.step_eval.specs.Expressions.{isFault, holds, evalOf}
 use Rattle.state_start.specs.Starting.{unitLength}
 use Rattle.step_ready.specs.Channels.{capacityOf, argumentsOf, reachedOf, matchesOf, addressedOf}
+use Rattle.base_codes.specs.Sets.{isAlone}
 
 -- "A statement whose test faults counts as executable"
 abbrev pub passes : Answer → Bool
 passes x = either (isFault x) (holds x)
 
--- a statement that begins with its own mark: printf (its string), skip, break, timeout, else, if, do; and the end of a body
-unfoldable pub isAlone : ℕ → Bool
-isAlone c =
-    pick (eqb c 72) true
-    (pick (eqb c c-skip) true
-    (pick (eqb c c-break) true
-    (pick (eqb c c-timeout) true
-    (pick (eqb c c-else) true
-    (pick (eqb c c-if) true
-    (pick (eqb c c-do) true
-    (pick (eqb c c-end-body) true false)))))))
+-- an item at a place that is its own mark: a statement that begins with it, or the end of a body
+unfoldable pub isOwnMark : ℕ → Bool
+isOwnMark c = either (isAlone c) (eqb c c-end-body)
 
 -- one that is always executable: printf, target (of an assignment or `v = run`), `++`, `--`, assert, skip, goto, break
 unfoldable pub isAlways : ℕ → Bool
 isAlways c =
-    pick (eqb c 72) true
+    pick (eqb c c-text) true
     (pick (eqb c c-target) true
     (pick (eqb c c-increment) true
     (pick (eqb c c-decrement) true
@@ -48,7 +42,7 @@ isAlways c =
 
 module _ (t : List ℕ) where
   unfoldable pub markOf : ℕ → ℕ
-  markOf q = pick (isAlone (codeOf t q)) q (linkOf t q)
+  markOf q = pick (isOwnMark (codeOf t q)) q (linkOf t q)
 
   -- the channels that a process of the unit makes: its `channel` items (217), over n items from j on
   unfoldable pub channelsFrom : ℕ → ℕ → ℕ

@@ -2,14 +2,26 @@
 ghost use mathlib.Core.Path.{_≡_};
 ghost use Prim.Native.Nat.{_+_, _<_, _≤_};
 ghost use lib.Dec.{eqb};
+ghost use Rattle.base_ceilings.specs.Ceilings.{fieldsMost, itemsMost};
 ghost use Rattle.base_codes.specs.Codes.{c-channel};
 ghost use Rattle.base_bytes.specs.Choice.{pick};
 ghost use Rattle.table_layout.specs.Access.{codeOf};
+ghost use Rattle.base_values.specs.Operators.{equalBy};
 ghost use Rattle.step_ready.specs.Channels as channels;
 ghost use Rattle.step_ready.specs.Executing as executing;
 use base_values::Answer;
 use base_values::Fault;
 use step_eval::Reached;
+
+// The most fields of a message, processes and channels.
+const FIELDS_MOST: u32 = base_ceilings::FIELDS_MOST as u32;
+
+const PROCESSES_MOST: u32 = base_ceilings::PROCESSES_MOST as u32;
+
+const CHANNELS_MOST: u32 = base_ceilings::CHANNELS_MOST as u32;
+
+// One argument more than a message has.
+const TOO_MANY: u32 = FIELDS_MOST + 1;
 
 // How many messages the channel that item d declares can hold.
 pub fn capacity(t: &[u32], d: u32) -> usize
@@ -21,7 +33,7 @@ pub fn capacity(t: &[u32], d: u32) -> usize
 // How many fields they have.
 pub fn fields(t: &[u32], d: u32) -> u32
     ensures { λ r. ⌜ r ≡ channels.fieldsOf (now (t .entry)) d ⌝ }
-    ensures { λ r. ⌜ r ≤ 4 ⌝ }
+    ensures { λ r. ⌜ r ≤ fieldsMost ⌝ }
 {
     if table_layout::code(t, d as usize + 2) == base_codes::FIELD {
         if table_layout::code(t, d as usize + 4) == base_codes::FIELD {
@@ -38,13 +50,13 @@ pub fn fields(t: &[u32], d: u32) -> u32
     0
 }
 
-// How many arguments there are from item a on; 5 is too many for a message.
+// How many arguments there are from item a on, as far as they are too many for a message.
 pub fn arguments(t: &[u32], a: usize) -> u32
     ensures { λ r. ⌜ r ≡ channels.argumentsOf (now (t .entry)) a ⌝ }
 {
     let mut j = a;
     let mut n: u32 = 0;
-    while n < 5 {
+    while n < TOO_MANY {
         if table_layout::code(t, j) == base_codes::END {
             return n;
         }
@@ -66,7 +78,7 @@ pub fn is_compared(t: &[u32], m: usize) -> bool
 }
 
 fn equal(x: Answer, w: i32) -> Answer
-    ensures { λ r. ⌜ r ≡ channels.equalBy x w ⌝ }
+    ensures { λ r. ⌜ r ≡ equalBy x w ⌝ }
 {
     match x {
         Answer::Value(v) => Answer::Value((v == w) as i32),
@@ -117,7 +129,7 @@ pub fn matches(t: &[u32], s: &[i32], p: u8, c: u32, a: usize) -> Answer
 {
     let mut j = a;
     let mut f: u32 = 0;
-    while f < 4 {
+    while f < FIELDS_MOST {
         if table_layout::code(t, j) == base_codes::END {
             return Answer::Value(1);
         }
@@ -142,27 +154,18 @@ fn passes(x: Answer) -> bool
     }
 }
 
-fn is_alone(c: u8) -> bool
-    ensures { λ r. ⌜ r ≡ executing.isAlone c ⌝ }
+// Is an item at a place its own mark?
+fn is_own_mark(c: u8) -> bool
+    ensures { λ r. ⌜ r ≡ executing.isOwnMark c ⌝ }
 {
-    match c {
-        72 => true,
-        base_codes::SKIP => true,
-        base_codes::BREAK => true,
-        base_codes::TIMEOUT => true,
-        base_codes::ELSE => true,
-        base_codes::IF => true,
-        base_codes::DO => true,
-        base_codes::END_BODY => true,
-        _ => false,
-    }
+    base_bytes::either(base_codes::is_alone(c), c == base_codes::END_BODY)
 }
 
 fn is_always(c: u8) -> bool
     ensures { λ r. ⌜ r ≡ executing.isAlways c ⌝ }
 {
     match c {
-        72 => true,
+        base_codes::TEXT => true,
         base_codes::TARGET => true,
         base_codes::INCREMENT => true,
         base_codes::DECREMENT => true,
@@ -179,7 +182,7 @@ pub fn mark(t: &[u32], q: u32) -> usize
     ensures { λ r. ⌜ r ≡ executing.markOf (now (t .entry)) q ⌝ }
     ensures { λ r. ⌜ r < 4294967296 ⌝ }
 {
-    if is_alone(table_layout::code(t, q as usize)) {
+    if is_own_mark(table_layout::code(t, q as usize)) {
         q as usize
     } else {
         table_layout::link(t, q as usize)
@@ -201,7 +204,7 @@ fn makes(t: &[u32], j: usize) -> u32
 // How many channels a process of the unit that item u begins makes.
 fn channels_in(t: &[u32], u: u32) -> u32
     ensures { λ r. ⌜ r ≡ executing.channelsIn (now (t .entry)) u ⌝ }
-    ensures { λ r. ⌜ r ≤ 8192 ⌝ }
+    ensures { λ r. ⌜ r ≤ itemsMost ⌝ }
 {
     let n = state_start::unit_length(t, u);
     let mut k: u32 = 0;
@@ -217,8 +220,8 @@ fn channels_in(t: &[u32], u: u32) -> u32
 pub fn has_room(t: &[u32], s: &[i32], u: u32) -> bool
     ensures { λ r. ⌜ r ≡ executing.fitsOf (now (t .entry)) (now (s .entry)) u ⌝ }
 {
-    if state_layout::processes(s) < state_layout::PROCESSES_MOST {
-        state_layout::channels(s) + channels_in(t, u) <= state_layout::CHANNELS_MOST
+    if state_layout::processes(s) < PROCESSES_MOST {
+        state_layout::channels(s) + channels_in(t, u) <= CHANNELS_MOST
     } else {
         false
     }

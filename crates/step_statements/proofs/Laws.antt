@@ -11,6 +11,7 @@ use borrow.Author.Tests.{ne-eqb, eq-eqb}
 use mir.Syntax.{w32}
 use mir.Val.{toZ, ofZ, SFits}
 use mir.ValLaws.{toZ-ofZ}
+use Rattle.base_ceilings.specs.Ceilings.{fieldsMost, numbersMost}
 use Rattle.base_bytes.specs.Choice.{pick}
 use Rattle.table_layout.specs.Access.{linkOf}
 use Rattle.base_values.specs.Bits.{wrap32}
@@ -85,7 +86,7 @@ pub is-zero : (v : ℤ) → mag v < 2 ^ 31 → ofZ w32 v ≡ 0 → isTrue v ≡ 
 is-zero (pos n) h e = ap not (eq-eqb n 0 e)
 is-zero (negsuc n) h e = absurd (no e)
   where
-    no : 2 ^ 32 - suc n ≡ 0 → ⊥
+    no : 2 ^ numbersMost - suc n ≡ 0 → ⊥
     no e = omega arith
 
 pub not-zero : (v : ℤ) → (ofZ w32 v ≡ 0 → ⊥) → isTrue v ≡ true
@@ -152,21 +153,21 @@ module _ (t : List ℕ) (p q m : ℕ) (s : List ℤ) where
   module _ {x : Reached} (ex : x ≡ messageOf t s p q m) where
     pub send-unmade : {f : Fault} → x ≡ Unmade f → outcome (Faulted f) s ≡ sent t p q m s
     unfolding sent
-    send-unmade k = on-unmade (λ c. onEnd (gatherEnd t s p 32 (m + 1)) (λ e. (Done, moved p (linkOf t e) (appended t c (gatherList t s p 32 (m + 1) 0 blank) s))) (fault s)) (fault s) ex k
+    send-unmade k = on-unmade (λ c. onEnd (gatherEnd t s p numbersMost (m + 1)) (λ e. (Done, moved p (linkOf t e) (appended t c (gatherList t s p numbersMost (m + 1) 0 blank) s))) (fault s)) (fault s) ex k
 
-    module _ {c : ℕ} (k : x ≡ Record c) {g : Gathered} (eg : g ≡ gatherEnd t s p 32 (m + 1)) where
-      send-by : {r : Result} → r ≡ onEnd (gatherEnd t s p 32 (m + 1)) (λ e. (Done, moved p (linkOf t e) (appended t c (gatherList t s p 32 (m + 1) 0 blank) s))) (fault s) → r ≡ sent t p q m s
+    module _ {c : ℕ} (k : x ≡ Record c) {g : Gathered} (eg : g ≡ gatherEnd t s p numbersMost (m + 1)) where
+      send-by : {r : Result} → r ≡ onEnd (gatherEnd t s p numbersMost (m + 1)) (λ e. (Done, moved p (linkOf t e) (appended t c (gatherList t s p numbersMost (m + 1) 0 blank) s))) (fault s) → r ≡ sent t p q m s
       unfolding sent
-      send-by er = er ∙ on-record (λ c. onEnd (gatherEnd t s p 32 (m + 1)) (λ e. (Done, moved p (linkOf t e) (appended t c (gatherList t s p 32 (m + 1) 0 blank) s))) (fault s)) (fault s) ex k
+      send-by er = er ∙ on-record (λ c. onEnd (gatherEnd t s p numbersMost (m + 1)) (λ e. (Done, moved p (linkOf t e) (appended t c (gatherList t s p numbersMost (m + 1) 0 blank) s))) (fault s)) (fault s) ex k
 
       pub send-fault : {f : Fault} → g ≡ Failed f → outcome (Faulted f) s ≡ sent t p q m s
-      send-fault z = send-by (on-failed (λ e. (Done, moved p (linkOf t e) (appended t c (gatherList t s p 32 (m + 1) 0 blank) s))) (fault s) eg z)
+      send-fault z = send-by (on-failed (λ e. (Done, moved p (linkOf t e) (appended t c (gatherList t s p numbersMost (m + 1) 0 blank) s))) (fault s) eg z)
 
-      pub send-done : {e l : ℕ} {v s₁ s₂ : List ℤ} → g ≡ Upto e → v ≡ gatherList t s p 32 (m + 1) 0 blank → s₁ ≡ appended t c v s → l ≡ linkOf t e → s₂ ≡ moved p l s₁ → outcome Done s₂ ≡ sent t p q m s
+      pub send-done : {e l : ℕ} {v s₁ s₂ : List ℤ} → g ≡ Upto e → v ≡ gatherList t s p numbersMost (m + 1) 0 blank → s₁ ≡ appended t c v s → l ≡ linkOf t e → s₂ ≡ moved p l s₁ → outcome Done s₂ ≡ sent t p q m s
       send-done {e} {l} {v} {s₁} {s₂} z ev e₁ el e₂ =
           send-by
           (done-moved p (linkOf t e) s s₁ s₂ (e₁ ∙ ap (λ v. appended t c v s) ev) el e₂
-          ∙ on-upto (λ e. (Done, moved p (linkOf t e) (appended t c (gatherList t s p 32 (m + 1) 0 blank) s))) (fault s) eg z)
+          ∙ on-upto (λ e. (Done, moved p (linkOf t e) (appended t c (gatherList t s p numbersMost (m + 1) 0 blank) s))) (fault s) eg z)
 
     pub receive-unmade : {f : Fault} → x ≡ Unmade f → outcome (Faulted f) s ≡ received t p q m s
     unfolding received
@@ -184,24 +185,24 @@ module _ (t : List ℕ) (p q m : ℕ) (s : List ℤ) where
           er ∙ on-value (λ v. receivedFrom t p (m + 1) c s) (fault s) ey z ∙ on-record (λ c. onValue (matchesOf t s p c (m + 1)) (λ v. receivedFrom t p (m + 1) c s) (fault s)) (fault s) ex k
 
 -- the arguments' places are known, and none is at fault
-module _ (t : List ℕ) (p a c : ℕ) (s : List ℤ) {g : Gathered} (eg : g ≡ aimEnd t s p 4 a) where
+module _ (t : List ℕ) (p a c : ℕ) (s : List ℤ) {g : Gathered} (eg : g ≡ aimEnd t s p fieldsMost a) where
   pub from-fault : {f : Fault} → g ≡ Failed f → outcome (Faulted f) s ≡ receivedFrom t p a c s
   unfolding receivedFrom
-  from-fault z = on-failed (λ e. (Done, moved p (linkOf t e) (delivered t 4 a 0 (aimList t s p 4 a 0 (replicate 4 0)) (oldest s c (replicate 4 (pos 0))) (removed c s)))) (fault s) eg z
+  from-fault z = on-failed (λ e. (Done, moved p (linkOf t e) (delivered t fieldsMost a 0 (aimList t s p fieldsMost a 0 (replicate fieldsMost 0)) (oldest s c (replicate fieldsMost (pos 0))) (removed c s)))) (fault s) eg z
 
-  pub from-done : {e l : ℕ} {ps : List ℕ} {v s₁ s₂ s₃ : List ℤ} → g ≡ Upto e → ps ≡ aimList t s p 4 a 0 (replicate 4 0) → v ≡ oldest s c (replicate 4 (pos 0)) → s₁ ≡ removed c s
-      → s₂ ≡ delivered t 4 a 0 ps v s₁ → l ≡ linkOf t e → s₃ ≡ moved p l s₂ → outcome Done s₃ ≡ receivedFrom t p a c s
+  pub from-done : {e l : ℕ} {ps : List ℕ} {v s₁ s₂ s₃ : List ℤ} → g ≡ Upto e → ps ≡ aimList t s p fieldsMost a 0 (replicate fieldsMost 0) → v ≡ oldest s c (replicate fieldsMost (pos 0)) → s₁ ≡ removed c s
+      → s₂ ≡ delivered t fieldsMost a 0 ps v s₁ → l ≡ linkOf t e → s₃ ≡ moved p l s₂ → outcome Done s₃ ≡ receivedFrom t p a c s
   unfolding receivedFrom
   from-done {e} {l} {ps} {v} {s₁} {s₂} {s₃} z ep ev e₁ e₂ el e₃ =
-      done-moved p (linkOf t e) s s₂ s₃ (e₂ ∙ (λ i. delivered t 4 a 0 (ep i) (ev i) (e₁ i))) el e₃
-      ∙ on-upto (λ e. (Done, moved p (linkOf t e) (delivered t 4 a 0 (aimList t s p 4 a 0 (replicate 4 0)) (oldest s c (replicate 4 (pos 0))) (removed c s)))) (fault s) eg z
+      done-moved p (linkOf t e) s s₂ s₃ (e₂ ∙ (λ i. delivered t fieldsMost a 0 (ep i) (ev i) (e₁ i))) el e₃
+      ∙ on-upto (λ e. (Done, moved p (linkOf t e) (delivered t fieldsMost a 0 (aimList t s p fieldsMost a 0 (replicate fieldsMost 0)) (oldest s c (replicate fieldsMost (pos 0))) (removed c s)))) (fault s) eg z
 
 module _ (t : List ℕ) (p m : ℕ) (s : List ℤ) where
-  pub print-fault : {g : Gathered} {f : Fault} → g ≡ gatherEnd t s p 32 (m + 1) → g ≡ Failed f → outcome (Faulted f) s ≡ printed t p m s
+  pub print-fault : {g : Gathered} {f : Fault} → g ≡ gatherEnd t s p numbersMost (m + 1) → g ≡ Failed f → outcome (Faulted f) s ≡ printed t p m s
   unfolding printed
   print-fault eg z = on-failed (λ e. (Done, moved p (linkOf t e) s)) (fault s) eg z
 
-  pub print-done : {g : Gathered} {e l : ℕ} {s₁ : List ℤ} → g ≡ gatherEnd t s p 32 (m + 1) → g ≡ Upto e → l ≡ linkOf t e → s₁ ≡ moved p l s → outcome Done s₁ ≡ printed t p m s
+  pub print-done : {g : Gathered} {e l : ℕ} {s₁ : List ℤ} → g ≡ gatherEnd t s p numbersMost (m + 1) → g ≡ Upto e → l ≡ linkOf t e → s₁ ≡ moved p l s → outcome Done s₁ ≡ printed t p m s
   unfolding printed
   print-done {g} {e} {l} {s₁} eg z el e₁ = done-moved p (linkOf t e) s s s₁ refl el e₁ ∙ on-upto (λ e. (Done, moved p (linkOf t e) s)) (fault s) eg z
 

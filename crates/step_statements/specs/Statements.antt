@@ -1,3 +1,4 @@
+-- Mechanism, held to the specification by `demand2` (crate `demands`).
 -- What the statements do, but for `run`: document 01, "How it moves", "Taking: target indices are worked out in the state before the step, then stores go left to right.
 -- Sent values are cast to field types. A failed assertion or fault changes no state and prints nothing".
 -- `t` are tables, `s` the state before, p the number of the process, q the place, m the statement's mark. Each gives what came of it, and the state after.
@@ -5,6 +6,7 @@ use Prim.Native.Nat.{ℕ, _+_, _-_}
 use mathlib.Core.List.{List}
 use lib.ListN.{set, replicate}
 use lib.IntN.{ℤ, pos, _+ℤ_}
+use Rattle.base_ceilings.specs.Ceilings.{fieldsMost, numbersMost}
 use Rattle.base_bytes.specs.Choice.{pick}
 use Rattle.table_layout.specs.Access.{linkOf}
 use Rattle.base_values.specs.Bits.{wrap32}
@@ -44,7 +46,7 @@ onChannel (Unmade f) g h = h f
 
 -- room for the values of arguments
 abbrev pub blank : List ℤ
-blank = replicate 32 (pos 0)
+blank = replicate numbersMost (pos 0)
 
 -- the fields of the oldest message of channel c
 abbrev pub oldest : List ℤ → ℕ → List ℤ → List ℤ
@@ -78,13 +80,13 @@ module _ (t : List ℕ) where
     unfoldable pub sent : ℕ → ℕ → List ℤ → Result
     sent q m s =
         onChannel (messageOf t s p q m)
-        (λ c. onEnd (gatherEnd t s p 32 (m + 1)) (λ e. (Done, moved p (linkOf t e) (appended t c (gatherList t s p 32 (m + 1) 0 blank) s))) (fault s)) (fault s)
+        (λ c. onEnd (gatherEnd t s p numbersMost (m + 1)) (λ e. (Done, moved p (linkOf t e) (appended t c (gatherList t s p numbersMost (m + 1) 0 blank) s))) (fault s)) (fault s)
 
     -- the arguments begin at item a; "target indices are worked out in the state before the step, then stores go left to right"
     unfoldable pub receivedFrom : ℕ → ℕ → List ℤ → Result
     receivedFrom a c s =
-        onEnd (aimEnd t s p 4 a)
-        (λ e. (Done, moved p (linkOf t e) (delivered t 4 a 0 (aimList t s p 4 a 0 (replicate 4 0)) (oldest s c (replicate 4 (pos 0))) (removed c s)))) (fault s)
+        onEnd (aimEnd t s p fieldsMost a)
+        (λ e. (Done, moved p (linkOf t e) (delivered t fieldsMost a 0 (aimList t s p fieldsMost a 0 (replicate fieldsMost 0)) (oldest s c (replicate fieldsMost (pos 0))) (removed c s)))) (fault s)
 
     -- "a receive's tests come before its targets"
     unfoldable pub received : ℕ → ℕ → List ℤ → Result
@@ -92,4 +94,4 @@ module _ (t : List ℕ) where
 
     -- what is printed is said elsewhere
     unfoldable pub printed : ℕ → List ℤ → Result
-    printed m s = onEnd (gatherEnd t s p 32 (m + 1)) (λ e. (Done, moved p (linkOf t e) s)) (fault s)
+    printed m s = onEnd (gatherEnd t s p numbersMost (m + 1)) (λ e. (Done, moved p (linkOf t e) s)) (fault s)

@@ -97,7 +97,7 @@ pub fn send(t: &[u32], s: &mut [i32], p: u8, q: usize, m: u32) -> Taken
     let r = step_ready::message(t, s, p, q, m);
     match r {
         Reached::Record(c) => {
-            let mut values = [0i32; 32];
+            let mut values = [0i32; base_ceilings::NUMBERS_MOST];
             let g = step_messages::gather(t, s, p, m as usize + 1, &mut values);
             match g {
                 Gathered::Upto(e) => {
@@ -126,11 +126,11 @@ fn fetch(s: &[i32], c: u32, values: &mut [i32])
 fn receive_from(t: &[u32], s: &mut [i32], p: u8, a: usize, c: u32) -> Taken
     ensures { λ r. ⌜ (r, now (s .exit)) ≡ statements.receivedFrom (now (t .entry)) p a c (now (s .entry)) ⌝ }
 {
-    let mut places = [0usize; 4];
+    let mut places = [0usize; base_ceilings::FIELDS_MOST];
     let g = step_messages::aim(t, s, p, a, &mut places);
     match g {
         Gathered::Upto(e) => {
-            let mut values = [0i32; 4];
+            let mut values = [0i32; base_ceilings::FIELDS_MOST];
             fetch(s, c, &mut values);
             step_messages::remove(s, c);
             step_messages::deliver(t, s, a, &places, &values);
@@ -160,7 +160,7 @@ pub fn receive(t: &[u32], s: &mut [i32], p: u8, q: usize, m: u32) -> Taken
 pub fn print(t: &[u32], s: &mut [i32], p: u8, m: u32) -> Taken
     ensures { λ r. ⌜ (r, now (s .exit)) ≡ statements.printed (now (t .entry)) p m (now (s .entry)) ⌝ }
 {
-    let mut values = [0i32; 32];
+    let mut values = [0i32; base_ceilings::NUMBERS_MOST];
     let g = step_messages::gather(t, s, p, m as usize + 1, &mut values);
     match g {
         Gathered::Upto(e) => {

@@ -10,14 +10,14 @@ use lib.Dec.{ltb, leb}
 use borrow.Author.Tests.{ne-eqb, eq-eqb, ltb-true}
 use mir.Syntax.{w32}
 use mir.Val.{toZ, ofZ}
-use Rattle.base_codes.specs.Codes.{c-assert, c-break, c-decrement, c-else, c-end, c-express, c-goto, c-increment, c-parameter, c-receive, c-run, c-send, c-set-run, c-skip, c-target, c-timeout}
-use Rattle.base_bytes.specs.Choice.{pick, both}
+use Rattle.base_ceilings.specs.Ceilings.{channelsMost, numbersMost, processesMost}
+use Rattle.base_codes.specs.Codes.{c-assert, c-break, c-decrement, c-else, c-end, c-express, c-goto, c-increment, c-parameter, c-receive, c-run, c-send, c-set-run, c-skip, c-target, c-timeout, c-text}
+use Rattle.base_bytes.specs.Choice.{pick}
 use Rattle.table_layout.specs.Access.{codeOf, linkOf}
 use Rattle.base_values.specs.Types.{castOf}
 use Rattle.base_values.specs.declared.Fault.{Fault}
 use Rattle.state_layout.proofs.Laws.{back}
 use Rattle.state_layout.specs.Layout.{kept, cellOf, processesOf, channelsOf}
-use Rattle.spec_text.specs.Ceilings.{channelsMost}
 use Rattle.state_layout.specs.Walks.{walk}
 use Rattle.step_eval.specs.declared.Located.{Located}
 use Rattle.step_eval.specs.declared.Located.the-variants.{At, Astray}
@@ -32,6 +32,7 @@ use Rattle.base_outcome.specs.declared.Taken.the-variants.{Done, Faulted, Idle}
 use Rattle.step_statements.specs.Statements.{Result, fault, moved, onEnd, blank, storedAt, passed, expressed, asserted, stepped, assigned, sent, received, printed}
 use Rattle.step_statements.proofs.Laws.{outcome, on-at, on-astray, on-upto, on-failed, done-moved}
 use Rattle.step_take.specs.Effects.{endFrom, parameterSet, called, ran, setRunAt, setRan, targeted, takenAs, takenBy}
+use Rattle.base_bytes.proofs.Tests.{both-left}
 
 -- ---- arguments
 module _ (t : List ℕ) where
@@ -66,14 +67,10 @@ pub called-all : (t : List ℕ) (u : ℕ) (l s s₁ s₂ : List ℤ) {p n : ℕ}
 unfolding called
 called-all t u l s s₁ s₂ ep e₁ en e₂ = e₂ ∙ (λ i. walk (λ k x. parameterSet t (ep i) l (u + k) x) 0 (en i) (e₁ i))
 
-both-left : (a b : Bool) → both a b ≡ true → a ≡ true
-both-left true b e = refl
-both-left false b e = e
-
 -- where there is room, there are fewer than the most processes
-pub room-below : (t : List ℕ) (s : List ℤ) (u : ℕ) {r : Bool} → r ≡ fitsOf t s u → r ≡ true → processesOf s < 16
+pub room-below : (t : List ℕ) (s : List ℤ) (u : ℕ) {r : Bool} → r ≡ fitsOf t s u → r ≡ true → processesOf s < processesMost
 unfolding fitsOf
-room-below t s u er e = ltb-true (processesOf s) 16 (both-left (ltb (processesOf s) 16) (leb (channelsOf s + channelsIn t u) channelsMost) (sym er ∙ e))
+room-below t s u er e = ltb-true (processesOf s) processesMost (both-left (ltb (processesOf s) processesMost) (leb (channelsOf s + channelsIn t u) channelsMost) (sym er ∙ e))
 
 -- ---- run
 module _ (t : List ℕ) (p m : ℕ) (s : List ℤ) where
@@ -83,21 +80,21 @@ module _ (t : List ℕ) (p m : ℕ) (s : List ℤ) where
 
     pub run-idle : b ≡ false → outcome Idle s ≡ ran t p m s
     unfolding ran
-    run-idle e = sym (ap (λ z. pick z (onEnd (gatherEnd t s p 32 (m + 1)) (λ e. (Done, moved p (linkOf t e) (called t (linkOf t m) (gatherList t s p 32 (m + 1) 0 blank) s))) (fault s)) (Idle, s)) (fits ∙ e))
+    run-idle e = sym (ap (λ z. pick z (onEnd (gatherEnd t s p numbersMost (m + 1)) (λ e. (Done, moved p (linkOf t e) (called t (linkOf t m) (gatherList t s p numbersMost (m + 1) 0 blank) s))) (fault s)) (Idle, s)) (fits ∙ e))
 
-    module _ (e : b ≡ true) {g : Gathered} (eg : g ≡ gatherEnd t s p 32 (m + 1)) where
-      run-by : {r : Result} → r ≡ onEnd (gatherEnd t s p 32 (m + 1)) (λ e. (Done, moved p (linkOf t e) (called t (linkOf t m) (gatherList t s p 32 (m + 1) 0 blank) s))) (fault s) → r ≡ ran t p m s
+    module _ (e : b ≡ true) {g : Gathered} (eg : g ≡ gatherEnd t s p numbersMost (m + 1)) where
+      run-by : {r : Result} → r ≡ onEnd (gatherEnd t s p numbersMost (m + 1)) (λ e. (Done, moved p (linkOf t e) (called t (linkOf t m) (gatherList t s p numbersMost (m + 1) 0 blank) s))) (fault s) → r ≡ ran t p m s
       unfolding ran
-      run-by er = er ∙ sym (ap (λ z. pick z (onEnd (gatherEnd t s p 32 (m + 1)) (λ e. (Done, moved p (linkOf t e) (called t (linkOf t m) (gatherList t s p 32 (m + 1) 0 blank) s))) (fault s)) (Idle, s)) (fits ∙ e))
+      run-by er = er ∙ sym (ap (λ z. pick z (onEnd (gatherEnd t s p numbersMost (m + 1)) (λ e. (Done, moved p (linkOf t e) (called t (linkOf t m) (gatherList t s p numbersMost (m + 1) 0 blank) s))) (fault s)) (Idle, s)) (fits ∙ e))
 
       pub run-fault : {f : Fault} → g ≡ Failed f → outcome (Faulted f) s ≡ ran t p m s
-      run-fault z = run-by (on-failed (λ e. (Done, moved p (linkOf t e) (called t (linkOf t m) (gatherList t s p 32 (m + 1) 0 blank) s))) (fault s) eg z)
+      run-fault z = run-by (on-failed (λ e. (Done, moved p (linkOf t e) (called t (linkOf t m) (gatherList t s p numbersMost (m + 1) 0 blank) s))) (fault s) eg z)
 
-      pub run-done : {d l : ℕ} {v s₁ s₂ : List ℤ} → g ≡ Upto d → v ≡ gatherList t s p 32 (m + 1) 0 blank → s₁ ≡ called t u v s → l ≡ linkOf t d → s₂ ≡ moved p l s₁ → outcome Done s₂ ≡ ran t p m s
+      pub run-done : {d l : ℕ} {v s₁ s₂ : List ℤ} → g ≡ Upto d → v ≡ gatherList t s p numbersMost (m + 1) 0 blank → s₁ ≡ called t u v s → l ≡ linkOf t d → s₂ ≡ moved p l s₁ → outcome Done s₂ ≡ ran t p m s
       run-done {d} {l} {v} {s₁} {s₂} z ev e₁ el e₂ =
           run-by
           (done-moved p (linkOf t d) s s₁ s₂ (e₁ ∙ (λ i. called t (eu i) (ev i) s)) el e₂
-          ∙ on-upto (λ e. (Done, moved p (linkOf t e) (called t (linkOf t m) (gatherList t s p 32 (m + 1) 0 blank) s))) (fault s) eg z)
+          ∙ on-upto (λ e. (Done, moved p (linkOf t e) (called t (linkOf t m) (gatherList t s p numbersMost (m + 1) 0 blank) s))) (fault s) eg z)
 
 module _ (t : List ℕ) (p q m : ℕ) (s : List ℤ) {x : Located} (ex : x ≡ locateOf t s p q m) (e : ℕ) where
   pub set-run-astray : {f : Fault} → x ≡ Astray f → outcome (Faulted f) s ≡ setRan t p q m e s
@@ -111,28 +108,28 @@ module _ (t : List ℕ) (p q m : ℕ) (s : List ℤ) {x : Located} (ex : x ≡ l
 -- ---- `v = run`, its target in place i
 module _ (t : List ℕ) (p i m e : ℕ) (s : List ℤ) {u : ℕ} (eu : u ≡ linkOf t e) {b : Bool} (eb : b ≡ fitsOf t s u) where
   new : ℕ → Result
-  new z = (Done, moved p (linkOf t z) (storedAt t m i (kept (processesOf s)) (called t (linkOf t e) (gatherList t s p 32 (e + 1) 0 blank) s)))
+  new z = (Done, moved p (linkOf t z) (storedAt t m i (kept (processesOf s)) (called t (linkOf t e) (gatherList t s p numbersMost (e + 1) 0 blank) s)))
 
   none : Result
-  none = (Done, moved p (linkOf t (endFrom t 32 (e + 1))) (storedAt t m i (pos 0) s))
+  none = (Done, moved p (linkOf t (endFrom t numbersMost (e + 1))) (storedAt t m i (pos 0) s))
 
-  chosen : setRunAt t p i m e s ≡ pick b (onEnd (gatherEnd t s p 32 (e + 1)) new (fault s)) none
+  chosen : setRunAt t p i m e s ≡ pick b (onEnd (gatherEnd t s p numbersMost (e + 1)) new (fault s)) none
   unfolding setRunAt new none
-  chosen = ap (λ z. pick z (onEnd (gatherEnd t s p 32 (e + 1)) new (fault s)) none) (sym (eb ∙ ap (fitsOf t s) eu))
+  chosen = ap (λ z. pick z (onEnd (gatherEnd t s p numbersMost (e + 1)) new (fault s)) none) (sym (eb ∙ ap (fitsOf t s) eu))
 
-  pub set-run-none : b ≡ false → {a l : ℕ} {s₁ s₂ : List ℤ} → s₁ ≡ storedAt t m i (pos 0) s → a ≡ endFrom t 32 (e + 1) → l ≡ linkOf t a → s₂ ≡ moved p l s₁ → outcome Done s₂ ≡ setRunAt t p i m e s
+  pub set-run-none : b ≡ false → {a l : ℕ} {s₁ s₂ : List ℤ} → s₁ ≡ storedAt t m i (pos 0) s → a ≡ endFrom t numbersMost (e + 1) → l ≡ linkOf t a → s₂ ≡ moved p l s₁ → outcome Done s₂ ≡ setRunAt t p i m e s
   unfolding none
   set-run-none k {a} {l} {s₁} {s₂} e₁ ea el e₂ =
-      done-moved p (linkOf t (endFrom t 32 (e + 1))) s s₁ s₂ e₁ (el ∙ ap (linkOf t) ea) e₂ ∙ sym (chosen ∙ ap (λ z. pick z (onEnd (gatherEnd t s p 32 (e + 1)) new (fault s)) none) k)
+      done-moved p (linkOf t (endFrom t numbersMost (e + 1))) s s₁ s₂ e₁ (el ∙ ap (linkOf t) ea) e₂ ∙ sym (chosen ∙ ap (λ z. pick z (onEnd (gatherEnd t s p numbersMost (e + 1)) new (fault s)) none) k)
 
-  module _ (k : b ≡ true) {g : Gathered} (eg : g ≡ gatherEnd t s p 32 (e + 1)) where
-    whole : {r : Result} → r ≡ onEnd (gatherEnd t s p 32 (e + 1)) new (fault s) → r ≡ setRunAt t p i m e s
-    whole er = er ∙ sym (chosen ∙ ap (λ z. pick z (onEnd (gatherEnd t s p 32 (e + 1)) new (fault s)) none) k)
+  module _ (k : b ≡ true) {g : Gathered} (eg : g ≡ gatherEnd t s p numbersMost (e + 1)) where
+    whole : {r : Result} → r ≡ onEnd (gatherEnd t s p numbersMost (e + 1)) new (fault s) → r ≡ setRunAt t p i m e s
+    whole er = er ∙ sym (chosen ∙ ap (λ z. pick z (onEnd (gatherEnd t s p numbersMost (e + 1)) new (fault s)) none) k)
 
     pub set-run-fault : {f : Fault} → g ≡ Failed f → outcome (Faulted f) s ≡ setRunAt t p i m e s
     set-run-fault z = whole (on-failed new (fault s) eg z)
 
-    pub set-run-done : {d n l : ℕ} {v s₁ s₂ s₃ : List ℤ} {w : ℤ} → g ≡ Upto d → v ≡ gatherList t s p 32 (e + 1) 0 blank → n ≡ processesOf s → s₁ ≡ called t u v s → mag w < 2 ^ 31 → w ≡ kept n
+    pub set-run-done : {d n l : ℕ} {v s₁ s₂ s₃ : List ℤ} {w : ℤ} → g ≡ Upto d → v ≡ gatherList t s p numbersMost (e + 1) 0 blank → n ≡ processesOf s → s₁ ≡ called t u v s → mag w < 2 ^ 31 → w ≡ kept n
         → s₂ ≡ storedAt t m i (toZ w32 (ofZ w32 w)) s₁ → l ≡ linkOf t d → s₃ ≡ moved p l s₂ → outcome Done s₃ ≡ setRunAt t p i m e s
     unfolding new
     set-run-done {d} {n} {l} {v} {s₁} {s₂} {s₃} {w} z ev en e₁ h ew e₂ el e₃ =
@@ -153,7 +150,7 @@ module _ (t : List ℕ) (p q m : ℕ) (s : List ℤ) {e c : ℕ} (ee : e ≡ lin
       ∙ sym (ap (λ z. pick z (setRan t p q m (linkOf t m) s) (assigned t p q m (linkOf t m) s)) (ne-eqb (codeOf t (linkOf t m)) c-set-run (λ z. k (ec ∙ ap (codeOf t) ee ∙ z))))
 
 module _ (t : List ℕ) (p q m : ℕ) (s : List ℤ) {c : ℕ} (ec : c ≡ codeOf t m) where
-  pub by-print : c ≡ 72 → {r : Result} → r ≡ printed t p m s → r ≡ takenBy t p q m s
+  pub by-print : c ≡ c-text → {r : Result} → r ≡ printed t p m s → r ≡ takenBy t p q m s
   unfolding takenAs
   by-print e er = er ∙ ap (λ k. takenAs t p k q m s) (sym e ∙ ec)
 
@@ -209,6 +206,6 @@ module _ (t : List ℕ) (p q m : ℕ) (s : List ℤ) {c : ℕ} (ec : c ≡ codeO
   unfolding takenAs
   by-run e er = er ∙ ap (λ k. takenAs t p k q m s) (sym e ∙ ec)
 
-  pub by-none : (c ≡ 72 → ⊥) → (c ≡ c-express → ⊥) → (c ≡ c-target → ⊥) → (c ≡ c-increment → ⊥) → (c ≡ c-decrement → ⊥) → (c ≡ c-send → ⊥) → (c ≡ c-receive → ⊥) → (c ≡ c-assert → ⊥) → (c ≡ c-skip → ⊥) → (c ≡ c-goto → ⊥) → (c ≡ c-break → ⊥) → (c ≡ c-timeout → ⊥) → (c ≡ c-else → ⊥) → (c ≡ c-run → ⊥) → outcome Idle s ≡ takenBy t p q m s
+  pub by-none : (c ≡ c-text → ⊥) → (c ≡ c-express → ⊥) → (c ≡ c-target → ⊥) → (c ≡ c-increment → ⊥) → (c ≡ c-decrement → ⊥) → (c ≡ c-send → ⊥) → (c ≡ c-receive → ⊥) → (c ≡ c-assert → ⊥) → (c ≡ c-skip → ⊥) → (c ≡ c-goto → ⊥) → (c ≡ c-break → ⊥) → (c ≡ c-timeout → ⊥) → (c ≡ c-else → ⊥) → (c ≡ c-run → ⊥) → outcome Idle s ≡ takenBy t p q m s
   unfolding takenAs
-  by-none h72 h189 h190 h192 h193 h194 h195 h196 h197 h198 h199 h200 h201 h202 = rw (← ec, ne-eqb c 72 h72, ne-eqb c c-express h189, ne-eqb c c-target h190, ne-eqb c c-increment h192, ne-eqb c c-decrement h193, ne-eqb c c-send h194, ne-eqb c c-receive h195, ne-eqb c c-assert h196, ne-eqb c c-skip h197, ne-eqb c c-goto h198, ne-eqb c c-break h199, ne-eqb c c-timeout h200, ne-eqb c c-else h201, ne-eqb c c-run h202)
+  by-none h72 h189 h190 h192 h193 h194 h195 h196 h197 h198 h199 h200 h201 h202 = rw (← ec, ne-eqb c c-text h72, ne-eqb c c-express h189, ne-eqb c c-target h190, ne-eqb c c-increment h192, ne-eqb c c-decrement h193, ne-eqb c c-send h194, ne-eqb c c-receive h195, ne-eqb c c-assert h196, ne-eqb c c-skip h197, ne-eqb c c-goto h198, ne-eqb c c-break h199, ne-eqb c c-timeout h200, ne-eqb c c-else h201, ne-eqb c c-run h202)

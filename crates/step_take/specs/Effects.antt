@@ -1,3 +1,4 @@
+-- Mechanism, held to the specification by `demand2` (crate `demands`).
 -- Taking the step of the statement at a place: document 01, "How it moves", "Arguments of a send or `run` are worked out only when there is room for it", and "`v = run`
 -- stores 0 where nothing fits". `t` are tables, `s` the state before, p the number of the process, q the place, m the statement's mark.
 use Prim.Native.Nat.{ℕ, zero, suc, _+_, _/_}
@@ -5,7 +6,8 @@ use mathlib.Core.List.{List}
 use lib.ListN.{getD, set}
 use lib.IntN.{ℤ, pos, negsuc}
 use lib.Dec.{eqb}
-use Rattle.base_codes.specs.Codes.{c-assert, c-break, c-decrement, c-else, c-end, c-express, c-goto, c-increment, c-parameter, c-receive, c-run, c-send, c-set-run, c-skip, c-target, c-timeout}
+use Rattle.base_ceilings.specs.Ceilings.{numbersMost}
+use Rattle.base_codes.specs.Codes.{c-assert, c-break, c-decrement, c-else, c-end, c-express, c-goto, c-increment, c-parameter, c-receive, c-run, c-send, c-set-run, c-skip, c-target, c-timeout, c-text}
 use Rattle.base_bytes.specs.Choice.{pick}
 use Rattle.table_layout.specs.Access.{codeOf, linkOf}
 use Rattle.base_values.specs.Types.{castOf}
@@ -38,15 +40,15 @@ module _ (t : List ℕ) where
     unfoldable pub ran : ℕ → List ℤ → Result
     ran m s =
         pick (fitsOf t s (linkOf t m))
-        (onEnd (gatherEnd t s p 32 (m + 1)) (λ e. (Done, moved p (linkOf t e) (called (linkOf t m) (gatherList t s p 32 (m + 1) 0 blank) s))) (fault s)) (Idle, s)
+        (onEnd (gatherEnd t s p numbersMost (m + 1)) (λ e. (Done, moved p (linkOf t e) (called (linkOf t m) (gatherList t s p numbersMost (m + 1) 0 blank) s))) (fault s)) (Idle, s)
 
     -- the target stands in place i: "`v = run` stores 0 where nothing fits"
     unfoldable pub setRunAt : ℕ → ℕ → ℕ → List ℤ → Result
     setRunAt i m e s =
         pick (fitsOf t s (linkOf t e))
-        (onEnd (gatherEnd t s p 32 (e + 1))
-        (λ z. (Done, moved p (linkOf t z) (storedAt t m i (kept (processesOf s)) (called (linkOf t e) (gatherList t s p 32 (e + 1) 0 blank) s)))) (fault s))
-        (Done, moved p (linkOf t (endFrom 32 (e + 1))) (storedAt t m i (pos 0) s))
+        (onEnd (gatherEnd t s p numbersMost (e + 1))
+        (λ z. (Done, moved p (linkOf t z) (storedAt t m i (kept (processesOf s)) (called (linkOf t e) (gatherList t s p numbersMost (e + 1) 0 blank) s)))) (fault s))
+        (Done, moved p (linkOf t (endFrom numbersMost (e + 1))) (storedAt t m i (pos 0) s))
 
     unfoldable pub setRan : ℕ → ℕ → ℕ → List ℤ → Result
     setRan q m e s = onPlace (locateOf t s p q m) (λ i. setRunAt i m e s) (fault s)
@@ -58,7 +60,7 @@ module _ (t : List ℕ) where
     -- by the code of its mark
     unfoldable pub takenAs : ℕ → ℕ → ℕ → List ℤ → Result
     takenAs c q m s =
-        pick (eqb c 72) (printed t p m s)
+        pick (eqb c c-text) (printed t p m s)
         (pick (eqb c c-express) (expressed t p q m s)
         (pick (eqb c c-target) (targeted q m s)
         (pick (eqb c c-increment) (stepped t p (pos 1) q m s)

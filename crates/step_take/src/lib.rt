@@ -1,6 +1,7 @@
 // Taking the step of the statement at a place, `run` among them.
 ghost use mathlib.Core.Path.{_≡_};
 ghost use Prim.Native.Nat.{_<_};
+ghost use Rattle.base_ceilings.specs.Ceilings.{numbersMost, processesMost};
 ghost use Rattle.state_layout.specs.Layout.{processesOf};
 ghost use Rattle.step_take.specs.Effects as effects;
 use base_outcome::Taken;
@@ -9,11 +10,11 @@ use step_messages::Gathered;
 
 // Where the arguments from item a on end.
 fn end_of(t: &[u32], a: usize) -> usize
-    ensures { λ r. ⌜ r ≡ effects.endFrom (now (t .entry)) 32 a ⌝ }
+    ensures { λ r. ⌜ r ≡ effects.endFrom (now (t .entry)) numbersMost a ⌝ }
 {
     let mut j = a;
     let mut n: usize = 0;
-    while n < 32 {
+    while n < base_ceilings::NUMBERS_MOST {
         if table_layout::code(t, j) == base_codes::END {
             return j;
         }
@@ -38,7 +39,7 @@ fn set_parameter(t: &[u32], s: &mut [i32], p: u8, values: &[i32], j: u32)
 
 // One more process of the unit that item u begins, with the values of its arguments.
 fn call(t: &[u32], s: &mut [i32], u: u32, values: &[i32])
-    requires { ⌜ processesOf (now s) < 16 ⌝ }
+    requires { ⌜ processesOf (now s) < processesMost ⌝ }
     ensures { λ _. ⌜ now (s .exit) ≡ effects.called (now (t .entry)) u (now (values .entry)) (now (s .entry)) ⌝ }
 {
     let p = state_layout::processes(s) as u8;
@@ -59,7 +60,7 @@ fn run(t: &[u32], s: &mut [i32], p: u8, m: usize) -> Taken
     if !step_ready::has_room(t, s, u) {
         return Taken::Idle;
     }
-    let mut values = [0i32; 32];
+    let mut values = [0i32; base_ceilings::NUMBERS_MOST];
     let g = step_messages::gather(t, s, p, m + 1, &mut values);
     match g {
         Gathered::Upto(e) => {
@@ -83,7 +84,7 @@ fn set_run_at(t: &[u32], s: &mut [i32], p: u8, i: usize, m: usize, e: usize) -> 
         return Taken::Done;
     }
     let n = state_layout::processes(s);
-    let mut values = [0i32; 32];
+    let mut values = [0i32; base_ceilings::NUMBERS_MOST];
     let g = step_messages::gather(t, s, p, e + 1, &mut values);
     match g {
         Gathered::Upto(z) => {
@@ -124,7 +125,7 @@ fn take_by(t: &[u32], s: &mut [i32], p: u8, q: usize, m: usize) -> Taken
     ensures { λ r. ⌜ (r, now (s .exit)) ≡ effects.takenBy (now (t .entry)) p q m (now (s .entry)) ⌝ }
 {
     match table_layout::code(t, m) {
-        72 => step_statements::print(t, s, p, m as u32),
+        base_codes::TEXT => step_statements::print(t, s, p, m as u32),
         base_codes::EXPRESS => step_statements::express(t, s, p, q, m),
         base_codes::TARGET => target(t, s, p, q, m),
         base_codes::INCREMENT => step_statements::step_by(t, s, p, 1, q, m),

@@ -1,10 +1,10 @@
 -- Laws of entries in a row, and of what is joined from them.
-use Prim.Native.Nat.{ℕ, zero, suc, _+_}
-use mathlib.Core.Path.{_≡_, refl}
+use Prim.Native.Nat.{ℕ, zero, suc, _+_, _<_}
+use mathlib.Core.Path.{_≡_, refl, ap, _∙_}
 use mathlib.Core.List.{List, [], _∷_, _++_}
 use native.Mathlib.Omega.{arith}
-use lib.ListN.{length}
-use Rattle.table_entries.specs.Entry.{Entry, joined, runs}
+use lib.ListN.{length, getD}
+use Rattle.table_entries.specs.Entry.{Entry, joined, runs, nothing}
 
 pub runs-more : (f : ℕ → Entry) (i : ℕ) {k k1 : ℕ} → k ≡ suc k1 → runs f i k ≡ f i ∷ runs f (i + 1) k1
 unfolding runs
@@ -18,6 +18,12 @@ pub length-runs : (f : ℕ → Entry) (i k : ℕ) → length (runs f i k) ≡ k
 unfolding runs
 length-runs f i zero = refl
 length-runs f i (suc k) = omega (arith, length-runs f (i + 1) k)
+
+pub runs-at : (f : ℕ → Entry) (i k j : ℕ) → j < k → getD (runs f i k) j nothing ≡ f (i + j)
+unfolding runs
+runs-at f i zero j h = absurd (omega arith)
+runs-at f i (suc k) zero h = ap f (omega arith)
+runs-at f i (suc k) (suc j) h = runs-at f (i + 1) k j (omega arith) ∙ ap f (omega arith)
 
 pub joined-more : (g : Entry → List ℕ) (f : ℕ → Entry) (i : ℕ) {k k1 : ℕ} → k ≡ suc k1 → joined g (runs f i k) ≡ g (f i) ++ joined g (runs f (i + 1) k1)
 unfolding joined

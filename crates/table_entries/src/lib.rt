@@ -2,14 +2,11 @@
 ghost use mathlib.Core.Path.{_≡_};
 ghost use Prim.Native.Nat.{_-_, _<_, _≤_};
 ghost use lib.ListN.{length};
+ghost use Rattle.base_ceilings.specs.Ceilings.{stringMost};
 ghost use Rattle.base_pens.specs.Pen.{pen};
-ghost use Rattle.base_pens.specs.Pack as pack;
 ghost use Rattle.base_pens.specs.Pack.{well};
-ghost use Rattle.table_entries.specs.Entry.{number};
-ghost use Rattle.table_entries.specs.Sources.{piece, clipped, bytesOf, valueOf, entryAt};
-
-// The most bytes of a spelling.
-const STRING_MOST: usize = 64;
+ghost use Rattle.table_entries.specs.Sources.{clipped, bytesOf, valueOf, entryAt};
+ghost use Rattle.base_pens.specs.Pack as pack;
 
 // n - 1, or 0.
 fn before(n: usize) -> usize
@@ -18,21 +15,16 @@ fn before(n: usize) -> usize
     if n == 0 { 0 } else { n - 1 }
 }
 
-// The part of a text from a place to a place, as far as there is one.
-fn part(text: &[u8], from: usize, to: usize) -> &[u8]
-    ensures { λ r. ⌜ now r ≡ piece (now (text .entry)) from to ⌝ }
-{
-    let e = base_bytes::least(to, text.len());
-    let s = base_bytes::least(from, e);
-    &text[s..e]
-}
-
 // The same, of at most 64 bytes.
 fn clip(text: &[u8], from: usize, to: usize) -> &[u8]
     requires { ⌜ from ≤ 4294967296 ⌝ }
     ensures { λ r. ⌜ now r ≡ clipped (now (text .entry)) from to ⌝ }
 {
-    part(text, from, base_bytes::least(to, from + STRING_MOST))
+    base_bytes::part(
+        text,
+        from,
+        base_bytes::least(to, from + base_ceilings::STRING_MOST),
+    )
 }
 
 // The bytes of an item of code c whose token reaches from a place to a place.
@@ -40,10 +32,10 @@ fn bytes_of(text: &[u8], c: u8, from: usize, to: usize) -> &[u8]
     requires { ⌜ from < 4294967296 ⌝ }
     ensures { λ r. ⌜ now r ≡ bytesOf (now (text .entry)) c from to ⌝ }
 {
-    if c == 70 {
+    if c == base_codes::NAME {
         return clip(text, from, to);
     }
-    if c == 72 {
+    if c == base_codes::TEXT {
         return clip(text, from + 1, before(to));
     }
     let none: usize = 0;
@@ -54,8 +46,8 @@ fn bytes_of(text: &[u8], c: u8, from: usize, to: usize) -> &[u8]
 fn value_of(text: &[u8], c: u8, from: usize, to: usize) -> u32
     ensures { λ r. ⌜ r ≡ valueOf (now (text .entry)) c from to ⌝ }
 {
-    if c == 71 {
-        text_pieces::value(part(text, from, to)) as u32
+    if c == base_codes::NUMBER {
+        text_pieces::value(base_bytes::part(text, from, to)) as u32
     } else {
         0
     }
@@ -71,14 +63,14 @@ pub fn size_at(
     i: usize,
 ) -> usize
     ensures { λ r. ⌜ r ≡ length (entryAt (now (text .entry)) (now (starts .entry)) (now (ends .entry)) (now (codes .entry)) (now (toks .entry)) i .bytes) ⌝ }
-    ensures { λ r. ⌜ r ≤ 64 ⌝ }
+    ensures { λ r. ⌜ r ≤ stringMost ⌝ }
 {
-    let t = base_pens::word_at(toks, i);
+    let t = base_bytes::word_at(toks, i);
     let s = bytes_of(
         text,
         base_bytes::byte_at(codes, i),
-        base_pens::word_at(starts, t),
-        base_pens::word_at(ends, t),
+        base_bytes::word_at(starts, t),
+        base_bytes::word_at(ends, t),
     );
     s.len()
 }
@@ -94,12 +86,12 @@ pub fn value_at(
 ) -> u32
     ensures { λ r. ⌜ r ≡ entryAt (now (text .entry)) (now (starts .entry)) (now (ends .entry)) (now (codes .entry)) (now (toks .entry)) i .value ⌝ }
 {
-    let t = base_pens::word_at(toks, i);
+    let t = base_bytes::word_at(toks, i);
     value_of(
         text,
         base_bytes::byte_at(codes, i),
-        base_pens::word_at(starts, t),
-        base_pens::word_at(ends, t),
+        base_bytes::word_at(starts, t),
+        base_bytes::word_at(ends, t),
     )
 }
 
@@ -116,13 +108,13 @@ pub fn pour_at(
 ) -> base_pens::Ink
     ensures { λ r. ⌜ well (pen (now (out .exit)) (r .at)) (r .held) (r .a) (r .b) (r .c) ≡ pack.pour (entryAt (now (text .entry)) (now (starts .entry)) (now (ends .entry)) (now (codes .entry)) (now (toks .entry)) i .bytes) (well (pen (now (out .entry)) (w .at)) (w .held) (w .a) (w .b) (w .c)) ⌝ }
 {
-    let t = base_pens::word_at(toks, i);
+    let t = base_bytes::word_at(toks, i);
     base_pens::pour(
         bytes_of(
             text,
             base_bytes::byte_at(codes, i),
-            base_pens::word_at(starts, t),
-            base_pens::word_at(ends, t),
+            base_bytes::word_at(starts, t),
+            base_bytes::word_at(ends, t),
         ),
         out,
         w,

@@ -1,19 +1,18 @@
 -- The laws that the check cites.
-use mathlib.Core.Path.{_≡_, refl, sym, ap, _∙_}
-use mathlib.Core.Bool.{Bool, true, false}
+use mathlib.Core.Path.{_≡_, sym, ap, _∙_}
+use mathlib.Core.Bool.{Bool, false}
 use mathlib.Core.List.{List, [], _∷_, _++_}
 use Prim.Native.Nat.{ℕ, _+_, _-_, _≤_, _<_, min}
 use native.Mathlib.Omega.{arith}
 use borrow.Author.Tests.{lt-ltb, le-ltb}
-use lib.Dec.{ltb}
 use lib.ListN.{length, getD, take, drop, length-append}
-use lib.Seq.{take-at, take-all, length-take-le}
-use Rattle.base_bytes.specs.Choice.{pick}
+use lib.Seq.{take-at}
+use Rattle.base_ceilings.specs.Ceilings.{normalMost, tablesRoom}
 use Rattle.base_bytes.specs.Lists.{same}
 use Rattle.parse_machine_proof.proofs.Never.{lt-or-ge}
 use mathlib.Core.Logic.{_⊎_, inl, inr}
-use Rattle.base_pens.specs.Pen.{Pen, pen, puts}
-use Rattle.base_pens.proofs.Pen.{puts-fit, puts-full}
+use Rattle.base_pens.specs.Pen.{pen, puts}
+use Rattle.base_pens.proofs.Pen.{puts-fit, puts-full, list-of, at-of}
 use Rattle.table_layout.proofs.Holds.{holds-length}
 use Rattle.table_layout.proofs.Fits.{length-tables}
 use Rattle.table_layout.specs.Trees.{entriesIn}
@@ -22,11 +21,10 @@ use Rattle.read_passes.specs.declared.Judged.the-variants.{Accepted, Refused}
 use Rattle.read_passes.specs.Judging.{judgeOf, tablesText}
 use Rattle.read_accepts_proof.specs.Meaning.{Accepts, linksAt}
 use Rattle.read_accepts_proof.proofs.Main.{accepted-means}
-use Rattle.read_accepts_proof.proofs.Tables.{text-tables, text-fits}
+use Rattle.read_accepts_proof.proofs.Tables.{text-tables}
 use Rattle.read_entry.specs.Entries.{readOf, stays, leftOf}
 use Rattle.read_entry.proofs.Laws.{whole-room}
-use Rattle.normal_writer.specs.Normal.{normalOf}
-use Rattle.table_genuine.specs.Genuine.{written, agrees, returns, genuine}
+use Rattle.table_genuine.specs.Genuine.{written, agrees, returns}
 
 -- ---- the tables of an accepted text, with anything behind them, are their own written part
 pub counted : (t : List ℕ) → Accepts t → getD (tablesText t) 0 0 ≡ length (tablesText t)
@@ -46,7 +44,7 @@ pub some-numbers : (t : List ℕ) → Accepts t → 0 < length (tablesText t)
 some-numbers t a = rw (text-tables t a) (omega (arith, length-tables (entriesIn (a .tree)) (linksAt t a)))
 
 -- ---- a text that is read into an array of the whole room
-module _ (t old new : List ℕ) (r : Judged) (l : length old ≡ 16384) (e : r ≡ readOf t old) (f : new ≡ leftOf t old) where
+module _ (t old new : List ℕ) (r : Judged) (l : length old ≡ tablesRoom) (e : r ≡ readOf t old) (f : new ≡ leftOf t old) where
   left-is : new ≡ stays (judgeOf t) (tablesText t) old
   unfolding leftOf
   left-is = f ∙ ap (λ (j : Judged). stays j (tablesText t) old) (sym e ∙ whole-room t old r l e)
@@ -63,37 +61,31 @@ module _ (t old new : List ℕ) (r : Judged) (l : length old ≡ 16384) (e : r �
   gives-refused w x i n q = sym (ap (λ (z : Judged). agrees z w (tablesText t)) (sym (whole-room t old r l e) ∙ q))
 
 -- ---- a text in an array
-at-of : {x y : Pen} → x ≡ y → x .at ≡ y .at
-at-of e = ap (λ (w : Pen). w .at) e
-
-list-of : {x y : Pen} → x ≡ y → x .list ≡ y .list
-list-of e = ap (λ (w : Pen). w .list) e
-
-module _ (u old new : List ℕ) (r : ℕ) (l : length old ≡ 8192) (e : pen new r ≡ puts u (pen old 0)) where
-  long-if : 8192 < r → 8192 < length u
+module _ (u old new : List ℕ) (r : ℕ) (l : length old ≡ normalMost) (e : pen new r ≡ puts u (pen old 0)) where
+  long-if : normalMost < r → normalMost < length u
   long-if h = go (lt-or-ge (length old) (length u))
     where
-      go : (length old < length u) ⊎ (length u ≤ length old) → 8192 < length u
+      go : (length old < length u) ⊎ (length u ≤ length old) → normalMost < length u
       go (inl k) = omega arith
       go (inr k) = absurd (omega (arith, at-of (e ∙ puts-fit u old k)))
 
-  short-if : r ≤ 8192 → length u ≤ length old
+  short-if : r ≤ normalMost → length u ≤ length old
   short-if h = go (lt-or-ge (length old) (length u))
     where
       go : (length old < length u) ⊎ (length u ≤ length old) → length u ≤ length old
       go (inl k) = absurd (omega (arith, at-of (e ∙ puts-full u old k)))
       go (inr k) = k
 
-  pub too-long : (w : List ℕ) → 8192 < r → false ≡ returns w u
+  pub too-long : (w : List ℕ) → normalMost < r → false ≡ returns w u
   unfolding returns
-  too-long w h = simp (lt-ltb 8192 (length u) (long-if h))
+  too-long w h = simp (lt-ltb normalMost (length u) (long-if h))
 
-  pub text-in : r ≤ 8192 → take r new ≡ u
+  pub text-in : r ≤ normalMost → take r new ≡ u
   text-in h =
       let k = short-if h in
       let p = e ∙ puts-fit u old k in
       ap (take r) (list-of p) ∙ take-at u (drop (length u) old) r (sym (at-of p))
 
-  pub fits-in : (w : List ℕ) (b : Bool) → r ≤ 8192 → b ≡ agrees (judgeOf (take r new)) w (tablesText (take r new)) → b ≡ returns w u
+  pub fits-in : (w : List ℕ) (b : Bool) → r ≤ normalMost → b ≡ agrees (judgeOf (take r new)) w (tablesText (take r new)) → b ≡ returns w u
   unfolding returns
-  fits-in w b h g = g ∙ rw (text-in h, le-ltb 8192 (length u) (omega (arith, short-if h)))
+  fits-in w b h g = g ∙ rw (text-in h, le-ltb normalMost (length u) (omega (arith, short-if h)))

@@ -1,3 +1,4 @@
+-- Mechanism, held to the specification by `genuine-owned`, `owned-genuine` (crate `normal_proof`).
 -- Are these the tables of an accepted text? Document 01, row 8: "tables are those of no accepted text"; "they are compared over their written part". It is found out by writing
 -- their normal text, reading that, and comparing; that this answers the question exactly is proved in `normal_proof`.
 use mathlib.Core.Bool.{Bool, false}
@@ -5,6 +6,7 @@ use mathlib.Core.List.{List}
 use Prim.Native.Nat.{ℕ, min}
 use lib.Dec.{ltb}
 use lib.ListN.{length, getD, take}
+use Rattle.base_ceilings.specs.Ceilings.{normalMost}
 use Rattle.base_bytes.specs.Choice.{pick}
 use Rattle.base_bytes.specs.Lists.{same}
 use Rattle.read_passes.specs.declared.Judged.{Judged}
@@ -23,7 +25,7 @@ agrees (Refused x i n) w ts = false
 
 -- the text u, which is written from w, gives w again
 unfoldable pub returns : List ℕ → List ℕ → Bool
-returns w u = pick (ltb 8192 (length u)) false (agrees (judgeOf u) w (tablesText u))
+returns w u = pick (ltb normalMost (length u)) false (agrees (judgeOf u) w (tablesText u))
 
 unfoldable pub genuine : List ℕ → Bool
 genuine t = returns (written t) (normalOf (written t))

@@ -35,7 +35,7 @@ fn same_words(x: &[u32], y: &[u32]) -> bool
 fn gives(text: &[u8], w: &[u32]) -> bool
     ensures { λ r. ⌜ r ≡ spec.agrees (judgeOf (now (text .entry))) (now (w .entry)) (tablesText (now (text .entry))) ⌝ }
 {
-    let mut back = [0u32; 16384];
+    let mut back = [0u32; base_ceilings::TABLES_ROOM];
     let j = read_entry::read(text, &mut back);
     match j {
         Judged::Accepted => same_words(w, written(&back)),
@@ -48,9 +48,9 @@ pub fn is_genuine(t: &[u32]) -> bool
     ensures { λ r. ⌜ r ≡ spec.genuine (now (t .entry)) ⌝ }
 {
     let w = written(t);
-    let mut text = [0u8; 8192];
+    let mut text = [0u8; base_ceilings::NORMAL_MOST];
     let n = normal_writer::write_normal(w, &mut text);
-    if 8192 < n {
+    if base_ceilings::NORMAL_MOST < n {
         return false;
     }
     gives(&text[..n], w)

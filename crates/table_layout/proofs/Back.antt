@@ -10,19 +10,14 @@ use lib.ListN.{length, getD}
 use lib.Seq.{ext-getD}
 use lib.Dec.{eqb}
 use borrow.Author.Tests.{eqb-true, eqb-false}
+use Rattle.base_codes.specs.Codes.{c-name, c-number, c-text}
 use Rattle.base_bytes.specs.Choice.{pick}
 use Rattle.table_entries.specs.Entry.{Entry, nothing, runs}
-use Rattle.table_entries.proofs.Runs.{length-runs}
+use Rattle.table_entries.proofs.Runs.{length-runs, runs-at}
 use Rattle.table_layout.specs.Tables.{tablesOf}
 use Rattle.table_layout.specs.Access.{linkOf, numberOf, nameLength, nameByte}
 use Rattle.table_layout.specs.Back.{AllFair, Small, upto, bytesBack, valueBack, entryBack, entriesBack}
 use Rattle.table_layout.proofs.Holds.{fair-at, holds-items, holds-code, holds-link, holds-number, holds-name-length, holds-name-byte}
-
-runs-at : (f : ℕ → Entry) (i n j : ℕ) → j < n → getD (runs f i n) j nothing ≡ f (i + j)
-unfolding runs
-runs-at f i zero j h = absurd (omega arith)
-runs-at f i (suc n) zero h = rw add-zero
-runs-at f i (suc n) (suc j) h = let e : i + 1 + j ≡ i + suc j = omega arith in runs-at f (i + 1) n j (omega arith) ∙ rw e
 
 upto-at : (f : ℕ → ℕ) (i n j : ℕ) → j < n → getD (upto f i n) j 0 ≡ f (i + j)
 unfolding upto
@@ -48,28 +43,28 @@ module _ (es : List Entry) (ls : List ℕ) (fair : AllFair es) (small : Small es
   abbrev e : Entry
   e = getD es i nothing
 
-  spelled-back : (e .code ≡ 70) ⊎ (e .code ≡ 72) → upto (nameByte T i) 0 (nameLength T i) ≡ e .bytes
+  spelled-back : (e .code ≡ c-name) ⊎ (e .code ≡ c-text) → upto (nameByte T i) 0 (nameLength T i) ≡ e .bytes
   spelled-back c = upto-is (nameByte T i) (nameLength T i) (e .bytes) (holds-name-length es ls fair i h c) (holds-name-byte es ls fair i h c small)
 
-  strings : (b : Bool) → eqb (e .code) 72 ≡ b → (e .code ≡ 70 → ⊥) → pick b (upto (nameByte T i) 0 (nameLength T i)) [] ≡ e .bytes
+  strings : (b : Bool) → eqb (e .code) c-text ≡ b → (e .code ≡ c-name → ⊥) → pick b (upto (nameByte T i) 0 (nameLength T i)) [] ≡ e .bytes
   strings true t n = spelled-back (inr (eqb-true _ _ t))
   strings false t n = sym (fair-at es fair i h .bare n (eqb-false _ _ t))
 
-  names : (b : Bool) → eqb (e .code) 70 ≡ b → pick b (upto (nameByte T i) 0 (nameLength T i)) (pick (eqb (e .code) 72) (upto (nameByte T i) 0 (nameLength T i)) []) ≡ e .bytes
+  names : (b : Bool) → eqb (e .code) c-name ≡ b → pick b (upto (nameByte T i) 0 (nameLength T i)) (pick (eqb (e .code) c-text) (upto (nameByte T i) 0 (nameLength T i)) []) ≡ e .bytes
   names true t = spelled-back (inl (eqb-true _ _ t))
-  names false t = strings (eqb (e .code) 72) refl (eqb-false _ _ t)
+  names false t = strings (eqb (e .code) c-text) refl (eqb-false _ _ t)
 
   bytes-back : bytesBack T i ≡ e .bytes
   unfolding bytesBack
-  bytes-back = rw (holds-code es ls fair i h) (names (eqb (e .code) 70) refl)
+  bytes-back = rw (holds-code es ls fair i h) (names (eqb (e .code) c-name) refl)
 
-  values : (b : Bool) → eqb (e .code) 71 ≡ b → pick b (numberOf T i) 0 ≡ e .value
+  values : (b : Bool) → eqb (e .code) c-number ≡ b → pick b (numberOf T i) 0 ≡ e .value
   values true t = holds-number es ls fair i h (eqb-true _ _ t)
   values false t = sym (fair-at es fair i h .still (eqb-false _ _ t))
 
   value-back : valueBack T i ≡ e .value
   unfolding valueBack
-  value-back = rw (holds-code es ls fair i h) (values (eqb (e .code) 71) refl)
+  value-back = rw (holds-code es ls fair i h) (values (eqb (e .code) c-number) refl)
 
   pub entry-back : entryBack T i ≡ getD es i nothing
   unfolding entryBack

@@ -8,6 +8,7 @@ use native.Mathlib.Nat.{add-assoc, add-zero, zero-add}
 use lib.ListN.{length, getD, length-append}
 use lib.Dec.{eqb}
 use borrow.Author.Tests.{eq-eqb, ne-eqb}
+use Rattle.base_ceilings.specs.Ceilings.{itemsMost}
 use Rattle.base_bytes.specs.Choice.{pick}
 use Rattle.base_pens.specs.Pen.{Pen, write, puts}
 use Rattle.base_pens.specs.Pack.{Well, well, pour, settle}
@@ -17,32 +18,33 @@ use Rattle.table_entries.specs.Entry.{Entry, number, bytes, joined, runs}
 use Rattle.table_entries.specs.Sources.{entryAt, entriesOf}
 use Rattle.table_entries.proofs.Runs.{runs-more, runs-end, length-runs, joined-more, joined-end}
 use Rattle.table_layout.specs.Tables.{itemWord, one, itemWords, linked, numbers, pool, whole, tablesOf}
+use Rattle.base_codes.specs.Codes.{c-number}
 
 pub code-at : (text starts ends codes toks : List ℕ) (i : ℕ) {c : ℕ} → c ≡ getD codes i 0 → c ≡ entryAt text starts ends codes toks i .code
 unfolding entryAt
 code-at text starts ends codes toks i e = e
 
-pub one-yes : (c : ℕ) → c ≡ 71 → (1 ≡ one c) × (1 ≤ 1)
+pub one-yes : (c : ℕ) → c ≡ c-number → (1 ≡ one c) × (1 ≤ 1)
 unfolding one
 one-yes c h = (sym (simp (eq-eqb _ _ h)), omega arith)
 
-pub one-no : (c : ℕ) → (c ≡ 71 → ⊥) → (0 ≡ one c) × (0 ≤ 1)
+pub one-no : (c : ℕ) → (c ≡ c-number → ⊥) → (0 ≡ one c) × (0 ≤ 1)
 unfolding one
 one-no c h = (sym (simp (ne-eqb _ _ h)), omega arith)
 
 pub length-number : (e : Entry) → length (number e) ≡ one (e .code)
 unfolding number one
-length-number e = by (eqb (e .code) 71)
+length-number e = by (eqb (e .code) c-number)
   where
     by : (b : Bool) → length (pick b (e .value ∷ []) []) ≡ pick b 1 0
     by true = refl
     by false = refl
 
-pub number-yes : (e : Entry) {c v : ℕ} (w : Pen) {w1 : Pen} → c ≡ e .code → c ≡ 71 → v ≡ e .value → w1 ≡ write v w → w1 ≡ puts (number e) w
+pub number-yes : (e : Entry) {c v : ℕ} (w : Pen) {w1 : Pen} → c ≡ e .code → c ≡ c-number → v ≡ e .value → w1 ≡ write v w → w1 ≡ puts (number e) w
 unfolding number puts
 number-yes e w ec h ev p = p ∙ rw ev (sym (simp (← ec, eq-eqb _ _ h)))
 
-pub number-no : (e : Entry) {c : ℕ} (w : Pen) → c ≡ e .code → (c ≡ 71 → ⊥) → w ≡ puts (number e) w
+pub number-no : (e : Entry) {c : ℕ} (w : Pen) → c ≡ e .code → (c ≡ c-number → ⊥) → w ≡ puts (number e) w
 unfolding number puts
 number-no e w ec h = sym (simp (← ec, ne-eqb _ _ h))
 
@@ -141,7 +143,7 @@ built es ls {n} {k} {b} w en ek eb e1 e2 e3 e4 e5 e6 e7 e8 =
     let ep : (b + 3) / 4 ≡ length (pool es) = rw eb (sym (length-pool es)) in
     rw (e8, e7, e6, e5, e4, e3, e2, e1, ep, ek, en) (sym (parts es ls w))
 
-pub built-of : (text starts ends codes toks ls : List ℕ) {n : ℕ} (w : Pen) {r : Pen} → n ≡ min 8192 (length codes) → r ≡ puts (tablesOf (runs (entryAt text starts ends codes toks) 0 n) ls) w
+pub built-of : (text starts ends codes toks ls : List ℕ) {n : ℕ} (w : Pen) {r : Pen} → n ≡ min itemsMost (length codes) → r ≡ puts (tablesOf (runs (entryAt text starts ends codes toks) 0 n) ls) w
     → r ≡ puts (tablesOf (entriesOf text starts ends codes toks) ls) w
 unfolding entriesOf
 built-of text starts ends codes toks ls w e h = h ∙ rw e

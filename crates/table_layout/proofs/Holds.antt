@@ -11,10 +11,11 @@ use borrow.Author.Tests.{eq-eqb, lt-ltb}
 use Rattle.base_pens.specs.Pack.{Bytes}
 use Rattle.base_pens.proofs.Pack.{unpacked}
 use Rattle.table_entries.specs.Entry.{Entry, nothing, number, bytes, joined}
-use Rattle.table_layout.specs.Tables.{argument, itemWord, one, itemWords, linked, numbers, pool, whole, tablesOf}
+use Rattle.table_layout.specs.Tables.{argument, itemWord, one, itemWords, linked, numbers, pool, whole, tablesOf, poolMost}
 use Rattle.table_layout.specs.Access.{lengthOf, itemsOf, numbersOf, wordOf, codeOf, argOf, linkOf, numberOf, nameLength, poolByte, nameByte}
 use Rattle.table_layout.specs.Back.{Fair, AllFair, Small}
 use Rattle.table_layout.proofs.Building.{length-number}
+use Rattle.base_codes.specs.Codes.{c-name, c-number, c-text}
 
 -- ## the parts
 pub length-items : (o k : ℕ) (es : List Entry) → length (itemWords o k es) ≡ length es
@@ -88,11 +89,11 @@ word-argument : (c n o k : ℕ) → c < 256 → itemWord c n o k / 256 ≡ argum
 unfolding itemWord
 word-argument c n o k h = omega arith
 
-argument-number : (c n o k : ℕ) → c ≡ 71 → argument c n o k ≡ k
+argument-number : (c n o k : ℕ) → c ≡ c-number → argument c n o k ≡ k
 unfolding argument
 argument-number c n o k h = simp (eq-eqb _ _ h)
 
-argument-spelled : (c n o k : ℕ) → (c ≡ 70) ⊎ (c ≡ 72) → argument c n o k ≡ n + 128 * min 16383 o
+argument-spelled : (c n o k : ℕ) → (c ≡ c-name) ⊎ (c ≡ c-text) → argument c n o k ≡ n + 128 * min poolMost o
 unfolding argument
 argument-spelled c n o k (inl h) = rw h
 argument-spelled c n o k (inr h) = rw h
@@ -164,7 +165,7 @@ module _ (es : List Entry) (ls : List ℕ) where
     pub holds-link : linkOf T i ≡ getD ls i 0
     holds-link = links-at i (4 + itemsOf T + i) h (rw holds-items) ∙ linked-at ls 0 N i h ∙ rw zero-add
 
-    pub holds-number : getD es i nothing .code ≡ 71 → numberOf T i ≡ getD es i nothing .value
+    pub holds-number : getD es i nothing .code ≡ c-number → numberOf T i ≡ getD es i nothing .value
     unfolding number numbers
     holds-number c =
         let one-long : number e ≡ e .value ∷ [] = simp (eq-eqb _ _ c) in
@@ -173,8 +174,8 @@ module _ (es : List Entry) (ls : List ℕ) where
         values-at (numbersBefore es i + 0) (4 + 2 * itemsOf T + argOf T i) (joined-in number es i 0 h l) (rw (holds-items, a))
         ∙ joined-at number es i 0 h l ∙ ap (λ s. getD s 0 0) one-long
 
-    module _ (c : (getD es i nothing .code ≡ 70) ⊎ (getD es i nothing .code ≡ 72)) where
-      spelled-arg : argOf T i ≡ length (e .bytes) + 128 * min 16383 (bytesBefore es i)
+    module _ (c : (getD es i nothing .code ≡ c-name) ⊎ (getD es i nothing .code ≡ c-text)) where
+      spelled-arg : argOf T i ≡ length (e .bytes) + 128 * min poolMost (bytesBefore es i)
       spelled-arg = arg-is ∙ argument-spelled _ _ _ _ c
 
       pub holds-name-length : nameLength T i ≡ length (getD es i nothing .bytes)

@@ -1,3 +1,4 @@
+-- Mechanism, held to the specification by `tree-tables`, `tables-tree` (crate `read_accepts_proof`).
 -- What tables say, each by a look at one or a few numbers; tables that end too soon are read as if zeros followed.
 use Prim.Native.Nat.{ℕ, _+_, _*_, _/_, _%_}
 use mathlib.Core.List.{List}

@@ -1,8 +1,9 @@
+-- Mechanism, held to the specification by `tree-tables`, `tables-tree` (crate `read_accepts_proof`).
 -- The tables of a few entries, number by number, and what is read from them.
 use mathlib.Core.Path.{_≡_, refl}
 use mathlib.Core.List.{List, [], _∷_}
 use Prim.Native.Nat.{ℕ}
-use Rattle.base_codes.specs.Codes.{c-plain}
+use Rattle.base_codes.specs.Codes.{c-name, c-number, c-plain, c-text}
 use Rattle.base_kinds.specs.Kinds.{bytes}
 use Rattle.base_pens.specs.Pack.{four, packed, digit}
 use Rattle.table_entries.specs.Entry.{Entry, entry, number, joined}
@@ -10,7 +11,7 @@ use Rattle.table_layout.specs.Tables.{argument, itemWord, one, itemWords
 use Rattle.table_layout.specs.Access.{codeOf, linkOf, numberOf, nameLength, poolByte, nameByte}
 
 abbrev some : List Entry
-some = entry 70 (bytes "ab") 0 ∷ entry 71 [] 7 ∷ entry c-plain [] 0 ∷ entry 72 (bytes "x") 0 ∷ []
+some = entry c-name (bytes "ab") 0 ∷ entry c-number [] 7 ∷ entry c-plain [] 0 ∷ entry c-text (bytes "x") 0 ∷ []
 
 abbrev table : List ℕ
 table = 14 ∷ 4 ∷ 1 ∷ 1 ∷ 582 ∷ 71 ∷ c-plain ∷ 65864 ∷ 5 ∷ 0 ∷ 9 ∷ 0 ∷ 7 ∷ 7889505 ∷ []

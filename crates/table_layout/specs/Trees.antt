@@ -1,8 +1,9 @@
+-- Mechanism, held to the specification by `tree-tables`, `tables-tree` (crate `read_accepts_proof`).
 -- The tables of a tree, with links beside it.
 use Prim.Native.Nat.{ℕ}
 use mathlib.Core.List.{List, map}
 use Rattle.spec_grammar.specs.Tree.{Model}
-use Rattle.spec_grammar.specs.Code.{code}
+use Rattle.parse_code.specs.Code.{code}
 use Rattle.table_entries.specs.Entry.{Entry}
 use Rattle.table_entries.specs.Items.{entryOf}
 use Rattle.table_layout.specs.Tables.{tablesOf}

@@ -1,30 +1,30 @@
 // The tables of a model: built from its items, and read.
 ghost use mathlib.Core.Path.{_≡_};
 ghost use Prim.Native.Nat.{_<_, _≤_, _*_};
-ghost use lib.ListN.{length, getD};
+ghost use lib.ListN.{length};
+ghost use Rattle.base_ceilings.specs.Ceilings.{itemsMost, stringMost};
 ghost use Rattle.base_pens.specs.Pen.{pen, puts};
-ghost use Rattle.base_pens.specs.Pack.{well};
 ghost use Rattle.table_entries.specs.Entry.{number, bytes, joined, runs};
 ghost use Rattle.table_entries.specs.Sources.{entryAt, entriesOf};
-ghost use Rattle.table_layout.specs.Tables as spec;
 ghost use Rattle.table_layout.specs.Tables.{itemWord, itemWords, linked, numbers, tablesOf};
-ghost use Rattle.table_layout.specs.Access.{lengthOf, itemsOf, wordOf, codeOf, argOf, linkOf, numberOf, nameLength, nameByte};
+ghost use Rattle.table_layout.specs.Access.{lengthOf, itemsOf, codeOf, argOf, linkOf, numberOf, nameLength, nameByte};
+ghost use Rattle.table_layout.specs.Tables as spec;
 
-// The most items.
-const ITEMS_MOST: usize = 8192;
+// Offsets in the pool, as an item's word keeps them.
+const POOL_MOST: usize = 2 * base_ceilings::TEXT_MOST - 1;
 
 fn one(c: u8) -> usize
     ensures { λ r. ⌜ r ≡ spec.one c ⌝ }
     ensures { λ r. ⌜ r ≤ 1 ⌝ }
 {
-    if c == 71 { 1 } else { 0 }
+    if c == base_codes::NUMBER { 1 } else { 0 }
 }
 
 fn item_word(c: u8, n: usize, o: usize, k: usize) -> u32
-    requires { ⌜ (n ≤ 64) × (k ≤ 8192) ⌝ }
+    requires { ⌜ (n ≤ stringMost) × (k ≤ itemsMost) ⌝ }
     ensures { λ r. ⌜ r ≡ itemWord c n o k ⌝ }
 {
-    let at = base_bytes::least(16383, o);
+    let at = base_bytes::least(POOL_MOST, o);
     match c {
         71 => (71 + 256 * k) as u32,
         70 => (70 + 256 * (n + 128 * at)) as u32,
@@ -42,9 +42,9 @@ fn count_bytes(
     toks: &[u32],
     n: usize,
 ) -> usize
-    requires { ⌜ n ≤ 8192 ⌝ }
+    requires { ⌜ n ≤ itemsMost ⌝ }
     ensures { λ r. ⌜ r ≡ length (joined bytes (runs (entryAt (now (text .entry)) (now (starts .entry)) (now (ends .entry)) (now (codes .entry)) (now (toks .entry))) 0 n)) ⌝ }
-    ensures { λ r. ⌜ r ≤ 64 * n ⌝ }
+    ensures { λ r. ⌜ r ≤ stringMost * n ⌝ }
 {
     let mut sum: usize = 0;
     let mut i: usize = 0;
@@ -64,7 +64,7 @@ fn count_numbers(
     toks: &[u32],
     n: usize,
 ) -> usize
-    requires { ⌜ n ≤ 8192 ⌝ }
+    requires { ⌜ n ≤ itemsMost ⌝ }
     ensures { λ r. ⌜ r ≡ length (numbers (runs (entryAt (now (text .entry)) (now (starts .entry)) (now (ends .entry)) (now (codes .entry)) (now (toks .entry))) 0 n)) ⌝ }
     ensures { λ r. ⌜ r ≤ n ⌝ }
 {
@@ -87,7 +87,7 @@ fn put_items(
     out: &mut [u32],
     p: usize,
 ) -> usize
-    requires { ⌜ n ≤ 8192 ⌝ }
+    requires { ⌜ n ≤ itemsMost ⌝ }
     ensures { λ r. ⌜ pen (now (out .exit)) r ≡ puts (itemWords 0 0 (runs (entryAt (now (text .entry)) (now (starts .entry)) (now (ends .entry)) (now (codes .entry)) (now (toks .entry))) 0 n)) (pen (now (out .entry)) p) ⌝ }
 {
     let mut q = p;
@@ -111,7 +111,7 @@ fn put_links(links: &[u32], n: usize, out: &mut [u32], p: usize) -> usize
     let mut q = p;
     let mut i: usize = 0;
     while i < n {
-        q = base_pens::put(out, q, base_pens::word_at(links, i) as u32);
+        q = base_pens::put(out, q, base_bytes::word_at(links, i) as u32);
         i += 1;
     }
     q
@@ -129,7 +129,7 @@ fn put_number(
 ) -> usize
     ensures { λ r. ⌜ pen (now (out .exit)) r ≡ puts (number (entryAt (now (text .entry)) (now (starts .entry)) (now (ends .entry)) (now (codes .entry)) (now (toks .entry)) i)) (pen (now (out .entry)) p) ⌝ }
 {
-    if base_bytes::byte_at(codes, i) == 71 {
+    if base_bytes::byte_at(codes, i) == base_codes::NUMBER {
         base_pens::put(
             out,
             p,
@@ -200,7 +200,7 @@ pub fn build(
 ) -> usize
     ensures { λ r. ⌜ pen (now (out .exit)) r ≡ puts (tablesOf (entriesOf (now (text .entry)) (now (starts .entry)) (now (ends .entry)) (now (codes .entry)) (now (toks .entry))) (now (links .entry))) (pen (now (out .entry)) 0) ⌝ }
 {
-    let n = base_bytes::least(ITEMS_MOST, codes.len());
+    let n = base_bytes::least(base_ceilings::ITEMS_MOST, codes.len());
     let k = count_numbers(text, starts, ends, codes, toks, n);
     let words = (count_bytes(text, starts, ends, codes, toks, n) + 3) / 4;
     let a = base_pens::put(out, 0, (4 + 2 * n + k + words) as u32);
@@ -217,7 +217,7 @@ pub fn build(
 pub fn length_of(t: &[u32]) -> usize
     ensures { λ r. ⌜ r ≡ lengthOf (now (t .entry)) ⌝ }
 {
-    base_pens::word_at(t, 0)
+    base_bytes::word_at(t, 0)
 }
 
 // How many items.
@@ -225,7 +225,7 @@ pub fn items(t: &[u32]) -> usize
     ensures { λ r. ⌜ r ≡ itemsOf (now (t .entry)) ⌝ }
     ensures { λ r. ⌜ r < 4294967296 ⌝ }
 {
-    base_pens::word_at(t, 1)
+    base_bytes::word_at(t, 1)
 }
 
 // The code of item i; 0 where there is no such item.
@@ -233,7 +233,7 @@ pub fn code(t: &[u32], i: usize) -> u8
     ensures { λ r. ⌜ r ≡ codeOf (now (t .entry)) i ⌝ }
 {
     if i < items(t) {
-        (base_pens::word_on(t, 4, i) % 256) as u8
+        (base_bytes::word_on(t, 4, i) % 256) as u8
     } else {
         0
     }
@@ -244,7 +244,7 @@ pub fn arg(t: &[u32], i: usize) -> usize
     ensures { λ r. ⌜ r ≡ argOf (now (t .entry)) i ⌝ }
     ensures { λ r. ⌜ r < 16777216 ⌝ }
 {
-    base_pens::word_on(t, 4, i) / 256
+    base_bytes::word_on(t, 4, i) / 256
 }
 
 // Its link.
@@ -252,7 +252,7 @@ pub fn link(t: &[u32], i: usize) -> usize
     ensures { λ r. ⌜ r ≡ linkOf (now (t .entry)) i ⌝ }
     ensures { λ r. ⌜ r < 4294967296 ⌝ }
 {
-    base_pens::word_on(t, 4 + items(t), i)
+    base_bytes::word_on(t, 4 + items(t), i)
 }
 
 // Its value, if it is a number.
@@ -260,7 +260,7 @@ pub fn number(t: &[u32], i: usize) -> usize
     ensures { λ r. ⌜ r ≡ numberOf (now (t .entry)) i ⌝ }
     ensures { λ r. ⌜ r < 4294967296 ⌝ }
 {
-    base_pens::word_on(t, 4 + 2 * items(t), arg(t, i))
+    base_bytes::word_on(t, 4 + 2 * items(t), arg(t, i))
 }
 
 // How many bytes it has, if it is a name or a string.
@@ -276,7 +276,7 @@ fn pool_byte(t: &[u32], j: usize) -> u8
 {
     base_pens::digit(
         j % 4,
-        base_pens::word_on(t, 4 + 2 * items(t) + base_pens::word_at(t, 2), j / 4),
+        base_bytes::word_on(t, 4 + 2 * items(t) + base_bytes::word_at(t, 2), j / 4),
     )
 }
 

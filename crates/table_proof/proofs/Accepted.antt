@@ -4,13 +4,14 @@ use mathlib.Core.List.{List}
 use Prim.Native.Nat.{ℕ, _≤_}
 use native.Mathlib.Omega.{arith}
 use lib.ListN.{length, length-map}
+use Rattle.base_ceilings.specs.Ceilings.{tablesRoom, textMost, tokensMost}
 use Rattle.text_tokens.specs.Reading.{Placed, tokens, reading}
 use Rattle.text_spacing_proof.specs.Writing.{tokenIn, tokensIn}
 use Rattle.text_spacing_proof.proofs.Exact.{reading-exact}
 use Rattle.text_spacing_proof.proofs.Written.{tokens-sound, written-shortest}
 use Rattle.spec_grammar.specs.Tree.{Model}
 use Rattle.spec_grammar.specs.Grammar.{Gram}
-use Rattle.spec_grammar.specs.Code.{code}
+use Rattle.parse_code.specs.Code.{code}
 use Rattle.parse_proof.proofs.Link.{into-table}
 use Rattle.parse_proof.proofs.Bound.{code-bound}
 use Rattle.table_entries.specs.Entry.{bytes, joined}
@@ -33,10 +34,10 @@ module _ (t : List ℕ) (ps : List Placed) (m : Model) (e : reading t ≡ tokens
   pub accepted-fair : AllFair (entriesIn m)
   accepted-fair = items-fair (code m) accepted-known
 
-  tokens-count : length (tokensIn t ps) ≤ 2048
+  tokens-count : length (tokensIn t ps) ≤ tokensMost
   tokens-count = omega (arith, reading-exact t ps .0 e .2, length-map ps (tokenIn t))
 
-  pub accepted-bytes : length (joined bytes (entriesIn m)) ≤ 8192
+  pub accepted-bytes : length (joined bytes (entriesIn m)) ≤ textMost
   accepted-bytes = omega (arith, from-tokens .spelled, brought-most (tokensIn t ps), written-shortest t ps e, reading-exact t ps .0 e .1)
 
   pub accepted-small : Small (entriesIn m)
@@ -45,11 +46,11 @@ module _ (t : List ℕ) (ps : List Placed) (m : Model) (e : reading t ≡ tokens
   pub accepted-items : length (entriesIn m) ≤ 5119
   accepted-items = omega (arith, length-map (code m) entryOf, code-bound (tokensIn t ps) m g, tokens-count)
 
-  pub accepted-numbers : length (numbers (entriesIn m)) ≤ 2048
+  pub accepted-numbers : length (numbers (entriesIn m)) ≤ tokensMost
   unfolding numbers
   accepted-numbers = omega (arith, from-tokens .counted, tokens-count)
 
-  pub accepted-fits : (ls : List ℕ) → length (tablesIn m ls) ≤ 16384
+  pub accepted-fits : (ls : List ℕ) → length (tablesIn m ls) ≤ tablesRoom
   accepted-fits ls = fits (entriesIn m) ls accepted-items accepted-numbers accepted-bytes
 
 pub accepted-trees : (t u : List ℕ) (ps qs : List Placed) (m n : Model) → reading t ≡ tokens ps → Gram (tokensIn t ps) m → reading u ≡ tokens qs → Gram (tokensIn u qs) n

@@ -7,26 +7,28 @@ use Prim.Native.Nat.{_≤_, _+_}
 use native.Mathlib.Omega.{arith}
 use lib.Dec.{T}
 use lib.ListN.{length, length-append}
+use Rattle.base_ceilings.specs.Ceilings.{stringMost}
 use Rattle.base_bytes.specs.Choice.{both}
 use Rattle.base_kinds.specs.Kinds.{Token, sym, name, number, text}
-use Rattle.spec_grammar.specs.Code.{Item, i-name, i-number, i-text}
 use Rattle.parse_proof.specs.Engine.{nt, tm, act, L, done, emit, eat, by}
 use Rattle.parse_proof.specs.Productions.{NT, e1, e2, e3, e4, e5, e6, e7, e8, e9, e10, t1, t2, t3, t4, t5, t6, t7, t8, t9, t10, n-operand, n-ref, n-ix, n-opened, n-closing, n-argument, n-arguments, n-more-arguments, n-sent, n-received, n-more-received, n-got, n-statement, n-after-name, n-action, n-after-ref, n-right-side, n-other, n-sequence, n-more-statements, n-after-separator, n-option, n-more-options, n-plain-type, n-type, n-value, n-set, n-variable, n-size, n-more-variables, n-chan-variable, n-chan-rest, n-chan-value, n-field, n-more-fields, n-more-chan-variables, n-declaration, n-body, n-items, n-parted, n-more-parted, n-parameters, n-group, n-more-groups, n-parameter, n-more-parameters, n-unit, n-after-mtype, n-message, n-more-messages, n-activity, n-process, n-model, n-more-units, Ter, sy, any-name, any-number, any-text, Right, eats, prods, G}
 use Rattle.parse_proof.proofs.Tests.{is-some}
 use Rattle.parse_proof.proofs.Inst.{all, all-in, sy-in}
 use Rattle.base_pens.specs.Pack.{Bytes}
-use Rattle.table_entries.specs.Entry as E
 use Rattle.table_entries.specs.Entry.{bytes, joined}
 use Rattle.table_entries.specs.Items.{entryOf, Known, is-name, is-text, is-number, AllKnown}
 use Rattle.table_proof.specs.Marks.{isMark, marksIn, brings, brought}
 use Rattle.table_proof.proofs.Marks.{both-parts, mark-known, mark-silent}
+use Rattle.base_codes.specs.Codes.{c-number}
+use Rattle.base_codes.specs.Items.{Item, i-name, i-number, i-text}
+use Rattle.table_entries.specs.Entry as E
 
 -- a token within the ceilings
 abbrev pub Held : Token → Type 0
 Held (sym k) = Unit {0}
-Held (name w) = (length w ≤ 64) × Bytes w
+Held (name w) = (length w ≤ stringMost) × Bytes w
 Held (number n) = Unit {0}
-Held (text w) = (length w ≤ 64) × Bytes w
+Held (text w) = (length w ≤ stringMost) × Bytes w
 
 abbrev pub AllHeld : List Token → Type 0
 AllHeld [] = Unit {0}
@@ -136,7 +138,7 @@ module _ (o : List Item) where
 
 one-most : (i : Item) → length (E.number (entryOf i)) ≤ 1
 unfolding E.number
-one-most i = by (lib.Dec.eqb (entryOf i .code) 71)
+one-most i = by (lib.Dec.eqb (entryOf i .code) c-number)
   where
     by : (b : Bool) → length (Rattle.base_bytes.specs.Choice.pick b (entryOf i .value ∷ []) []) ≤ 1
     by true = omega arith

@@ -10,22 +10,23 @@ use lib.ListN.{length, getD, take, drop, length-map, length-drop}
 use lib.Seq.{drop-drop, take-take, length-take-le}
 use lib.Dec.{eqb, ltb}
 use borrow.Author.Tests.{lt-ltb, le-ltb, ne-eqb, eqb-true, eqb-false, ltb-true, ltb-false}
-use Rattle.base_codes.specs.Codes.{c-end-body, c-or-else}
+use Rattle.base_ceilings.specs.Ceilings.{itemsMost, numberMost, stringMost}
+use Rattle.base_codes.specs.Codes.{c-end-body, c-or-else, c-name, c-number, c-text}
 use Rattle.base_kinds.specs.Kinds.{sym, name, number, text}
-use Rattle.text_pieces.specs.Ceilings.{number-most}
 use Rattle.text_pieces.specs.Spans.{decimal}
 use Rattle.text_tokens.specs.Reading.{Placed, tokens, reading}
 use Rattle.text_spacing_proof.specs.Writing.{partOf, tokenIn, tokensIn, Sound, AllSound}
 use Rattle.text_spacing_proof.proofs.Written.{tokens-sound, tokens-ordered}
 use Rattle.text_spacing_proof.specs.Layout.{Ordered}
-use Rattle.spec_grammar.specs.Code.{Item}
 use Rattle.parse_tables.specs.Numbering.{item}
 use Rattle.table_entries.specs.Entry.{Entry, entry, runs}
 use Rattle.table_entries.specs.Items.{entryOf}
-use Rattle.table_entries.specs.Sources.{piece, bytesOf, valueOf, entryAt, entriesOf}
+use Rattle.table_entries.specs.Sources.{bytesOf, valueOf, entryAt, entriesOf}
 use Rattle.table_entries.proofs.Items.{mark-entry}
+use Rattle.base_bytes.specs.Lists.{piece}
 use Rattle.table_proof.specs.Read.{held, read, nowhere, Right}
 use Rattle.table_proof.proofs.Tokens.{sound-held}
+use Rattle.base_codes.specs.Items.{Item}
 
 -- ## parts of a text
 take-none : (n : ℕ) → take {A = ℕ} n [] ≡ []
@@ -43,7 +44,7 @@ piece-is t a e f o h g =
     let y : min a e ≡ a = omega arith in
     rw (x, y)
 
-three-least : (a b l : ℕ) → a < b → a ≤ l → min (min a (b + 64)) l ≡ a
+three-least : (a b l : ℕ) → a < b → a ≤ l → min (min a (b + stringMost)) l ≡ a
 three-least a b l h k = omega arith
 
 least-of : (a b : ℕ) → b ≤ a → min a b ≡ b
@@ -70,63 +71,63 @@ module _ (t : List ℕ) (s e : ℕ) (o : s ≤ e) (h : e ≤ length t) where
   size : length x ≡ e - s
   size = length-take-le (e - s) (drop s t) (rw length-drop (omega arith))
 
-  name-entry : length x ≤ 64 → entry 70 (bytesOf t 70 s e) (valueOf t 70 s e) ≡ entry 70 x 0
+  name-entry : length x ≤ stringMost → entry c-name (bytesOf t c-name s e) (valueOf t c-name s e) ≡ entry c-name x 0
   unfolding bytesOf valueOf
-  name-entry n = let f : min e (s + 64) ≡ e = omega (arith, size) in rw (piece-is t s e (min e (s + 64)) o h f)
+  name-entry n = let f : min e (s + stringMost) ≡ e = omega (arith, size) in rw (piece-is t s e (min e (s + stringMost)) o h f)
 
-  number-entry : decimal x ≤ number-most → entry 71 (bytesOf t 71 s e) (valueOf t 71 s e) ≡ entry 71 [] (decimal x)
+  number-entry : decimal x ≤ numberMost → entry c-number (bytesOf t c-number s e) (valueOf t c-number s e) ≡ entry c-number [] (decimal x)
   unfolding bytesOf valueOf
-  number-entry n = let f : min (number-most + 1) (decimal x) ≡ decimal x = omega arith in rw (piece-is t s e e o h refl, f)
+  number-entry n = let f : min (numberMost + 1) (decimal x) ≡ decimal x = omega arith in rw (piece-is t s e e o h refl, f)
 
   inner : take (length x - 2) (drop 1 x) ≡ take (e - 1 - (s + 1)) (drop (s + 1) t)
   inner =
       let k : length x - 2 ≡ e - 1 - (s + 1) = omega (arith, size) in
       rw (k, drop-take (e - s) (drop s t), drop-drop 1 s t) (take-take (e - 1 - (s + 1)) (e - s - 1) (drop (s + 1) t) (omega arith))
 
-  text-entry : s + 1 ≤ e - 1 → length (take (length x - 2) (drop 1 x)) ≤ 64 → entry 72 (bytesOf t 72 s e) (valueOf t 72 s e) ≡ entry 72 (take (length x - 2) (drop 1 x)) 0
+  text-entry : s + 1 ≤ e - 1 → length (take (length x - 2) (drop 1 x)) ≤ stringMost → entry c-text (bytesOf t c-text s e) (valueOf t c-text s e) ≡ entry c-text (take (length x - 2) (drop 1 x)) 0
   unfolding bytesOf valueOf
   text-entry two n =
       let l : length (take (e - 1 - (s + 1)) (drop (s + 1) t)) ≡ e - 1 - (s + 1) = length-take-le (e - 1 - (s + 1)) (drop (s + 1) t) (rw length-drop (omega arith)) in
-      let m : length (take (e - 1 - (s + 1)) (drop (s + 1) t)) ≤ 64 = rw inner at n in
-      let f : min (e - 1) (s + 1 + 64) ≡ e - 1 = omega arith in
-      rw (piece-is t (s + 1) (e - 1) (min (e - 1) (s + 1 + 64)) two (omega arith) f, inner)
+      let m : length (take (e - 1 - (s + 1)) (drop (s + 1) t)) ≤ stringMost = rw inner at n in
+      let f : min (e - 1) (s + 1 + stringMost) ≡ e - 1 = omega arith in
+      rw (piece-is t (s + 1) (e - 1) (min (e - 1) (s + 1 + stringMost)) two (omega arith) f, inner)
 
-  text-short : e - 1 < s + 1 → entry 72 (bytesOf t 72 s e) (valueOf t 72 s e) ≡ entry 72 (take (length x - 2) (drop 1 x)) 0
+  text-short : e - 1 < s + 1 → entry c-text (bytesOf t c-text s e) (valueOf t c-text s e) ≡ entry c-text (take (length x - 2) (drop 1 x)) 0
   unfolding bytesOf valueOf
   text-short two =
       rw (three-least (e - 1) (s + 1) (length t) two (omega arith), least-of (s + 1) (e - 1) (omega arith), none-left (e - 1), few-left (length x) (omega (arith, size)))
 
-three : (c : ℕ) → 70 ≤ c → c ≤ 72 → (c ≡ 70) ⊎ ((c ≡ 71) ⊎ (c ≡ 72))
-three c a b = by (eqb c 70) refl (eqb c 71) refl
+three : (c : ℕ) → c-name ≤ c → c ≤ c-text → (c ≡ c-name) ⊎ ((c ≡ c-number) ⊎ (c ≡ c-text))
+three c a b = by (eqb c c-name) refl (eqb c c-number) refl
   where
-    by : (x : Bool) → eqb c 70 ≡ x → (y : Bool) → eqb c 71 ≡ y → (c ≡ 70) ⊎ ((c ≡ 71) ⊎ (c ≡ 72))
-    by true e y f = inl (eqb-true c 70 e)
-    by false e true f = inr (inl (eqb-true c 71 f))
-    by false e false f = let p = eqb-false c 70 e in let q = eqb-false c 71 f in inr (inr (omega arith))
+    by : (x : Bool) → eqb c c-name ≡ x → (y : Bool) → eqb c c-number ≡ y → (c ≡ c-name) ⊎ ((c ≡ c-number) ⊎ (c ≡ c-text))
+    by true e y f = inl (eqb-true c c-name e)
+    by false e true f = inr (inl (eqb-true c c-number f))
+    by false e false f = let p = eqb-false c c-name e in let q = eqb-false c c-number f in inr (inr (omega arith))
 
 abbrev Reads : List ℕ → Placed → ℕ → Type 0
 Reads t p c = entry c (bytesOf t c (p .start) (p .end)) (valueOf t c (p .start) (p .end)) ≡ entryOf (held (tokenIn t p))
 
 module _ (t : List ℕ) (p : Placed) (o : p .start ≤ p .end) (h : p .end ≤ length t) (s : Sound (tokenIn t p)) where
-  reads-name : p .kind ≡ 70 → Reads t p 70
+  reads-name : p .kind ≡ c-name → Reads t p c-name
   reads-name k =
       let w : Sound (name (partOf t p)) = rw k at s in
       rw k (name-entry t (p .start) (p .end) o h (sound-held (name (partOf t p)) w .0))
 
-  reads-number : p .kind ≡ 71 → Reads t p 71
+  reads-number : p .kind ≡ c-number → Reads t p c-number
   reads-number k =
       let w : Sound (number (decimal (partOf t p))) = rw k at s in
       rw k (number-entry t (p .start) (p .end) o h w)
 
-  reads-text : p .kind ≡ 72 → Reads t p 72
+  reads-text : p .kind ≡ c-text → Reads t p c-text
   reads-text k =
       let w : Sound (text (take (length (partOf t p) - 2) (drop 1 (partOf t p)))) = rw k at s in
       rw k (⊎-elim (λ g. text-short t (p .start) (p .end) o h g) (λ g. text-entry t (p .start) (p .end) o h g (sound-held (text (take (length (partOf t p) - 2) (drop 1 (partOf t p)))) w .0)) (lt-or-ge (p .end - 1) (p .start + 1)))
 
-  pub token-entry : (c : ℕ) → 70 ≤ c → c ≤ 72 → p .kind ≡ c → Reads t p c
+  pub token-entry : (c : ℕ) → c-name ≤ c → c ≤ c-text → p .kind ≡ c → Reads t p c
   token-entry c a b k = go (three c a b)
     where
-      go : (c ≡ 70) ⊎ ((c ≡ 71) ⊎ (c ≡ 72)) → Reads t p c
+      go : (c ≡ c-name) ⊎ ((c ≡ c-number) ⊎ (c ≡ c-text)) → Reads t p c
       go (inl e) = rw e (reads-name (k ∙ e))
       go (inr (inl e)) = rw e (reads-number (k ∙ e))
       go (inr (inr e)) = rw e (reads-text (k ∙ e))
@@ -134,7 +135,7 @@ module _ (t : List ℕ) (p : Placed) (o : p .start ≤ p .end) (h : p .end ≤ l
 mark-read : (t : List ℕ) (c s e : ℕ) → c-or-else ≤ c → c ≤ c-end-body → entry c (bytesOf t c s e) (valueOf t c s e) ≡ entryOf (item c)
 unfolding bytesOf valueOf
 mark-read t c s e a b =
-    simp (ne-eqb c 70 (λ z. omega arith), ne-eqb c 71 (λ z. omega arith), ne-eqb c 72 (λ z. omega arith)) (inv (mark-entry c a b))
+    simp (ne-eqb c c-name (λ z. omega arith), ne-eqb c c-number (λ z. omega arith), ne-eqb c c-text (λ z. omega arith)) (inv (mark-entry c a b))
 
 -- ## all of them
 get-map : {A B : Type 0} (f : A → B) (l : List A) (z : List B) (j : ℕ) (d : A) (b : B) → j < length l → getD (map f l ++ z) j b ≡ f (getD l j d)
@@ -186,10 +187,10 @@ module _ (t : List ℕ) (ps : List Placed) (e : reading t ≡ tokens ps) (x y : 
   read-one c k (inr r) = rw (le-ltb c c-or-else (r .0)) (mark-read t c (getD starts k 0) (getD ends k 0) (r .0) (r .1))
 
   -- the numbers v of o, of which f is the code and g the token
-  module _ (f g : ℕ → ℕ) (o : List ℕ) (z : List ℕ) (few : length o ≤ 8192) (right : (j : ℕ) → j < length o → Right ps (f (getD o j 0)) (g (getD o j 0))) where
+  module _ (f g : ℕ → ℕ) (o : List ℕ) (z : List ℕ) (few : length o ≤ itemsMost) (right : (j : ℕ) → j < length o → Right ps (f (getD o j 0)) (g (getD o j 0))) where
     pub entries-read : entriesOf t (map Placed.start ps ++ x) (map Placed.end ps ++ y) (map f o) (map g o ++ z) ≡ map entryOf (map (λ v. read (tokensIn t ps) (f v) (g v)) o)
     unfolding entriesOf entryAt
     entries-read =
-        let n : min 8192 (length (map f o)) ≡ length o = omega (arith, length-map o f) in
+        let n : min itemsMost (length (map f o)) ≡ length o = omega (arith, length-map o f) in
         rw n (runs-map (entryAt t starts ends (map f o) (map g o ++ z)) (λ v. read (tokensIn t ps) (f v) (g v)) o 0
         (λ j l. let q : 0 + j ≡ j = omega arith in rw (q, get-only f o j 0 0 l, get-map g o z j 0 0 l) (read-one (f (getD o j 0)) (g (getD o j 0)) (right j l))))

@@ -9,6 +9,7 @@ use lib.Dec.{eqb, leb}
 use lib.ListN.{length, take, length-append}
 use lib.Seq.{take-at}
 use borrow.Author.Tests.{leb-true, eqb-true}
+use Rattle.base_ceilings.specs.Ceilings.{stringMost}
 use Rattle.base_bytes.specs.Choice.{pick, either}
 use Rattle.base_bytes.proofs.Tests.{both-true, either-true}
 use Rattle.base_kinds.specs.Kinds.{Token, sym, name, number, text}
@@ -19,6 +20,7 @@ use Rattle.text_spacing_proof.proofs.Tables.{mark-range, word-range}
 use Rattle.base_pens.specs.Pack.{Bytes}
 use Rattle.table_proof.specs.Marks.{brings, brought}
 use Rattle.table_proof.proofs.Drawn.{Held, AllHeld}
+use Rattle.base_codes.specs.Codes.{c-name, c-text}
 
 within-low : (lo hi b : ℕ) → within lo hi b ≡ true → b ≤ hi
 within-low lo hi b e = leb-true b hi (both-true (leb lo b) (leb b hi) e .1)
@@ -73,7 +75,7 @@ between-low empty = tt
 between-low (plain {b = b} p q r x) = (plain-low b p, between-low x)
 between-low (escape {b = b} p x) = (omega arith, (escape-low b p, between-low x))
 
-name-held : {k : ℕ} {x : List ℕ} → Spelled k x → k ≡ 70 → (length x ≤ 64) × Bytes x
+name-held : {k : ℕ} {x : List ℕ} → Spelled k x → k ≡ c-name → (length x ≤ stringMost) × Bytes x
 name-held (word {b = b} {s = s} l a n) h = (omega (arith, n), (letter-low b l, words-low s a))
 name-held (digits p q r) h = absurd (omega arith)
 name-held (string p q) h = absurd (omega arith)
@@ -85,7 +87,7 @@ unquoted s w e =
     let n : length s ≡ length w = omega (arith, ap length f, length-append s (quote ∷ []), length-append w (quote ∷ [])) in
     inv (take-at s (quote ∷ []) (length s) refl) ∙ ap (take (length s)) f ∙ take-at w (quote ∷ []) (length s) (inv n)
 
-text-held : (w : List ℕ) {k : ℕ} {x : List ℕ} → Spelled k x → k ≡ 72 → x ≡ quote ∷ (w ++ quote ∷ []) → (length w ≤ 64) × Bytes w
+text-held : (w : List ℕ) {k : ℕ} {x : List ℕ} → Spelled k x → k ≡ c-text → x ≡ quote ∷ (w ++ quote ∷ []) → (length w ≤ stringMost) × Bytes w
 text-held w (word {b = b} {s = s} l a n) h e = absurd (omega (arith, word-range (b ∷ s) .1))
 text-held w (digits p q r) h e = absurd (omega arith)
 text-held w (string {s = s} p q) h e = let u : s ≡ w = unquoted s w e in rw (← u) (q, between-low p)

@@ -8,11 +8,12 @@ use native.Mathlib.Omega.{arith}
 use lib.ListN.{length, getD, length-map}
 use lib.Dec.{T, eqb, ltb, leb, leb→le}
 use borrow.Author.Tests.{lt-ltb, ltb-true, ltb-false, eqb-true}
-use Rattle.base_codes.specs.Codes.{c-end-body, c-or-else}
+use Rattle.base_ceilings.specs.Ceilings.{itemsMost, tokensMost}
+use Rattle.base_codes.specs.Codes.{c-end-body, c-or-else, c-name, c-text}
 use Rattle.base_bytes.specs.Choice.{pick, both}
 use Rattle.text_tokens.specs.Reading.{Placed}
 use Rattle.parse_tables.specs.Tables.{rights, span, right}
-use Rattle.parse_machine_proof.specs.Machine.{packed, symbol-of, place-of, count-of, clipped, column, Config, Outcome, done, refused, spent, go, stop, most-items, written, write, eat, mark, marked, expand, step-on, next, run, start, machine, most-stack, most-steps}
+use Rattle.parse_machine_proof.specs.Machine.{packed, symbol-of, place-of, count-of, clipped, column, Config, Outcome, done, refused, spent, go, stop, outputOf, write, eat, mark, marked, expand, step-on, next, run, start, machine, most-stack, most-steps, placeRoom}
 use Rattle.parse_machine_proof.proofs.Never.{mark-plain}
 use Rattle.table_proof.specs.Read.{nowhere, Right}
 use Rattle.table_proof.proofs.Marks.{both-parts}
@@ -50,7 +51,7 @@ low-right p b st e s = low-span (p * 13 + 1) (getD rights (p * 13) 0) b st e s
 
 -- what is written
 abbrev pub Wrote : List ℕ → ℕ → Type 0
-Wrote ks v = ((70 ≤ symbol-of v) × (symbol-of v ≤ 72) × (place-of v < length ks) × (getD ks (place-of v) 0 ≡ symbol-of v)) ⊎ ((c-or-else ≤ symbol-of v) × (symbol-of v ≤ c-end-body))
+Wrote ks v = ((c-name ≤ symbol-of v) × (symbol-of v ≤ c-text) × (place-of v < length ks) × (getD ks (place-of v) 0 ≡ symbol-of v)) ⊎ ((c-or-else ≤ symbol-of v) × (symbol-of v ≤ c-end-body))
 
 abbrev All : List ℕ → List ℕ → Type 0
 All ks [] = Unit {0}
@@ -68,10 +69,10 @@ all-at ks (v ∷ o) a (suc j) h = all-at ks o (a .1) j (omega arith)
 packed-symbol : (s at n : ℕ) → s < 256 → symbol-of (packed s at n) ≡ s
 packed-symbol s at n h = omega arith
 
-packed-place : (s at n : ℕ) → s < 256 → at < 4096 → place-of (packed s at n) ≡ at
+packed-place : (s at n : ℕ) → s < 256 → at < placeRoom → place-of (packed s at n) ≡ at
 packed-place s at n h k = omega arith
 
-clipped-kind : (k s : ℕ) → s ≤ 72 → s ≡ clipped k → k ≡ s
+clipped-kind : (k s : ℕ) → s ≤ c-text → s ≡ clipped k → k ≡ s
 clipped-kind k s h e = by (eqb k 0) refl e
   where
     by : (b : Bool) → eqb k 0 ≡ b → s ≡ pick b 73 (min k 73) → k ≡ s
@@ -84,16 +85,16 @@ Good ks (done o) = All ks o
 Good ks (refused i) = Unit {0}
 Good ks spent = Unit {0}
 
-module _ (ks : List ℕ) (short : length ks ≤ 2048) (f : Config → Outcome) (ih : (c : Config) → Low (c .st) → All ks (c .out) → Good ks (f c)) where
+module _ (ks : List ℕ) (short : length ks ≤ tokensMost) (f : Config → Outcome) (ih : (c : Config) → Low (c .st) → All ks (c .out) → Good ks (f c)) where
   write-good : (v at : ℕ) (st : List ℕ) (pos : ℕ) (out : List ℕ) → Low st → All ks out → Wrote ks (packed (symbol-of v) at (length out - count-of v)) → Good ks (next f (write v at st pos out))
   unfolding write
-  write-good v at st pos out l a w = by (ltb (length out) most-items)
+  write-good v at st pos out l a w = by (ltb (length out) itemsMost)
     where
-      by : (b : Bool) → Good ks (next f (pick b (go (record { st = st; pos = pos; out = written v at out })) (stop spent)))
-      by true = ih (record { st = st; pos = pos; out = written v at out }) l (all-snoc ks out (packed (symbol-of v) at (length out - count-of v)) a w)
+      by : (b : Bool) → Good ks (next f (pick b (go (record { st = st; pos = pos; out = outputOf v at out })) (stop spent)))
+      by true = ih (record { st = st; pos = pos; out = outputOf v at out }) l (all-snoc ks out (packed (symbol-of v) at (length out - count-of v)) a w)
       by false = tt
 
-  token-wrote : (v pos n : ℕ) → pos < length ks → symbol-of v < 73 → 70 ≤ symbol-of v → symbol-of v ≡ column ks pos → Wrote ks (packed (symbol-of v) pos n)
+  token-wrote : (v pos n : ℕ) → pos < length ks → symbol-of v < 73 → c-name ≤ symbol-of v → symbol-of v ≡ column ks pos → Wrote ks (packed (symbol-of v) pos n)
   unfolding column
   token-wrote v pos n h lt ge e =
       let s = symbol-of v in
@@ -109,7 +110,7 @@ module _ (ks : List ℕ) (short : length ks ≤ 2048) (f : Config → Outcome) (
       in-it : (b : Bool) → ltb (symbol-of v) 70 ≡ b → pos < length ks → symbol-of v ≡ column ks pos
           → Good ks (next f (pick b (go (record { st = st; pos = pos + 1; out = out })) (write v pos st (pos + 1) out)))
       in-it true e h k = ih (record { st = st; pos = pos + 1; out = out }) l a
-      in-it false e h k = write-good v pos st (pos + 1) out l a (token-wrote v pos (length out - count-of v) h lt (ltb-false (symbol-of v) 70 e) k)
+      in-it false e h k = write-good v pos st (pos + 1) out l a (token-wrote v pos (length out - count-of v) h lt (ltb-false (symbol-of v) c-name e) k)
 
       at-it : (b : Bool) → eqb (symbol-of v) (column ks pos) ≡ b → pos < length ks
           → Good ks (next f (pick b (pick (ltb (symbol-of v) 70) (go (record { st = st; pos = pos + 1; out = out })) (write v pos st (pos + 1) out)) (stop (refused pos))))
@@ -148,13 +149,13 @@ module _ (ks : List ℕ) (short : length ks ≤ 2048) (f : Config → Outcome) (
       by false e true g = expand-good v st pos out (Rattle.parse_tables.specs.Tables.production (symbol-of v) (column ks pos)) (l .1) a
       by false e false g = write-good v (place-of v) st pos out (l .1) a (mark-wrote v (length out - count-of v) (ltb-false (symbol-of v) c-or-else g) (l .0))
 
-run-good : (ks : List ℕ) → length ks ≤ 2048 → (f : ℕ) (c : Config) → Low (c .st) → All ks (c .out) → Good ks (run ks f c)
+run-good : (ks : List ℕ) → length ks ≤ tokensMost → (f : ℕ) (c : Config) → Low (c .st) → All ks (c .out) → Good ks (run ks f c)
 unfolding run
 run-good ks short zero c l a = tt
 run-good ks short (suc f) c l a = turn-good ks short (run ks f) (run-good ks short f) (c .st) (c .pos) (c .out) l a
 
 -- THE MACHINE'S NUMBERS ARE RIGHT for the tokens whose kinds it read
-pub machine-right : (ps : List Placed) (o : List ℕ) → length ps ≤ 2048 → machine (map Placed.kind ps) ≡ done o → (j : ℕ) → j < length o → Right ps (symbol-of (getD o j 0)) (place-of (getD o j 0))
+pub machine-right : (ps : List Placed) (o : List ℕ) → length ps ≤ tokensMost → machine (map Placed.kind ps) ≡ done o → (j : ℕ) → j < length o → Right ps (symbol-of (getD o j 0)) (place-of (getD o j 0))
 machine-right ps o short e j h = by (all-at (map Placed.kind ps) o all j h)
   where
     many : length (map Placed.kind ps) ≡ length ps

@@ -1,3 +1,4 @@
+-- Tests: worked examples and stored cases.
 -- Worked examples on both sides of what statements of a tree can do and do (crate `spec_machine`), computed: document 01, "How it moves". The stage is a small one of its own.
 use Prim.Native.Nat.{ℕ, _+_, _-_}
 use mathlib.Core.Path.{_≡_, refl}
@@ -16,7 +17,7 @@ use Rattle.base_values.specs.declared.Answer.{Answer}
 use Rattle.base_values.specs.declared.Answer.the-variants.{Value, Fails}
 use Rattle.base_outcome.specs.declared.Taken.the-variants.{Done, Refuted, Faulted, Idle}
 use Rattle.step_statements.specs.Statements.{Result}
-use Rattle.spec_text.specs.Formats.{digitsBy, escaped, written, opened, counted}
+use Rattle.spec_text.specs.Formats.{digitsBy, escaped, formatted, opened, counted}
 use Rattle.spec_grammar.specs.Tree.{Name, Expr, plain, indexed, num, get, len, unary, binary, choice, into, equal, exactly, exactly-true, exactly-false}
 use Rattle.spec_grammar.specs.Tree.{action, sequence, Tree, express, assign, increment, decrement, send, receive, assert, print, skip, goto, break, timeout, else, run, set-run, select, loop, bare, labelled, end, then, over, option}
 use Rattle.spec_machine.specs.Eval.{eval}
@@ -29,7 +30,7 @@ use Rattle.spec_machine.specs.Program.{Within, itself, in-if, in-do, unlabelled
 
 -- to unfold this is to unfold all that the examples compute with
 unfoldable moving : Unit {0}
-unfolding same applyOf unaryOf divideOf eval values agrees targets ready deliveries effect offers digitsBy escaped written opened counted format
+unfolding same applyOf unaryOf divideOf eval values agrees targets ready deliveries effect offers digitsBy escaped formatted opened counted format
 moving = tt
 
 -- ## the stage: a state has the place of the process, i, a[0], a[1], c, e, how many messages wait in channel 1, and how many processes there are. m is an mtype name, 7

@@ -1,3 +1,4 @@
+-- Tests: worked examples and stored cases.
 -- The numbers that `start` leaves for a text are those of its tree's initial plain state; computed from the bytes of the text.
 use mathlib.Core.Path.{_≡_, refl}
 use Prim.Native.Nat.{ℕ}

@@ -1,3 +1,4 @@
+-- Tests: worked examples and stored cases.
 -- Worked examples of forms of trails, runs and replays (crates `trail_form`, `run_entry` and `trail_replay`), computed from the bytes of small models: document 01, "Trail lines", "Verdicts" and rows 10 to 12 of
 -- "What is answered". Form beside the examples of crate `trail_form`.
 use Prim.Native.Nat.{ℕ}
@@ -20,12 +21,13 @@ use Rattle.step_offers.specs.Offers.{firstOf, eachOption, pickAt}
 use Rattle.step_messages.specs.Messages.{gatherEnd, gatherList, aimEnd, aimList, appended, removed, delivered}
 use Rattle.step_statements.specs.Statements.{expressed, asserted, sent, receivedFrom, received}
 use Rattle.step_take.specs.Effects.{parameterSet, called, ran}
-use Rattle.step_all.specs.Moving.{stepAt, nthOf, nthIn, numbered, listFrom, listOf}
 use Rattle.trail_form.specs.Forms.{form, spoiled, formFrom, formOf}
-use Rattle.run_entry.specs.Runs.{turnOf, runFrom}
+use Rattle.spec_trails.specs.Replays as replay
+use Rattle.spec_trails.specs.Runs as run
+use Rattle.run_entry.specs.Runs.{endingAs, runIn}
 use Rattle.run_entry.specs.declared.Ending.{Ending}
 use Rattle.run_entry.specs.declared.Ending.the-variants as ending
-use Rattle.trail_replay.specs.Replay.{judged, recordedOf, reachedOf, replayFrom, replayForm}
+use Rattle.trail_replay.specs.Replay.{replayIn}
 use Rattle.trail_replay.specs.declared.Replayed.{Replayed}
 use Rattle.trail_replay.specs.declared.Replayed.the-variants.{Accepted, Refused}
 use Rattle.test_samples.specs.Samples.{cleared}
@@ -43,7 +45,7 @@ forming = tt
 
 unfoldable replaying : Unit {0}
 unfolding
-    shallower openOf pastOption pastLoop isAlways firstOf eachOption pickAt expressed asserted stepAt nthOf nthIn numbered listFrom listOf turnOf runFrom judged recordedOf reachedOf replayFrom
+    shallower openOf pastOption pastLoop isAlways firstOf eachOption pickAt expressed asserted run.runFrom replay.replayFrom
 replaying = tt
 
 -- messages and further processes
@@ -57,7 +59,7 @@ meeting = tt
 -- how the automatic run of tables ends from a state, and after how many steps, with each of these limits
 abbrev endings : List ℕ → List ℤ → List ℕ → List (Ending × ℕ)
 endings t s [] = []
-endings t s (n ∷ l) = (runFrom t n s .ending, runFrom t n s .count) ∷ endings t s l
+endings t s (n ∷ l) = (endingAs (runIn t n s .ending), runIn t n s .count) ∷ endings t s l
 
 abbrev endingsFrom : List ℕ → List ℕ → List (Ending × ℕ)
 endingsFrom t l = endings t (initial t) l
@@ -68,7 +70,7 @@ ends m l = endingsFrom (tablesText m) l
 -- what replaying each of these trails answers
 abbrev replays : List ℕ → List ℤ → List (List ℕ) → List Replayed
 replays t s [] = []
-replays t s (x ∷ l) = replayForm t (formOf x) s .0 ∷ replays t s l
+replays t s (x ∷ l) = replayIn t (formOf x) s .0 ∷ replays t s l
 
 abbrev replaysFrom : List ℕ → List (List ℕ) → List Replayed
 replaysFrom t l = replays t (initial t) l
@@ -204,7 +206,7 @@ second-option = refl
 
 -- ## "replay's 11 and 12 leave the state reached before the refused record", and a failing step leaves the state before it: two trails of a model that leave the same
 abbrev Alike : List ℕ → List ℤ → List ℕ → List ℕ → Type 0
-Alike t s x y = replayForm t (formOf x) s .1 ≡ replayForm t (formOf y) s .1
+Alike t s x y = replayIn t (formOf x) s .1 ≡ replayIn t (formOf y) s .1
 
 abbrev AlikeFrom : List ℕ → List ℕ → List ℕ → Type 0
 AlikeFrom t x y = Alike t (initial t) x y

@@ -1,3 +1,4 @@
+-- Tests: worked examples and stored cases.
 -- A case that was read lies within its buffer of n bytes.
 use Prim.Native.Nat.{ℕ, _≤_}
 use Rattle.test_cases.specs.declared.Case.{Case}

@@ -4,9 +4,9 @@ use parse_items::Parsed;
 use test_cases::Case;
 
 fn show(kinds: &[u8]) {
-    let mut codes = [0u8; parse_items::ITEMS];
-    let mut tokens = [0u32; parse_items::ITEMS];
-    let mut sizes = [0u32; parse_items::ITEMS];
+    let mut codes = [0u8; base_ceilings::ITEMS_MOST];
+    let mut tokens = [0u32; base_ceilings::ITEMS_MOST];
+    let mut sizes = [0u32; base_ceilings::ITEMS_MOST];
     let a = parse_items::parse(kinds, &mut codes, &mut tokens, &mut sizes);
     match a {
         Parsed::Items(n) => {

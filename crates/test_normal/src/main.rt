@@ -75,7 +75,7 @@ fn both_sides(tables: &[u32]) {
     let w = normal_entry::normal_of(tables, upto(&mut out, n));
     show(w, &out);
     let mut less = [b'#'; 8192];
-    let x = normal_entry::normal_of(tables, upto(&mut less, rule_sheets::minus(n, 1)));
+    let x = normal_entry::normal_of(tables, upto(&mut less, base_bytes::minus(n, 1)));
     show(x, &less);
 }
 

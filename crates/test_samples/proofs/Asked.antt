@@ -10,7 +10,7 @@ use Rattle.base_bytes.specs.Choice.{pick}
 use Rattle.read_passes.specs.declared.Judged.{Judged}
 use Rattle.read_passes.specs.declared.Judged.the-variants.{Accepted}
 use Rattle.read_passes.specs.Judging.{judgeOf, tablesText}
-use Rattle.read_entry.specs.Entries.{room, readOf, stays, leftOf}
+use Rattle.read_entry.specs.Entries.{readOf, stays, leftOf}
 use Rattle.read_accepts_proof.specs.Meaning.{Accepts}
 use Rattle.read_accepts_proof.proofs.Main.{accepted-means}
 use Rattle.read_accepts_proof.proofs.Tables.{text-fits}
@@ -18,18 +18,19 @@ use Rattle.table_genuine.specs.Genuine.{written}
 use Rattle.normal_entry.proofs.Laws.{judged-is, written-is}
 use Rattle.state_start.specs.Starting.{initialOf}
 use Rattle.state_check.specs.Standing.{isStateOf}
-use Rattle.step_all.specs.Moving.{stepAt, verdictOf}
-use Rattle.step_entry.specs.Entries.{foreignOf, refusalOf, startLeft, standingOf, verdictFor, Outcome, refusedBy, outcomeBy, stepRefusal, outcomeOf, printRoom}
-use Rattle.step_entry.specs.declared.Standing.the-variants as standing
-use Rattle.state_layout.specs.Layout.{stateSize}
-use Rattle.spec_machine.specs.Begins as plain
+use Rattle.spec_machine.specs.Machine.{verdict}
+use Rattle.step_all.specs.Moving.{machineIn, verdictAs}
+use Rattle.step_entry.specs.Entries.{foreignOf, refusalOf, startLeft, standingOf, verdictFor, Outcome, refusedBy, outcomeBy, askedIn, stepRefusal, outcomeOf}
 use Rattle.state_encode.specs.Encode.{encode}
 use Rattle.agree_states.proofs.Cells.{encode-long}
 use Rattle.demands.specs.Lent.{Rooms, Tables, of-text}
-use Rattle.agree_machine.proofs.Entries as entries
 use Rattle.demands.proofs.Lent.{tables-genuine, foreign-none}
 use Rattle.demands.proofs.Leaves.{states-left}
 use Rattle.test_samples.specs.Samples.{lent, tables, cleared, started, paper, firstStep}
+use Rattle.base_ceilings.specs.Ceilings.{stateRoom, tablesRoom}
+use Rattle.step_entry.specs.declared.Standing.the-variants as standing
+use Rattle.spec_machine.specs.Begins as plain
+use Rattle.agree_machine.proofs.Entries as entries
 
 module _ (t : List ℕ) (acc : readOf t lent ≡ Accepted) where
   long : length lent ≡ 16384
@@ -48,7 +49,7 @@ module _ (t : List ℕ) (acc : readOf t lent ≡ Accepted) where
   unfolding leftOf
   as-left = ap (λ (j : Judged). stays j (tablesText t) lent) acc
 
-  tables-long : room ≤ length (tables t)
+  tables-long : tablesRoom ≤ length (tables t)
   tables-long =
       let e = ap length as-left in
       let f = length-append (tablesText t) (drop (length (tablesText t)) lent) in
@@ -70,7 +71,7 @@ module _ (t : List ℕ) (acc : readOf t lent ≡ Accepted) where
   unfolding startLeft
   starts = ap (λ (n : ℕ). pick (eqb n 0) (initialOf (written (tables t)) cleared) cleared) let-through ∙ ap (λ (w : List ℕ). initialOf w cleared) own
 
-  as-numbers : started t ≡ encode (accepts .tree) (plain.initial (accepts .tree)) ++ drop stateSize cleared
+  as-numbers : started t ≡ encode (accepts .tree) (plain.initial (accepts .tree)) ++ drop stateRoom cleared
   as-numbers = entries.starts (tables t) tables-long (tables-genuine (tables t) (accepts .tree) of-model) t accepts own cleared (rooms .state)
 
   rooms-then : Rooms (tables t) (started t)
@@ -79,7 +80,7 @@ module _ (t : List ℕ) (acc : readOf t lent ≡ Accepted) where
         tables = tables-long;
         state =
             let e = ap length as-numbers in
-            let f = length-append (encode (accepts .tree) (plain.initial (accepts .tree))) (drop stateSize cleared) in
+            let f = length-append (encode (accepts .tree) (plain.initial (accepts .tree))) (drop stateRoom cleared) in
             let g = encode-long (accepts .tree) (plain.initial (accepts .tree)) in
             omega (arith, e, f, g);
       }
@@ -89,19 +90,19 @@ module _ (t : List ℕ) (acc : readOf t lent ≡ Accepted) where
   none-refused = rw (foreign-none (tables t) (started t) (accepts .tree) rooms-then of-model, states-left (tables t) cleared .start let-through)
 
   -- `verdict`
-  pub verdict-asked : verdictFor (tables t) (started t) ≡ standingOf (verdictOf (tablesText t) (initialOf (tablesText t) cleared))
+  pub verdict-asked : verdictFor (tables t) (started t) ≡ standingOf (verdictAs (verdict (machineIn (tablesText t)) (initialOf (tablesText t) cleared)))
   unfolding verdictFor
   verdict-asked =
-      ap (λ (n : ℕ). pick (eqb n 0) (standingOf (verdictOf (written (tables t)) (started t))) (standing.Refused n)) none-refused
-      ∙ ap₂ (λ (w : List ℕ) (s : List ℤ). standingOf (verdictOf w s)) own starts
+      ap (λ (n : ℕ). pick (eqb n 0) (standingOf (verdictAs (verdict (machineIn (written (tables t))) (started t)))) (standing.Refused n)) none-refused
+      ∙ ap₂ (λ (w : List ℕ) (s : List ℤ). standingOf (verdictAs (verdict (machineIn w) s))) own starts
 
   -- `step`
   none-refuses : stepRefusal (tables t) (started t) paper ≡ 0
   unfolding stepRefusal
   none-refuses = none-refused
 
-  pub step-asked : firstStep t ≡ outcomeBy (stepAt (tablesText t) (initialOf (tablesText t) cleared) 0 1) (tablesText t) (initialOf (tablesText t) cleared) 0 paper
+  pub step-asked : firstStep t ≡ outcomeBy (askedIn (tablesText t) (initialOf (tablesText t) cleared) 0 1) (tablesText t) (initialOf (tablesText t) cleared) paper
   unfolding outcomeOf
   step-asked =
-      ap (λ (n : ℕ). pick (eqb n 0) (outcomeBy (stepAt (written (tables t)) (started t) 0 1) (written (tables t)) (started t) 0 paper) (refusedBy n (started t) paper)) none-refuses
-      ∙ ap₂ (λ (w : List ℕ) (s : List ℤ). outcomeBy (stepAt w s 0 1) w s 0 paper) own starts
+      ap (λ (n : ℕ). pick (eqb n 0) (outcomeBy (askedIn (written (tables t)) (started t) 0 1) (written (tables t)) (started t) paper) (refusedBy n (started t) paper)) none-refuses
+      ∙ ap₂ (λ (w : List ℕ) (s : List ℤ). outcomeBy (askedIn w s 0 1) w s paper) own starts

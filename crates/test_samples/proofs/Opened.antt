@@ -13,6 +13,7 @@ use Rattle.rule_sheets.specs.Payload as sheetsPayload
 use Rattle.rule_sheets.specs.Spans as sheetsSpans
 use Rattle.rule_sheets.specs.Walks as sheetsWalks
 use Rattle.rule_search.specs.Search as findingSearch
+use Rattle.base_codes.specs.Sets as codeSets
 use Rattle.rule_search.specs.Sets as findingSets
 use Rattle.rule_item.specs.Rules as rules
 use Rattle.rule_least.specs.Faults as faults
@@ -36,7 +37,7 @@ use Rattle.state_start.specs.Starting as startingStarting
 use Rattle.state_start.specs.Values as startingValues
 use Rattle.step_ready.specs.Executing as executing
 use Rattle.step_offers.specs.Offers as offering
-use Rattle.step_all.specs.Moving as moving
+use Rattle.spec_machine.specs.Machine as machine
 use Rattle.step_prints.specs.Printing as printing
 use Rattle.step_statements.specs.Statements as statements
 use Rattle.step_take.specs.Effects as effects
@@ -60,13 +61,13 @@ unfolding
     sheetsPayload.argsOf sheetsSpans.shapeOf sheetsSpans.startOf sheetsSpans.heightOf sheetsSpans.startsOf sheetsSpans.heightsOf sheetsWalks.first sheetsWalks.after
     sheetsWalks.sum sheetsWalks.filled
     findingSearch.declares findingSearch.find findingSearch.lookup findingSearch.last findingSearch.one findingSearch.count findingSets.among
-    rules.isArray rules.roleOf rules.badVariable rules.badUse rules.badRef rules.badTwice rules.badSecond rules.badHeight rules.ruleOf rules.badBy
+    rules.isArray rules.roleOf rules.badVariable rules.badUse rules.badRef rules.badTwice rules.badSecond rules.badHeight codeSets.ruleOf rules.badBy
     faults.joined faults.leastFrom faults.leastOf faults.checked
     ceilings.numbersAt ceilings.numbers ceilings.startsAt ceilings.makesAt ceilings.wideAt ceilings.heavyAt ceilings.one ceilings.weight ceilings.total ceilings.anyPassed
     ceilings.passed
-    places.isPart places.markFrom places.isAlone places.isLead places.isPlace places.isStop places.placeFrom places.isOpening places.isClosing places.deeper places.closeFrom
+    codeSets.isPart places.markFrom codeSets.isAlone codeSets.isLead places.isPlace places.isStop places.placeFrom codeSets.isOpening codeSets.isClosing places.deeper places.closeFrom
     places.closeOf places.nextFrom
-    links.typeAt links.sizeAt links.offsetAt links.slotAt links.classOf links.linkBy links.linkAt links.filledBack links.linksOf
+    links.typeAt links.sizeAt links.offsetAt links.slotAt codeSets.classOf links.linkBy links.linkAt links.filledBack links.linksOf
     entriesEntry.number entriesEntry.joined entriesEntry.runs entriesSources.bytesOf entriesSources.valueOf entriesSources.entryAt entriesSources.entriesOf
     pens.four pens.packed
     tablesAccess.codeOf tablesTables.argument tablesTables.itemWord tablesTables.one tablesTables.itemWords tablesTables.linked tablesTables.numbers tablesTables.pool
@@ -83,9 +84,9 @@ unfolding
     evaluatingExpressions.nodeOf evaluatingExpressions.plainOf evaluatingExpressions.evalT evaluatingExpressions.locateOf evaluatingVariables.slotOf
     startingStarting.filled startingStarting.variableMade startingStarting.entered startingStarting.unitLength startingStarting.processMade startingStarting.globalMade
     startingStarting.startsOf startingStarting.unitStarted startingStarting.scanned startingStarting.initialOf startingValues.valueAt startingValues.valueOf
-    executing.isAlone executing.isAlways executing.markOf executing.readyBy
+    executing.isOwnMark executing.isAlways executing.markOf executing.readyBy
     offering.firstOf offering.eachOption offering.offersFrom
-    moving.anyFrom moving.lateOf moving.stepAt moving.endedFrom moving.verdictOf
+    machine.anyFrom machine.late machine.listFrom machine.offered machine.asked machine.endedFrom machine.verdict
     offering.pickAt printing.puts printing.printedAt
     statements.assigned
     effects.targeted effects.takenAs

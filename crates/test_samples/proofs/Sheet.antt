@@ -11,9 +11,10 @@ use Rattle.read_passes.specs.Judging.{tablesText}
 use Rattle.read_entry.specs.Entries.{readOf}
 use Rattle.state_layout.specs.Layout.{globalAt, cellOf}
 use Rattle.state_start.specs.Starting.{initialOf}
-use Rattle.step_all.specs.Moving.{stepAt, verdictOf}
+use Rattle.spec_machine.specs.Machine.{verdict}
+use Rattle.step_all.specs.Moving.{machineIn, verdictAs}
 use Rattle.step_all.specs.declared.Verdict.the-variants.{Blocked}
-use Rattle.step_entry.specs.Entries.{standingOf, Outcome, outcomeBy}
+use Rattle.step_entry.specs.Entries.{standingOf, Outcome, outcomeBy, askedIn}
 use Rattle.step_entry.specs.declared.Stepped.the-variants.{Took}
 use Rattle.step_entry.specs.declared.Stepped.the-variants as stepped
 use Rattle.test_samples.proofs.Opened.{reads, moves, writes}
@@ -28,7 +29,7 @@ both (suc n) (x ∷ l) h k = (h .0, both n l (h .1) k)
 
 -- ---- by what the text's own tables say
 abbrev byTables : Bytes → Outcome
-byTables m = outcomeBy (stepAt (tablesText m) (initialOf (tablesText m) cleared) 0 1) (tablesText m) (initialOf (tablesText m) cleared) 0 paper
+byTables m = outcomeBy (askedIn (tablesText m) (initialOf (tablesText m) cleared) 0 1) (tablesText m) (initialOf (tablesText m) cleared) paper
 
 stored-so : (m : Bytes) (z : ℤ) → readOf m lent ≡ Accepted → byTables m .answer ≡ Took 0 → cellOf (byTables m .state) (globalAt 0) ≡ z → Stored m z
 stored-so m z a e f = (a, ap (λ (o : Outcome). o .answer) (step-asked m a) ∙ e, ap (λ (o : Outcome). cellOf (o .state) (globalAt 0)) (step-asked m a) ∙ f)
@@ -36,7 +37,7 @@ stored-so m z a e f = (a, ap (λ (o : Outcome). o .answer) (step-asked m a) ∙ 
 faulted-so : (m : Bytes) (x : Fault) → readOf m lent ≡ Accepted → byTables m .answer ≡ stepped.Fault x → Faulted m x
 faulted-so m x a e = (a, ap (λ (o : Outcome). o .answer) (step-asked m a) ∙ e)
 
-blocked-so : (m : Bytes) → readOf m lent ≡ Accepted → verdictOf (tablesText m) (initialOf (tablesText m) cleared) ≡ Blocked → Holds (blocks m)
+blocked-so : (m : Bytes) → readOf m lent ≡ Accepted → verdictAs (verdict (machineIn (tablesText m)) (initialOf (tablesText m) cleared)) ≡ Blocked → Holds (blocks m)
 blocked-so m a e = (a, verdict-asked m a ∙ ap standingOf e)
 
 -- P1 to P5

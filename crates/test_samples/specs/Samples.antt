@@ -1,3 +1,4 @@
+-- Tests: worked examples and stored cases.
 -- The sample sheet of document 01 as one list: "Sample sheet (P: prove as one list, one result for all)". Each sample has its text, what it asks and the answer that the
 -- sheet gives; that all of them hold is `samples-hold` (proofs/Sheet.antt). All is worked out from the bytes of the text, by the definitions that contracts name.
 -- Each is asked of the public entries: `read` on room for tables, `start` on room for a state, then `step` or `verdict`; refusals of `read`, normal text of `normal`.
@@ -6,16 +7,17 @@ use mathlib.Core.Path.{_≡_}
 use Prim.Native.Nat.{ℕ}
 use lib.ListN.{length, replicate}
 use lib.IntN.{ℤ, pos, negℤ}
+use Rattle.base_ceilings.specs.Ceilings.{printRoom, stateRoom, tablesRoom}
 use Rattle.base_kinds.specs.Kinds.{bytes}
 use Rattle.read_passes.specs.declared.Judged.the-variants.{Accepted, Refused}
-use Rattle.read_entry.specs.Entries.{room, readOf}
+use Rattle.read_entry.specs.Entries.{readOf}
 use Rattle.read_entry.specs.Entries.{leftOf as tablesLeft}
 use Rattle.normal_entry.specs.declared.Written.the-variants.{Text}
 use Rattle.normal_entry.specs.Entries.{answerOf, leftOf}
 use Rattle.base_values.specs.declared.Fault.{Fault}
 use Rattle.base_values.specs.declared.Fault.the-variants.{Divide, Shift}
-use Rattle.state_layout.specs.Layout.{stateSize, globalAt, cellOf}
-use Rattle.step_entry.specs.Entries.{startLeft, verdictFor, Outcome, outcomeOf, printRoom}
+use Rattle.state_layout.specs.Layout.{globalAt, cellOf}
+use Rattle.step_entry.specs.Entries.{startLeft, verdictFor, Outcome, outcomeOf}
 use Rattle.step_entry.specs.declared.Stepped.the-variants.{Took}
 use Rattle.step_entry.specs.declared.Stepped.the-variants as stepped
 use Rattle.step_entry.specs.declared.Standing.the-variants.{Blocked}
@@ -71,14 +73,14 @@ sheet =
 -- ## what each asks
 -- "tables are lent as 16,384 unsigned 32-bit numbers"
 abbrev pub lent : List ℕ
-lent = replicate room 0
+lent = replicate tablesRoom 0
 
 -- what `read` leaves there of a text, and `start` in a state's room, for these tables
 abbrev pub tables : Bytes → List ℕ
 tables m = tablesLeft m lent
 
 abbrev pub cleared : List ℤ
-cleared = replicate stateSize (pos 0)
+cleared = replicate stateRoom (pos 0)
 
 abbrev pub started : Bytes → List ℤ
 started m = startLeft (tables m) cleared

@@ -14,7 +14,7 @@ fn line(name: &[u8]) {
 fn all(t: &[u32]) {
     let mut i: usize = 0;
     while i < t.len() {
-        number(base_pens::word_at(t, i));
+        number(base_bytes::word_at(t, i));
         i += 1;
     }
 }

@@ -1,12 +1,11 @@
 -- Rows laid one after the other: a place of a row by a place of the whole; the spellings so laid are the spellings.
 use Prim.Native.Nat.{ℕ, zero, suc, _+_, _*_, _-_, _≤_, _<_}
 use mathlib.Core.Path.{_≡_, refl, sym, _∙_, ap}
-use mathlib.Core.Bool.{Bool, true, false}
-use mathlib.Core.Logic.{_⊎_, inl, inr}
+use mathlib.Core.Bool.{Bool, true}
 use mathlib.Core.List.{List, [], _∷_, _++_, map}
 use native.Mathlib.Omega.{arith}
 use native.Mathlib.Nat.{mul-suc}
-use lib.ListN.{length, getD, length-map, List·getD-append, List·getD-map, List·getD-eq-default}
+use lib.ListN.{length, getD, List·getD-append, List·getD-eq-default}
 use lib.Seq.{getD-append-add}
 use lib.Dec.{eqb, leb}
 use borrow.Author.Tests.{leb-true, eqb-true, eq-eqb}
@@ -62,11 +61,6 @@ narrow-at n (x ∷ rs) h (suc r) = narrow-at n rs (both-true (leb (length x) n) 
 
 spellings-narrow : narrow 8 (marks ++ keywords) ≡ true
 spellings-narrow = refl
-
-nothing : (n k : ℕ) → getD (padded n []) k 0 ≡ 0
-nothing zero k = refl
-nothing (suc n) zero = refl
-nothing (suc n) (suc k) = nothing n k
 
 padded-row : (n : ℕ) (rs : List (List ℕ)) (r k : ℕ) → k < n → narrow n rs ≡ true → getD (getD (map (padded n) rs) r []) k 0 ≡ getD (getD rs r []) k 0
 padded-row n [] r k h w = refl

@@ -1,9 +1,9 @@
 // Writing bytes one after the other to a lent slice that may end too soon: numbers in decimal, fixed spellings; and whether a byte would join what stands before it.
 ghost use mathlib.Core.Path.{_≡_};
-ghost use Prim.Native.Nat.{_+_, _-_, _%_, _<_, _≤_};
+ghost use Prim.Native.Nat.{_+_, _-_, _%_, _<_};
 ghost use lib.ListN.{length, getD};
 ghost use Rattle.base_pens.specs.Pen.{pen, write, puts};
-ghost use Rattle.text_pieces.specs.Bytes.{isDigit, isLetter, isWord};
+ghost use Rattle.text_pieces.specs.Bytes.{isWord};
 ghost use Rattle.spec_text.specs.Formats.{digitsBy};
 ghost use Rattle.text_pens.specs.Sheet.{sheet, sizes, spelledBy};
 ghost use Rattle.text_pens.specs.After.{joinsBy};
@@ -191,30 +191,14 @@ pub fn put_fixed(k: u8, out: &mut [u8], p: usize) -> usize
     q
 }
 
-fn is_digit(b: u8) -> bool
-    ensures { λ r. ⌜ r ≡ isDigit b ⌝ }
-{
-    match b {
-        b'0'..=b'9' => true,
-        _ => false,
-    }
-}
-
-fn is_letter(b: u8) -> bool
-    ensures { λ r. ⌜ r ≡ isLetter b ⌝ }
-{
-    match b {
-        b'A'..=b'Z' => true,
-        b'_' => true,
-        b'a'..=b'z' => true,
-        _ => false,
-    }
-}
-
 fn is_word(b: u8) -> bool
     ensures { λ r. ⌜ r ≡ isWord b ⌝ }
 {
-    if is_digit(b) { true } else { is_letter(b) }
+    if text_pieces::is_digit(b) {
+        true
+    } else {
+        text_pieces::is_letter(b)
+    }
 }
 
 // Would the byte c join a mark of kind k before it? Two bytes that are no mark together do not, but for a comment's opening.
@@ -242,5 +226,9 @@ pub fn joins(k: u8, c: u8) -> bool
     if k < 71 {
         return is_word(c);
     }
-    if k == 71 { is_digit(c) } else { false }
+    if k == 71 {
+        text_pieces::is_digit(c)
+    } else {
+        false
+    }
 }

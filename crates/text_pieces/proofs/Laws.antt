@@ -1,23 +1,20 @@
 -- The laws that the proofs of the loops and of the tables cite: one byte more of a run, a number, a comment, a string; one entry more of a table.
 use mathlib.Core.Path.{_≡_, refl, sym, ap, _∙_}
 use mathlib.Core.Bool.{Bool, true, false}
-use mathlib.Core.List.{List, [], _∷_, _++_}
-use Prim.Native.Nat.{ℕ, zero, suc, _+_, _-_, _*_, _≤_, _<_, min}
+use mathlib.Core.List.{List, [], _∷_}
+use Prim.Native.Nat.{ℕ, suc, _+_, _-_, _*_, _≤_, _<_, min}
 use native.Mathlib.Omega.{arith}
 use native.Mathlib.Numerals.{add-one}
-use borrow.Author.Tests.{eq-eqb, ne-eqb}
 use lib.Dec.{eqb}
 use lib.ListN.{length, getD, take, drop, drop-of-length-le}
 use lib.Seq.{drop-cons, take-all}
-use Rattle.base_bytes.specs.Choice.{pick, both, either}
-use Rattle.base_bytes.specs.Lists.{same}
+use Rattle.base_bytes.specs.Choice.{pick, both}
 use Rattle.text_pieces.specs.Bytes.{isBlank, isLetter, isDigit, isWord, quote, slash, star}
 use Rattle.text_pieces.specs.Spans.{inRun, span, decimalFrom, oneMore, closing, moveOf, further, moved, quoted}
-use native.Mathlib.Decide.{ℕ-discrete}
 use Rattle.text_pieces.specs.Pieces.{wordOf, numberOf, stringOf, commentOf, markOf, pieceOf}
 use Rattle.text_pieces.specs.declared.Piece.{Piece}
 use Rattle.text_pieces.specs.declared.Piece.the-variants.{Skip}
-use Rattle.base_bytes.proofs.Tests.{both-true}
+use Rattle.base_bytes.proofs.Tests.{both-true, either-no}
 use lib.ListN.{List·getD-eq-default, length-drop}
 use native.Mathlib.Decide.{decLe}
 use borrow.Author.Tests.{eqb-true}
@@ -49,10 +46,6 @@ span-le p (b ∷ s) = go (p b) (span-le p s)
     go : (t : Bool) → span p s ≤ length s → pick t (suc (span p s)) 0 ≤ suc (length s)
     go true h = omega arith
     go false h = omega arith
-
-either-no : (t : Bool) → either t false ≡ t
-either-no true = refl
-either-no false = refl
 
 -- without letters a run is of digits
 pub span-digits : (s : List ℕ) → span (inRun false) s ≡ span isDigit s

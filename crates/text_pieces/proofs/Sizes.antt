@@ -1,17 +1,18 @@
 -- A piece has at least one byte, and no more than the text.
-use mathlib.Core.Path.{_≡_, refl, sym, ap, _∙_}
+use mathlib.Core.Path.{_≡_, refl}
 use mathlib.Core.Bool.{Bool, true, false, not}
 use mathlib.Core.List.{List, [], _∷_}
 use Prim.Native.Nat.{ℕ, zero, suc, _+_, _≤_, _<_}
 use native.Mathlib.Omega.{arith}
-use borrow.Author.Tests.{eqb-true, eqb-false, not-true, ltb-true}
-use lib.Dec.{T, eqb, ltb}
-use lib.ListN.{length, getD, take, drop, length-drop}
-use Rattle.base_bytes.specs.Choice.{pick, both, either}
+use borrow.Author.Tests.{eqb-true, eqb-false, not-true}
+use lib.Dec.{eqb, ltb}
+use lib.ListN.{length, getD, take, drop}
+use Rattle.base_ceilings.specs.Ceilings.{numberMost, stringMost, wordMost}
+use Rattle.base_bytes.specs.Choice.{pick, both}
 use Rattle.base_bytes.specs.Lists.{same}
-use Rattle.base_bytes.proofs.Tests.{both-true, both-no}
-use Rattle.base_kinds.specs.Kinds.{marks, number-kind}
-use Rattle.text_spellings.specs.Find.{find, wordKind}
+use Rattle.base_bytes.proofs.Tests.{both-true, both-no, right-holds}
+use Rattle.base_kinds.specs.Kinds.{marks}
+use Rattle.text_spellings.specs.Find.{find}
 use Rattle.text_pieces.specs.Bytes.{isBlank, isLetter, isDigit, isWord, quote, slash, star}
 use Rattle.text_pieces.specs.Spans.{span, decimal, closing, quoted}
 use Rattle.text_pieces.specs.Pieces.{wordOf, numberOf, stringOf, commentOf, markOf, pieceOf}
@@ -37,15 +38,11 @@ pub by-test : {A : Type 0} (P : A → Type 0) (t : Bool) {x y : A} → (t ≡ tr
 by-test P true f g = f refl
 by-test P false f g = g refl
 
-letter-word : (a b : Bool) → b ≡ true → either a b ≡ true
-letter-word true b e = refl
-letter-word false b e = e
-
 word-sized : (s : List ℕ) (n m : ℕ) → 0 < n → n ≤ m → Sized m (wordOf s n)
-word-sized s n m h k = by-test (Sized m) (ltb 32 n) (λ e. (h, k)) (λ e. (h, k))
+word-sized s n m h k = by-test (Sized m) (ltb wordMost n) (λ e. (h, k)) (λ e. (h, k))
 
 number-sized : (s : List ℕ) (n m : ℕ) → 0 < n → n ≤ m → Sized m (numberOf s n)
-number-sized s n m h k = by-test (Sized m) (ltb 2147483647 (decimal (take n s))) (λ e. (h, k)) (λ e. (h, k))
+number-sized s n m h k = by-test (Sized m) (ltb numberMost (decimal (take n s))) (λ e. (h, k)) (λ e. (h, k))
 
 -- a run whose first byte passes has a byte
 span-some : (p : ℕ → Bool) (b : ℕ) (s : List ℕ) → p b ≡ true → 0 < span p (b ∷ s)
@@ -55,7 +52,7 @@ span-some p b s e = rw e (omega arith)
 string-sized : (s : List ℕ) (x : Quoted) → x ≡ quoted false s → Sized (suc (length s)) (stringOf x (length s))
 string-sized s (Closed n) e =
     let h = string-within (Closed n) s n e refl in
-    by-test (Sized (suc (length s))) (ltb 65 n) (λ _. (omega arith, omega arith)) (λ _. (omega arith, omega arith))
+    by-test (Sized (suc (length s))) (ltb (stringMost + 1) n) (λ _. (omega arith, omega arith)) (λ _. (omega arith, omega arith))
 string-sized s (Spoiled n) e = let h = spoiled-within (Spoiled n) s n e refl in (omega arith, omega arith)
 string-sized s Unclosed e = (omega arith, omega arith)
 
@@ -105,7 +102,7 @@ unfolding pieceOf
 piece-sized b s =
     let P = Sized (suc (length s)) in
     by-test P (isBlank b) (λ _. (omega arith, omega arith))
-    (λ _. by-test P (isLetter b) (λ e. word-sized (b ∷ s) (span isWord (b ∷ s)) (suc (length s)) (span-some isWord b s (letter-word (isDigit b) (isLetter b) e)) (span-le isWord (b ∷ s)))
+    (λ _. by-test P (isLetter b) (λ e. word-sized (b ∷ s) (span isWord (b ∷ s)) (suc (length s)) (span-some isWord b s (right-holds (isDigit b) (isLetter b) e)) (span-le isWord (b ∷ s)))
     (λ _. by-test P (isDigit b) (λ e. number-sized (b ∷ s) (span isDigit (b ∷ s)) (suc (length s)) (span-some isDigit b s e) (span-le isDigit (b ∷ s)))
     (λ _. by-test P (eqb b quote) (λ _. string-sized s (quoted false s) refl)
     (λ _. by-test P (both (eqb b slash) (eqb (getD s 0 0) star)) (λ e. comment-sized s (closing false (drop 1 s)) (eqb-true (getD s 0 0) star (both-true (eqb b slash) (eqb (getD s 0 0) star) e .1)) refl)

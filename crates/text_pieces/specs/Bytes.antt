@@ -1,3 +1,4 @@
+-- Mechanism, held to the specification by `front-sound` (crate `text_spacing_proof`).
 -- The classes of bytes: document 01, "The edition we read", Bytes.
 use mathlib.Core.Bool.{Bool}
 use Prim.Native.Nat.{ℕ}

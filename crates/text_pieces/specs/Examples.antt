@@ -1,3 +1,4 @@
+-- Mechanism, held to the specification by `front-sound` (crate `text_spacing_proof`).
 -- Pieces of small texts, each side of every boundary that fits a line.
 use mathlib.Core.Path.{_≡_, refl}
 use mathlib.Core.List.{List, [], _∷_, _++_}

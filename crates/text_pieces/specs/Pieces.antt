@@ -1,3 +1,4 @@
+-- Mechanism, held to the specification by `front-sound` (crate `text_spacing_proof`).
 -- One piece at the front of a text: a blank or a comment to skip, a token to take, or a refusal.
 -- Document 01, "The edition we read", Bytes and Keywords; "Ceilings"; rows 1 and 2 of "What is answered".
 use mathlib.Core.Bool.{Bool}
@@ -5,11 +6,11 @@ use mathlib.Core.List.{List, [], _∷_}
 use Prim.Native.Nat.{ℕ, _+_, _-_}
 use lib.Dec.{eqb, ltb}
 use lib.ListN.{length, getD, take, drop}
+use Rattle.base_ceilings.specs.Ceilings.{numberMost, stringMost, wordMost}
 use Rattle.base_bytes.specs.Choice.{pick, both}
 use Rattle.base_kinds.specs.Kinds.{marks, number-kind, string-kind}
 use Rattle.text_spellings.specs.Find.{find, wordKind}
 use Rattle.text_pieces.specs.Bytes.{isBlank, isLetter, isDigit, isWord, quote, slash, star}
-use Rattle.text_pieces.specs.Ceilings.{word-most, string-most, number-most}
 use Rattle.text_pieces.specs.Spans.{span, decimal, closing, quoted}
 use Rattle.text_pieces.specs.declared.Piece.{Piece}
 use Rattle.text_pieces.specs.declared.Piece.the-variants.{Skip, Take, Stop}
@@ -20,15 +21,15 @@ use Rattle.text_pieces.specs.declared.Quoted.the-variants.{Closed, Spoil
 
 -- "Words start with a letter or `_`, then letters, digits, `_`"; "word 32 bytes"
 abbrev pub wordOf : List ℕ → ℕ → Piece
-wordOf s n = pick (ltb word-most n) (Stop 2 n) (Take (wordKind (take n s)) n)
+wordOf s n = pick (ltb wordMost n) (Stop 2 n) (Take (wordKind (take n s)) n)
 
 -- "Numbers are decimal digits"; "number 2,147,483,647", by value
 abbrev pub numberOf : List ℕ → ℕ → Piece
-numberOf s n = pick (ltb number-most (decimal (take n s))) (Stop 2 n) (Take number-kind n)
+numberOf s n = pick (ltb numberMost (decimal (take n s))) (Stop 2 n) (Take number-kind n)
 
 -- "Strings stand between `"`"; "string 64 bytes between quotes". s begins behind the opening quote, and m bytes of it are left
 abbrev pub stringOf : Quoted → ℕ → Piece
-stringOf (Closed n) m = pick (ltb (string-most + 1) n) (Stop 2 (n + 1)) (Take string-kind (n + 1))
+stringOf (Closed n) m = pick (ltb (stringMost + 1) n) (Stop 2 (n + 1)) (Take string-kind (n + 1))
 stringOf (Spoiled n) m = Stop 1 (n + 1)
 stringOf Unclosed m = Stop 1 (m + 1)
 

@@ -1,3 +1,4 @@
+-- Mechanism, held to the specification by `front-sound` (crate `text_spacing_proof`).
 -- How far a word, a number, a string or a comment reaches: document 01, "The edition we read", Bytes.
 use mathlib.Core.Bool.{Bool, true, false}
 use mathlib.Core.List.{List, [], _∷_}

@@ -1,13 +1,12 @@
 // One piece at the front of a text: what is skipped, a token, or a refusal (document 01, "Bytes", "Keywords", "Marks").
 ghost use mathlib.Core.Path.{_≡_};
 ghost use mathlib.Core.Bool.{false};
-ghost use mathlib.Core.List.{[], _∷_};
 ghost use Prim.Native.Nat.{_+_, _-_, _≤_, min};
-ghost use lib.ListN.{length, take, drop};
+ghost use lib.ListN.{length};
+ghost use Rattle.base_ceilings.specs.Ceilings.{numberMost};
 ghost use Rattle.text_pieces.specs.Bytes.{isBlank, isLetter, isDigit, isPlain, isEscape, slash, star};
 ghost use Rattle.base_bytes.specs.Choice.{both};
 ghost use lib.Dec.{eqb};
-ghost use Rattle.text_pieces.specs.Ceilings.{number-most};
 ghost use Rattle.text_pieces.specs.Spans.{inRun, span, decimal, closing, moveOf, quoted};
 ghost use Rattle.text_pieces.specs.Pieces.{wordOf, numberOf, stringOf, commentOf, markOf, pieceOf};
 
@@ -42,12 +41,8 @@ pub enum Move {
     Bad,
 }
 
-// The most that a word, a string between its quotes, and a number may have.
-const WORD_MOST: usize = 32;
-
-const STRING_MOST: usize = 64;
-
-const NUMBER_MOST: u64 = 2147483647;
+// The most that a number may be.
+const NUMBER_MOST: u64 = base_ceilings::NUMBER_MOST as u64;
 
 fn is_blank(b: u8) -> bool
     ensures { λ r. ⌜ r ≡ isBlank b ⌝ }
@@ -61,7 +56,7 @@ fn is_blank(b: u8) -> bool
     }
 }
 
-fn is_digit(b: u8) -> bool
+pub fn is_digit(b: u8) -> bool
     ensures { λ r. ⌜ r ≡ isDigit b ⌝ }
 {
     match b {
@@ -70,7 +65,7 @@ fn is_digit(b: u8) -> bool
     }
 }
 
-fn is_letter(b: u8) -> bool
+pub fn is_letter(b: u8) -> bool
     ensures { λ r. ⌜ r ≡ isLetter b ⌝ }
 {
     match b {
@@ -154,7 +149,7 @@ fn lesser(a: u64, b: u64) -> u64
 
 // The number that these digits write; every number past the most counts as one past it.
 pub fn value(s: &[u8]) -> u64
-    ensures { λ r. ⌜ r ≡ min (number-most + 1) (decimal (now (s .entry))) ⌝ }
+    ensures { λ r. ⌜ r ≡ min (numberMost + 1) (decimal (now (s .entry))) ⌝ }
 {
     let mut v: u64 = 0;
     let mut i: usize = 0;
@@ -170,7 +165,7 @@ fn word(s: &[u8], n: usize) -> Piece
     requires { ⌜ n ≤ length (now s) ⌝ }
     ensures { λ r. ⌜ r ≡ wordOf (now (s .entry)) n ⌝ }
 {
-    if WORD_MOST < n {
+    if base_ceilings::WORD_MOST < n {
         return Piece::Stop(2, n);
     }
     let k = text_spellings::keyword(&s[..n]);
@@ -243,7 +238,7 @@ fn string(s: &[u8]) -> Piece
     let q = quoted_from(s);
     match q {
         Quoted::Closed(n) => {
-            if STRING_MOST + 1 < n {
+            if base_ceilings::STRING_MOST + 1 < n {
                 return Piece::Stop(2, n + 1);
             }
             Piece::Take(base_kinds::STRING, n + 1)

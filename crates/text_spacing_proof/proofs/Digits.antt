@@ -1,23 +1,22 @@
 -- The decimal digits of a number write that number, and no other digits of it are fewer.
-use mathlib.Core.Path.{_≡_, refl, sym, ap, _∙_}
+use mathlib.Core.Path.{_≡_, refl}
 use mathlib.Core.Bool.{Bool, true, false}
 use mathlib.Core.List.{List, [], _∷_, _++_}
 use Prim.Native.Nat.{ℕ, zero, suc, _+_, _-_, _*_, _/_, _%_, _^_, _≤_, _<_}
 use native.Mathlib.Omega.{arith}
 use native.Mathlib.Nat.{pow-suc, pow-succ', mul-assoc, mul-le-mul-right, le-trans}
 use borrow.Author.Tests.{ltb-true, ltb-false, le-leb}
-use lib.Dec.{ltb, leb}
+use lib.Dec.{ltb}
 use lib.ListN.{length, length-append}
-use Rattle.base_bytes.specs.Choice.{pick, both}
+use Rattle.base_ceilings.specs.Ceilings.{numberMost}
 use Rattle.base_bytes.proofs.Tests.{both-true}
 use Rattle.text_pieces.specs.Bytes.{isDigit}
-use Rattle.text_pieces.specs.Ceilings.{number-most}
 use Rattle.text_pieces.specs.Spans.{decimalFrom, decimal}
 use Rattle.text_spacing_proof.specs.Spelled.{all, Spelled, digits}
 use Rattle.spec_text.specs.Formats.{digitsBy, digitsOf}
 use Rattle.text_spacing_proof.proofs.Classes.{digit-range}
 
-digit-of : (n : ℕ) → n < 10 → isDigit (48 + n) ≡ true
+pub digit-of : (n : ℕ) → n < 10 → isDigit (48 + n) ≡ true
 digit-of n h = rw (le-leb 48 (48 + n) (omega arith), le-leb (48 + n) 57 (omega arith))
 
 decimal-last : (v c : ℕ) (x : List ℕ) → decimalFrom v (x ++ c ∷ []) ≡ decimalFrom v x * 10 + (c - 48)
@@ -77,18 +76,18 @@ by-digits (suc f) n h = go (ltb n 10) refl (by-digits f (n / 10))
           few = λ k a _. rw (e, length-append (digitsBy f (n / 10)) ((48 + n % 10) ∷ [])) (fewer k a q (length (digitsBy f (n / 10))) (z .few));
         }
 
-ten : (n : ℕ) → n ≤ number-most → Digits 10 n
+ten : (n : ℕ) → n ≤ numberMost → Digits 10 n
 ten n h = by-digits 10 n (omega arith)
 
-pub digits-write : (n : ℕ) → n ≤ number-most → decimal (digitsOf n) ≡ n
+pub digits-write : (n : ℕ) → n ≤ numberMost → decimal (digitsOf n) ≡ n
 digits-write n h = ten n h .write
 
-number-spelled : (x : List ℕ) → all isDigit x ≡ true → 0 < length x → decimal x ≤ number-most → Spelled 71 x
+number-spelled : (x : List ℕ) → all isDigit x ≡ true → 0 < length x → decimal x ≤ numberMost → Spelled 71 x
 unfolding all
 number-spelled [] a l h = absurd (omega arith)
 number-spelled (b ∷ x) a l h = let (u, v) = both-true (isDigit b) (all isDigit x) a in digits u v h
 
-pub digits-spelled : (n : ℕ) → n ≤ number-most → Spelled 71 (digitsOf n)
+pub digits-spelled : (n : ℕ) → n ≤ numberMost → Spelled 71 (digitsOf n)
 digits-spelled n h = number-spelled (digitsOf n) (ten n h .are) (ten n h .some (omega arith)) (rw (digits-write n h) h)
 
 -- digits hold less than 10 to their count
@@ -102,7 +101,7 @@ decimal-below (b ∷ x) v a =
     rw (pow-succ' 10 (length x), ← mul-assoc (suc v) 10 (10 ^ length x))
     (le-trans (decimal-below x (v * 10 + (b - 48)) w) (mul-le-mul-right (10 ^ length x) q))
 
-pub digits-fewest : (x : List ℕ) → all isDigit x ≡ true → 0 < length x → decimal x ≤ number-most → length (digitsOf (decimal x)) ≤ length x
+pub digits-fewest : (x : List ℕ) → all isDigit x ≡ true → 0 < length x → decimal x ≤ numberMost → length (digitsOf (decimal x)) ≤ length x
 digits-fewest x a l h = ten (decimal x) h .few (length x) (below x a) l
   where
     below : (x : List ℕ) → all isDigit x ≡ true → decimal x < 10 ^ length x

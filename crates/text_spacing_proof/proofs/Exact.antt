@@ -9,6 +9,7 @@ use borrow.Author.Tests.{ltb-false, le-ltb}
 use lib.Dec.{ltb}
 use lib.ListN.{length, getD, take, drop, length-append}
 use lib.Seq.{drop-at}
+use Rattle.base_ceilings.specs.Ceilings.{textMost, tokensMost}
 use Rattle.base_bytes.specs.Choice.{pick}
 use Rattle.text_pieces.specs.Bytes.{isBlank, slash, star}
 use Rattle.text_pieces.specs.Spans.{closing}
@@ -149,12 +150,12 @@ read-laid (suc f) i left (b ∷ t) ps h e = go (pieceOf (b ∷ t)) refl (piece-s
         least (suc left) e = taken left k n (front-sound b t k n q) (z .0) (ap (before (placed k i n)) (sym (behind i left n b t (z .0))) ∙ e) r
 
 -- THE TOKENS OF A TEXT: those of its layout, within the ceilings, and no others
-pub reading-exact : (t : List ℕ) (ps : List Placed) → (reading t ≡ tokens ps) ↔ (Laid 0 t ps × (length t ≤ 8192) × (length ps ≤ 2048))
-reading-exact t ps = (to (ltb 8192 (length t)) refl, from)
+pub reading-exact : (t : List ℕ) (ps : List Placed) → (reading t ≡ tokens ps) ↔ (Laid 0 t ps × (length t ≤ textMost) × (length ps ≤ tokensMost))
+reading-exact t ps = (to (ltb textMost (length t)) refl, from)
   where
-    to : (b : Bool) → ltb 8192 (length t) ≡ b → pick b (refused 2 0 0) (readFrom 0 2048 0 t) ≡ tokens ps → Laid 0 t ps × (length t ≤ 8192) × (length ps ≤ 2048)
+    to : (b : Bool) → ltb textMost (length t) ≡ b → pick b (refused 2 0 0) (readFrom 0 tokensMost 0 t) ≡ tokens ps → Laid 0 t ps × (length t ≤ textMost) × (length ps ≤ tokensMost)
     to true h e = no-tokens e
-    to false h e = let z = read-laid (length t) 0 2048 t ps (omega arith) e in (z .laid, ltb-false 8192 (length t) h, z .count)
+    to false h e = let z = read-laid (length t) 0 tokensMost t ps (omega arith) e in (z .laid, ltb-false textMost (length t) h, z .count)
 
-    from : Laid 0 t ps × (length t ≤ 8192) × (length ps ≤ 2048) → reading t ≡ tokens ps
-    from (L, h, k) = rw (le-ltb 8192 (length t) h) (laid-read L 2048 k)
+    from : Laid 0 t ps × (length t ≤ textMost) × (length ps ≤ tokensMost) → reading t ≡ tokens ps
+    from (L, h, k) = rw (le-ltb textMost (length t) h) (laid-read L tokensMost k)

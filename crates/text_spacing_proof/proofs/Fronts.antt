@@ -8,13 +8,13 @@ use borrow.Author.Tests.{lt-ltb, le-ltb, ltb-true, ltb-false, eq-eqb, ne-eqb, eq
 use lib.Dec.{eqb, ltb}
 use lib.ListN.{length, getD, take, drop, length-append, take-append-drop}
 use lib.Seq.{take-append-seam, length-take-le}
+use Rattle.base_ceilings.specs.Ceilings.{numberMost, stringMost, wordMost}
 use Rattle.base_bytes.specs.Choice.{pick, both, either}
 use Rattle.base_bytes.specs.Lists.{same}
 use Rattle.base_bytes.proofs.Tests.{both-true, either-true, either-false, true-false}
 use Rattle.base_kinds.specs.Kinds.{marks, number-kind, string-kind}
 use Rattle.text_spellings.specs.Find.{find, wordKind}
 use Rattle.text_pieces.specs.Bytes.{isBlank, isLetter, isDigit, isWord, quote, slash, star}
-use Rattle.text_pieces.specs.Ceilings.{number-most}
 use Rattle.text_pieces.specs.Spans.{span, decimal, closing, quoted}
 use Rattle.text_pieces.specs.Pieces.{wordOf, numberOf, stringOf, commentOf, markOf, pieceOf}
 use Rattle.text_pieces.specs.declared.Piece.{Piece}
@@ -108,12 +108,12 @@ pub front-taken : {k : ℕ} {x : List ℕ} (rest : List ℕ) → Spelled k x →
 unfolding pieceOf
 front-taken rest (word {b = b} {s = s} l a h) j =
     let n : span isWord (b ∷ s ++ rest) ≡ length (b ∷ s) = span-whole isWord (b ∷ s) rest (first-word b s l a) (sym (joins-word (b ∷ s) (b ∷ s) (getD rest 0 0)) ∙ j) in
-    rw (letter-blank b l, l, n, le-ltb 32 (suc (length s)) h, take-append-seam s rest)
+    rw (letter-blank b l, l, n, le-ltb wordMost (suc (length s)) h, take-append-seam s rest)
 front-taken rest (digits {b = b} {s = s} d a h) j =
     let n : span isDigit (b ∷ s ++ rest) ≡ length (b ∷ s) = span-whole isDigit (b ∷ s) rest (first-digit b s d a) j in
-    rw (digit-blank b d, digit-letter b d, d, n, take-append-seam s rest, le-ltb 2147483647 (decimal (b ∷ s)) h)
+    rw (digit-blank b d, digit-letter b d, d, n, take-append-seam s rest, le-ltb numberMost (decimal (b ∷ s)) h)
 front-taken rest (string {s = s} b h) j =
-    rw (append-assoc s (quote ∷ []) rest, quoted-whole rest b, le-ltb 65 (length s + 1) (omega arith))
+    rw (append-assoc s (quote ∷ []) rest, quoted-whole rest b, le-ltb (stringMost + 1) (length s + 1) (omega arith))
     (ap (Take string-kind) (omega (arith, length-append s (quote ∷ []))))
 front-taken rest (mark {k = k} {x = x} e) j = mark-front x rest k (mark-passes x k e) e (sym (joins-mark k x (getD rest 0 0) e) ∙ j)
 
@@ -148,9 +148,9 @@ word-taken b s k n l e = go (split-run isWord b s (first l))
         last false = refl
 
     go : (m : ℕ) × (span isWord (b ∷ s) ≡ suc m) × (take (suc m) (b ∷ s) ≡ b ∷ take m s) × (all isWord (take m s) ≡ true) × (m ≤ length s) → Taken (b ∷ s) k n
-    go (m, u, v, a, h) = by-test (λ (p : Piece). p ≡ Take k n → Taken (b ∷ s) k n) (ltb 32 (suc m)) (λ _ q. not-stopped q) taken (rw u at e)
+    go (m, u, v, a, h) = by-test (λ (p : Piece). p ≡ Take k n → Taken (b ∷ s) k n) (ltb wordMost (suc m)) (λ _ q. not-stopped q) taken (rw u at e)
       where
-        taken : ltb 32 (suc m) ≡ false → Take (wordKind (b ∷ take m s)) (suc m) ≡ Take k n → Taken (b ∷ s) k n
+        taken : ltb wordMost (suc m) ≡ false → Take (wordKind (b ∷ take m s)) (suc m) ≡ Take k n → Taken (b ∷ s) k n
         taken f q =
             let kk : wordKind (b ∷ take m s) ≡ k = cc in
             let nn : suc m ≡ n = cc in
@@ -161,7 +161,7 @@ word-taken b s k n l e = go (split-run isWord b s (first l))
               rest = drop m s;
               whole = ap (b ∷_) (sym (take-append-drop m s));
               size = ap suc sz ∙ nn;
-              spelled = word {b = b} {s = take m s} l a (omega (arith, ltb-false 32 (suc m) f));
+              spelled = word {b = b} {s = take m s} l a (omega (arith, ltb-false wordMost (suc m) f));
               longest = joins-word (b ∷ take m s) (b ∷ take m s) (getD (drop m s) 0 0) ∙ (rw u at (span-stops isWord refl (b ∷ s)));
             })
 
@@ -169,9 +169,9 @@ number-taken : (b : ℕ) (s : List ℕ) (k n : ℕ) → isDigit b ≡ true → n
 number-taken b s k n d e = go (split-run isDigit b s d)
   where
     go : (m : ℕ) × (span isDigit (b ∷ s) ≡ suc m) × (take (suc m) (b ∷ s) ≡ b ∷ take m s) × (all isDigit (take m s) ≡ true) × (m ≤ length s) → Taken (b ∷ s) k n
-    go (m, u, v, a, h) = by-test (λ (p : Piece). p ≡ Take k n → Taken (b ∷ s) k n) (ltb 2147483647 (decimal (b ∷ take m s))) (λ _ q. not-stopped q) taken (rw u at e)
+    go (m, u, v, a, h) = by-test (λ (p : Piece). p ≡ Take k n → Taken (b ∷ s) k n) (ltb numberMost (decimal (b ∷ take m s))) (λ _ q. not-stopped q) taken (rw u at e)
       where
-        taken : ltb 2147483647 (decimal (b ∷ take m s)) ≡ false → Take number-kind (suc m) ≡ Take k n → Taken (b ∷ s) k n
+        taken : ltb numberMost (decimal (b ∷ take m s)) ≡ false → Take number-kind (suc m) ≡ Take k n → Taken (b ∷ s) k n
         taken f q =
             let kk : number-kind ≡ k = cc in
             let nn : suc m ≡ n = cc in
@@ -182,14 +182,14 @@ number-taken b s k n d e = go (split-run isDigit b s d)
               rest = drop m s;
               whole = ap (b ∷_) (sym (take-append-drop m s));
               size = ap suc sz ∙ nn;
-              spelled = digits d a (ltb-false 2147483647 (decimal (b ∷ take m s)) f);
+              spelled = digits d a (ltb-false numberMost (decimal (b ∷ take m s)) f);
               longest = rw u at (span-stops isDigit refl (b ∷ s));
             })
 
 string-taken : (s : List ℕ) (k n : ℕ) (y : Quoted) → quoted false s ≡ y → stringOf y (length s) ≡ Take k n → Taken (quote ∷ s) k n
-string-taken s k n (Closed m) g e = by-test (λ (p : Piece). p ≡ Take k n → Taken (quote ∷ s) k n) (ltb 65 m) (λ _ q. not-stopped q) taken e
+string-taken s k n (Closed m) g e = by-test (λ (p : Piece). p ≡ Take k n → Taken (quote ∷ s) k n) (ltb (stringMost + 1) m) (λ _ q. not-stopped q) taken e
   where
-    taken : ltb 65 m ≡ false → Take string-kind (m + 1) ≡ Take k n → Taken (quote ∷ s) k n
+    taken : ltb (stringMost + 1) m ≡ false → Take string-kind (m + 1) ≡ Take k n → Taken (quote ∷ s) k n
     taken f q =
         let kk : string-kind ≡ k = cc in
         let nn : m + 1 ≡ n = cc in
@@ -200,7 +200,7 @@ string-taken s k n (Closed m) g e = by-test (λ (p : Piece). p ≡ Take k n → 
           rest = z .rest;
           whole = ap (quote ∷_) (z .whole ∙ sym (append-assoc (z .inside) (quote ∷ []) (z .rest)));
           size = omega (arith, length-append (z .inside) (quote ∷ []), z .size);
-          spelled = string (z .between) (omega (arith, ltb-false 65 m f, z .size));
+          spelled = string (z .between) (omega (arith, ltb-false (stringMost + 1) m f, z .size));
           longest = refl;
         })
 string-taken s k n (Spoiled m) g e = not-stopped e
@@ -289,7 +289,7 @@ not-passed : {X : Type 0} {i m n : ℕ} → Stop i m ≡ Skip n → X
 not-passed e = absurd (let z : _≡_ {A = ℕ} 0 1 = cc in omega arith)
 
 no-string : {X : Type 0} (y : Quoted) (m n : ℕ) → stringOf y m ≡ Skip n → X
-no-string {X} (Closed i) m n e = by-test (λ (p : Piece). p ≡ Skip n → X) (ltb 65 i) (λ _ q. not-passed q) (λ _ q. not-skipped q) e
+no-string {X} (Closed i) m n e = by-test (λ (p : Piece). p ≡ Skip n → X) (ltb (stringMost + 1) i) (λ _ q. not-passed q) (λ _ q. not-skipped q) e
 no-string (Spoiled i) m n e = not-passed e
 no-string Unclosed m n e = not-passed e
 
@@ -315,8 +315,8 @@ unfolding pieceOf
 skip-sound b s n =
     let P : Piece → Type 0 = λ p. p ≡ Skip n → Skipped (b ∷ s) n in
     by-test P (isBlank b) (λ h e. record { g = b ∷ []; rest = s; whole = refl; size = cc; gap = λ _ G. blank h G })
-    (λ _. by-test P (isLetter b) (λ _. by-test P (ltb 32 (span isWord (b ∷ s))) (λ _ e. not-passed e) (λ _ e. not-skipped e))
-    (λ _. by-test P (isDigit b) (λ _. by-test P (ltb 2147483647 (decimal (take (span isDigit (b ∷ s)) (b ∷ s)))) (λ _ e. not-passed e) (λ _ e. not-skipped e))
+    (λ _. by-test P (isLetter b) (λ _. by-test P (ltb wordMost (span isWord (b ∷ s))) (λ _ e. not-passed e) (λ _ e. not-skipped e))
+    (λ _. by-test P (isDigit b) (λ _. by-test P (ltb numberMost (decimal (take (span isDigit (b ∷ s)) (b ∷ s)))) (λ _ e. not-passed e) (λ _ e. not-skipped e))
     (λ _. by-test P (eqb b quote) (λ _. no-string (quoted false s) (length s) n)
     (λ _. by-test P (both (eqb b slash) (eqb (getD s 0 0) star))
     (λ c. let (u, v) = both-true (eqb b slash) (eqb (getD s 0 0) star) c in starred b s n (eqb-true b slash u) (eqb-true (getD s 0 0) star v))

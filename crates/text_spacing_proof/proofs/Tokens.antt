@@ -16,7 +16,6 @@ use Rattle.base_kinds.specs.Kinds.{marks, keywords, Token, sym as symbol, name,
 use Rattle.text_spellings.specs.Find.{find, keywordOf, wordKind}
 use Rattle.text_spellings.proofs.Laws.{two-one}
 use Rattle.text_pieces.specs.Bytes.{isDigit, isLetter, isWord, quote, slash, star}
-use Rattle.text_pieces.specs.Ceilings.{number-most}
 use Rattle.text_pieces.specs.Spans.{decimal}
 use Rattle.text_spacing_proof.specs.Spelled.{all, Spelled, word, digits, string, mark, markJoins, joins}
 use Rattle.text_spacing_proof.specs.Writing.{spell, tokenOf, Sound}

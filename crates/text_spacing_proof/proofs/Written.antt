@@ -1,11 +1,12 @@
 -- THE ONE-SPACE RULE: tokens written with a space exactly where two would read otherwise read back, each such space is needed, and no text of those tokens is shorter.
-use mathlib.Core.Path.{_≡_, refl, sym, ap, _∙_, subst}
+use mathlib.Core.Path.{_≡_, refl, sym, ap, _∙_}
 use mathlib.Core.Bool.{Bool, true, false}
-use mathlib.Core.List.{List, [], _∷_, _++_, append-assoc, append-nil}
+use mathlib.Core.List.{List, [], _∷_, _++_, append-assoc}
 use Prim.Native.Nat.{ℕ, zero, suc, _+_, _-_, _≤_, _<_}
 use native.Mathlib.Omega.{arith}
 use lib.ListN.{length, getD, take, drop, length-append, List·getD-append}
 use lib.Seq.{drop-at, take-at}
+use Rattle.base_ceilings.specs.Ceilings.{textMost, tokensMost}
 use Rattle.base_bytes.specs.Choice.{pick}
 use Rattle.base_bytes.proofs.Tests.{true-false}
 use Rattle.base_kinds.specs.Kinds.{Token, kindOf}
@@ -15,9 +16,9 @@ use Rattle.text_tokens.specs.Reading.{Placed, placed, tokens, reading}
 use Rattle.text_spacing_proof.specs.Spelled.{Spelled, joins}
 use Rattle.text_spacing_proof.specs.Layout.{Gap, none, blank, Laid, ends, token, Ordered}
 use Rattle.text_spacing_proof.specs.Writing.{spell, tokenOf, partOf, tokenIn, tokensIn, Sound, AllSound, apart, writeBehind, write, Spaced}
-use Rattle.text_spacing_proof.proofs.Fronts.{Taken, front-sound, spelled-some}
+use Rattle.text_spacing_proof.proofs.Fronts.{front-sound, spelled-some}
 use Rattle.text_spacing_proof.proofs.Exact.{reading-exact}
-use Rattle.text_spacing_proof.proofs.Tokens.{joins-space, joins-end, Kept, kept, sound-spelled, token-back}
+use Rattle.text_spacing_proof.proofs.Tokens.{joins-space, joins-end, kept, sound-spelled, token-back}
 
 -- ---- tokens do not overlap
 laid-ordered : {i : ℕ} {t : List ℕ} {ps : List Placed} → Laid i t ps → Ordered i (i + length t) ps
@@ -83,7 +84,7 @@ head-of : (x s : List ℕ) → 0 < length x → getD (x ++ s) 0 0 ≡ getD x 0 0
 head-of x s h = List·getD-append x s 0 0 h
 
 -- a gap of at most one space
-abbrev spaceIf : Bool → List ℕ
+abbrev pub spaceIf : Bool → List ℕ
 spaceIf b = pick b (32 ∷ []) []
 
 -- the space before a token is paid by the gap before it
@@ -164,7 +165,7 @@ whole-back : (ts : List Token) → AllSound ts → Back [] (write ts) ts
 whole-back [] z = record { ps = []; laid = ends none; same = refl; count = refl }
 whole-back (a ∷ ts) z = written-back [] false a ts (z .0) (z .1)
 
-pub reads-back : (ts : List Token) → AllSound ts → length (write ts) ≤ 8192 → length ts ≤ 2048 → (ps : List Placed) × (reading (write ts) ≡ tokens ps) × (tokensIn (write ts) ps ≡ ts)
+pub reads-back : (ts : List Token) → AllSound ts → length (write ts) ≤ textMost → length ts ≤ tokensMost → (ps : List Placed) × (reading (write ts) ≡ tokens ps) × (tokensIn (write ts) ps ≡ ts)
 reads-back ts z h k =
     let r = whole-back ts z in
     (r .ps, reading-exact (write ts) (r .ps) .1 (r .laid, h, omega (arith, r .count)), r .same)

@@ -5,12 +5,12 @@ use mathlib.Core.List.{List, [], _∷_, _++_}
 use Prim.Native.Nat.{ℕ, suc, _≤_}
 use lib.Dec.{eqb, ltb}
 use lib.ListN.{length}
+use Rattle.base_ceilings.specs.Ceilings.{numberMost, stringMost, wordMost}
 use Rattle.base_bytes.specs.Choice.{pick, both, either}
 use Rattle.base_bytes.specs.Lists.{same}
 use Rattle.base_kinds.specs.Kinds.{marks, number-kind, string-kind}
 use Rattle.text_spellings.specs.Find.{find, wordKind}
 use Rattle.text_pieces.specs.Bytes.{isLetter, isDigit, isWord, isPlain, isEscape, quote, backslash, slash, star}
-use Rattle.text_pieces.specs.Ceilings.{word-most, string-most, number-most}
 use Rattle.text_pieces.specs.Spans.{decimal}
 
 unfoldable pub all : (ℕ → Bool) → List ℕ → Bool
@@ -25,9 +25,9 @@ pub data Between : List ℕ → Type 0 where
 
 -- the bytes x are a token of kind k, within the ceilings
 pub data Spelled : ℕ → List ℕ → Type 0 where
-  word : {b : ℕ} {s : List ℕ} → isLetter b ≡ true → all isWord s ≡ true → length (b ∷ s) ≤ word-most → Spelled (wordKind (b ∷ s)) (b ∷ s)
-  digits : {b : ℕ} {s : List ℕ} → isDigit b ≡ true → all isDigit s ≡ true → decimal (b ∷ s) ≤ number-most → Spelled number-kind (b ∷ s)
-  string : {s : List ℕ} → Between s → length s ≤ string-most → Spelled string-kind (quote ∷ s ++ quote ∷ [])
+  word : {b : ℕ} {s : List ℕ} → isLetter b ≡ true → all isWord s ≡ true → length (b ∷ s) ≤ wordMost → Spelled (wordKind (b ∷ s)) (b ∷ s)
+  digits : {b : ℕ} {s : List ℕ} → isDigit b ≡ true → all isDigit s ≡ true → decimal (b ∷ s) ≤ numberMost → Spelled number-kind (b ∷ s)
+  string : {s : List ℕ} → Between s → length s ≤ stringMost → Spelled string-kind (quote ∷ s ++ quote ∷ [])
   mark : {k : ℕ} {x : List ℕ} → find x marks 1 ≡ suc k → Spelled (suc k) x
 
 -- a mark and a byte behind it are another mark, or open a comment

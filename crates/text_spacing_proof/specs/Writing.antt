@@ -6,11 +6,11 @@ use mathlib.Core.List.{List, [], _∷_, _++_, map}
 use Prim.Native.Nat.{ℕ, zero, suc, _+_, _-_, _/_, _%_, _≤_, _<_}
 use lib.Dec.{eqb, ltb}
 use lib.ListN.{length, getD, take, drop}
+use Rattle.base_ceilings.specs.Ceilings.{numberMost}
 use Rattle.base_bytes.specs.Choice.{pick}
 use Rattle.spec_text.specs.Formats.{digitsOf}
 use Rattle.base_kinds.specs.Kinds.{marks, keywords, Token, sym, name, number, text, kindOf, name-kind, number-kind, string-kind}
 use Rattle.text_pieces.specs.Bytes.{quote}
-use Rattle.text_pieces.specs.Ceilings.{number-most}
 use Rattle.text_pieces.specs.Spans.{decimal}
 use Rattle.text_tokens.specs.Reading.{Placed}
 use Rattle.text_spacing_proof.specs.Spelled.{Spelled, joins}
@@ -41,7 +41,7 @@ tokensIn t ps = map (tokenIn t) ps
 abbrev pub Sound : Token → Type 0
 Sound (sym k) = Spelled k (spell (sym k))
 Sound (name w) = Spelled name-kind w
-Sound (number n) = n ≤ number-most
+Sound (number n) = n ≤ numberMost
 Sound (text w) = Spelled string-kind (spell (text w))
 
 abbrev pub AllSound : List Token → Type 0

@@ -5,6 +5,7 @@ use Prim.Native.Nat.{ℕ, _≤_, _<_, min}
 use native.Mathlib.Omega.{arith}
 use borrow.Author.Tests.{le-leb, lt-leb, lt-ltb, le-ltb}
 use lib.ListN.{length, take, drop}
+use Rattle.base_ceilings.specs.Ceilings.{textMost, tokensMost}
 use Rattle.base_bytes.specs.Lists.{pasted}
 use Rattle.text_tokens.specs.Reading.{Placed, Reading, tokens, refused, readFrom, reading}
 use Rattle.text_tokens.specs.Answers.{answerOf, left-in, lexing, Answered}
@@ -23,36 +24,36 @@ pasted-front f ps n xs ys h k e q =
     rw (m, q)
 
 module _ (t ks ss es : List ℕ) where
-  pub no-kinds : length ks < 2048 → Answered (lexing t ks ss es) (Refused 7 0 0) ks ks ss ss es es
-  no-kinds h = unchanged (lexing t ks ss es) 7 0 0 ks ss es (rw (lt-leb 2048 (length ks) h))
+  pub no-kinds : length ks < tokensMost → Answered (lexing t ks ss es) (Refused 7 0 0) ks ks ss ss es es
+  no-kinds h = unchanged (lexing t ks ss es) 7 0 0 ks ss es (rw (lt-leb tokensMost (length ks) h))
 
-  pub no-starts : 2048 ≤ length ks → length ss < 2048 → Answered (lexing t ks ss es) (Refused 7 0 0) ks ks ss ss es es
-  no-starts a h = unchanged (lexing t ks ss es) 7 0 0 ks ss es (rw (le-leb 2048 (length ks) a, lt-leb 2048 (length ss) h))
+  pub no-starts : tokensMost ≤ length ks → length ss < tokensMost → Answered (lexing t ks ss es) (Refused 7 0 0) ks ks ss ss es es
+  no-starts a h = unchanged (lexing t ks ss es) 7 0 0 ks ss es (rw (le-leb tokensMost (length ks) a, lt-leb tokensMost (length ss) h))
 
-  pub no-ends : 2048 ≤ length ks → 2048 ≤ length ss → length es < 2048 → Answered (lexing t ks ss es) (Refused 7 0 0) ks ks ss ss es es
-  no-ends a b h = unchanged (lexing t ks ss es) 7 0 0 ks ss es (rw (le-leb 2048 (length ks) a, le-leb 2048 (length ss) b, lt-leb 2048 (length es) h))
+  pub no-ends : tokensMost ≤ length ks → tokensMost ≤ length ss → length es < tokensMost → Answered (lexing t ks ss es) (Refused 7 0 0) ks ks ss ss es es
+  no-ends a b h = unchanged (lexing t ks ss es) 7 0 0 ks ss es (rw (le-leb tokensMost (length ks) a, le-leb tokensMost (length ss) b, lt-leb tokensMost (length es) h))
 
-  module _ (a : 2048 ≤ length ks) (b : 2048 ≤ length ss) (c : 2048 ≤ length es) where
+  module _ (a : tokensMost ≤ length ks) (b : tokensMost ≤ length ss) (c : tokensMost ≤ length es) where
     roomy-reading : lexing t ks ss es ≡ reading t
-    roomy-reading = rw (le-leb 2048 (length ks) a, le-leb 2048 (length ss) b, le-leb 2048 (length es) c)
+    roomy-reading = rw (le-leb tokensMost (length ks) a, le-leb tokensMost (length ss) b, le-leb tokensMost (length es) c)
 
-    pub too-long : 8192 < length t → Answered (lexing t ks ss es) (Refused 2 0 0) ks ks ss ss es es
-    too-long h = unchanged (lexing t ks ss es) 2 0 0 ks ss es (roomy-reading ∙ rw (lt-ltb 8192 (length t) h))
+    pub too-long : textMost < length t → Answered (lexing t ks ss es) (Refused 2 0 0) ks ks ss ss es es
+    too-long h = unchanged (lexing t ks ss es) 2 0 0 ks ss es (roomy-reading ∙ rw (lt-ltb textMost (length t) h))
 
-    module _ (h : length t ≤ 8192) (r : Lexed) (k s e : List ℕ) (z : Scanned (readFrom 0 2048 0 t) r k s e) where
-      whole : lexing t ks ss es ≡ readFrom 0 2048 0 t
-      whole = roomy-reading ∙ rw (le-ltb 8192 (length t) h)
+    module _ (h : length t ≤ textMost) (r : Lexed) (k s e : List ℕ) (z : Scanned (readFrom 0 tokensMost 0 t) r k s e) where
+      whole : lexing t ks ss es ≡ readFrom 0 tokensMost 0 t
+      whole = roomy-reading ∙ rw (le-ltb textMost (length t) h)
 
       pub refused-in : (n i m : ℕ) → r ≡ Refused n i m → Answered (lexing t ks ss es) (Refused n i m) ks ks ss ss es es
-      refused-in n i m q = unchanged (lexing t ks ss es) n i m ks ss es (whole ∙ go (readFrom 0 2048 0 t) (sym (z .answer) ∙ q))
+      refused-in n i m q = unchanged (lexing t ks ss es) n i m ks ss es (whole ∙ go (readFrom 0 tokensMost 0 t) (sym (z .answer) ∙ q))
         where
           go : (x : Reading) → answerOf x ≡ Refused n i m → x ≡ refused n i m
           go (tokens ps) e = absurd (let y : _≡_ {A = ℕ} 0 1 = cc in omega arith)
           go (refused n′ i′ m′) e = cc
 
-      pub copied-out : (n : ℕ) (ks′ ss′ es′ : List ℕ) → r ≡ Tokens n → length k ≡ 2048 → length s ≡ 2048 → length e ≡ 2048 →
+      pub copied-out : (n : ℕ) (ks′ ss′ es′ : List ℕ) → r ≡ Tokens n → length k ≡ tokensMost → length s ≡ tokensMost → length e ≡ tokensMost →
           ks′ ≡ pasted n k ks → ss′ ≡ pasted n s ss → es′ ≡ pasted n e es → Answered (lexing t ks ss es) (Tokens n) ks ks′ ss ss′ es es′
-      copied-out n ks′ ss′ es′ q lk ls le pk ps pe = rw (whole, pk, ps, pe) (go (readFrom 0 2048 0 t) z)
+      copied-out n ks′ ss′ es′ q lk ls le pk ps pe = rw (whole, pk, ps, pe) (go (readFrom 0 tokensMost 0 t) z)
         where
           go : (x : Reading) → Scanned x r k s e → Answered x (Tokens n) ks (pasted n k ks) ss (pasted n s ss) es (pasted n e es)
           go (tokens ps) y =

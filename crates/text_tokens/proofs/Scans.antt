@@ -7,6 +7,7 @@ use native.Mathlib.Omega.{arith}
 use native.Mathlib.Numerals.{add-one}
 use lib.ListN.{length, getD, take, drop, set, length-append, length-set, length-map, drop-of-length-le, length-drop}
 use lib.Seq.{drop-cons, drop-drop, take-suc-set, take-all}
+use Rattle.base_ceilings.specs.Ceilings.{tokensMost}
 use Rattle.text_pieces.specs.Pieces.{pieceOf}
 use Rattle.text_pieces.specs.declared.Piece.{Piece}
 use Rattle.text_pieces.specs.declared.Piece.the-variants.{Skip, Take, Stop}
@@ -84,25 +85,25 @@ map-snoc f (q ∷ ps) p = ap (f q ∷_) (map-snoc f ps p)
 
 -- the tokens read so far, n of them, stand at the front of an array
 pub record Kept (f : Placed → ℕ) (ps : List Placed) (n : ℕ) (xs : List ℕ) : Type 0 where
-  pub room : length xs ≡ 2048
+  pub room : length xs ≡ tokensMost
   pub front : take n xs ≡ map f ps
 
-kept-more : {f : Placed → ℕ} {ps : List Placed} {n : ℕ} {xs : List ℕ} (p : Placed) → n < 2048 → Kept f ps n xs → Kept f (ps ++ (p ∷ [])) (n + 1) (set xs n (f p))
+kept-more : {f : Placed → ℕ} {ps : List Placed} {n : ℕ} {xs : List ℕ} (p : Placed) → n < tokensMost → Kept f ps n xs → Kept f (ps ++ (p ∷ [])) (n + 1) (set xs n (f p))
 kept-more {f} {ps} {n} {xs} p h k =
     record { room = length-set xs n (f p) ∙ k .room; front = rw (add-one, take-suc-set xs n (f p) (omega (arith, k .room)), k .front, map-snoc f ps p) }
 
 -- what is known at the head of the loop, at place i with n tokens read
 pub record SoFar (t ks ss es : List ℕ) (i n : ℕ) : Type 0 where
   pub ps : List Placed
-  pub whole : readFrom 0 2048 0 t ≡ befores ps (readFrom i (2048 - n) 0 (drop i t))
+  pub whole : readFrom 0 tokensMost 0 t ≡ befores ps (readFrom i (tokensMost - n) 0 (drop i t))
   pub count : length ps ≡ n
-  pub most : n ≤ 2048
+  pub most : n ≤ tokensMost
   pub place : i ≤ length t
   pub kinds : Kept Placed.kind ps n ks
   pub starts : Kept Placed.start ps n ss
   pub ends : Kept Placed.end ps n es
 
-pub at-start : (t ks ss es : List ℕ) → length ks ≡ 2048 → length ss ≡ 2048 → length es ≡ 2048 → SoFar t ks ss es 0 0
+pub at-start : (t ks ss es : List ℕ) → length ks ≡ tokensMost → length ss ≡ tokensMost → length es ≡ tokensMost → SoFar t ks ss es 0 0
 at-start t ks ss es a b c =
     record {
       ps = [];
@@ -118,7 +119,7 @@ at-start t ks ss es a b c =
 module _ {t ks ss es : List ℕ} {i n : ℕ} (z : SoFar t ks ss es i n) where
   pub past-skip : (m : ℕ) → i < length t → pieceOf (drop i t) ≡ Skip m → SoFar t ks ss es (i + m) n
   past-skip m h e =
-      let (q, _, k) = turn-skip t i (2048 - n) h m e in
+      let (q, _, k) = turn-skip t i (tokensMost - n) h m e in
       record {
         ps = z .ps;
         whole = z .whole ∙ ap (befores (z .ps)) q;
@@ -130,14 +131,14 @@ module _ {t ks ss es : List ℕ} {i n : ℕ} (z : SoFar t ks ss es i n) where
         ends = z .ends;
       }
 
-  pub past-take : (k m : ℕ) → i < length t → (n ≡ 2048 → ⊥) → pieceOf (drop i t) ≡ Take k m → SoFar t (set ks n k) (set ss n i) (set es n (i + m)) (i + m) (n + 1)
+  pub past-take : (k m : ℕ) → i < length t → (n ≡ tokensMost → ⊥) → pieceOf (drop i t) ≡ Take k m → SoFar t (set ks n k) (set ss n i) (set es n (i + m)) (i + m) (n + 1)
   past-take k m h d e =
-      let l : n < 2048 = omega (arith, z .most) in
-      let (q, _, g) = turn-take t i (2048 - (n + 1)) k m h e in
-      let s : 2048 - n ≡ suc (2048 - (n + 1)) = omega arith in
+      let l : n < tokensMost = omega (arith, z .most) in
+      let (q, _, g) = turn-take t i (tokensMost - (n + 1)) k m h e in
+      let s : tokensMost - n ≡ suc (tokensMost - (n + 1)) = omega arith in
       record {
         ps = z .ps ++ (placed k i m ∷ []);
-        whole = (rw s at (z .whole)) ∙ (ap (befores (z .ps)) q ∙ sym (befores-snoc (z .ps) (placed k i m) (readFrom (i + m) (2048 - (n + 1)) 0 (drop (i + m) t))));
+        whole = (rw s at (z .whole)) ∙ (ap (befores (z .ps)) q ∙ sym (befores-snoc (z .ps) (placed k i m) (readFrom (i + m) (tokensMost - (n + 1)) 0 (drop (i + m) t))));
         count = length-append (z .ps) (placed k i m ∷ []) ∙ ap (_+ 1) (z .count);
         most = omega arith;
         place = g;
@@ -146,23 +147,23 @@ module _ {t ks ss es : List ℕ} {i n : ℕ} (z : SoFar t ks ss es i n) where
         ends = kept-more (placed k i m) l (z .ends);
       }
 
-  refused-at : (x j m : ℕ) → readFrom i (2048 - n) 0 (drop i t) ≡ refused x j m → Scanned (readFrom 0 2048 0 t) (Refused x j m) ks ss es
+  refused-at : (x j m : ℕ) → readFrom i (tokensMost - n) 0 (drop i t) ≡ refused x j m → Scanned (readFrom 0 tokensMost 0 t) (Refused x j m) ks ss es
   refused-at x j m e =
       rw (z .whole ∙ ap (befores (z .ps)) e ∙ befores-refused (z .ps) x j m)
       (record { answer = refl; room = omega arith; kinds = refl; starts = refl; ends = refl })
 
-  pub stopped : (x m : ℕ) → i < length t → pieceOf (drop i t) ≡ Stop x m → Scanned (readFrom 0 2048 0 t) (Refused x i m) ks ss es
-  stopped x m h e = refused-at x i m (turn-stop t i (2048 - n) h x m e)
+  pub stopped : (x m : ℕ) → i < length t → pieceOf (drop i t) ≡ Stop x m → Scanned (readFrom 0 tokensMost 0 t) (Refused x i m) ks ss es
+  stopped x m h e = refused-at x i m (turn-stop t i (tokensMost - n) h x m e)
 
-  pub full : (k m : ℕ) → i < length t → n ≡ 2048 → pieceOf (drop i t) ≡ Take k m → Scanned (readFrom 0 2048 0 t) (Refused 2 i m) ks ss es
+  pub full : (k m : ℕ) → i < length t → n ≡ tokensMost → pieceOf (drop i t) ≡ Take k m → Scanned (readFrom 0 tokensMost 0 t) (Refused 2 i m) ks ss es
   full k m h d e =
-      let s : 2048 - n ≡ 0 = omega arith in
+      let s : tokensMost - n ≡ 0 = omega arith in
       refused-at 2 i m (rw s (turn-full t i k m h e))
 
-  pub finished : length t ≤ i → Scanned (readFrom 0 2048 0 t) (Tokens n) ks ss es
+  pub finished : length t ≤ i → Scanned (readFrom 0 tokensMost 0 t) (Tokens n) ks ss es
   unfolding readFrom
   finished h =
-      rw (z .whole ∙ ap (λ (s : List ℕ). befores (z .ps) (readFrom i (2048 - n) 0 s)) (drop-of-length-le t h) ∙ befores-end (z .ps))
+      rw (z .whole ∙ ap (λ (s : List ℕ). befores (z .ps) (readFrom i (tokensMost - n) 0 s)) (drop-of-length-le t h) ∙ befores-end (z .ps))
       (record {
         answer = ap Tokens (sym (z .count));
         room = omega (arith, z .count, z .most);

@@ -1,3 +1,4 @@
+-- Mechanism, held to the specification by `reading-exact` (crate `text_spacing_proof`).
 -- What the entry answers, and what stays behind: document 01, "What is answered, and what stays behind".
 use mathlib.Core.Path.{_≡_}
 use mathlib.Core.Bool.{Bool}
@@ -5,8 +6,8 @@ use mathlib.Core.List.{List, _++_, map}
 use Prim.Native.Nat.{ℕ}
 use lib.Dec.{leb}
 use lib.ListN.{length, drop}
+use Rattle.base_ceilings.specs.Ceilings.{tokensMost}
 use Rattle.base_bytes.specs.Choice.{pick, both}
-use Rattle.text_pieces.specs.Ceilings.{tokens-most}
 use Rattle.text_tokens.specs.Reading.{Placed, Reading, tokens, refused, reading}
 use Rattle.text_tokens.specs.declared.Lexed.{Lexed}
 use Rattle.text_tokens.specs.declared.Lexed.the-variants.{Tokens, Refused}
@@ -22,7 +23,7 @@ left-in f (tokens ps) old = map f ps ++ drop (length ps) old
 left-in f (refused x i n) old = old
 
 abbrev pub roomy : List ℕ → Bool
-roomy old = leb tokens-most (length old)
+roomy old = leb tokensMost (length old)
 
 -- refusal 7 comes first, where a lent array has no room for every token that may come
 abbrev pub lexing : List ℕ → List ℕ → List ℕ → List ℕ → Reading

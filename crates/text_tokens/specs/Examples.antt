@@ -1,3 +1,4 @@
+-- Mechanism, held to the specification by `reading-exact` (crate `text_spacing_proof`).
 -- Readings of small texts, the sample sheet's P9 among them.
 use mathlib.Core.Path.{_≡_, refl}
 use mathlib.Core.List.{List, [], _∷_, _++_}

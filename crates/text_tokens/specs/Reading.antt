@@ -1,11 +1,12 @@
+-- Mechanism, held to the specification by `reading-exact` (crate `text_spacing_proof`).
 -- The tokens of a whole text, or its refusal: document 01, "The edition we read", Bytes; "Ceilings"; rows 1 and 2 of "What is answered".
 -- The text is read from its front, piece by piece, so that the first refusal met is the one of the smallest place.
 use mathlib.Core.List.{List, [], _∷_}
 use Prim.Native.Nat.{ℕ, zero, suc, _+_, _-_}
 use lib.Dec.{ltb}
 use lib.ListN.{length}
+use Rattle.base_ceilings.specs.Ceilings.{textMost, tokensMost}
 use Rattle.base_bytes.specs.Choice.{pick}
-use Rattle.text_pieces.specs.Ceilings.{text-most, tokens-most}
 use Rattle.text_pieces.specs.Pieces.{pieceOf}
 use Rattle.text_pieces.specs.declared.Piece.{Piece}
 use Rattle.text_pieces.specs.declared.Piece.the-variants.{Skip, Take, Stop}
@@ -43,4 +44,4 @@ readFrom i left zero (b ∷ s) = follow (pieceOf (b ∷ s)) i left (λ n l. read
 
 -- the whole text; "Text 8,192 bytes", whose place is 0
 abbrev pub reading : List ℕ → Reading
-reading t = pick (ltb text-most (length t)) (refused 2 0 0) (readFrom 0 tokens-most 0 t)
+reading t = pick (ltb textMost (length t)) (refused 2 0 0) (readFrom 0 tokensMost 0 t)

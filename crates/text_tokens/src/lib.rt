@@ -2,6 +2,7 @@
 ghost use mathlib.Core.Path.{_≡_};
 ghost use Prim.Native.Nat.{_≤_};
 ghost use lib.ListN.{length};
+ghost use Rattle.base_ceilings.specs.Ceilings.{textMost, tokensMost};
 ghost use Rattle.text_tokens.specs.Reading.{readFrom};
 ghost use Rattle.text_tokens.specs.Answers.{lexing, Answered};
 ghost use Rattle.text_tokens.specs.Lines.{positionOf};
@@ -20,15 +21,10 @@ pub struct Position {
     pub column: usize,
 }
 
-// The most bytes and tokens of a text.
-const TEXT_MOST: usize = 8192;
-
-const TOKENS_MOST: usize = 2048;
-
 // The pass itself, over arrays of its caller's own that have room for every token.
 fn scan(text: &[u8], kinds: &mut [u8], starts: &mut [u32], ends: &mut [u32]) -> Lexed
-    requires { ⌜ (length (now text) ≤ 8192) × (length (now kinds) ≡ 2048) × (length (now starts) ≡ 2048) × (length (now ends) ≡ 2048) ⌝ }
-    ensures { λ r. ⌜ Scanned (readFrom 0 2048 0 (now (text .entry))) r (now (kinds .exit)) (now (starts .exit)) (now (ends .exit)) ⌝ }
+    requires { ⌜ (length (now text) ≤ textMost) × (length (now kinds) ≡ tokensMost) × (length (now starts) ≡ tokensMost) × (length (now ends) ≡ tokensMost) ⌝ }
+    ensures { λ r. ⌜ Scanned (readFrom 0 tokensMost 0 (now (text .entry))) r (now (kinds .exit)) (now (starts .exit)) (now (ends .exit)) ⌝ }
 {
     let mut i: usize = 0;
     let mut n: usize = 0;
@@ -39,7 +35,7 @@ fn scan(text: &[u8], kinds: &mut [u8], starts: &mut [u32], ends: &mut [u32]) -> 
                 i += m;
             }
             Piece::Take(k, m) => {
-                if n == TOKENS_MOST {
+                if n == base_ceilings::TOKENS_MOST {
                     return Lexed::Refused(2, i, m);
                 }
                 kinds[n] = k;
@@ -60,21 +56,21 @@ fn scan(text: &[u8], kinds: &mut [u8], starts: &mut [u32], ends: &mut [u32]) -> 
 pub fn lex(text: &[u8], kinds: &mut [u8], starts: &mut [u32], ends: &mut [u32]) -> Lexed
     ensures { λ r. ⌜ Answered (lexing (now (text .entry)) (now (kinds .entry)) (now (starts .entry)) (now (ends .entry))) r (now (kinds .entry)) (now (kinds .exit)) (now (starts .entry)) (now (starts .exit)) (now (ends .entry)) (now (ends .exit)) ⌝ }
 {
-    if kinds.len() < TOKENS_MOST {
+    if kinds.len() < base_ceilings::TOKENS_MOST {
         return Lexed::Refused(7, 0, 0);
     }
-    if starts.len() < TOKENS_MOST {
+    if starts.len() < base_ceilings::TOKENS_MOST {
         return Lexed::Refused(7, 0, 0);
     }
-    if ends.len() < TOKENS_MOST {
+    if ends.len() < base_ceilings::TOKENS_MOST {
         return Lexed::Refused(7, 0, 0);
     }
-    if TEXT_MOST < text.len() {
+    if base_ceilings::TEXT_MOST < text.len() {
         return Lexed::Refused(2, 0, 0);
     }
-    let mut k = [0u8; 2048];
-    let mut s = [0u32; 2048];
-    let mut e = [0u32; 2048];
+    let mut k = [0u8; base_ceilings::TOKENS_MOST];
+    let mut s = [0u32; base_ceilings::TOKENS_MOST];
+    let mut e = [0u32; base_ceilings::TOKENS_MOST];
     let a = scan(text, &mut k, &mut s, &mut e);
     match a {
         Lexed::Tokens(n) => {

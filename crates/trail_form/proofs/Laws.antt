@@ -1,25 +1,24 @@
 -- The laws that the proofs of single records cite.
-use mathlib.Core.Path.{_≡_, refl, sym, ap, _∙_}
+use mathlib.Core.Path.{_≡_, sym, ap, _∙_}
 use mathlib.Core.Bool.{Bool, true, false, not}
-use mathlib.Core.List.{List, [], _∷_, _++_}
+use mathlib.Core.List.{List}
 use Prim.Native.Nat.{ℕ, zero, suc, _+_, _-_, _*_, _^_, _≤_, _<_, min}
 use native.Mathlib.Omega.{arith}
 use native.Mathlib.Decide.{decLe}
 use borrow.Author.Tests.{eqb-true, leb-true, eq-eqb, ne-eqb}
 use lib.Dec.{eqb, leb}
-use lib.ListN.{length, getD, take, drop, drop-of-length-le, length-drop, List·getD-eq-default}
+use lib.ListN.{length, getD, take, drop, drop-of-length-le, List·getD-eq-default}
 use lib.Seq.{take-all}
-use Rattle.base_bytes.specs.Choice.{pick, both, either}
+use Rattle.base_bytes.specs.Choice.{both, either}
 use Rattle.base_bytes.proofs.Tests.{both-true}
 use Rattle.text_pieces.specs.Bytes.{isDigit}
 use Rattle.text_pieces.specs.Spans.{span, decimal}
-use Rattle.text_pieces.proofs.Laws.{span-le, span-stop, span-more, span-end}
+use Rattle.text_pieces.proofs.Laws.{span-le, span-stop, span-more, tail-part}
 use Rattle.text_spacing_proof.proofs.Spans.{span-all}
 use Rattle.text_spacing_proof.proofs.Digits.{decimal-below}
 use Rattle.text_spacing_proof.specs.Spelled.{all}
 use Rattle.trail_form.specs.Records.{wellFormed, isNot, field, behindField, stepOf}
 use Rattle.spec_trails.specs.Trails.{tab}
-use Rattle.trail_form.specs.declared.Record.{Record}
 use Rattle.trail_form.specs.declared.Record.the-variants.{Step, Malformed}
 
 -- ---- up to a byte
@@ -50,9 +49,6 @@ number-small x e =
     below (suc (suc (suc (suc (suc (suc n)))))) h d k = absurd (omega arith)
 
 -- ---- parts
-pub tail-part : (k : ℕ) (s : List ℕ) → take (length s - k) (drop k s) ≡ drop k s
-tail-part k s = take-all (length s - k) (drop k s) (rw (length-drop k s) (omega arith))
-
 pub drop-least : (k : ℕ) (s : List ℕ) → drop (min k (length s)) s ≡ drop k s
 drop-least k s = go (decLe k (length s))
   where

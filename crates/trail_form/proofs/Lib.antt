@@ -2,3 +2,4 @@ pub mod Laws
 pub mod Scans
 pub mod Numbers
 pub mod Written
+pub mod Exact

@@ -1,28 +1,26 @@
 -- A number's digits are a number of a trail, and a step's line is the record of that step.
-use Prim.Native.Nat.{ℕ, zero, suc, _+_, _*_, _-_, _/_, _%_, _≤_, _<_}
+use Prim.Native.Nat.{ℕ, zero, suc, _+_, _*_, _-_, _/_, _%_, _^_, _≤_, _<_}
 use mathlib.Core.Path.{_≡_, refl, sym, ap, subst, _∙_}
 use mathlib.Core.Bool.{Bool, true, false, not}
-use mathlib.Core.List.{List, [], _∷_, _++_, append-nil}
+use mathlib.Core.List.{List, [], _∷_, _++_, append-nil, append-assoc}
+use mathlib.Core.Logic.{_⊎_, inl, inr}
 use native.Mathlib.Omega.{arith}
-use borrow.Author.Tests.{ltb-true, le-leb, leb-true, eq-eqb, ne-eqb, eqb-true}
+use borrow.Author.Tests.{ltb-true, lt-ltb, le-ltb, le-leb, leb-true, eq-eqb, ne-eqb, eqb-true, eqb-false, not-true}
 use lib.Dec.{eqb, ltb, leb}
 use lib.ListN.{length, getD, take, drop, length-append}
-use lib.Seq.{take-append-seam, drop-append-add}
+use lib.Seq.{take-append-seam, drop-append-add, take-length}
 use Rattle.base_bytes.specs.Choice.{pick, both, either}
-use Rattle.base_bytes.proofs.Tests.{both-true}
+use Rattle.base_bytes.proofs.Tests.{both-true, either-true}
 use Rattle.text_pieces.specs.Bytes.{isDigit}
 use Rattle.text_pieces.specs.Spans.{span, decimal, decimalFrom}
 use Rattle.text_spacing_proof.specs.Spelled.{all}
 use Rattle.spec_text.specs.Formats.{digitsBy, digitsOf}
-use Rattle.text_spacing_proof.proofs.Digits.{digits-write, digits-fewest}
-use Rattle.text_spacing_proof.proofs.Spans.{span-whole}
-use Rattle.trail_form.specs.Records.{wellFormed, isNot, field, behindField, stepOf, recordOf}
-use Rattle.spec_trails.specs.Trails.{tab, Recorded, stepLine}
-use Rattle.trail_form.specs.declared.Record.{Record}
+use Rattle.text_spacing_proof.proofs.Classes.{digit-range}
+use Rattle.text_spacing_proof.proofs.Digits.{digits-write, digits-fewest, decimal-below, digit-of}
+use Rattle.text_spacing_proof.proofs.Spans.{span-whole, span-all}
+use Rattle.trail_form.specs.Records.{wellFormed, isNot, field, behindField, recordOf}
+use Rattle.spec_trails.specs.Trails.{tab, stepLine}
 use Rattle.trail_form.specs.declared.Record.the-variants.{Step, Malformed}
-
-digit-of : (n : ℕ) → n < 10 → isDigit (48 + n) ≡ true
-digit-of n h = rw (le-leb 48 (48 + n) (omega arith), le-leb (48 + n) 57 (omega arith))
 
 -- ---- what all bytes of a list are
 pub all-append : (p : ℕ → Bool) (x y : List ℕ) → all p x ≡ true → all p y ≡ true → all p (x ++ y) ≡ true
@@ -107,8 +105,71 @@ module _ (n : ℕ) (h : n < 100000) where
           last true = refl
           last false = refl
 
-  pub digits-formed : wellFormed (digitsOf n) ≡ true
+  digits-formed : wellFormed (digitsOf n) ≡ true
   digits-formed = rw (eq-eqb (span isDigit (digitsOf n)) (length (digitsOf n)) all-spanned, le-leb 1 (length (digitsOf n)) (digits-some 9 n), le-leb (length (digitsOf n)) 5 digits-few, first-fine)
+
+-- ---- and a number of a trail is its digits
+-- one digit more
+digit-on : (f v d : ℕ) → 1 ≤ v → d < 10 → digitsBy (suc f) (v * 10 + d) ≡ digitsBy f v ++ (48 + d) ∷ []
+unfolding digitsBy
+digit-on f v d h k =
+    let q : (v * 10 + d) / 10 ≡ v = omega arith in
+    let r : (v * 10 + d) % 10 ≡ d = omega arith in
+    rw (le-ltb (v * 10 + d) 10 (omega arith), q, r)
+
+one-digit : (f d : ℕ) → d < 10 → digitsBy (suc f) d ≡ (48 + d) ∷ []
+unfolding digitsBy
+one-digit f d h = rw (lt-ltb d 10 h)
+
+-- digits behind a number that is written as x
+digits-on : (y x : List ℕ) (f g v : ℕ) → all isDigit y ≡ true → 1 ≤ v → digitsBy f v ≡ x → f + length y ≡ g → digitsBy g (decimalFrom v y) ≡ x ++ y
+unfolding all decimalFrom
+digits-on [] x f g v a h e l = let z : g ≡ f = omega arith in rw z (e ∙ sym (append-nil x))
+digits-on (b ∷ y) x f g v a h e l =
+    let (p, q) = both-true (isDigit b) (all isDigit y) a in
+    let (lo, hi) = digit-range b p in
+    let c : 48 + (b - 48) ≡ b = omega arith in
+    digits-on y (x ++ b ∷ []) (suc f) g (v * 10 + (b - 48)) q (omega arith) (digit-on f v (b - 48) h (omega arith) ∙ rw (e, c)) (omega arith) ∙ append-assoc x (b ∷ []) y
+
+digits-are : (x : List ℕ) → all isDigit x ≡ true → 1 ≤ length x → length x ≤ 5 → (length x ≡ 1) ⊎ (getD x 0 0 ≡ 48 → ⊥) → digitsOf (decimal x) ≡ x
+unfolding all decimalFrom
+digits-are [] a h k z = absurd (omega arith)
+digits-are (b ∷ []) a h k z =
+    let (p, q) = both-true (isDigit b) true a in
+    let (lo, hi) = digit-range b p in
+    let c : 48 + (0 * 10 + (b - 48)) ≡ b = omega arith in
+    one-digit 9 (0 * 10 + (b - 48)) (omega arith) ∙ rw c
+digits-are (b ∷ c ∷ y) a h k (inl z) = absurd (omega arith)
+digits-are (b ∷ c ∷ y) a h k (inr z) =
+    let (p, q) = both-true (isDigit b) (all isDigit (c ∷ y)) a in
+    let (lo, hi) = digit-range b p in
+    let d : 48 + (0 * 10 + (b - 48)) ≡ b = omega arith in
+    let n : b ≡ 48 → ⊥ = z in
+    digits-on (c ∷ y) (b ∷ []) (suc (9 - length (c ∷ y))) 10 (0 * 10 + (b - 48)) q (omega (arith, n)) (one-digit (9 - length (c ∷ y)) (0 * 10 + (b - 48)) (omega arith) ∙ rw d) (omega arith)
+
+five-places : (n : ℕ) → n ≤ 5 → 10 ^ n ≤ 100000
+five-places zero h = omega arith
+five-places (suc zero) h = omega arith
+five-places (suc (suc zero)) h = omega arith
+five-places (suc (suc (suc zero))) h = omega arith
+five-places (suc (suc (suc (suc zero)))) h = omega arith
+five-places (suc (suc (suc (suc (suc zero))))) h = omega arith
+five-places (suc (suc (suc (suc (suc (suc n)))))) h = absurd (omega arith)
+
+pub formed-written : (x : List ℕ) → wellFormed x ≡ true → (x ≡ digitsOf (decimal x)) × (decimal x < 100000)
+formed-written x e =
+    let (p, q) = both-true (eqb (span isDigit x) (length x)) (both (both (leb 1 (length x)) (leb (length x) 5)) (either (eqb (length x) 1) (not (eqb (getD x 0 0) 48)))) e in
+    let (r, z) = both-true (both (leb 1 (length x)) (leb (length x) 5)) (either (eqb (length x) 1) (not (eqb (getD x 0 0) 48))) q in
+    let (lo, hi) = both-true (leb 1 (length x)) (leb (length x) 5) r in
+    let a : all isDigit x ≡ true = subst (λ (y : List ℕ). all isDigit y ≡ true) (ap (λ (n : ℕ). take n x) (eqb-true (span isDigit x) (length x) p) ∙ take-length x) (span-all isDigit x) in
+    let l = leb-true (length x) 5 hi in (
+      sym (digits-are x a (leb-true 1 (length x) lo) l (first (either-true (eqb (length x) 1) (not (eqb (getD x 0 0) 48)) z))),
+      omega (arith, decimal-below x 0 a, five-places (length x) l),
+    )
+  where
+    first : (eqb (length x) 1 ≡ true) ⊎ (not (eqb (getD x 0 0) 48) ≡ true) → (length x ≡ 1) ⊎ (getD x 0 0 ≡ 48 → ⊥)
+    first (inl u) = inl (eqb-true (length x) 1 u)
+    first (inr u) = inr (eqb-false (getD x 0 0) 48 (not-true (eqb (getD x 0 0) 48) u))
 
 -- ---- the record of a step's line
 module _ (p k : ℕ) (hp : p < 100000) (hk : k < 100000) where

@@ -1,22 +1,20 @@
 -- The laws that the pass over a whole trail cites: what has been read so far, and one line more.
 use mathlib.Core.Path.{_≡_, refl, sym, ap, _∙_}
-use mathlib.Core.Bool.{Bool, true, false}
 use mathlib.Core.List.{List, [], _∷_, _++_}
 use Prim.Native.Nat.{ℕ, zero, suc, _+_, _-_, _≤_, _<_}
 use native.Mathlib.Omega.{arith}
-use borrow.Author.Tests.{lt-ltb, le-ltb, eq-eqb, ne-eqb}
+use borrow.Author.Tests.{lt-ltb, le-ltb, ne-eqb}
 use lib.Dec.{ltb}
 use lib.ListN.{length, getD, take, drop, length-append, length-drop, drop-of-length-le}
-use lib.Seq.{drop-cons, drop-drop, take-all}
+use lib.Seq.{drop-cons, drop-drop}
+use Rattle.base_ceilings.specs.Ceilings.{stepsMost, trailMost}
 use Rattle.base_bytes.specs.Choice.{pick}
-use Rattle.text_pieces.proofs.Laws.{span-le}
-use Rattle.trail_form.proofs.Laws.{tail-part}
+use Rattle.text_pieces.proofs.Laws.{span-le, tail-part}
 use Rattle.trail_form.specs.Records.{isNot, recordOf}
 use Rattle.spec_trails.specs.Trails.{line-end, Recorded}
 use Rattle.trail_form.specs.Forms.{Form, form, spoiled, before, lineOf, follow, formFrom, formOf, answerOf}
 use Rattle.trail_form.specs.declared.Record.{Record}
 use Rattle.trail_form.specs.declared.Record.the-variants.{Step, Claim, Malformed}
-use Rattle.trail_form.specs.declared.Formed.{Formed}
 use Rattle.trail_form.specs.declared.Formed.the-variants.{Well, Spoiled}
 
 -- the bytes of a line are passed one by one, or all at once
@@ -46,9 +44,9 @@ befores-end (b ∷ done) v = ap (before b) (befores-end done v)
 -- what is known at the head of the loop: at a place, on a line, with so many steps read
 pub record SoFar (t : List ℕ) (at line n : ℕ) : Type 0 where
   pub steps : List Recorded
-  pub whole : formFrom 1 2048 0 t ≡ befores steps (formFrom line (2048 - n) 0 (drop at t))
+  pub whole : formFrom 1 stepsMost 0 t ≡ befores steps (formFrom line (stepsMost - n) 0 (drop at t))
   pub count : length steps ≡ n
-  pub most : n ≤ 2048
+  pub most : n ≤ stepsMost
   pub place : at ≤ length t
   pub lines : line ≡ n + 1
 
@@ -56,10 +54,10 @@ pub at-start : (t : List ℕ) → SoFar t 0 1 0
 at-start t = record { steps = []; whole = refl; count = refl; most = omega arith; place = omega arith; lines = refl }
 
 module _ {t : List ℕ} {at line n : ℕ} (z : SoFar t at line n) where
-  pub spoiled-at : (x l : ℕ) → formFrom line (2048 - n) 0 (drop at t) ≡ spoiled x l → Spoiled x l ≡ answerOf (formFrom 1 2048 0 t)
+  pub spoiled-at : (x l : ℕ) → formFrom line (stepsMost - n) 0 (drop at t) ≡ spoiled x l → Spoiled x l ≡ answerOf (formFrom 1 stepsMost 0 t)
   spoiled-at x l e = sym (ap answerOf (z .whole ∙ (ap (befores (z .steps)) e ∙ befores-spoiled (z .steps) x l)))
 
-  pub no-line : length t ≤ at → Spoiled 10 line ≡ answerOf (formFrom 1 2048 0 t)
+  pub no-line : length t ≤ at → Spoiled 10 line ≡ answerOf (formFrom 1 stepsMost 0 t)
   unfolding formFrom
   no-line h = spoiled-at 10 line (rw (drop-of-length-le t h))
 
@@ -73,47 +71,47 @@ module _ {t : List ℕ} {at line n : ℕ} (z : SoFar t at line n) where
     pub within : at + m ≤ length t
     within = omega (arith, span-le (isNot line-end) (drop at t), left-over)
 
-    whole-line : formFrom line (2048 - n) 0 (drop at t) ≡
-        pick (ltb m (length t - at)) (follow (recordOf (take m (drop at t))) line (2048 - n) (length t - at - (m + 1)) (λ l. formFrom (line + 1) l m (drop (suc at) t))) (spoiled 10 line)
+    whole-line : formFrom line (stepsMost - n) 0 (drop at t) ≡
+        pick (ltb m (length t - at)) (follow (recordOf (take m (drop at t))) line (stepsMost - n) (length t - at - (m + 1)) (λ l. formFrom (line + 1) l m (drop (suc at) t))) (spoiled 10 line)
     unfolding formFrom
     whole-line = rw (em, ← left-over) (rw here)
 
-    pub unended : at + m ≡ length t → Spoiled 10 line ≡ answerOf (formFrom 1 2048 0 t)
+    pub unended : at + m ≡ length t → Spoiled 10 line ≡ answerOf (formFrom 1 stepsMost 0 t)
     unended e = spoiled-at 10 line (whole-line ∙ rw (le-ltb m (length t - at) (omega arith)))
 
     module _ (d : at + m ≡ length t → ⊥) (r : Record) (er : r ≡ recordOf (take (at + m - at) (drop at t))) where
-      lined : formFrom line (2048 - n) 0 (drop at t) ≡ follow r line (2048 - n) (length t - at - (m + 1)) (λ l. formFrom (line + 1) l m (drop (suc at) t))
+      lined : formFrom line (stepsMost - n) 0 (drop at t) ≡ follow r line (stepsMost - n) (length t - at - (m + 1)) (λ l. formFrom (line + 1) l m (drop (suc at) t))
       lined =
           let q : at + m - at ≡ m = omega arith in
           whole-line ∙ rw (lt-ltb m (length t - at) (omega (arith, within)), ← q, ← er)
 
-      pub malformed : r ≡ Malformed → Spoiled 10 line ≡ answerOf (formFrom 1 2048 0 t)
+      pub malformed : r ≡ Malformed → Spoiled 10 line ≡ answerOf (formFrom 1 stepsMost 0 t)
       malformed e = spoiled-at 10 line (lined ∙ rw e)
 
-      pub claimed : (v : ℕ) → r ≡ Claim v → at + m + 1 ≡ length t → Well n v ≡ answerOf (formFrom 1 2048 0 t)
+      pub claimed : (v : ℕ) → r ≡ Claim v → at + m + 1 ≡ length t → Well n v ≡ answerOf (formFrom 1 stepsMost 0 t)
       claimed v e q =
           let f : length t - at - (m + 1) ≡ 0 = omega arith in
           sym (ap answerOf (z .whole ∙ (ap (befores (z .steps)) (lined ∙ rw (e, f)) ∙ befores-end (z .steps) v)) ∙ ap (λ (k : ℕ). Well k v) (z .count))
 
-      pub more-behind : (v : ℕ) → r ≡ Claim v → (at + m + 1 ≡ length t → ⊥) → Spoiled 10 (line + 1) ≡ answerOf (formFrom 1 2048 0 t)
+      pub more-behind : (v : ℕ) → r ≡ Claim v → (at + m + 1 ≡ length t → ⊥) → Spoiled 10 (line + 1) ≡ answerOf (formFrom 1 stepsMost 0 t)
       more-behind v e q = spoiled-at 10 (line + 1) (lined ∙ rw (e, ne-eqb (length t - at - (m + 1)) 0 (λ f. q (omega (arith, within)))))
 
-      pub too-many : (p k : ℕ) → r ≡ Step p k → n ≡ 2048 → Spoiled 2 line ≡ answerOf (formFrom 1 2048 0 t)
+      pub too-many : (p k : ℕ) → r ≡ Step p k → n ≡ stepsMost → Spoiled 2 line ≡ answerOf (formFrom 1 stepsMost 0 t)
       too-many p k e q =
-          let f : 2048 - n ≡ 0 = omega arith in
+          let f : stepsMost - n ≡ 0 = omega arith in
           spoiled-at 2 line (lined ∙ rw (e, f))
 
-      pub one-more : (p k : ℕ) → r ≡ Step p k → (n ≡ 2048 → ⊥) → SoFar t (at + m + 1) (line + 1) (n + 1)
+      pub one-more : (p k : ℕ) → r ≡ Step p k → (n ≡ stepsMost → ⊥) → SoFar t (at + m + 1) (line + 1) (n + 1)
       one-more p k e q =
-          let f : 2048 - n ≡ suc (2048 - (n + 1)) = omega (arith, z .most) in
+          let f : stepsMost - n ≡ suc (stepsMost - (n + 1)) = omega (arith, z .most) in
           let a : Recorded = record { process = p; choice = k } in
           let i : suc at + m ≡ at + m + 1 = omega arith in
           let s : drop m (drop (suc at) t) ≡ drop (at + m + 1) t = drop-drop m (suc at) t ∙ ap (λ (j : ℕ). drop j t) i in
-          let g : formFrom line (2048 - n) 0 (drop at t) ≡ before a (formFrom (line + 1) (2048 - (n + 1)) 0 (drop (at + m + 1) t)) =
-          lined ∙ rw (e, f) (ap (before a) (pass (line + 1) (2048 - (n + 1)) m (drop (suc at) t) ∙ ap (formFrom (line + 1) (2048 - (n + 1)) 0) s)) in
+          let g : formFrom line (stepsMost - n) 0 (drop at t) ≡ before a (formFrom (line + 1) (stepsMost - (n + 1)) 0 (drop (at + m + 1) t)) =
+          lined ∙ rw (e, f) (ap (before a) (pass (line + 1) (stepsMost - (n + 1)) m (drop (suc at) t) ∙ ap (formFrom (line + 1) (stepsMost - (n + 1)) 0) s)) in
           record {
             steps = z .steps ++ (a ∷ []);
-            whole = z .whole ∙ (ap (befores (z .steps)) g ∙ sym (befores-snoc (z .steps) a (formFrom (line + 1) (2048 - (n + 1)) 0 (drop (at + m + 1) t))));
+            whole = z .whole ∙ (ap (befores (z .steps)) g ∙ sym (befores-snoc (z .steps) a (formFrom (line + 1) (stepsMost - (n + 1)) 0 (drop (at + m + 1) t))));
             count = length-append (z .steps) (a ∷ []) ∙ ap (_+ 1) (z .count);
             most = omega (arith, z .most);
             place = omega (arith, within);
@@ -121,11 +119,11 @@ module _ {t : List ℕ} {at line n : ℕ} (z : SoFar t at line n) where
           }
 
 -- a text within its ceiling
-pub in-room : (t : List ℕ) → length t ≤ 32768 → answerOf (formFrom 1 2048 0 t) ≡ answerOf (formOf t)
-in-room t h = rw (le-ltb 32768 (length t) h)
+pub in-room : (t : List ℕ) → length t ≤ trailMost → answerOf (formFrom 1 stepsMost 0 t) ≡ answerOf (formOf t)
+in-room t h = rw (le-ltb trailMost (length t) h)
 
-pub no-room : (t : List ℕ) → 32768 < length t → Spoiled 2 0 ≡ answerOf (formOf t)
-no-room t h = rw (lt-ltb 32768 (length t) h)
+pub no-room : (t : List ℕ) → trailMost < length t → Spoiled 2 0 ≡ answerOf (formOf t)
+no-room t h = rw (lt-ltb trailMost (length t) h)
 
 -- the length of a line that a call gave
 pub line-is : (t : List ℕ) (at m : ℕ) → m ≡ lineOf (take (length t - at) (drop at t)) → m ≡ lineOf (drop at t)

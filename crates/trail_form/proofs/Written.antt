@@ -1,22 +1,22 @@
 -- A TRAIL THAT IS WRITTEN HAS ITS FORM: what is written of records and a claim is read back as these (`trail-formed`).
 use Prim.Native.Nat.{ℕ, zero, suc, _+_, _*_, _-_, _≤_, _<_}
-use mathlib.Core.Path.{_≡_, refl, sym, ap, _∙_}
-use mathlib.Core.Bool.{Bool, true, false}
+use mathlib.Core.Path.{_≡_, refl, ap, _∙_}
+use mathlib.Core.Bool.{Bool, true}
 use mathlib.Core.List.{List, [], _∷_, _++_}
 use native.Mathlib.Omega.{arith}
 use borrow.Author.Tests.{lt-ltb, le-ltb}
-use lib.Dec.{eqb, ltb}
+use lib.Dec.{ltb}
 use lib.ListN.{length, getD, take, drop, length-append}
 use lib.Seq.{take-append-seam, drop-append-add}
+use Rattle.base_ceilings.specs.Ceilings.{stepsMost, trailMost}
 use Rattle.base_bytes.specs.Choice.{pick}
 use Rattle.base_bytes.specs.Lists as lists
 use Rattle.text_spellings.specs.Find.{find}
-use Rattle.text_pieces.specs.Spans.{span}
 use Rattle.text_spacing_proof.specs.Spelled.{all}
 use Rattle.spec_text.specs.Formats.{digitsOf}
 use Rattle.text_spacing_proof.proofs.Spans.{span-whole}
 use Rattle.trail_form.specs.Records.{isNot, recordOf}
-use Rattle.spec_trails.specs.Trails.{tab, line-end, verdicts, Recorded, trail-most, steps-most, stepLine, claimLine, trailOf, Small, none, one-more}
+use Rattle.spec_trails.specs.Trails.{tab, line-end, verdicts, Recorded, stepLine, claimLine, trailOf, Small, none, one-more}
 use Rattle.trail_form.specs.Forms.{Form, form, spoiled, before, lineOf, follow, formFrom, formOf}
 use Rattle.trail_form.specs.declared.Record.{Record}
 use Rattle.trail_form.specs.declared.Record.the-variants.{Step, Claim, Malformed}
@@ -54,15 +54,37 @@ module _ (b : ℕ) (x rest : List ℕ) (plain : all (isNot line-end) (b ∷ x) �
       rw (em, en, lt-ltb (suc (length x)) (suc (length x) + suc (length rest)) (omega arith), z, t)
       (follow-same (recordOf (b ∷ x)) line left (length rest) (λ l. formFrom (line + 1) l (suc (length x)) (x ++ line-end ∷ rest)) (λ l. formFrom (line + 1) l 0 rest) (λ l. behind-line (line + 1) l))
 
-  pub lined : (line left : ℕ) → formFrom line left 0 (b ∷ (x ++ line-end ∷ rest)) ≡ follow (recordOf (b ∷ x)) line left (length rest) (λ l. formFrom (line + 1) l 0 rest)
+  lined : (line left : ℕ) → formFrom line left 0 (b ∷ (x ++ line-end ∷ rest)) ≡ follow (recordOf (b ∷ x)) line left (length rest) (λ l. formFrom (line + 1) l 0 rest)
   unfolding formFrom
   lined line left = by-length line left (lineOf (b ∷ (x ++ line-end ∷ rest))) (length (b ∷ (x ++ line-end ∷ rest))) line-length whole-length
 
+-- ---- the first line of a step's and what follows
+step-plain : (a : Recorded) → all (isNot line-end) (stepLine a) ≡ true
+unfolding all
+step-plain a =
+    all-append (isNot line-end) (digitsOf (a .process)) (tab ∷ digitsOf (a .choice)) (all-not line-end (omega arith) (digitsOf (a .process)) (digits-all 10 (a .process)))
+    (all-not line-end (omega arith) (digitsOf (a .choice)) (digits-all 10 (a .choice)))
+
+pub record First (a : Recorded) (rest x : List ℕ) : Type 0 where
+  pub ended : lineOf x < length x
+  pub here : recordOf (take (lineOf x) x) ≡ Step (a .process) (a .choice)
+  pub others : drop (lineOf x + 1) x ≡ rest
+
+pub first-line : (a : Recorded) (rest : List ℕ) → a .process < 100000 → a .choice < 100000 → First a rest (stepLine a ++ line-end ∷ rest)
+first-line a rest hp hk =
+    let y = tab ∷ (digitsOf (a .process) ++ tab ∷ digitsOf (a .choice)) in
+    let n = line-length 83 y rest (step-plain a) in
+    record {
+      ended = omega (arith, n, whole-length 83 y rest (step-plain a));
+      here = ap (λ (m : ℕ). recordOf (take m (stepLine a ++ line-end ∷ rest))) n ∙ (ap recordOf (take-append-seam (stepLine a) (line-end ∷ rest)) ∙ line-read (a .process) (a .choice) hp hk);
+      others = ap (λ (m : ℕ). drop (m + 1) (stepLine a ++ line-end ∷ rest)) n ∙ drop-append-add (stepLine a) (line-end ∷ rest) 1;
+    }
+
 -- ---- the claim
-pub record Claimed (v : ℕ) : Type 0 where
-  pub read : recordOf (claimLine v) ≡ Claim v
-  pub plain : all (isNot line-end) (claimLine v) ≡ true
-  pub short : length (claimLine v) ≤ 10
+record Claimed (v : ℕ) : Type 0 where
+  read : recordOf (claimLine v) ≡ Claim v
+  plain : all (isNot line-end) (claimLine v) ≡ true
+  short : length (claimLine v) ≤ 10
 
 assert-claimed : Claimed 1
 unfolding find lists.same all
@@ -84,13 +106,7 @@ claim-claimed fault = fault-claimed
 claim-claimed (standing d) = standing-claimed d
 
 -- ---- the whole trail
-step-plain : (a : Recorded) → all (isNot line-end) (stepLine a) ≡ true
-unfolding all
-step-plain a =
-    all-append (isNot line-end) (digitsOf (a .process)) (tab ∷ digitsOf (a .choice)) (all-not line-end (omega arith) (digitsOf (a .process)) (digits-all 10 (a .process)))
-    (all-not line-end (omega arith) (digitsOf (a .choice)) (digits-all 10 (a .choice)))
-
-pub form-written : (steps : List Recorded) (v line left : ℕ) → Claimed v → Small steps → length steps ≤ left → formFrom line left 0 (trailOf steps v) ≡ form steps v
+form-written : (steps : List Recorded) (v line left : ℕ) → Claimed v → Small steps → length steps ≤ left → formFrom line left 0 (trailOf steps v) ≡ form steps v
 unfolding trailOf
 form-written _ v line left c none h = lined 86 (tab ∷ getD verdicts (v - 1) []) [] (c .plain) line left ∙ ap (λ (r : Record). follow r line left 0 (λ l. formFrom (line + 1) l 0 [])) (c .read)
 form-written _ v line zero c (one-more a more hp hk rest) h = absurd (omega arith)
@@ -108,10 +124,10 @@ trail-short _ v c none = omega (arith, length-append (claimLine v) (line-end ∷
 trail-short _ v c (one-more a more hp hk rest) = omega (arith, length-append (stepLine a) (line-end ∷ trailOf more v), step-short a hp hk, trail-short more v c rest)
 
 -- every list of at most 2,048 steps with numbers of at most five digits, and every claim, written as a trail, is within its ceiling and has its form
-pub trail-formed : (steps : List Recorded) (c : claims.Claim) → Small steps → length steps ≤ steps-most
-    → (length (trailOf steps (claimed c)) ≤ trail-most) × (formOf (trailOf steps (claimed c)) ≡ form steps (claimed c))
+pub trail-formed : (steps : List Recorded) (c : claims.Claim) → Small steps → length steps ≤ stepsMost
+    → (length (trailOf steps (claimed c)) ≤ trailMost) × (formOf (trailOf steps (claimed c)) ≡ form steps (claimed c))
 trail-formed steps c small few =
     let v = claimed c in
     let w : Claimed v = claim-claimed c in
-    let l : length (trailOf steps v) ≤ trail-most = omega (arith, trail-short steps v w small) in
-    (l, ap (λ (b : Bool). pick b (spoiled 2 0) (formFrom 1 2048 0 (trailOf steps v))) (le-ltb trail-most (length (trailOf steps v)) l) ∙ form-written steps v 1 2048 w small few)
+    let l : length (trailOf steps v) ≤ trailMost = omega (arith, trail-short steps v w small) in
+    (l, ap (λ (b : Bool). pick b (spoiled 2 0) (formFrom 1 stepsMost 0 (trailOf steps v))) (le-ltb trailMost (length (trailOf steps v)) l) ∙ form-written steps v 1 stepsMost w small few)

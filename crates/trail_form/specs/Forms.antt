@@ -1,3 +1,4 @@
+-- Mechanism, held to the specification by `demand2` (crate `demands`).
 -- The form of a whole trail: document 01, "Trail lines", "Ceilings" ("Trail 32,768 bytes and 2,048 steps") and the order of replay's refusals
 -- ("length, .. form (10, or 2 at the first well-formed step record past 2,048, the smaller line first)").
 use mathlib.Core.Bool.{Bool}
@@ -5,8 +6,9 @@ use mathlib.Core.List.{List, [], _∷_}
 use Prim.Native.Nat.{ℕ, zero, suc, _+_, _-_}
 use lib.Dec.{eqb, ltb}
 use lib.ListN.{length, take, drop}
+use Rattle.base_ceilings.specs.Ceilings.{stepsMost, trailMost}
 use Rattle.base_bytes.specs.Choice.{pick}
-use Rattle.spec_trails.specs.Trails.{Recorded, line-end, trail-most, steps-most}
+use Rattle.spec_trails.specs.Trails.{Recorded, line-end}
 use Rattle.text_pieces.specs.Spans.{span}
 use Rattle.trail_form.specs.Records.{isNot, recordOf}
 use Rattle.trail_form.specs.declared.Record.{Record}
@@ -45,7 +47,7 @@ formFrom line left zero (b ∷ s) =
 
 -- the whole trail; "Length before form", whose line is 0
 abbrev pub formOf : List ℕ → Form
-formOf t = pick (ltb trail-most (length t)) (spoiled 2 0) (formFrom 1 steps-most 0 t)
+formOf t = pick (ltb trailMost (length t)) (spoiled 2 0) (formFrom 1 stepsMost 0 t)
 
 -- the answer: how many steps and which verdict, or the refusal
 abbrev pub answerOf : Form → Formed

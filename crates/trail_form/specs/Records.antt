@@ -1,3 +1,4 @@
+-- Mechanism, held to the specification by `demand2` (crate `demands`).
 -- One record of a trail: document 01, "Trail lines".
 use mathlib.Core.Bool.{Bool, true, false, not}
 use mathlib.Core.List.{List, [], _∷_}

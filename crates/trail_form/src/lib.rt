@@ -3,8 +3,8 @@ ghost use mathlib.Core.Path.{_≡_};
 ghost use Prim.Native.Nat.{_+_, min};
 ghost use lib.ListN.{getD};
 ghost use lib.Dec.{eqb};
+ghost use Rattle.base_ceilings.specs.Ceilings.{numberMost};
 ghost use Rattle.base_bytes.specs.Choice.{both};
-ghost use Rattle.text_pieces.specs.Ceilings.{number-most};
 ghost use Rattle.text_pieces.specs.Spans.{span, decimal};
 ghost use Rattle.trail_form.specs.Records.{wellFormed, isNot, stepOf, claimOf, recordOf};
 ghost use Rattle.spec_trails.specs.Trails.{tab};
@@ -27,11 +27,7 @@ pub enum Formed {
     Spoiled(u8, usize),
 }
 
-// The most bytes and steps of a trail, and the most digits of a number.
-const TRAIL_MOST: usize = 32768;
-
-const STEPS_MOST: usize = 2048;
-
+// The most digits of a number.
 const DIGITS_MOST: usize = 5;
 
 // How many bytes at the front are not this one.
@@ -69,7 +65,7 @@ fn is_number(x: &[u8]) -> bool
 
 // The number that a few digits write.
 fn small(x: &[u8]) -> u32
-    ensures { λ r. ⌜ r ≡ min (number-most + 1) (decimal (now (x .entry))) ⌝ }
+    ensures { λ r. ⌜ r ≡ min (numberMost + 1) (decimal (now (x .entry))) ⌝ }
 {
     text_pieces::value(x) as u32
 }
@@ -145,7 +141,7 @@ pub fn line_length(s: &[u8]) -> usize
 pub fn form(trail: &[u8]) -> Formed
     ensures { λ r. ⌜ r ≡ answerOf (formOf (now (trail .entry))) ⌝ }
 {
-    if TRAIL_MOST < trail.len() {
+    if base_ceilings::TRAIL_MOST < trail.len() {
         return Formed::Spoiled(2, 0);
     }
     let mut at: usize = 0;
@@ -169,7 +165,7 @@ pub fn form(trail: &[u8]) -> Formed
                 return Formed::Spoiled(10, line + 1);
             }
             Record::Step(_, _) => {
-                if steps == STEPS_MOST {
+                if steps == base_ceilings::STEPS_MOST {
                     return Formed::Spoiled(2, line);
                 }
                 steps += 1;

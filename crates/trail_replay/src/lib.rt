@@ -10,9 +10,6 @@ use step_offers::Walk;
 use trail_form::Formed;
 use trail_form::Record;
 
-// The most bytes of a trail.
-const TRAIL_MOST: usize = 32768;
-
 // A trail that is accepted, with its verdict (assert 1, fault 2, finished 3, blocked 4, open 5); or the number and the line of the refusal.
 pub enum Replayed {
     Accepted(u8),
@@ -21,7 +18,7 @@ pub enum Replayed {
 
 // The k-th offered step of a process is taken; idle where there is no such step.
 fn take_recorded(t: &[u32], s: &mut [i32], process: u32, k: u32) -> Taken
-    ensures { λ r. ⌜ (r, now (s .exit)) ≡ replay.recordedOf (now (t .entry)) process k (now (s .entry)) ⌝ }
+    ensures { λ r. ⌜ (r, now (s .exit)) ≡ replay.recordedIn (now (t .entry)) process k (now (s .entry)) ⌝ }
 {
     let w = step_all::step_at(t, s, process, k);
     match w {
@@ -77,7 +74,7 @@ fn judge(claim: u8, reached: u8, line: usize) -> Replayed
 // The records of a trail that has its form, n steps and a claim, from a state on.
 fn follow(t: &[u32], s: &mut [i32], trail: &[u8], n: usize, claim: u8) -> Replayed
     requires { ⌜ answerOf (formOf (now trail)) ≡ Well n claim ⌝ }
-    ensures { λ r. ⌜ (r, now (s .exit)) ≡ replay.replayForm (now (t .entry)) (formOf (now (trail .entry))) (now (s .entry)) ⌝ }
+    ensures { λ r. ⌜ (r, now (s .exit)) ≡ replay.replayIn (now (t .entry)) (formOf (now (trail .entry))) (now (s .entry)) ⌝ }
 {
     let mut failed: u8 = 0;
     let mut at: usize = 0;
@@ -117,7 +114,7 @@ pub fn replay(tables: &[u32], trail: &[u8], state: &mut [i32]) -> Replayed
     if x == 7 {
         return Replayed::Refused(7, 0);
     }
-    if TRAIL_MOST < trail.len() {
+    if base_ceilings::TRAIL_MOST < trail.len() {
         return Replayed::Refused(2, 0);
     }
     if x != 0 {

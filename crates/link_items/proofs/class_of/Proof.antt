@@ -1,6 +1,6 @@
 use mathlib.Core.Path.{_∙_}
 use native.Mathlib.Omega.{arith}
-use Rattle.link_items.specs.Links.{classOf}
+use Rattle.base_codes.specs.Sets.{classOf}
 use Rattle.rule_item.proofs.Table.{tabled, tabled-at}
 use borrow.Author.Needs.{needs}
 use Rattle.link_items.proofs.class_of.Statement.{statement}

@@ -1,6 +1,6 @@
 use borrow.Author.Tests.{ne-eqb}
-use Rattle.link_places.specs.Places.{isClosing}
 use borrow.Author.Needs.{needs}
+use Rattle.base_codes.specs.Sets.{isClosing}
 use Rattle.link_places.proofs.is_closing.Statement.{statement}
 use Rattle.link_places.proofs.is_closing.Tie as tie
 

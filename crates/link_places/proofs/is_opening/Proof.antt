@@ -1,6 +1,6 @@
 use borrow.Author.Tests.{ne-eqb}
-use Rattle.link_places.specs.Places.{isOpening}
 use borrow.Author.Needs.{needs}
+use Rattle.base_codes.specs.Sets.{isOpening}
 use Rattle.link_places.proofs.is_opening.Statement.{statement}
 use Rattle.link_places.proofs.is_opening.Tie as tie
 

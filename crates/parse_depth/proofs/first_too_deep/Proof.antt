@@ -2,6 +2,7 @@ use Prim.Native.Nat.{_≤_, _-_}
 use mathlib.Core.Path.{_≡_, refl}
 use lib.ListN.{length, drop}
 use denote.Ref.{now}
+use Rattle.base_ceilings.specs.Ceilings.{bracketsMost, selectionsMost}
 use Rattle.parse_machine_proof.specs.Depth.{deep, too-deep}
 use Rattle.parse_depth.proofs.Laws.{many-brackets, many-selections, none-yet, none-deep}
 use borrow.Author.Needs.{needs}
@@ -9,7 +10,7 @@ use Rattle.parse_depth.proofs.first_too_deep.Statement.{statement}
 use Rattle.parse_depth.proofs.first_too_deep.Tie as tie
 
 abbrev Inv-loop : tie.InvT-loop
-Inv-loop kinds b₀ s₀ i₀ b s i = (i ≤ length kinds) × (b ≤ 32) × (s ≤ 8) × (too-deep kinds ≡ deep (drop i kinds) b s i)
+Inv-loop kinds b₀ s₀ i₀ b s i = (i ≤ length kinds) × (b ≤ bracketsMost) × (s ≤ selectionsMost) × (too-deep kinds ≡ deep (drop i kinds) b s i)
 
 abbrev μ-loop : tie.MeasureT-loop
 μ-loop kinds b₀ s₀ i₀ b s i = length kinds - i

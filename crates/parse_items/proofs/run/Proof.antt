@@ -2,7 +2,8 @@ use denote.Ref.{now}
 use Prim.Native.Nat.{_≤_}
 use lib.ListN.{length-set, length}
 use mathlib.Core.Path.{_∙_, _≡_}
-use Rattle.parse_machine_proof.specs.Machine.{run, machine}
+use Rattle.base_ceilings.specs.Ceilings.{itemsMost, tokensMost}
+use Rattle.parse_machine_proof.specs.Machine.{run, machine, most-stack}
 use Rattle.parse_items.specs.Views.{conf}
 use Rattle.parse_items.proofs.Runs.{start-law, go-run, stop-run, done-run, spent-run, dry}
 use borrow.Author.Needs.{needs}
@@ -10,7 +11,7 @@ use Rattle.parse_items.proofs.run.Statement.{statement}
 use Rattle.parse_items.proofs.run.Tie as tie
 
 abbrev Inv-loop : tie.InvT-loop
-Inv-loop rows sides kinds stack₀ out₀ s₀ fuel₀ stack out s fuel = (length stack ≡ 40960) × (length out ≡ 8192) × (s .sp ≤ 40960) × (s .n ≤ 8192) × (s .pos ≤ 2048) × (machine kinds ≡ run kinds fuel (conf stack out s))
+Inv-loop rows sides kinds stack₀ out₀ s₀ fuel₀ stack out s fuel = (length stack ≡ most-stack) × (length out ≡ itemsMost) × (s .sp ≤ most-stack) × (s .n ≤ itemsMost) × (s .pos ≤ tokensMost) × (machine kinds ≡ run kinds fuel (conf stack out s))
 
 abbrev μ-loop : tie.MeasureT-loop
 μ-loop rows sides kinds stack₀ out₀ s₀ fuel₀ stack out s fuel = fuel

@@ -1,4 +1,5 @@
 use mathlib.Core.Path.{refl}
+use Rattle.base_ceilings.specs.Ceilings.{itemsMost}
 use Rattle.read_passes.proofs.Passes as laws
 use denote.Ref.{now}
 use borrow.Author.Needs.{needs}
@@ -6,10 +7,10 @@ use Rattle.read_passes.proofs.by_grammar.Statement.{statement}
 use Rattle.read_passes.proofs.by_grammar.Tie as tie
 
 slice-aggregate-by-rules : tie.Need-slice-aggregate-by-rules
-slice-aggregate-by-rules c = laws.front-size _ _ 8192 _ (c .before .least .ensures) (c .before .before .before .before .before .before .before .before .parse .kept .1 .0)
+slice-aggregate-by-rules c = laws.front-size _ _ itemsMost _ (c .before .least .ensures) (c .before .before .before .before .before .before .before .before .parse .kept .1 .0)
 
 slice-aggregate-by-rules-2 : tie.Need-slice-aggregate-by-rules-2
-slice-aggregate-by-rules-2 c = laws.front-size _ _ 8192 _ (c .before .before .least .ensures) (c .before .before .before .before .before .before .before .before .before .parse .kept .1 .1 .0)
+slice-aggregate-by-rules-2 c = laws.front-size _ _ itemsMost _ (c .before .before .least .ensures) (c .before .before .before .before .before .before .before .before .before .parse .kept .1 .1 .0)
 
 returns : tie.Need-returns
 returns c = (laws.items-judged (now (c .before .before .before .before .before .before .before .before .before .before .before .before .before .before .before .before .before .before .before .before .before .before .args .text)) (now (c .before .before .before .before .before .before .before .before .before .before .before .before .before .before .before .before .before .before .before .before .before .before .args .kinds)) (now (c .before .before .before .before .before .before .before .before .before .before .before .before .before .before .before .before .before .before .before .before .before .before .args .starts)) (now (c .before .before .before .before .before .before .before .before .before .before .before .before .before .before .before .before .before .before .before .before .before .before .args .ends)) (c .before .before .before .before .before .before .before .before .before .before .before .before .before .parse .result) _ _ _ _ _ _ _ (c .before .before .before .before .before .before .before .before .before .before .before .before .before .parse .ensures) refl refl (c .before .before .before .before .before .before .before .before .before .before .before .before .before .parse .kept .1 .0) refl (c .before .before .before .before .before .before .before .before .before .before .before .before .before .parse .kept .1 .1 .0) (c .before .before .before .before .before .before .before .before .p .given .0 .0) (c .before .before .before .before .before .before .least .result) (c .before .before .by-rules .result) (c .before .before .before .before .before .before .before .before .p .given .1) (c .before .before .before .before .before .before .least .ensures) (c .before .before .by-rules .ensures .0), laws.items-left (now (c .before .before .before .before .before .before .before .before .before .before .before .before .before .before .before .before .before .before .before .before .before .before .args .text)) (now (c .before .before .before .before .before .before .before .before .before .before .before .before .before .before .before .before .before .before .before .before .before .before .args .kinds)) (now (c .before .before .before .before .before .before .before .before .before .before .before .before .before .before .before .before .before .before .before .before .before .before .args .starts)) (now (c .before .before .before .before .before .before .before .before .before .before .before .before .before .before .before .before .before .before .before .before .before .before .args .ends)) (c .before .before .before .before .before .before .before .before .before .before .before .before .before .parse .result) _ _ _ _ _ _ _ (c .before .before .before .before .before .before .before .before .before .before .before .before .before .parse .ensures) refl refl (c .before .before .before .before .before .before .before .before .before .before .before .before .before .parse .kept .1 .0) refl (c .before .before .before .before .before .before .before .before .before .before .before .before .before .parse .kept .1 .1 .0) (c .before .before .before .before .before .before .before .before .p .given .0 .0) (c .before .before .before .before .before .before .least .result) (c .before .before .by-rules .result) _ _ (c .before .before .before .before .before .before .before .before .p .given .1) (c .before .before .before .before .before .before .least .ensures) (c .before .before .by-rules .ensures .1))

@@ -1,6 +1,6 @@
 use mathlib.Core.Path.{_∙_}
 use native.Mathlib.Omega.{arith}
-use Rattle.rule_item.specs.Rules.{ruleOf}
+use Rattle.base_codes.specs.Sets.{ruleOf}
 use Rattle.rule_item.proofs.Table.{tabled, tabled-at}
 use borrow.Author.Needs.{needs}
 use Rattle.rule_item.proofs.rule_of.Statement.{statement}

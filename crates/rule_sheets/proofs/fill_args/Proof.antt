@@ -1,3 +1,4 @@
+use Rattle.base_ceilings.specs.Ceilings.{itemsMost, textMost}
 use Rattle.rule_sheets.proofs.Fills as fills
 use Rattle.rule_sheets.specs.Payload as payload
 use Rattle.rule_sheets.proofs.Walks as laws
@@ -12,7 +13,7 @@ use Rattle.rule_sheets.proofs.fill_args.Statement.{statement}
 use Rattle.rule_sheets.proofs.fill_args.Tie as tie
 
 abbrev Inv-loop : tie.InvT-loop
-Inv-loop text starts ends codes toks args₀ j₀ args j = (j ≤ length codes) × (length codes ≤ 8192) × (length text ≤ 8192) × (length args ≡ length args₀) × (walks.filled (λ l i. payload.argOf text starts ends codes toks i) j (length codes - j) args ≡ payload.argsOf text starts ends codes toks args₀)
+Inv-loop text starts ends codes toks args₀ j₀ args j = (j ≤ length codes) × (length codes ≤ itemsMost) × (length text ≤ textMost) × (length args ≡ length args₀) × (walks.filled (λ l i. payload.argOf text starts ends codes toks i) j (length codes - j) args ≡ payload.argsOf text starts ends codes toks args₀)
 
 abbrev μ-loop : tie.MeasureT-loop
 μ-loop text starts ends codes toks args₀ j₀ args j = length codes - j

@@ -1,3 +1,4 @@
+use Rattle.base_ceilings.specs.Ceilings.{itemsMost}
 use Rattle.rule_sheets.proofs.Fills as fills
 use Rattle.rule_sheets.specs.Spans as spans
 use Rattle.rule_sheets.proofs.Walks as laws
@@ -12,7 +13,7 @@ use Rattle.rule_sheets.proofs.fill_heights.Statement.{statement}
 use Rattle.rule_sheets.proofs.fill_heights.Tie as tie
 
 abbrev Inv-loop : tie.InvT-loop
-Inv-loop codes starts heights₀ j₀ heights j = (j ≤ length codes) × (length codes ≤ 8192) × (length heights ≡ length heights₀) × (walks.filled (spans.heightOf codes starts) j (length codes - j) heights ≡ spans.heightsOf codes starts heights₀)
+Inv-loop codes starts heights₀ j₀ heights j = (j ≤ length codes) × (length codes ≤ itemsMost) × (length heights ≡ length heights₀) × (walks.filled (spans.heightOf codes starts) j (length codes - j) heights ≡ spans.heightsOf codes starts heights₀)
 
 abbrev μ-loop : tie.MeasureT-loop
 μ-loop codes starts heights₀ j₀ heights j = length codes - j

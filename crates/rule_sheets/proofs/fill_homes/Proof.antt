@@ -1,3 +1,4 @@
+use Rattle.base_ceilings.specs.Ceilings.{itemsMost}
 use Rattle.rule_sheets.proofs.Payload as formats
 use Rattle.rule_sheets.proofs.Fills as fills
 use Rattle.rule_sheets.specs.Homes as homing
@@ -5,7 +6,7 @@ use Rattle.rule_sheets.proofs.Walks as laws
 use Rattle.rule_sheets.specs.Walks as walks
 use denote.Ref.{now}
 use lib.ListN.{length}
-use Prim.Native.Nat.{_-_, _≤_, _<_}
+use Prim.Native.Nat.{_-_, _≤_, _<_, _+_}
 use mathlib.Core.Path.{_≡_, refl, _∙_}
 use native.Mathlib.Omega.{arith}
 use borrow.Author.Needs.{needs}
@@ -13,7 +14,7 @@ use Rattle.rule_sheets.proofs.fill_homes.Statement.{statement}
 use Rattle.rule_sheets.proofs.fill_homes.Tie as tie
 
 abbrev Inv-loop : tie.InvT-loop
-Inv-loop codes homes₀ h₀ j₀ homes h j = (j ≤ length codes) × (length codes ≤ 8192) × (h ≡ homing.insideOf codes j) × (h < 8193) × (length homes ≡ length homes₀) × (walks.filled (λ l i. homing.homeOf codes i) j (length codes - j) homes ≡ homing.homesOf codes homes₀)
+Inv-loop codes homes₀ h₀ j₀ homes h j = (j ≤ length codes) × (length codes ≤ itemsMost) × (h ≡ homing.insideOf codes j) × (h < itemsMost + 1) × (length homes ≡ length homes₀) × (walks.filled (λ l i. homing.homeOf codes i) j (length codes - j) homes ≡ homing.homesOf codes homes₀)
 
 abbrev μ-loop : tie.MeasureT-loop
 μ-loop codes homes₀ h₀ j₀ homes h j = length codes - j

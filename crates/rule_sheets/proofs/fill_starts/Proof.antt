@@ -1,3 +1,4 @@
+use Rattle.base_ceilings.specs.Ceilings.{itemsMost}
 use Rattle.rule_sheets.proofs.Fills as fills
 use Rattle.rule_sheets.specs.Spans as spans
 use Rattle.rule_sheets.proofs.Walks as laws
@@ -12,7 +13,7 @@ use Rattle.rule_sheets.proofs.fill_starts.Statement.{statement}
 use Rattle.rule_sheets.proofs.fill_starts.Tie as tie
 
 abbrev Inv-loop : tie.InvT-loop
-Inv-loop codes starts₀ j₀ starts j = (j ≤ length codes) × (length codes ≤ 8192) × (length starts ≡ length starts₀) × (walks.filled (spans.startOf codes) j (length codes - j) starts ≡ spans.startsOf codes starts₀)
+Inv-loop codes starts₀ j₀ starts j = (j ≤ length codes) × (length codes ≤ itemsMost) × (length starts ≡ length starts₀) × (walks.filled (spans.startOf codes) j (length codes - j) starts ≡ spans.startsOf codes starts₀)
 
 abbrev μ-loop : tie.MeasureT-loop
 μ-loop codes starts₀ j₀ starts j = length codes - j

@@ -1,5 +1,5 @@
 use Rattle.run_entry.proofs.Laws as laws
-use Rattle.run_entry.specs.Runs.{runFrom}
+use Rattle.run_entry.specs.Runs.{runIn}
 use native.Mathlib.Omega.{arith}
 use Prim.Native.Nat.{_≤_, _-_}
 use mathlib.Core.Path.{_≡_, refl}
@@ -10,7 +10,7 @@ use Rattle.run_aloud.proofs.run.Statement.{statement}
 use Rattle.run_aloud.proofs.run.Tie as tie
 
 abbrev Inv-loop : tie.InvT-loop
-Inv-loop t s₀ limit line₀ n₀ s line n = (n ≤ limit) × ((length s ≡ length s₀) × ((length line ≡ length line₀) × (laws.behind n (runFrom t (limit - n) s) ≡ runFrom t limit s₀)))
+Inv-loop t s₀ limit line₀ n₀ s line n = (n ≤ limit) × ((length s ≡ length s₀) × ((length line ≡ length line₀) × (laws.behind n (runIn t (limit - n) s) ≡ runIn t limit s₀)))
 
 abbrev μ-loop : tie.MeasureT-loop
 μ-loop t s₀ limit line₀ n₀ s line n = limit - n

@@ -1,6 +1,6 @@
 use lib.ListN.{length}
 use Rattle.run_entry.proofs.Laws as laws
-use Rattle.run_entry.specs.Runs.{runFrom}
+use Rattle.run_entry.specs.Runs.{runIn}
 use native.Mathlib.Omega.{arith}
 use Prim.Native.Nat.{_≤_, _-_}
 use mathlib.Core.Path.{_≡_, refl}
@@ -10,7 +10,7 @@ use Rattle.run_entry.proofs.run_on.Statement.{statement}
 use Rattle.run_entry.proofs.run_on.Tie as tie
 
 abbrev Inv-loop : tie.InvT-loop
-Inv-loop t s₀ limit n₀ s n = (n ≤ limit) × ((length s ≡ length s₀) × (laws.behind n (runFrom t (limit - n) s) ≡ runFrom t limit s₀))
+Inv-loop t s₀ limit n₀ s n = (n ≤ limit) × ((length s ≡ length s₀) × (laws.behind n (runIn t (limit - n) s) ≡ runIn t limit s₀))
 
 abbrev μ-loop : tie.MeasureT-loop
 μ-loop t s₀ limit n₀ s n = limit - n

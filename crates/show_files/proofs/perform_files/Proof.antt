@@ -1,14 +1,14 @@
 use denote.Ref.{now}
 use native.Mathlib.Omega.{arith}
-use Rattle.show_files.proofs.Laws as laws
+use Rattle.show_texts.proofs.Laws as laws
 use borrow.Author.Needs.{needs}
 use Rattle.show_files.proofs.perform_files.Statement.{statement}
 use Rattle.show_files.proofs.perform_files.Tie as tie
 use Rattle.show_files.proofs.perform_files.Reads as reads
 use Rattle.show_files.proofs.perform_files.Lts as lts
-use Rattle.show_answers.proofs.part.Reads as part-reads
+use Rattle.base_bytes.proofs.part.Reads as part-reads
 use Rattle.show_files.proofs.load.Reads as load-reads
-use Rattle.show_files.proofs.perform_text.Reads as perform-text-reads
+use Rattle.show_texts.proofs.perform_text.Reads as perform-text-reads
 use Rattle.show_files.proofs.unreadable.Reads as unreadable-reads
 
 -- src/lib.rt:184:25

@@ -1,11 +1,12 @@
 use native.Mathlib.Omega.{arith}
 use Prim.Native.Nat.{_≤_, _-_}
 use borrow.Author.Needs.{needs}
+use Rattle.base_ceilings.specs.Ceilings.{capacityMost}
 use Rattle.show_state.proofs.put_channel.Statement.{statement}
 use Rattle.show_state.proofs.put_channel.Tie as tie
 
 abbrev Inv-loop : tie.InvT-loop
-Inv-loop t s c fields n m₀ t7 m = (m ≤ n) × (n ≤ 8)
+Inv-loop t s c fields n m₀ t7 m = (m ≤ n) × (n ≤ capacityMost)
 
 abbrev μ-loop : tie.MeasureT-loop
 μ-loop t s c fields n m₀ t7 m = n - m

@@ -1,11 +1,12 @@
 use native.Mathlib.Omega.{arith}
 use Prim.Native.Nat.{_≤_, _-_}
 use borrow.Author.Needs.{needs}
+use Rattle.base_ceilings.specs.Ceilings.{channelsMost}
 use Rattle.show_state.proofs.put_channels.Statement.{statement}
 use Rattle.show_state.proofs.put_channels.Tie as tie
 
 abbrev Inv-loop : tie.InvT-loop
-Inv-loop t s n c₀ t5 t6 c = (c ≤ n) × (n ≤ 16)
+Inv-loop t s n c₀ t5 t6 c = (c ≤ n) × (n ≤ channelsMost)
 
 abbrev μ-loop : tie.MeasureT-loop
 μ-loop t s n c₀ t5 t6 c = n - c

@@ -1,11 +1,12 @@
 use native.Mathlib.Omega.{arith}
 use Prim.Native.Nat.{_≤_, _-_}
 use borrow.Author.Needs.{needs}
+use Rattle.base_ceilings.specs.Ceilings.{arrayMost}
 use Rattle.show_state.proofs.put_variable.Statement.{statement}
 use Rattle.show_state.proofs.put_variable.Tie as tie
 
 abbrev Inv-loop : tie.InvT-loop
-Inv-loop t s p j l n k₀ t8 t9 k = (k ≤ n) × (n ≤ 32)
+Inv-loop t s p j l n k₀ t8 t9 k = (k ≤ n) × (n ≤ arrayMost)
 
 abbrev μ-loop : tie.MeasureT-loop
 μ-loop t s p j l n k₀ t8 t9 k = n - k

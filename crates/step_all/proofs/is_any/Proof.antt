@@ -2,20 +2,22 @@ use native.Mathlib.Omega.{arith}
 use mathlib.Core.Path.{_≡_, _∙_}
 use Prim.Native.Nat.{_-_, _≤_}
 use denote.Ref.{now}
-use Rattle.step_all.proofs.Laws as laws
-use Rattle.step_all.specs.Moving.{processes, anyFrom}
+use Rattle.spec_machine.specs.Machine.{anyFrom}
+use Rattle.step_all.specs.Moving.{processes, machineIn}
 use borrow.Author.Needs.{needs}
 use Rattle.step_all.proofs.is_any.Statement.{statement}
+use Rattle.base_ceilings.specs.Ceilings.{processesMost}
+use Rattle.step_all.proofs.Laws as laws
 use Rattle.step_all.proofs.is_any.Tie as tie
 
 abbrev Inv-loop : tie.InvT-loop
-Inv-loop t s late n p₀ p = (p ≤ n) × (n ≤ 16) × (anyFrom t s late p (n - p) ≡ anyFrom t s late 0 (processes s))
+Inv-loop t s late n p₀ p = (p ≤ n) × (n ≤ processesMost) × (anyFrom (machineIn t) s late p (n - p) ≡ anyFrom (machineIn t) s late 0 (processes s))
 
 abbrev μ-loop : tie.MeasureT-loop
 μ-loop t s late n p₀ p = n - p
 
 loop-holds : tie.Need-loop-holds Inv-loop μ-loop
-loop-holds c = (omega arith, omega (arith, c .processes .ensures .1), laws.from-start (now (c .before .before .args .t)) (now (c .before .before .args .s)) (anyFrom (now (c .before .before .args .t)) (now (c .before .before .args .s)) (c .before .before .args .late)) (c .processes .result) (processes (now (c .before .before .args .s))) (c .processes .ensures .0))
+loop-holds c = (omega arith, omega (arith, c .processes .ensures .1), laws.from-start (now (c .before .before .args .t)) (now (c .before .before .args .s)) (anyFrom (machineIn (now (c .before .before .args .t))) (now (c .before .before .args .s)) (c .before .before .args .late)) (c .processes .result) (processes (now (c .before .before .args .s))) (c .processes .ensures .0))
 
 returns : tie.Need-returns Inv-loop μ-loop
 returns c = laws.any-here (now (c .before .before .before .before .before .before .args .t)) (now (c .before .before .before .before .before .before .args .s)) (c .before .before .before .before .before .before .args .late) (c .before .before .before .loop .p) _ (omega arith) (c .before .is-offered .ensures) (c .if1 .taken) ∙ c .before .before .before .loop .inv .2

@@ -1,14 +1,14 @@
-use Rattle.step_all.specs.Moving.{lateOf}
+use Rattle.spec_machine.specs.Machine.{late}
 use borrow.Author.Needs.{needs}
 use Rattle.step_all.proofs.is_late.Statement.{statement}
 use Rattle.step_all.proofs.is_late.Tie as tie
 
 returns : tie.Need-returns
-unfolding lateOf
+unfolding late
 returns c = rw (← c .before .is-any .ensures, c .if1 .taken)
 
 returns-2 : tie.Need-returns-2
-unfolding lateOf
+unfolding late
 returns-2 c = rw (← c .before .is-any .ensures, c .if1 .left)
 
 pub is-late-spec : {M : Type 1} → statement M

@@ -1,15 +1,17 @@
 use mathlib.Core.Path.{_≡_, _∙_}
 use native.Mathlib.Omega.{arith}
-use Rattle.step_all.specs.Moving.{processes, nthIn, listFrom, nthOf}
-use Rattle.step_all.proofs.Laws as laws
+use Rattle.spec_machine.specs.Machine.{listFrom, offered}
+use Rattle.step_all.specs.Moving.{machineIn, nthIn}
 use Prim.Native.Nat.{_≤_, _-_}
 use denote.Ref.{now}
 use borrow.Author.Needs.{needs}
 use Rattle.step_all.proofs.nth.Statement.{statement}
+use Rattle.base_ceilings.specs.Ceilings.{processesMost}
+use Rattle.step_all.proofs.Laws as laws
 use Rattle.step_all.proofs.nth.Tie as tie
 
 abbrev Inv-loop : tie.InvT-loop
-Inv-loop t s n late count left₀ p₀ left p = (p ≤ count) × ((count ≤ 16) × ((left ≤ 65535) × (nthIn left (listFrom t s late p (count - p)) ≡ nthOf t s n)))
+Inv-loop t s n late count left₀ p₀ left p = (p ≤ count) × ((count ≤ processesMost) × ((left ≤ 65535) × (nthIn left (listFrom (machineIn t) s late p (count - p)) ≡ nthIn n (offered (machineIn t) s))))
 
 abbrev μ-loop : tie.MeasureT-loop
 μ-loop t s n late count left₀ p₀ left p = count - p

@@ -9,7 +9,7 @@ returns : tie.Need-returns
 returns c = laws.no-process (now (c .before .before .before .args .t)) (now (c .before .before .before .args .s)) (c .before .processes .result) (c .before .before .before .args .process) (c .before .before .before .args .k) (c .before .processes .ensures .0) (omega arith)
 
 returns-2 : tie.Need-returns-2
-returns-2 c = laws.no-step (now (c .before .before .before .before .args .t)) (now (c .before .before .before .before .args .s)) (c .before .before .processes .result) (c .before .before .before .before .args .process) (c .before .before .before .before .args .k) (c .before .before .processes .ensures .0) (omega arith) (c .if2 .taken)
+returns-2 c = laws.no-step (now (c .before .before .before .before .args .t)) (now (c .before .before .before .before .args .s)) (c .before .before .before .before .args .process) (c .before .before .before .before .args .k) (c .if2 .taken)
 
 returns-3 : tie.Need-returns-3
 returns-3 c = laws.step-is (now (c .before .before .before .before .before .before .args .t)) (now (c .before .before .before .before .before .before .args .s)) (c .before .before .before .before .processes .result) (c .before .before .before .before .before .before .args .process) (c .before .before .before .before .before .before .args .k) (c .before .before .before .before .processes .ensures .0) (omega arith) (c .before .before .if2 .left) (c .before .is-late .ensures) (c .offered .ensures)

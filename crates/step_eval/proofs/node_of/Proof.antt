@@ -1,4 +1,4 @@
-use Rattle.base_codes.specs.Codes.{c-and-then, c-bit-or, c-choice, c-complement, c-false, c-index, c-len, c-negate, c-not, c-or-else, c-plain, c-remainder, c-true}
+use Rattle.base_codes.specs.Codes.{c-and-then, c-bit-or, c-choice, c-complement, c-false, c-index, c-len, c-negate, c-not, c-number, c-or-else, c-plain, c-remainder, c-true}
 use Rattle.step_eval.specs.Expressions.{nodeOf}
 use borrow.Author.Tests.{ne-eqb, lt-ltb, le-ltb}
 use borrow.Author.Needs.{needs}
@@ -7,11 +7,11 @@ use Rattle.step_eval.proofs.node_of.Tie as tie
 
 returns : tie.Need-returns
 unfolding nodeOf
-returns c = simp (ne-eqb (c .before .before .args .c) 71 (c .before .match .rest .0 .0 .0 .0 .0 .0 .0 .0 .0 .0 .0 .1), ne-eqb (c .before .before .args .c) c-or-else (c .before .match .rest .0 .0 .0 .0 .0 .0 .0 .0 .0 .0 .1), ne-eqb (c .before .before .args .c) c-and-then (c .before .match .rest .0 .0 .0 .0 .0 .0 .0 .0 .0 .1), ne-eqb (c .before .before .args .c) c-negate (c .before .match .rest .0 .0 .0 .0 .0 .0 .0 .0 .1), ne-eqb (c .before .before .args .c) c-not (c .before .match .rest .0 .0 .0 .0 .0 .0 .0 .1), ne-eqb (c .before .before .args .c) c-complement (c .before .match .rest .0 .0 .0 .0 .0 .0 .1), ne-eqb (c .before .before .args .c) c-plain (c .before .match .rest .0 .0 .0 .0 .0 .1), ne-eqb (c .before .before .args .c) c-index (c .before .match .rest .0 .0 .0 .0 .1), ne-eqb (c .before .before .args .c) c-true (c .before .match .rest .0 .0 .0 .1), ne-eqb (c .before .before .args .c) c-false (c .before .match .rest .0 .0 .1), ne-eqb (c .before .before .args .c) c-len (c .before .match .rest .0 .1), ne-eqb (c .before .before .args .c) c-choice (c .before .match .rest .1), lt-ltb (c .before .before .args .c) c-bit-or (c .if1 .taken))
+returns c = simp (ne-eqb (c .before .before .args .c) c-number (c .before .match .rest .0 .0 .0 .0 .0 .0 .0 .0 .0 .0 .0 .1), ne-eqb (c .before .before .args .c) c-or-else (c .before .match .rest .0 .0 .0 .0 .0 .0 .0 .0 .0 .0 .1), ne-eqb (c .before .before .args .c) c-and-then (c .before .match .rest .0 .0 .0 .0 .0 .0 .0 .0 .0 .1), ne-eqb (c .before .before .args .c) c-negate (c .before .match .rest .0 .0 .0 .0 .0 .0 .0 .0 .1), ne-eqb (c .before .before .args .c) c-not (c .before .match .rest .0 .0 .0 .0 .0 .0 .0 .1), ne-eqb (c .before .before .args .c) c-complement (c .before .match .rest .0 .0 .0 .0 .0 .0 .1), ne-eqb (c .before .before .args .c) c-plain (c .before .match .rest .0 .0 .0 .0 .0 .1), ne-eqb (c .before .before .args .c) c-index (c .before .match .rest .0 .0 .0 .0 .1), ne-eqb (c .before .before .args .c) c-true (c .before .match .rest .0 .0 .0 .1), ne-eqb (c .before .before .args .c) c-false (c .before .match .rest .0 .0 .1), ne-eqb (c .before .before .args .c) c-len (c .before .match .rest .0 .1), ne-eqb (c .before .before .args .c) c-choice (c .before .match .rest .1), lt-ltb (c .before .before .args .c) c-bit-or (c .if1 .taken))
 
 returns-2 : tie.Need-returns-2
 unfolding nodeOf
-returns-2 c = simp (ne-eqb (c .before .before .before .args .c) 71 (c .before .before .match .rest .0 .0 .0 .0 .0 .0 .0 .0 .0 .0 .0 .1), ne-eqb (c .before .before .before .args .c) c-or-else (c .before .before .match .rest .0 .0 .0 .0 .0 .0 .0 .0 .0 .0 .1), ne-eqb (c .before .before .before .args .c) c-and-then (c .before .before .match .rest .0 .0 .0 .0 .0 .0 .0 .0 .0 .1), ne-eqb (c .before .before .before .args .c) c-negate (c .before .before .match .rest .0 .0 .0 .0 .0 .0 .0 .0 .1), ne-eqb (c .before .before .before .args .c) c-not (c .before .before .match .rest .0 .0 .0 .0 .0 .0 .0 .1), ne-eqb (c .before .before .before .args .c) c-complement (c .before .before .match .rest .0 .0 .0 .0 .0 .0 .1), ne-eqb (c .before .before .before .args .c) c-plain (c .before .before .match .rest .0 .0 .0 .0 .0 .1), ne-eqb (c .before .before .before .args .c) c-index (c .before .before .match .rest .0 .0 .0 .0 .1), ne-eqb (c .before .before .before .args .c) c-true (c .before .before .match .rest .0 .0 .0 .1), ne-eqb (c .before .before .before .args .c) c-false (c .before .before .match .rest .0 .0 .1), ne-eqb (c .before .before .before .args .c) c-len (c .before .before .match .rest .0 .1), ne-eqb (c .before .before .before .args .c) c-choice (c .before .before .match .rest .1), le-ltb (c .before .before .before .args .c) c-bit-or (c .before .if1 .left), lt-ltb c-remainder (c .before .before .before .args .c) (c .if2 .taken))
+returns-2 c = simp (ne-eqb (c .before .before .before .args .c) c-number (c .before .before .match .rest .0 .0 .0 .0 .0 .0 .0 .0 .0 .0 .0 .1), ne-eqb (c .before .before .before .args .c) c-or-else (c .before .before .match .rest .0 .0 .0 .0 .0 .0 .0 .0 .0 .0 .1), ne-eqb (c .before .before .before .args .c) c-and-then (c .before .before .match .rest .0 .0 .0 .0 .0 .0 .0 .0 .0 .1), ne-eqb (c .before .before .before .args .c) c-negate (c .before .before .match .rest .0 .0 .0 .0 .0 .0 .0 .0 .1), ne-eqb (c .before .before .before .args .c) c-not (c .before .before .match .rest .0 .0 .0 .0 .0 .0 .0 .1), ne-eqb (c .before .before .before .args .c) c-complement (c .before .before .match .rest .0 .0 .0 .0 .0 .0 .1), ne-eqb (c .before .before .before .args .c) c-plain (c .before .before .match .rest .0 .0 .0 .0 .0 .1), ne-eqb (c .before .before .before .args .c) c-index (c .before .before .match .rest .0 .0 .0 .0 .1), ne-eqb (c .before .before .before .args .c) c-true (c .before .before .match .rest .0 .0 .0 .1), ne-eqb (c .before .before .before .args .c) c-false (c .before .before .match .rest .0 .0 .1), ne-eqb (c .before .before .before .args .c) c-len (c .before .before .match .rest .0 .1), ne-eqb (c .before .before .before .args .c) c-choice (c .before .before .match .rest .1), le-ltb (c .before .before .before .args .c) c-bit-or (c .before .if1 .left), lt-ltb c-remainder (c .before .before .before .args .c) (c .if2 .taken))
 
 returns-3 : tie.Need-returns-3
 unfolding nodeOf
@@ -63,7 +63,7 @@ returns-14 c = rw (c .match .keys12)
 
 returns-15 : tie.Need-returns-15
 unfolding nodeOf
-returns-15 c = simp (ne-eqb (c .before .before .before .args .c) 71 (c .before .before .match .rest .0 .0 .0 .0 .0 .0 .0 .0 .0 .0 .0 .1), ne-eqb (c .before .before .before .args .c) c-or-else (c .before .before .match .rest .0 .0 .0 .0 .0 .0 .0 .0 .0 .0 .1), ne-eqb (c .before .before .before .args .c) c-and-then (c .before .before .match .rest .0 .0 .0 .0 .0 .0 .0 .0 .0 .1), ne-eqb (c .before .before .before .args .c) c-negate (c .before .before .match .rest .0 .0 .0 .0 .0 .0 .0 .0 .1), ne-eqb (c .before .before .before .args .c) c-not (c .before .before .match .rest .0 .0 .0 .0 .0 .0 .0 .1), ne-eqb (c .before .before .before .args .c) c-complement (c .before .before .match .rest .0 .0 .0 .0 .0 .0 .1), ne-eqb (c .before .before .before .args .c) c-plain (c .before .before .match .rest .0 .0 .0 .0 .0 .1), ne-eqb (c .before .before .before .args .c) c-index (c .before .before .match .rest .0 .0 .0 .0 .1), ne-eqb (c .before .before .before .args .c) c-true (c .before .before .match .rest .0 .0 .0 .1), ne-eqb (c .before .before .before .args .c) c-false (c .before .before .match .rest .0 .0 .1), ne-eqb (c .before .before .before .args .c) c-len (c .before .before .match .rest .0 .1), ne-eqb (c .before .before .before .args .c) c-choice (c .before .before .match .rest .1), le-ltb (c .before .before .before .args .c) c-bit-or (c .before .if1 .left), le-ltb c-remainder (c .before .before .before .args .c) (c .if2 .left))
+returns-15 c = simp (ne-eqb (c .before .before .before .args .c) c-number (c .before .before .match .rest .0 .0 .0 .0 .0 .0 .0 .0 .0 .0 .0 .1), ne-eqb (c .before .before .before .args .c) c-or-else (c .before .before .match .rest .0 .0 .0 .0 .0 .0 .0 .0 .0 .0 .1), ne-eqb (c .before .before .before .args .c) c-and-then (c .before .before .match .rest .0 .0 .0 .0 .0 .0 .0 .0 .0 .1), ne-eqb (c .before .before .before .args .c) c-negate (c .before .before .match .rest .0 .0 .0 .0 .0 .0 .0 .0 .1), ne-eqb (c .before .before .before .args .c) c-not (c .before .before .match .rest .0 .0 .0 .0 .0 .0 .0 .1), ne-eqb (c .before .before .before .args .c) c-complement (c .before .before .match .rest .0 .0 .0 .0 .0 .0 .1), ne-eqb (c .before .before .before .args .c) c-plain (c .before .before .match .rest .0 .0 .0 .0 .0 .1), ne-eqb (c .before .before .before .args .c) c-index (c .before .before .match .rest .0 .0 .0 .0 .1), ne-eqb (c .before .before .before .args .c) c-true (c .before .before .match .rest .0 .0 .0 .1), ne-eqb (c .before .before .before .args .c) c-false (c .before .before .match .rest .0 .0 .1), ne-eqb (c .before .before .before .args .c) c-len (c .before .before .match .rest .0 .1), ne-eqb (c .before .before .before .args .c) c-choice (c .before .before .match .rest .1), le-ltb (c .before .before .before .args .c) c-bit-or (c .before .if1 .left), le-ltb c-remainder (c .before .before .before .args .c) (c .if2 .left))
 
 pub node-of-spec : {M : Type 1} → statement M
 node-of-spec =

@@ -1,3 +1,4 @@
+use Rattle.base_ceilings.specs.Ceilings.{fieldsMost}
 use Rattle.step_ready.proofs.Laws.{arguments-end, arguments-all, arguments-turn}
 use Rattle.step_ready.specs.Channels.{argumentsFrom}
 use native.Mathlib.Omega.{arith}
@@ -8,10 +9,10 @@ use Rattle.step_ready.proofs.arguments.Statement.{statement}
 use Rattle.step_ready.proofs.arguments.Tie as tie
 
 abbrev Inv-loop : tie.InvT-loop
-Inv-loop t a j₀ n₀ j n = (n ≤ 5) × (n + argumentsFrom t (5 - n) j ≡ argumentsFrom t 5 a)
+Inv-loop t a j₀ n₀ j n = (n ≤ fieldsMost + 1) × (n + argumentsFrom t ((fieldsMost + 1) - n) j ≡ argumentsFrom t (fieldsMost + 1) a)
 
 abbrev μ-loop : tie.MeasureT-loop
-μ-loop t a j₀ n₀ j n = 5 - n
+μ-loop t a j₀ n₀ j n = (fieldsMost + 1) - n
 
 loop-holds : tie.Need-loop-holds Inv-loop μ-loop
 loop-holds c = (omega arith, search needs)

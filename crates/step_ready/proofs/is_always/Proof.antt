@@ -1,4 +1,4 @@
-use Rattle.base_codes.specs.Codes.{c-assert, c-break, c-decrement, c-goto, c-increment, c-skip, c-target}
+use Rattle.base_codes.specs.Codes.{c-assert, c-break, c-decrement, c-goto, c-increment, c-skip, c-target, c-text}
 use Rattle.step_ready.specs.Executing.{isAlways}
 use borrow.Author.Tests.{ne-eqb}
 use Rattle.step_ready.proofs.is_always.Statement.{statement}
@@ -38,7 +38,7 @@ returns-8 c = rw (c .match .keys8)
 
 returns-9 : tie.Need-returns-9
 unfolding isAlways
-returns-9 c = simp (ne-eqb (c .before .args .c) 72 (c .match .rest .0 .0 .0 .0 .0 .0 .0 .1), ne-eqb (c .before .args .c) c-target (c .match .rest .0 .0 .0 .0 .0 .0 .1), ne-eqb (c .before .args .c) c-increment (c .match .rest .0 .0 .0 .0 .0 .1), ne-eqb (c .before .args .c) c-decrement (c .match .rest .0 .0 .0 .0 .1), ne-eqb (c .before .args .c) c-assert (c .match .rest .0 .0 .0 .1), ne-eqb (c .before .args .c) c-skip (c .match .rest .0 .0 .1), ne-eqb (c .before .args .c) c-goto (c .match .rest .0 .1), ne-eqb (c .before .args .c) c-break (c .match .rest .1))
+returns-9 c = simp (ne-eqb (c .before .args .c) c-text (c .match .rest .0 .0 .0 .0 .0 .0 .0 .1), ne-eqb (c .before .args .c) c-target (c .match .rest .0 .0 .0 .0 .0 .0 .1), ne-eqb (c .before .args .c) c-increment (c .match .rest .0 .0 .0 .0 .0 .1), ne-eqb (c .before .args .c) c-decrement (c .match .rest .0 .0 .0 .0 .1), ne-eqb (c .before .args .c) c-assert (c .match .rest .0 .0 .0 .1), ne-eqb (c .before .args .c) c-skip (c .match .rest .0 .0 .1), ne-eqb (c .before .args .c) c-goto (c .match .rest .0 .1), ne-eqb (c .before .args .c) c-break (c .match .rest .1))
 
 pub is-always-spec : {M : Type 1} → statement M
 is-always-spec =

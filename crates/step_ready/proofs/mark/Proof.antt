@@ -6,11 +6,11 @@ use Rattle.step_ready.proofs.mark.Tie as tie
 
 returns : tie.Need-returns
 unfolding markOf
-returns c = (rw (← c .before .before .code .ensures, ← c .before .is-alone .ensures, c .if1 .taken), omega arith)
+returns c = (rw (← c .before .before .code .ensures, ← c .before .is-own-mark .ensures, c .if1 .taken), omega arith)
 
 returns-2 : tie.Need-returns-2
 unfolding markOf
-returns-2 c = (rw (← c .before .before .before .code .ensures, ← c .before .before .is-alone .ensures, c .before .if1 .left) (c .link .ensures .0), c .link .ensures .1)
+returns-2 c = (rw (← c .before .before .before .code .ensures, ← c .before .before .is-own-mark .ensures, c .before .if1 .left) (c .link .ensures .0), c .link .ensures .1)
 
 pub mark-spec : {M : Type 1} → statement M
 mark-spec =

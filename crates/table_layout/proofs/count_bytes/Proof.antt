@@ -2,6 +2,7 @@ use lib.ListN.{length}
 use Prim.Native.Nat.{_-_, _+_, _*_, _≤_}
 use native.Mathlib.Omega.{arith}
 use mathlib.Core.Path.{_≡_, _∙_}
+use Rattle.base_ceilings.specs.Ceilings.{stringMost}
 use Rattle.table_entries.specs.Sources.{entryAt}
 use Rattle.table_entries.specs.Entry.{joined, runs, bytes}
 use Rattle.table_layout.proofs.Building as laws
@@ -11,7 +12,7 @@ use Rattle.table_layout.proofs.count_bytes.Statement.{statement}
 use Rattle.table_layout.proofs.count_bytes.Tie as tie
 
 abbrev Inv-loop : tie.InvT-loop
-Inv-loop text starts ends codes toks n sum₀ i₀ sum i = (sum ≤ 64 * i) × (i ≤ n) × (sum + length (joined bytes (runs (entryAt text starts ends codes toks) i (n - i))) ≡ length (joined bytes (runs (entryAt text starts ends codes toks) 0 n)))
+Inv-loop text starts ends codes toks n sum₀ i₀ sum i = (sum ≤ stringMost * i) × (i ≤ n) × (sum + length (joined bytes (runs (entryAt text starts ends codes toks) i (n - i))) ≡ length (joined bytes (runs (entryAt text starts ends codes toks) 0 n)))
 
 abbrev μ-loop : tie.MeasureT-loop
 μ-loop text starts ends codes toks n sum₀ i₀ sum i = n - i

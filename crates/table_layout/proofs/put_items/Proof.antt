@@ -2,6 +2,7 @@ use lib.ListN.{length}
 use Prim.Native.Nat.{_-_, _+_, _*_, _≤_}
 use native.Mathlib.Omega.{arith}
 use mathlib.Core.Path.{_≡_, refl, sym, _∙_}
+use Rattle.base_ceilings.specs.Ceilings.{stringMost}
 use Rattle.base_pens.specs.Pen.{pen, puts}
 use Rattle.table_entries.specs.Sources.{entryAt}
 use Rattle.table_entries.specs.Entry.{runs}
@@ -13,7 +14,7 @@ use Rattle.table_layout.proofs.put_items.Statement.{statement}
 use Rattle.table_layout.proofs.put_items.Tie as tie
 
 abbrev Inv-loop : tie.InvT-loop
-Inv-loop text starts ends codes toks n out₀ p q₀ o₀ k₀ i₀ out q o k i = (length out ≡ length out₀) × (o ≤ 64 * i) × (k ≤ i) × (puts (spec.itemWords o k (runs (entryAt text starts ends codes toks) i (n - i))) (pen out q) ≡ puts (spec.itemWords 0 0 (runs (entryAt text starts ends codes toks) 0 n)) (pen out₀ p))
+Inv-loop text starts ends codes toks n out₀ p q₀ o₀ k₀ i₀ out q o k i = (length out ≡ length out₀) × (o ≤ stringMost * i) × (k ≤ i) × (puts (spec.itemWords o k (runs (entryAt text starts ends codes toks) i (n - i))) (pen out q) ≡ puts (spec.itemWords 0 0 (runs (entryAt text starts ends codes toks) 0 n)) (pen out₀ p))
 
 abbrev μ-loop : tie.MeasureT-loop
 μ-loop text starts ends codes toks n out₀ p q₀ o₀ k₀ i₀ out q o k i = n - i

@@ -1,3 +1,4 @@
+use Rattle.base_ceilings.specs.Ceilings.{stepsMost}
 use Rattle.trail_replay.proofs.Laws as laws
 use native.Mathlib.Omega.{arith}
 use Prim.Native.Nat.{_≤_, _-_}
@@ -9,7 +10,7 @@ use Rattle.trail_replay.proofs.follow.Statement.{statement}
 use Rattle.trail_replay.proofs.follow.Tie as tie
 
 abbrev Inv-loop : tie.InvT-loop
-Inv-loop t s₀ trail n claim failed₀ at₀ i₀ s failed at i = (at ≤ length trail) × ((i ≤ n) × ((n ≤ 2048) × ((length s ≡ length s₀) × laws.Going t trail n claim s₀ failed at i s)))
+Inv-loop t s₀ trail n claim failed₀ at₀ i₀ s failed at i = (at ≤ length trail) × ((i ≤ n) × ((n ≤ stepsMost) × ((length s ≡ length s₀) × laws.Going t trail n claim s₀ failed at i s)))
 
 abbrev μ-loop : tie.MeasureT-loop
 μ-loop t s₀ trail n claim failed₀ at₀ i₀ s failed at i = n - i

@@ -1,0 +1,1 @@
+// The code of a tree is definitions and theorems alone (specs/ and proofs/).

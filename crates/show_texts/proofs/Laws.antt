@@ -1,0 +1,72 @@
+-- The status of a command on a text, from what its callees promise; and that every status is 0, 1 or 2.
+use Prim.Native.Nat.{ℕ, _≤_}
+use native.Mathlib.Omega.{arith}
+use mathlib.Core.Path.{_≡_, refl, sym, ap, _∙_, subst}
+use mathlib.Core.Bool.{Bool, true, false}
+use mathlib.Core.List.{List}
+use lib.ListN.{replicate}
+use Rattle.base_ceilings.specs.Ceilings.{normalMost, tablesRoom}
+use Rattle.base_bytes.specs.Choice.{pick}
+use Rattle.base_bytes.specs.Lists.{same}
+use Rattle.read_passes.specs.declared.Judged.{Judged}
+use Rattle.read_passes.specs.declared.Judged.the-variants as judged
+use Rattle.read_entry.specs.Entries.{readOf, leftOf}
+use Rattle.normal_entry.specs.Entries.{answerOf}
+use Rattle.normal_entry.specs.declared.Written.{Written}
+use Rattle.normal_entry.specs.declared.Written.the-variants as text
+use Rattle.show_commands.proofs.Laws.{start-small, run-small, replay-small}
+use Rattle.show_texts.specs.Statuses.{writtenStatus, normalStatus, w-read, w-normal, w-start, w-run, w-replay, w-steps, w-state, commandStatus, judgedStatus, textStatus}
+
+-- ---- `normal`
+module _ (t : List ℕ) (out : List ℕ) (w : Written) (room : out ≡ replicate normalMost 0) (e : w ≡ answerOf t out) where
+  pub is-text : (n : ℕ) → w ≡ text.Text n → 0 ≡ normalStatus t
+  unfolding normalStatus
+  is-text n f = ap writtenStatus (sym f ∙ e ∙ ap (answerOf t) room)
+
+  pub is-refused : (x i n y : ℕ) → w ≡ text.Refused x i n → y ≡ 1 → y ≡ normalStatus t
+  unfolding normalStatus
+  is-refused x i n y f g = g ∙ ap writtenStatus (sym f ∙ e ∙ ap (answerOf t) room)
+
+-- ---- any other command
+module _ (command t trail : List ℕ) (limit : ℕ) (b : Bool) (other : b ≡ same command w-normal) where
+  pub of-normal : (y : ℕ) → b ≡ true → y ≡ normalStatus t → y ≡ textStatus command t trail limit
+  unfolding textStatus
+  of-normal y h e = e ∙ sym (rw (← other, h))
+
+  module _ (f : b ≡ false) (ts : List ℕ) (j : Judged) (room : ts ≡ replicate tablesRoom 0) (e : j ≡ readOf t ts) where
+    pub on-accepted : (left : List ℕ) (y : ℕ) → left ≡ leftOf t ts → j ≡ judged.Accepted → y ≡ commandStatus command left trail limit → y ≡ textStatus command t trail limit
+    unfolding textStatus
+    on-accepted left y l a g = g ∙ ap (λ z. commandStatus command z trail limit) (l ∙ ap (leftOf t) room) ∙ sym (rw (← other, f, ← room, ← e, a))
+
+    pub on-refused : (x i n y : ℕ) → j ≡ judged.Refused x i n → y ≡ 1 → y ≡ textStatus command t trail limit
+    unfolding textStatus
+    on-refused x i n y r g = g ∙ sym (rw (← other, f, ← room, ← e, r))
+
+-- ---- 0, 1 or 2
+written-small : (w : Written) → writtenStatus w ≤ 2
+written-small (text.Text n) = omega arith
+written-small (text.Refused x i n) = omega arith
+
+either-small : (b : Bool) {x y : ℕ} → x ≤ 2 → y ≤ 2 → pick b x y ≤ 2
+either-small true h k = h
+either-small false h k = k
+
+command-small : (command ts trail : List ℕ) (limit : ℕ) → commandStatus command ts trail limit ≤ 2
+unfolding commandStatus
+command-small command ts trail limit =
+    either-small (same command w-read) (omega arith)
+    (either-small (same command w-start) (start-small ts)
+    (either-small (same command w-run) (run-small ts limit)
+    (either-small (same command w-replay) (replay-small ts trail)
+    (either-small (same command w-steps) (replay-small ts trail)
+    (either-small (same command w-state) (replay-small ts trail) (omega arith))))))
+
+judged-small : (j : Judged) {x : ℕ} → x ≤ 2 → judgedStatus j x ≤ 2
+judged-small judged.Accepted h = h
+judged-small (judged.Refused x i n) h = omega arith
+
+pub text-small : (command t trail : List ℕ) (limit : ℕ) → textStatus command t trail limit ≤ 2
+unfolding textStatus normalStatus
+text-small command t trail limit =
+    either-small (same command w-normal) (written-small (answerOf t (replicate normalMost 0)))
+    (judged-small (readOf t (replicate tablesRoom 0)) (command-small command (leftOf t (replicate tablesRoom 0)) trail limit))
