@@ -1,5 +1,5 @@
 -- Bridge, for `demand2` (crate `demands`).
--- Arguments as they stand in tables: each begins with an item that links to its mark, behind which the next one begins, and `end` (187) stands behind the last. Document 01, "Grammar";
+-- Arguments as they stand in tables: each begins with an item that links to its mark, behind which the next one begins, and `end` stands behind the last. Document 01, "Grammar";
 -- docs/TABLES.md, "Links". `t` are tables, p the number of the process, `decl` has for each name the item that declares it.
 use Prim.Native.Nat.{ℕ, _+_, _-_}
 use mathlib.Core.Path.{_≡_}

@@ -18,7 +18,7 @@ pub data Pair : ℕ → Item → Item → Type 0 where
 abbrev pub Neither : Item → Type 0
 Neither x = (codeOf x < c-if) ⊎ (c-end-option < codeOf x)
 
--- an option begins with a statement, and where that has a label (188), something stands behind it
+-- an option begins with a statement, and where that has a label, something stands behind it
 abbrev pub Begun : List Item → Type 0
 Begun l = (1 ≤ length l) × (codeOf (getD l 1 i-plain) ≡ c-label → 3 ≤ length l)
 

@@ -14,7 +14,7 @@ use Rattle.agree_nesting.specs.Full.{Starts}
 use Rattle.agree_offers.specs.Depth.{optionsIn}
 
 module _ (t : List ℕ) where
-  -- the statement at item i is no selection and no `else` (201)
+  -- the statement at item i is no selection and no `else`
   abbrev pub Plain : ℕ → Type 0
   Plain i = (isSelection t i ≡ false) × (codeOf t i ≡ c-else → ⊥)
 
@@ -34,7 +34,7 @@ module _ (t : List ℕ) where
   Told else i = codeOf t i ≡ c-else
   Told (run w es) i = Plain i
   Told (set-run r w es) i = Plain i
-  -- if (204) and do (206) link to the item behind their options, of which there are at most 512
+  -- if and do link to the item behind their options, of which there are at most 512
   Told (select os) i = (codeOf t i ≡ c-if) × (linkOf t i ≡ i + 1 + sizeIn os) × (optionsIn os ≤ statementsMost) × Told os (i + 1)
   Told (loop os) i = (codeOf t i ≡ c-do) × (linkOf t i ≡ i + 1 + sizeIn os) × (optionsIn os ≤ statementsMost) × Told os (i + 1)
   Told (bare a) i = Told a i
@@ -42,5 +42,5 @@ module _ (t : List ℕ) where
   Told end i = Unit {0}
   Told (then s q) i = Told s i × Told q (i + sizeIn s)
   Told over i = Unit {0}
-  -- an option (208) links to the item behind its statements, and its first statement is found
+  -- an option links to the item behind its statements, and its first statement is found
   Told (option q os) i = (codeOf t i ≡ c-option) × (linkOf t i ≡ i + 1 + sizeIn q) × Starts q × (firstOf t i ≡ enter q (i + 1) 0) × Told q (i + 1) × Told os (i + 2 + sizeIn q)

@@ -26,7 +26,7 @@ use Rattle.base_codes.specs.Items.{i-binary, i-unary}
 use Rattle.parse_code.specs.Code.{code-exp}
 use Rattle.base_codes.specs.Items as items
 
--- a plain reference to declaration d: the number of an mtype name (220), `_pid` (its own name, 70), or a variable
+-- a plain reference to declaration d: the number of an mtype name, `_pid` (its own name, 70), or a variable
 unfoldable pub numberAt : List ℕ → List ℤ → ℕ → ℕ → ℤ
 numberAt t s p d = pick (eqb (codeOf t d) c-message) (kept (linkOf t d)) (pick (eqb (codeOf t d) c-name) (pos p) (cellOf s (slotOf (linkOf t d) p 0)))
 

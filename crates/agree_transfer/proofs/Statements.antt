@@ -169,7 +169,7 @@ module _ {S : Type 0} (c : Stage S) where
   ready-takable late (loop os) h = h
 
   -- a statement of the tree stands at place q, and may be taken
-  pub record Offered (k : Sort) (t : Tree k) (i n o q : ℕ) : Type 0 where
+  pub record OffersAlike (k : Sort) (t : Tree k) (i n o q : ℕ) : Type 0 where
     pub act : Tree action
     pub next : ℕ
     pub out : ℕ
@@ -201,22 +201,22 @@ module _ {S : Type 0} (c : Stage S) where
   in-one q i (behind h) = none-in q h
 
   -- with other places around it
-  out-if : (os : Tree options) (i n o q : ℕ) → Offered options os (i + 1) n o q → Offered action (select os) i n o q
+  out-if : (os : Tree options) (i n o q : ℕ) → OffersAlike options os (i + 1) n o q → OffersAlike action (select os) i n o q
   out-if os i n o q r = record { act = r .act; next = r .next; out = r .out; within = in-if (r .within); takes = r .takes }
 
-  out-do : (os : Tree options) (i n o q : ℕ) → Offered options os (i + 1) i n q → Offered action (loop os) i n o q
+  out-do : (os : Tree options) (i n o q : ℕ) → OffersAlike options os (i + 1) i n q → OffersAlike action (loop os) i n o q
   out-do os i n o q r = record { act = r .act; next = r .next; out = r .out; within = in-do (r .within); takes = r .takes }
 
-  out-bare : (a : Tree action) (i n o q : ℕ) → Offered action a i n o q → Offered statement (bare a) i n o q
+  out-bare : (a : Tree action) (i n o q : ℕ) → OffersAlike action a i n o q → OffersAlike statement (bare a) i n o q
   out-bare a i n o q r = record { act = r .act; next = r .next; out = r .out; within = unlabelled (r .within); takes = r .takes }
 
-  out-label : (w : Name) (a : Tree action) (i n o q : ℕ) → Offered action a (i + 2) n o q → Offered statement (labelled w a) i n o q
+  out-label : (w : Name) (a : Tree action) (i n o q : ℕ) → OffersAlike action a (i + 2) n o q → OffersAlike statement (labelled w a) i n o q
   out-label w a i n o q r = record { act = r .act; next = r .next; out = r .out; within = behind-label (r .within); takes = r .takes }
 
-  out-then : (s : Tree statement) (x : Tree sequence) (i n o q : ℕ) → Offered statement s i (enter x (i + sizeIn s) n) o q → Offered sequence (then s x) i n o q
+  out-then : (s : Tree statement) (x : Tree sequence) (i n o q : ℕ) → OffersAlike statement s i (enter x (i + sizeIn s) n) o q → OffersAlike sequence (then s x) i n o q
   out-then s x i n o q r = record { act = r .act; next = r .next; out = r .out; within = in-first (r .within); takes = r .takes }
 
-  out-option : (x : Tree sequence) (os : Tree options) (i n o q : ℕ) → Offered sequence x (i + 1) n o q ⊎ Offered options os (i + 2 + sizeIn x) n o q → Offered options (option x os) i n o q
+  out-option : (x : Tree sequence) (os : Tree options) (i n o q : ℕ) → OffersAlike sequence x (i + 1) n o q ⊎ OffersAlike options os (i + 2 + sizeIn x) n o q → OffersAlike options (option x os) i n o q
   out-option x os i n o q (inl r) = record { act = r .act; next = r .next; out = r .out; within = in-option (r .within); takes = r .takes }
   out-option x os i n o q (inr r) = record { act = r .act; next = r .next; out = r .out; within = in-others (r .within); takes = r .takes }
 
@@ -228,7 +228,7 @@ module _ {S : Type 0} (c : Stage S) where
   merge (inl a) f g = f a
   merge (inr b) f g = g b
 
-  else-there : {k : Sort} (t : Tree k) (i n o q : ℕ) → In q (elseOf t i) → Offered k t i n o q
+  else-there : {k : Sort} (t : Tree k) (i n o q : ℕ) → In q (elseOf t i) → OffersAlike k t i n o q
   else-there (express e) i n o q h = none-in q h
   else-there (assign r e) i n o q h = none-in q h
   else-there (increment r) i n o q h = none-in q h
@@ -241,7 +241,7 @@ module _ {S : Type 0} (c : Stage S) where
   else-there (goto w) i n o q h = none-in q h
   else-there break i n o q h = none-in q h
   else-there timeout i n o q h = none-in q h
-  else-there else i n o q h = subst (Offered action else i n o) (in-one q i h) record { act = else; next = n; out = o; within = itself; takes = refl }
+  else-there else i n o q h = subst (OffersAlike action else i n o) (in-one q i h) record { act = else; next = n; out = o; within = itself; takes = refl }
   else-there (run w es) i n o q h = none-in q h
   else-there (set-run r w es) i n o q h = none-in q h
   else-there (select os) i n o q h = none-in q h
@@ -258,14 +258,14 @@ module _ {S : Type 0} (c : Stage S) where
   abbrev can : Bool → Tree action → ℕ → Bool
   can late a i = ready c late a
 
-  leaf : (late : Bool) (a : Tree action) (i n o q : ℕ) → In q (pick (ready c late a) (i ∷ []) []) → Offered action a i n o q
+  leaf : (late : Bool) (a : Tree action) (i n o q : ℕ) → In q (pick (ready c late a) (i ∷ []) []) → OffersAlike action a i n o q
   leaf late a i n o q h = go (ready c late a) refl h
     where
-      go : (b : Bool) → ready c late a ≡ b → In q (pick b (i ∷ []) []) → Offered action a i n o q
-      go true e h = subst (Offered action a i n o) (in-one q i h) record { act = a; next = n; out = o; within = itself; takes = ready-takable late a e }
+      go : (b : Bool) → ready c late a ≡ b → In q (pick b (i ∷ []) []) → OffersAlike action a i n o q
+      go true e h = subst (OffersAlike action a i n o) (in-one q i h) record { act = a; next = n; out = o; within = itself; takes = ready-takable late a e }
       go false e h = none-in q h
 
-  pub offers-there : (late : Bool) {k : Sort} (t : Tree k) (i n o q : ℕ) → In q (offers (can late) t i) → Offered k t i n o q
+  pub offers-there : (late : Bool) {k : Sort} (t : Tree k) (i n o q : ℕ) → In q (offers (can late) t i) → OffersAlike k t i n o q
   unfolding offers
   offers-there late (express e) i n o q h = leaf late (express e) i n o q h
   offers-there late (assign r e) i n o q h = leaf late (assign r e) i n o q h

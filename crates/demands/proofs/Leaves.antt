@@ -72,10 +72,10 @@ unchanged ts s p k out =
 
 -- ---- what is left is a state of the model
 module _ (ts : List ℕ) (s : List ℤ) where
-  abbrev Stands : List ℤ → Type 0
-  Stands l = isStateOf (written ts) l ≡ true
+  abbrev LetThrough : List ℤ → Type 0
+  LetThrough l = isStateOf (written ts) l ≡ true
 
-  left : (m : Model) → Tables ts m → (τ : State) → Fits (Belongs m) m τ → Stands (leaves s m τ)
+  left : (m : Model) → Tables ts m → (τ : State) → Fits (Belongs m) m τ → LetThrough (leaves s m τ)
   unfolding leaves
   left m h τ f = numbers-state ts m τ (drop stateRoom s) h f
 
@@ -93,59 +93,59 @@ module _ (ts : List ℕ) (s : List ℤ) where
   replay-fits m r (of-text t a e) c l = entries.replay-fits ts (r .tables) (tables-genuine ts (a .tree) (of-text t a e)) t a e c l
 
   module _ (m : Model) (σ : State) (h : Holds ts s m σ) where
-    same : Stands s
+    same : LetThrough s
     same = state-is ts m s σ (h .tables) (h .numbers)
 
-    done : (out : List ℕ) (k : Taken) (τ : State) (text : List ℕ) → Fits (Belongs m) m τ → Stands (doneBy s out k (leaves s m τ) text .state)
+    done : (out : List ℕ) (k : Taken) (τ : State) (text : List ℕ) → Fits (Belongs m) m τ → LetThrough (doneBy s out k (leaves s m τ) text .state)
     done out Done τ text f = left m (h .tables) τ f
     done out Refuted τ text f = same
     done out (Faulted g) τ text f = same
     done out Idle τ text f = same
 
-    taken : (p k : ℕ) (out : List ℕ) (o : Option Step) → asked (machineOf m) p k (offered (machineOf m) σ) ≡ o → Stands (takenBy s m σ out o .state)
+    taken : (p k : ℕ) (out : List ℕ) (o : Option Step) → asked (machineOf m) p k (offered (machineOf m) σ) ≡ o → LetThrough (takenBy s m σ out o .state)
     taken p k out none e = same
     taken p k out (some x) e =
         let T = machineOf m .take σ (x .process) (x .place) in
         done out (T .0) (T .1) (machineOf m .printed σ (x .process) (x .place)) (step-fits m σ (h .rooms) (h .tables) (h .numbers .fits) p k x e)
 
-    roomy : (out : List ℕ) (b : Bool) (o : Outcome) → Stands (o .state) → Stands (pick b (refusedBy 7 s out) o .state)
+    roomy : (out : List ℕ) (b : Bool) (o : Outcome) → LetThrough (o .state) → LetThrough (pick b (refusedBy 7 s out) o .state)
     roomy out true o g = same
     roomy out false o g = g
 
-    stepping : (p k : ℕ) (out : List ℕ) → Stands (outcomeOf ts s p k out .state)
+    stepping : (p k : ℕ) (out : List ℕ) → LetThrough (outcomeOf ts s p k out .state)
     stepping p k out =
-        subst (λ (o : Outcome). Stands (o .state)) (inv (demand2 ts s .step (a-state m σ h) p k out))
+        subst (λ (o : Outcome). LetThrough (o .state)) (inv (demand2 ts s .step (a-state m σ h) p k out))
         (roomy out (ltb (length out) printRoom) (steppedBy (a-state m σ h) p k out) (taken p k out (asked (machineOf m) p k (offered (machineOf m) σ)) refl))
 
-    ran : (n : ℕ) → Stands (ranOf ts s n .1)
+    ran : (n : ℕ) → LetThrough (ranOf ts s n .1)
     ran n =
-        subst Stands (inv (ap (λ r. r .1) (demand2 ts s .run (a-state m σ h) n))) (left m (h .tables) (runFrom (machineOf m) n σ .state) (run-fits m σ (h .rooms) (h .tables) (h .numbers .fits) n))
+        subst LetThrough (inv (ap (λ r. r .1) (demand2 ts s .run (a-state m σ h) n))) (left m (h .tables) (runFrom (machineOf m) n σ .state) (run-fits m σ (h .rooms) (h .tables) (h .numbers .fits) n))
 
-  started : (x : Lent ts s) → foreignOf ts s ≡ 0 → Stands (startLeft ts s)
+  started : (x : Lent ts s) → foreignOf ts s ≡ 0 → LetThrough (startLeft ts s)
   started (no-room h) e = let f = foreign-room ts s h in absurd (omega arith)
   started (no-model r h) e = let f = foreign-is ts s r h in absurd (omega arith)
-  started (no-state m r h g) e = subst Stands (inv (ap (λ z. z .1) (demand2 ts s .start (no-state m r h g)))) (left m h (initial m) (initial-fits m r h))
-  started (a-state m σ h) e = subst Stands (inv (ap (λ z. z .1) (demand2 ts s .start (a-state m σ h)))) (left m (h .tables) (initial m) (initial-fits m (h .rooms) (h .tables)))
+  started (no-state m r h g) e = subst LetThrough (inv (ap (λ z. z .1) (demand2 ts s .start (no-state m r h g)))) (left m h (initial m) (initial-fits m r h))
+  started (a-state m σ h) e = subst LetThrough (inv (ap (λ z. z .1) (demand2 ts s .start (a-state m σ h)))) (left m (h .tables) (initial m) (initial-fits m (h .rooms) (h .tables)))
 
   replayed : (m : Model) → Rooms ts s → Tables ts m → (trail : List ℕ) (l : List Recorded) (v : ℕ) → formOf trail ≡ form l v → replayedOf ts trail s ≡ formedBy s m (formOf trail)
-      → Stands (replayedOf ts trail s .1)
+      → LetThrough (replayedOf ts trail s .1)
   replayed m r h trail l v e d =
       let R = replayFrom (machineOf m) (claimBy v) l 1 none (initial m) in
-      subst Stands (inv (ap (λ z. z .1) (d ∙ ap (formedBy s m) e))) (left m h (R .1) (replay-fits m r h (claimBy v) l))
+      subst LetThrough (inv (ap (λ z. z .1) (d ∙ ap (formedBy s m) e))) (left m h (R .1) (replay-fits m r h (claimBy v) l))
 
-  by-replay : (x : Lent ts s) → foreignOf ts s ≡ 0 → (trail : List ℕ) (l : List Recorded) (v : ℕ) → formOf trail ≡ form l v → Stands (replayedOf ts trail s .1)
+  by-replay : (x : Lent ts s) → foreignOf ts s ≡ 0 → (trail : List ℕ) (l : List Recorded) (v : ℕ) → formOf trail ≡ form l v → LetThrough (replayedOf ts trail s .1)
   by-replay (no-room h) e trail l v q = let f = foreign-room ts s h in absurd (omega arith)
   by-replay (no-model r h) e trail l v q = let f = foreign-is ts s r h in absurd (omega arith)
   by-replay (no-state m r h g) e trail l v q = replayed m r h trail l v q (demand2 ts s .replay (no-state m r h g) trail)
   by-replay (a-state m σ h) e trail l v q = replayed m (h .rooms) (h .tables) trail l v q (demand2 ts s .replay (a-state m σ h) trail)
 
-  by-step : (x : Lent ts s) → refusalBy x ≡ 0 → (p k : ℕ) (out : List ℕ) → Stands (outcomeOf ts s p k out .state)
+  by-step : (x : Lent ts s) → refusalBy x ≡ 0 → (p k : ℕ) (out : List ℕ) → LetThrough (outcomeOf ts s p k out .state)
   by-step (no-room h) e p k out = absurd (omega arith)
   by-step (no-model r h) e p k out = absurd (omega arith)
   by-step (no-state m r h g) e p k out = absurd (omega arith)
   by-step (a-state m σ h) e p k out = stepping m σ h p k out
 
-  by-run : (x : Lent ts s) → refusalBy x ≡ 0 → (n : ℕ) → Stands (ranOf ts s n .1)
+  by-run : (x : Lent ts s) → refusalBy x ≡ 0 → (n : ℕ) → LetThrough (ranOf ts s n .1)
   by-run (no-room h) e n = absurd (omega arith)
   by-run (no-model r h) e n = absurd (omega arith)
   by-run (no-state m r h g) e n = absurd (omega arith)

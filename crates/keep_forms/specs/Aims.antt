@@ -1,6 +1,6 @@
 -- Bridge, for `demand2` (crate `demands`).
--- What stands before a mark that stores: a reference, all of it. Document 01, "Grammar", of assignments, `v++`, `v--`, `v = run` and received arguments; the marks are 184 into,
--- 190 target, 192 increment and 193 decrement.
+-- What stands before a mark that stores: a reference, all of it. Document 01, "Grammar", of assignments, `v++`, `v--`, `v = run` and received arguments; the marks are into,
+-- target, increment and decrement.
 use Prim.Native.Nat.{ℕ, _+_}
 use mathlib.Core.Path.{_≡_}
 use mathlib.Core.Bool.{Bool}

@@ -22,7 +22,7 @@ use Rattle.base_codes.specs.Sets.{ruleOf, isPart}
 use Rattle.parse_code.specs.Code.{each, code-exp, code-argument, code-received}
 use Rattle.spec_rules.specs.Expressions.{operand, received, whole}
 use Rattle.spec_rules.specs.Statements.{all, sense, receives}
-use Rattle.legal_statements.specs.Scene.{Scene, homes, starts, heights, clean, Stands}
+use Rattle.legal_statements.specs.Scene.{Scene, homes, starts, heights, clean, StandsIn}
 use Rattle.legal_statements.proofs.Tests.{both-last}
 use Rattle.legal_statements.proofs.Stands.{front, back, next, code-at, proper, home, clean-append, clean-one, clean-none, fine-by, fine-free}
 use Rattle.legal_statements.proofs.Phrases.{marked-fault, rules-none}
@@ -112,47 +112,47 @@ module _ (S : Scene) where
   unfolding last after
   last-step i = refl
 
-  last-over : (l : List Item) (i j : ℕ) → j ≡ i + length l → Stands S i l → Unopened l → last (S .cs) 4 j ≡ last (S .cs) 4 i
+  last-over : (l : List Item) (i j : ℕ) → j ≡ i + length l → StandsIn S i l → Unopened l → last (S .cs) 4 j ≡ last (S .cs) 4 i
   last-over [] i j e s u = ap (last (S .cs) 4) (let z : j ≡ i = omega arith in z)
   last-over (x ∷ l) i j e s u =
       last-over l (suc i) j (omega arith) (next S x l i s) (u .1) ∙ last-step i ∙ ap (λ (b : Bool). pick b (suc i) (last (S .cs) 4 i)) (ap (among 4) (code-at S x l i s) ∙ u .0)
 
-  one-is : (x : Item) (l : List Item) (i : ℕ) → Stands S i (x ∷ l) → one (S .cs) (homes S) 5 (S .h) i ≡ pick (among 5 (codeOf x)) 1 0
+  one-is : (x : Item) (l : List Item) (i : ℕ) → StandsIn S i (x ∷ l) → one (S .cs) (homes S) 5 (S .h) i ≡ pick (among 5 (codeOf x)) 1 0
   unfolding one
   one-is x l i s =
       rw (code-at S x l i s, eq-eqb (getD (homes S) i 0) (S .h) (home S x l i s)) refl
 
-  sum-marks : (l : List Item) (i : ℕ) → Stands S i l → sum (one (S .cs) (homes S) 5 (S .h)) i (length l) ≡ marks l
+  sum-marks : (l : List Item) (i : ℕ) → StandsIn S i l → sum (one (S .cs) (homes S) 5 (S .h)) i (length l) ≡ marks l
   unfolding sum marks
   sum-marks [] i s = refl
   sum-marks (x ∷ l) i s =
       ap₂ _+_ (one-is x l i s) (ap (λ n. sum (one (S .cs) (homes S) 5 (S .h)) n (length l)) (let z : i + 1 ≡ suc i = omega arith in z) ∙ sum-marks l (suc i) (next S x l i s))
 
-  count-marks : (x : Item) (l : List Item) (k j : ℕ) → j ≡ suc k + length l → Stands S k (x ∷ l) → count (S .cs) (homes S) 5 (S .h) k j ≡ marks (x ∷ l)
+  count-marks : (x : Item) (l : List Item) (k j : ℕ) → j ≡ suc k + length l → StandsIn S k (x ∷ l) → count (S .cs) (homes S) 5 (S .h) k j ≡ marks (x ∷ l)
   unfolding count
   count-marks x l k j e s = ap (sum (one (S .cs) (homes S) 5 (S .h)) k) (let z : j - k ≡ suc (length l) = omega arith in z) ∙ sum-marks (x ∷ l) k s
 
   -- ---- one argument
-  pub argument-fault : (e : Expr) (i : ℕ) → Stands S i (code-argument e) → clean S i (code-argument e) ≡ whole (sense (S .at)) e
+  pub argument-fault : (e : Expr) (i : ℕ) → StandsIn S i (code-argument e) → clean S i (code-argument e) ≡ whole (sense (S .at)) e
   argument-fault e i s = marked-fault S e operand i-argument i 2 s refl (mark-roles .0) (mark-rules .0) height-rule
 
-  argument-one : (e : Expr) (i : ℕ) → Stands S i (code-argument e) → Unopened (code-argument e) × (marks (code-argument e) ≡ 1)
+  argument-one : (e : Expr) (i : ℕ) → StandsIn S i (code-argument e) → Unopened (code-argument e) × (marks (code-argument e) ≡ 1)
   argument-one e i s = marked-one e i-argument (phrase-inside e (proper S e i (front S (code-exp e) (i-argument ∷ []) i s))) (argument-marks .0 .0) (argument-marks .1 .0)
 
-  constant-fault : (x : Item) (c i : ℕ) → codeOf x ≡ c → ruleOf c ≡ 0 → Stands S i (x ∷ i-constant ∷ []) → clean S i (x ∷ i-constant ∷ []) ≡ true
+  constant-fault : (x : Item) (c i : ℕ) → codeOf x ≡ c → ruleOf c ≡ 0 → StandsIn S i (x ∷ i-constant ∷ []) → clean S i (x ∷ i-constant ∷ []) ≡ true
   constant-fault x c i e r s =
       clean-one S x (i-constant ∷ []) i
       ∙ ap₂ both (fine-free S i c (code-at S x (i-constant ∷ []) i s ∙ e) r)
       (clean-one S i-constant [] (suc i) ∙ ap₂ both (fine-free S (suc i) c-constant (code-at S i-constant [] (suc i) (next S x (i-constant ∷ []) i s)) (mark-rules .3)) (clean-none S (suc (suc i))))
 
-  pub received-fault : (x : Received) (i : ℕ) → Stands S i (code-received x) → clean S i (code-received x) ≡ receives (S .at) x
+  pub received-fault : (x : Received) (i : ℕ) → StandsIn S i (code-received x) → clean S i (code-received x) ≡ receives (S .at) x
   received-fault (into r) i s = marked-fault S r received i-into i 2 s tt (mark-roles .1) (mark-rules .1) height-rule
   received-fault (equal e) i s = marked-fault S e operand i-equal i 17 s refl (mark-roles .2) (mark-rules .2) height-rule-behind
   received-fault (exactly n) i s = constant-fault (i-number n) c-number i refl (rules-none .1) s
   received-fault exactly-true i s = constant-fault i-true c-true i refl (rules-none .2) s
   received-fault exactly-false i s = constant-fault i-false c-false i refl (rules-none .3) s
 
-  received-one : (x : Received) (i : ℕ) → Stands S i (code-received x) → Unopened (code-received x) × (marks (code-received x) ≡ 1)
+  received-one : (x : Received) (i : ℕ) → StandsIn S i (code-received x) → Unopened (code-received x) × (marks (code-received x) ≡ 1)
   received-one (into r) i s = marked-one r i-into (phrase-inside r (proper S r i (front S (code-exp r) (i-into ∷ []) i s))) (argument-marks .0 .1) (argument-marks .1 .1)
   received-one (equal e) i s = marked-one e i-equal (phrase-inside e (proper S e i (front S (code-exp e) (i-equal ∷ []) i s))) (argument-marks .0 .2) (argument-marks .1 .2)
   received-one (exactly n) i s = marked-two (i-number n) i-constant (argument-marks .2 .0) (argument-marks .3 .0) (argument-marks .0 .3) (argument-marks .1 .3)
@@ -160,27 +160,27 @@ module _ (S : Scene) where
   received-one exactly-false i s = marked-two i-false i-constant (argument-marks .2 .2) (argument-marks .3 .2) (argument-marks .0 .3) (argument-marks .1 .3)
 
   -- ---- lists of them
-  module _ {A : Type 0} (f : A → List Item) (good : A → Bool) (judged : (a : A) (i : ℕ) → Stands S i (f a) → clean S i (f a) ≡ good a)
-      (single : (a : A) (i : ℕ) → Stands S i (f a) → Unopened (f a) × (marks (f a) ≡ 1)) where
-    each-fault : (l : List A) (i : ℕ) → Stands S i (each f l) → clean S i (each f l) ≡ all good l
+  module _ {A : Type 0} (f : A → List Item) (good : A → Bool) (judged : (a : A) (i : ℕ) → StandsIn S i (f a) → clean S i (f a) ≡ good a)
+      (single : (a : A) (i : ℕ) → StandsIn S i (f a) → Unopened (f a) × (marks (f a) ≡ 1)) where
+    each-fault : (l : List A) (i : ℕ) → StandsIn S i (each f l) → clean S i (each f l) ≡ all good l
     each-fault [] i s = clean-none S i
     each-fault (a ∷ l) i s =
         clean-append S (f a) (each f l) i (i + length (f a)) refl
         ∙ ap₂ both (judged a i (front S (f a) (each f l) i s)) (each-fault l (i + length (f a)) (back S (f a) (each f l) i (i + length (f a)) refl s))
 
-    each-unopened : (l : List A) (i : ℕ) → Stands S i (each f l) → Unopened (each f l)
+    each-unopened : (l : List A) (i : ℕ) → StandsIn S i (each f l) → Unopened (each f l)
     each-unopened [] i s = tt
     each-unopened (a ∷ l) i s =
         unopened-append (f a) (each f l) (single a i (front S (f a) (each f l) i s) .0) (each-unopened l (i + length (f a)) (back S (f a) (each f l) i (i + length (f a)) refl s))
 
-    each-marks : (l : List A) (i : ℕ) → Stands S i (each f l) → marks (each f l) ≡ length l
+    each-marks : (l : List A) (i : ℕ) → StandsIn S i (each f l) → marks (each f l) ≡ length l
     unfolding marks
     each-marks [] i s = refl
     each-marks (a ∷ l) i s =
         marks-append (f a) (each f l)
         ∙ ap₂ _+_ (single a i (front S (f a) (each f l) i s) .1) (each-marks l (i + length (f a)) (back S (f a) (each f l) i (i + length (f a)) refl s)) ∙ omega arith
 
-    pub list-fault : (x : Item) (l : List A) (k : ℕ) → Stands S k (x ∷ (each f l ++ i-end ∷ [])) → among 4 (codeOf x) ≡ true → among 5 (codeOf x) ≡ false
+    pub list-fault : (x : Item) (l : List A) (k : ℕ) → StandsIn S k (x ∷ (each f l ++ i-end ∷ [])) → among 4 (codeOf x) ≡ true → among 5 (codeOf x) ≡ false
         → clean S (suc k) (each f l ++ i-end ∷ []) ≡ both (all good l) (eqb (badCount (S .cs) (S .vs) (homes S) k (length l)) 0)
     unfolding badBy badEnd opener marks
     list-fault x l k s o n =
@@ -203,10 +203,10 @@ module _ (S : Scene) where
         ∙ ap₂ both (fine-by S j c-end 16 (code-at S i-end [] j ends) (mark-rules .4) ∙ judged-end) (clean-none S (suc j)) ∙ both-last (eqb (badCount (S .cs) (S .vs) (homes S) k (length l)) 0))
 
   -- arguments, and received ones
-  pub arguments-fault : (x : Item) (l : List Expr) (k : ℕ) → Stands S k (x ∷ (each code-argument l ++ i-end ∷ [])) → among 4 (codeOf x) ≡ true → among 5 (codeOf x) ≡ false
+  pub arguments-fault : (x : Item) (l : List Expr) (k : ℕ) → StandsIn S k (x ∷ (each code-argument l ++ i-end ∷ [])) → among 4 (codeOf x) ≡ true → among 5 (codeOf x) ≡ false
       → clean S (suc k) (each code-argument l ++ i-end ∷ []) ≡ both (all (whole (sense (S .at))) l) (eqb (badCount (S .cs) (S .vs) (homes S) k (length l)) 0)
   arguments-fault x l k s o n = list-fault code-argument (whole (sense (S .at))) argument-fault argument-one x l k s o n
 
-  pub receiveds-fault : (x : Item) (l : List Received) (k : ℕ) → Stands S k (x ∷ (each code-received l ++ i-end ∷ [])) → among 4 (codeOf x) ≡ true → among 5 (codeOf x) ≡ false
+  pub receiveds-fault : (x : Item) (l : List Received) (k : ℕ) → StandsIn S k (x ∷ (each code-received l ++ i-end ∷ [])) → among 4 (codeOf x) ≡ true → among 5 (codeOf x) ≡ false
       → clean S (suc k) (each code-received l ++ i-end ∷ []) ≡ both (all (receives (S .at)) l) (eqb (badCount (S .cs) (S .vs) (homes S) k (length l)) 0)
   receiveds-fault x l k s o n = list-fault code-received (receives (S .at)) received-fault received-one x l k s o n

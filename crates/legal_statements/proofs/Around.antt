@@ -22,7 +22,7 @@ use Rattle.base_codes.specs.Sets.{ruleOf}
 use Rattle.parse_code.specs.Code.{each, code-exp, code-argument, code-received, code-tree}
 use Rattle.spec_rules.specs.Statements.{has, isElse}
 use Rattle.legal_terms.specs.Says.{itemAt}
-use Rattle.legal_statements.specs.Scene.{Scene, xs, homes, starts, heights, fine, clean, Stands}
+use Rattle.legal_statements.specs.Scene.{Scene, xs, homes, starts, heights, fine, clean, StandsIn}
 use Rattle.legal_statements.proofs.Tests.{both-last, told-five}
 use Rattle.legal_statements.proofs.Stands.{front, back, next, inside, code-at, proper, home, clean-one, clean-none, fine-by, fine-free}
 use Rattle.legal_statements.proofs.Uses.{pid-told}
@@ -111,10 +111,10 @@ module _ (S : Scene) where
   Around options i first twinned = (first ≡ true) × (twin (S .cs) i 1 ≡ twinned)
 
   -- ---- behind one item
-  pub prior-next : (x : Item) (l : List Item) (i : ℕ) (ls : List Name) → Stands S i (x ∷ l) → eqb (codeOf x) c-label ≡ false → Prior i ls → Prior (suc i) ls
+  pub prior-next : (x : Item) (l : List Item) (i : ℕ) (ls : List Name) → StandsIn S i (x ∷ l) → eqb (codeOf x) c-label ≡ false → Prior i ls → Prior (suc i) ls
   prior-next x l i ls s e p = λ y w h g. label-no S y i (ap (among 2) (code-at S x l i s) ∙ codes-sets (codeOf x) .0 ∙ e) ∙ p y w h g
 
-  pub deep-next : (x : Item) (l : List Item) (i : ℕ) (loops : Bool) → Stands S i (x ∷ l) → eqb (codeOf x) c-do ≡ false → eqb (codeOf x) c-od ≡ false → Deep i loops → Deep (suc i) loops
+  pub deep-next : (x : Item) (l : List Item) (i : ℕ) (loops : Bool) → StandsIn S i (x ∷ l) → eqb (codeOf x) c-do ≡ false → eqb (codeOf x) c-od ≡ false → Deep i loops → Deep (suc i) loops
   deep-next x l i loops s e f p =
       let it = code-at S x l i s in
       record {
@@ -124,7 +124,7 @@ module _ (S : Scene) where
         told = p .told;
       }
 
-  pub deep-loop : (l : List Item) (i : ℕ) (loops : Bool) → Stands S i (i-do ∷ l) → Deep i loops → Deep (suc i) true
+  pub deep-loop : (l : List Item) (i : ℕ) (loops : Bool) → StandsIn S i (i-do ∷ l) → Deep i loops → Deep (suc i) true
   deep-loop l i loops s p =
       let it = code-at S i-do l i s in
       record {
@@ -141,12 +141,12 @@ module _ (S : Scene) where
   deep-over i k ms n loops q p = record { depth = p .depth; opened = let a = q .even in let b = p .opened in omega arith; told = p .told }
 
   -- ---- the last item of a statement begins no option
-  ends-with : (l : List Item) (y : Item) (i k : ℕ) → k ≡ i + length (l ++ y ∷ []) → Stands S i (l ++ y ∷ []) → eqb (codeOf y) c-option ≡ false → eqb (getD (S .cs) (k - 1) 0) c-option ≡ false
+  ends-with : (l : List Item) (y : Item) (i k : ℕ) → k ≡ i + length (l ++ y ∷ []) → StandsIn S i (l ++ y ∷ []) → eqb (codeOf y) c-option ≡ false → eqb (getD (S .cs) (k - 1) 0) c-option ≡ false
   ends-with l y i k e s f =
       let n = length-append l (y ∷ []) in
       ap (λ c. eqb c c-option) (code-at S y [] (k - 1) (back S l (y ∷ []) i (k - 1) (omega arith) s)) ∙ f
 
-  action-ends : (a : Tree action) (i k : ℕ) → k ≡ i + length (code-tree a) → Stands S i (code-tree a) → eqb (getD (S .cs) (k - 1) 0) c-option ≡ false
+  action-ends : (a : Tree action) (i k : ℕ) → k ≡ i + length (code-tree a) → StandsIn S i (code-tree a) → eqb (getD (S .cs) (k - 1) 0) c-option ≡ false
   action-ends (express e) i k q s = ends-with (code-exp e) i-express i k q s refl
   action-ends (assign r e) i k q s = ends-with (code-exp r ++ i-target ∷ code-exp e) i-assign i k q s refl
   action-ends (increment r) i k q s = ends-with (code-exp r) i-increment i k q s refl
@@ -165,25 +165,25 @@ module _ (S : Scene) where
   action-ends (select os) i k q s = ends-with (i-if ∷ code-tree os) i-fi i k q s refl
   action-ends (loop os) i k q s = ends-with (i-do ∷ code-tree os) i-od i k q s refl
 
-  pub statement-ends : (a : Tree statement) (i k : ℕ) → k ≡ i + length (code-tree a) → Stands S i (code-tree a) → eqb (getD (S .cs) (k - 1) 0) c-option ≡ false
+  pub statement-ends : (a : Tree statement) (i k : ℕ) → k ≡ i + length (code-tree a) → StandsIn S i (code-tree a) → eqb (getD (S .cs) (k - 1) 0) c-option ≡ false
   statement-ends (bare a) i k q s = action-ends a i k q s
   statement-ends (labelled w a) i k q s =
       action-ends a (suc (suc i)) k (omega arith) (next S i-label (code-tree a) (suc i) (next S (i-name w) (i-label ∷ code-tree a) i s))
 
   -- ---- the first item of an option's statements is `else` where they begin with one
-  begins-inside : (l m : List Item) (i : ℕ) → all-inside l → 1 ≤ length l → Stands S i (l ++ m) → eqb (getD (S .cs) i 0) c-else ≡ false
+  begins-inside : (l m : List Item) (i : ℕ) → all-inside l → 1 ≤ length l → StandsIn S i (l ++ m) → eqb (getD (S .cs) i 0) c-else ≡ false
   begins-inside [] m i p h s = absurd (omega arith)
   begins-inside (x ∷ l) m i p h s =
       let c = inner-code (codeOf x) (p .0) .0 in
       ap (λ n. eqb n c-else) (code-at S x (l ++ m) i s) ∙ ne-eqb (codeOf x) c-else (λ e. omega arith)
 
-  begins-exp : {s : Shape} (e : Exp s) (m : List Item) (i : ℕ) → Stands S i (code-exp e ++ m) → eqb (getD (S .cs) i 0) c-else ≡ false
+  begins-exp : {s : Shape} (e : Exp s) (m : List Item) (i : ℕ) → StandsIn S i (code-exp e ++ m) → eqb (getD (S .cs) i 0) c-else ≡ false
   begins-exp e m i s = begins-inside (code-exp e) m i (phrase-inside e (proper S e i (front S (code-exp e) m i s))) (some-items e) s
 
-  begins-with : (x : Item) (l : List Item) (i : ℕ) (b : Bool) → Stands S i (x ∷ l) → eqb (codeOf x) c-else ≡ b → eqb (getD (S .cs) i 0) c-else ≡ b
+  begins-with : (x : Item) (l : List Item) (i : ℕ) (b : Bool) → StandsIn S i (x ∷ l) → eqb (codeOf x) c-else ≡ b → eqb (getD (S .cs) i 0) c-else ≡ b
   begins-with x l i b s e = ap (λ n. eqb n c-else) (code-at S x l i s) ∙ e
 
-  action-begins : (a : Tree action) (i : ℕ) → Stands S i (code-tree a) → eqb (getD (S .cs) i 0) c-else ≡ eqb (isElse a) 1
+  action-begins : (a : Tree action) (i : ℕ) → StandsIn S i (code-tree a) → eqb (getD (S .cs) i 0) c-else ≡ eqb (isElse a) 1
   action-begins (express e) i s = begins-exp e (i-express ∷ []) i s
   action-begins (assign r e) i s = begins-exp r (i-target ∷ code-exp e) i (front S (code-exp r ++ i-target ∷ code-exp e) (i-assign ∷ []) i s)
   action-begins (increment r) i s = begins-exp r (i-increment ∷ []) i s
@@ -203,13 +203,13 @@ module _ (S : Scene) where
   action-begins (select os) i s = begins-with i-if (code-tree os ++ i-fi ∷ []) i false s refl
   action-begins (loop os) i s = begins-with i-do (code-tree os ++ i-od ∷ []) i false s refl
 
-  option-begins : (q : Tree sequence) (l : List Item) (i : ℕ) → Stands S i (code-tree q ++ (i-end-option ∷ l)) → eqb (getD (S .cs) i 0) c-else ≡ eqb (isElse q) 1
+  option-begins : (q : Tree sequence) (l : List Item) (i : ℕ) → StandsIn S i (code-tree q ++ (i-end-option ∷ l)) → eqb (getD (S .cs) i 0) c-else ≡ eqb (isElse q) 1
   option-begins end l i s = begins-with i-end-option l i false s refl
   option-begins (then (bare a) q) l i s = action-begins a i (front S (code-tree a) (code-tree q) i (front S (code-tree a ++ code-tree q) (i-end-option ∷ l) i s))
   option-begins (then (labelled w a) q) l i s = begins-with (i-name w) (i-label ∷ ((code-tree a ++ code-tree q) ++ (i-end-option ∷ l))) i false s refl
 
   -- ---- behind an option the walk back finds it, where it begins with `else`, or what it found before it
-  pub option-seen : (q : Tree sequence) (l : List Item) (i k : ℕ) (twinned : Bool) → k ≡ suc i + length (code-tree q) → Stands S i (i-option ∷ (code-tree q ++ (i-end-option ∷ l)))
+  pub option-seen : (q : Tree sequence) (l : List Item) (i k : ℕ) (twinned : Bool) → k ≡ suc i + length (code-tree q) → StandsIn S i (i-option ∷ (code-tree q ++ (i-end-option ∷ l)))
       → twin (S .cs) i 1 ≡ twinned
       → twin (S .cs) (suc k) 1 ≡ either twinned (eqb (isElse q) 1)
   option-seen q l i k twinned e s t =
@@ -254,7 +254,7 @@ module _ (S : Scene) where
   unfolding badGoto
   goto-is i g = let z : suc i - 1 ≡ i = omega arith in rw (z, g) refl
 
-  pub goto-fault : (w : Name) (i : ℕ) (ls : List Name) → Stands S i (code-tree (goto w)) → Goes ls → clean S i (code-tree (goto w)) ≡ has ls w
+  pub goto-fault : (w : Name) (i : ℕ) (ls : List Name) → StandsIn S i (code-tree (goto w)) → Goes ls → clean S i (code-tree (goto w)) ≡ has ls w
   goto-fault w i ls s goes =
       let n = next S (i-name w) (i-goto ∷ []) i s in
       clean-one S (i-name w) (i-goto ∷ []) i
@@ -270,7 +270,7 @@ module _ (S : Scene) where
   unfolding badBreak
   break-is i g = rw g refl
 
-  pub break-fault : (i : ℕ) (loops : Bool) → Stands S i (i-break ∷ []) → Deep i loops → clean S i (i-break ∷ []) ≡ loops
+  pub break-fault : (i : ℕ) (loops : Bool) → StandsIn S i (i-break ∷ []) → Deep i loops → clean S i (i-break ∷ []) ≡ loops
   break-fault i loops s p =
       clean-one S i-break [] i
       ∙ ap₂ both
@@ -283,7 +283,7 @@ module _ (S : Scene) where
   unfolding badElse
   else-is i first e = rw e refl
 
-  pub else-fault : (i : ℕ) (first twinned : Bool) → Stands S i (i-else ∷ []) → Here i first twinned → clean S i (i-else ∷ []) ≡ both (quota first twinned 1) first
+  pub else-fault : (i : ℕ) (first twinned : Bool) → StandsIn S i (i-else ∷ []) → Here i first twinned → clean S i (i-else ∷ []) ≡ both (quota first twinned 1) first
   else-fault i first twinned s p =
       clean-one S i-else [] i
       ∙ ap₂ both
@@ -297,7 +297,7 @@ module _ (S : Scene) where
   label-is i g = let z : suc i - 1 ≡ i = omega arith in rw (z, g) refl
 
   -- a label is none of those before it
-  pub label-fault : (w : Name) (l : List Item) (i : ℕ) (ls : List Name) → Stands S i (i-name w ∷ i-label ∷ l) → Prior i ls → fine S (suc i) ≡ not (either (same w pid) (has ls w))
+  pub label-fault : (w : Name) (l : List Item) (i : ℕ) (ls : List Name) → StandsIn S i (i-name w ∷ i-label ∷ l) → Prior i ls → fine S (suc i) ≡ not (either (same w pid) (has ls w))
   label-fault w l i ls s p =
       let n = next S (i-name w) (i-label ∷ l) i s in
       fine-by S (suc i) c-label 7 (code-at S i-label l (suc i) n) (judged .0) ∙ ap (λ k. eqb k 0) (label-rule (suc i) ∙ label-is i (home S i-label l (suc i) n))

@@ -28,7 +28,7 @@ use Rattle.agree_stage.proofs.Stands.{Lying}
 use Rattle.spec_rules.specs.Statements.{Place, has, labelsOf, apart, allowed}
 use Rattle.legal_terms.specs.Says.{Says, itemAt}
 use Rattle.legal_terms.specs.Setting.{Setting}
-use Rattle.legal_statements.specs.Scene.{Scene, xs, homes, fine, clean, Items, Stands}
+use Rattle.legal_statements.specs.Scene.{Scene, xs, homes, fine, clean, Items, StandsIn}
 use Rattle.legal_statements.proofs.Uses.{pid-told}
 use Rattle.legal_statements.proofs.Walks.{any, any-zero, any-none, find-any, find-pid, count-none}
 use Rattle.legal_statements.proofs.Passing.{codes-sets, before, label, passing}
@@ -87,7 +87,7 @@ module _ (S : Scene) where
         go true e = ap (λ (u : Bool). pick {A = ℕ} u 1 0) (elsewhere c a b (eqb-true (getD (S .cs) j 0) c (sym f ∙ e)))
         go false e = refl
 
-  module _ (q : Tree sequence) (s : Stands S (S .from) (code-tree q)) (ends : S .to ≡ S .from + length (code-tree q)) where
+  module _ (q : Tree sequence) (s : StandsIn S (S .from) (code-tree q)) (ends : S .to ≡ S .from + length (code-tree q)) where
     first-labels : Prior S (S .from) []
     first-labels x w h e =
         let z : 0 + S .from ≡ S .from = omega arith in
@@ -164,7 +164,7 @@ module _ (m : Model) (cs vs : List ℕ) (says : Says m cs vs) (q : Tree sequence
             };
       }
 
-  stands : Stands scene from (code-tree q)
+  stands : StandsIn scene from (code-tree q)
   stands = record { items = items-lie scene (lies .front) (code-tree q) (lies .rest) from (lies .split) (let a = lies .place in omega arith); low = omega arith; high = omega arith }
 
   -- labels that are apart are none of them `_pid`

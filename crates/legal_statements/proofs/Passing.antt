@@ -20,7 +20,7 @@ use Rattle.base_codes.specs.Items.{Item, codeOf, i-argument, i-assert, i-assign
 use Rattle.parse_code.specs.Code.{each, code-exp, code-argument, code-received, code-tree}
 use Rattle.spec_rules.specs.Statements.{has, labelsOf}
 use Rattle.legal_terms.specs.Says.{itemAt}
-use Rattle.legal_statements.specs.Scene.{Scene, xs, homes, Stands}
+use Rattle.legal_statements.specs.Scene.{Scene, xs, homes, StandsIn}
 use Rattle.legal_statements.proofs.Stands.{front, back, next, code-at, proper, home}
 use Rattle.legal_statements.proofs.Arguments.{inner-code}
 use Rattle.legal_statements.proofs.Walks.{any, any-next, count-next, twin-over, twin-in, twin-out, twin-deep}
@@ -126,7 +126,7 @@ module _ (S : Scene) where
   pub label-no : (x i : ℕ) → among 2 (getD (S .cs) i 0) ≡ false → label x (suc i) ≡ label x i
   label-no x i e = any-next (declares (S .cs) (S .vs) (homes S) 2 (getD (S .vs) x 0) (S .h)) i ∙ ap (either (label x i)) (no-label x i e) ∙ either-none (label x i)
 
-  pub pass-dull : (x : Item) (l : List Item) (i : ℕ) → Stands S i (x ∷ l) → dull (codeOf x) ≡ true → Passing i (suc i) [] 1
+  pub pass-dull : (x : Item) (l : List Item) (i : ℕ) → StandsIn S i (x ∷ l) → dull (codeOf x) ≡ true → Passing i (suc i) [] 1
   pass-dull x l i s d =
       let c = codeOf x in
       let it = code-at S x l i s in
@@ -137,47 +137,47 @@ module _ (S : Scene) where
         labels = λ y w h e. label-no y i (ap (among 2) it ∙ z .0 ∙ off c c-label refl d) ∙ sym (either-none (label y i));
       }
 
-  pub pass-dulls : (l : List Item) (i j : ℕ) → j ≡ i + length l → Stands S i l → Dull l → Passing i j [] 1
+  pub pass-dulls : (l : List Item) (i j : ℕ) → j ≡ i + length l → StandsIn S i l → Dull l → Passing i j [] 1
   pass-dulls [] i j e s d = pass-to i i j [] 1 (let z : i ≡ j = omega arith in z) (pass-none i 1)
   pass-dulls (x ∷ l) i j e s d = pass-both i (suc i) j [] [] 1 (pass-dull x l i s (d .0)) (pass-dulls l (suc i) j (omega arith) (next S x l i s) (d .1))
 
   -- ---- statements of dull items
-  dull-exp : {s : Shape} (e : Exp s) (i : ℕ) → Stands S i (code-exp e) → Dull (code-exp e)
+  dull-exp : {s : Shape} (e : Exp s) (i : ℕ) → StandsIn S i (code-exp e) → Dull (code-exp e)
   dull-exp e i s = dull-inside (code-exp e) (phrase-inside e (proper S e i s))
 
-  dull-marked : {s : Shape} (e : Exp s) (x : Item) (i : ℕ) → Stands S i (code-exp e ++ x ∷ []) → dull (codeOf x) ≡ true → Dull (code-exp e ++ x ∷ [])
+  dull-marked : {s : Shape} (e : Exp s) (x : Item) (i : ℕ) → StandsIn S i (code-exp e ++ x ∷ []) → dull (codeOf x) ≡ true → Dull (code-exp e ++ x ∷ [])
   dull-marked e x i s d = dull-append (code-exp e) (x ∷ []) (dull-exp e i (front S (code-exp e) (x ∷ []) i s)) (d, tt)
 
-  dull-received : (x : Received) (i : ℕ) → Stands S i (code-received x) → Dull (code-received x)
+  dull-received : (x : Received) (i : ℕ) → StandsIn S i (code-received x) → Dull (code-received x)
   dull-received (into r) i s = dull-marked r i-into i s refl
   dull-received (equal e) i s = dull-marked e i-equal i s refl
   dull-received (exactly n) i s = (refl, (refl, tt))
   dull-received exactly-true i s = (refl, (refl, tt))
   dull-received exactly-false i s = (refl, (refl, tt))
 
-  dull-each : {A : Type 0} (f : A → List Item) → ((a : A) (i : ℕ) → Stands S i (f a) → Dull (f a)) → (l : List A) (i : ℕ) → Stands S i (each f l) → Dull (each f l)
+  dull-each : {A : Type 0} (f : A → List Item) → ((a : A) (i : ℕ) → StandsIn S i (f a) → Dull (f a)) → (l : List A) (i : ℕ) → StandsIn S i (each f l) → Dull (each f l)
   dull-each f h [] i s = tt
   dull-each f h (a ∷ l) i s =
       dull-append (f a) (each f l) (h a i (front S (f a) (each f l) i s)) (dull-each f h l (i + length (f a)) (back S (f a) (each f l) i (i + length (f a)) refl s))
 
-  dull-arguments : (l : List Expr) (i : ℕ) → Stands S i (each code-argument l) → Dull (each code-argument l)
+  dull-arguments : (l : List Expr) (i : ℕ) → StandsIn S i (each code-argument l) → Dull (each code-argument l)
   dull-arguments l i s = dull-each code-argument (λ e j z. dull-marked e i-argument j z refl) l i s
 
   -- an expression, a mark, more, and a last mark
-  dull-two : {s : Shape} (e : Exp s) (x y : Item) (l : List Item) (i : ℕ) → Stands S i ((code-exp e ++ x ∷ l) ++ y ∷ []) → dull (codeOf x) ≡ true → dull (codeOf y) ≡ true
-      → (Stands S (i + length (code-exp e) + 1) l → Dull l) → Dull ((code-exp e ++ x ∷ l) ++ y ∷ [])
+  dull-two : {s : Shape} (e : Exp s) (x y : Item) (l : List Item) (i : ℕ) → StandsIn S i ((code-exp e ++ x ∷ l) ++ y ∷ []) → dull (codeOf x) ≡ true → dull (codeOf y) ≡ true
+      → (StandsIn S (i + length (code-exp e) + 1) l → Dull l) → Dull ((code-exp e ++ x ∷ l) ++ y ∷ [])
   dull-two e x y l i s a b f =
       let E = code-exp e in
       let z = front S (E ++ x ∷ l) (y ∷ []) i s in
       dull-append (E ++ x ∷ l) (y ∷ [])
       (dull-append E (x ∷ l) (dull-exp e i (front S E (x ∷ l) i z))
-      (a, f (subst (λ n. Stands S n l) (let q : suc (i + length E) ≡ i + length E + 1 = omega arith in q) (next S x l (i + length E) (back S E (x ∷ l) i (i + length E) refl z))))) (b, tt)
+      (a, f (subst (λ n. StandsIn S n l) (let q : suc (i + length E) ≡ i + length E + 1 = omega arith in q) (next S x l (i + length E) (back S E (x ∷ l) i (i + length E) refl z))))) (b, tt)
 
-  dull-end : (l : List Expr) (i : ℕ) → Stands S i (each code-argument l ++ i-end ∷ []) → Dull (each code-argument l ++ i-end ∷ [])
+  dull-end : (l : List Expr) (i : ℕ) → StandsIn S i (each code-argument l ++ i-end ∷ []) → Dull (each code-argument l ++ i-end ∷ [])
   dull-end l i s = dull-append (each code-argument l) (i-end ∷ []) (dull-arguments l i (front S (each code-argument l) (i-end ∷ []) i s)) (refl, tt)
 
   -- ---- what opens and closes a selection
-  pass-select : (x y : Item) (o : List Item) (ls : List Name) (i j : ℕ) → j ≡ suc i + length o → Stands S i (x ∷ (o ++ y ∷ []))
+  pass-select : (x y : Item) (o : List Item) (ls : List Name) (i j : ℕ) → j ≡ suc i + length o → StandsIn S i (x ∷ (o ++ y ∷ []))
       → either (eqb (codeOf x) c-if) (eqb (codeOf x) c-do) ≡ true → either (eqb (codeOf x) c-fi) (eqb (codeOf x) c-od) ≡ false → either (eqb (codeOf y) c-fi) (eqb (codeOf y) c-od) ≡ true
       → (eqb (codeOf x) c-option ≡ false) × (eqb (codeOf y) c-option ≡ false) × (eqb (codeOf x) c-label ≡ false) × (eqb (codeOf y) c-label ≡ false)
       → (eqb (codeOf x) c-od ≡ false) × (eqb (codeOf y) c-do ≡ false) × (eqb (codeOf x) c-do ≡ eqb (codeOf y) c-od) → Passing (suc i) j ls 2 → Passing i (suc j) ls 1
@@ -214,7 +214,7 @@ module _ (S : Scene) where
           omega arith
 
   -- a label, behind its name
-  pub pass-label : (w : Name) (l : List Item) (i : ℕ) → Stands S i (i-name w ∷ i-label ∷ l) → Passing i (suc (suc i)) (w ∷ []) 1
+  pub pass-label : (w : Name) (l : List Item) (i : ℕ) → StandsIn S i (i-name w ∷ i-label ∷ l) → Passing i (suc (suc i)) (w ∷ []) 1
   unfolding declares
   pass-label w l i s =
       let n = next S (i-name w) (i-label ∷ l) i s in
@@ -240,7 +240,7 @@ module _ (S : Scene) where
           last false = refl
 
   -- an option between its items, seen from inside of another selection
-  pass-option : (l : List Item) (i : ℕ) → Stands S i (i-option ∷ l) → Passing i (suc i) [] 2
+  pass-option : (l : List Item) (i : ℕ) → StandsIn S i (i-option ∷ l) → Passing i (suc i) [] 2
   pass-option l i s =
       let it = code-at S i-option l i s in
       record {
@@ -249,7 +249,7 @@ module _ (S : Scene) where
         labels = λ y w h e. label-no y i (ap (among 2) it ∙ codes-sets c-option .0) ∙ sym (either-none (label y i));
       }
 
-  pub passing : {k : Sort} (t : Tree k) (i j : ℕ) → j ≡ i + length (code-tree t) → Stands S i (code-tree t) → Passing i j (labelsOf t) (least k)
+  pub passing : {k : Sort} (t : Tree k) (i j : ℕ) → j ≡ i + length (code-tree t) → StandsIn S i (code-tree t) → Passing i j (labelsOf t) (least k)
   passing (express e) i j q s = pass-dulls (code-exp e ++ i-express ∷ []) i j q s (dull-marked e i-express i s refl)
   passing (assign r e) i j q s =
       pass-dulls ((code-exp r ++ i-target ∷ code-exp e) ++ i-assign ∷ []) i j q s (dull-two r i-target i-assign (code-exp e) i s refl refl (dull-exp e (i + length (code-exp r) + 1)))

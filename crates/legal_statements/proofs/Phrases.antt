@@ -19,7 +19,7 @@ use Rattle.spec_grammar.specs.Tree.{Shape, expression, reference, Exp, plain, i
 use Rattle.spec_grammar.specs.Grammar.{Is-unary, is-minus, is-not, is-flip}
 use Rattle.spec_rules.specs.Expressions.{Role, operand, channel, usable, named, lawful}
 use Rattle.spec_rules.specs.Statements.{sense}
-use Rattle.legal_statements.specs.Scene.{Scene, homes, starts, heights, fine, clean, Stands}
+use Rattle.legal_statements.specs.Scene.{Scene, homes, starts, heights, fine, clean, StandsIn}
 use Rattle.legal_statements.proofs.Tests.{both-turn, both-group, both-last}
 use Rattle.legal_statements.proofs.Stands.{front, back, next, inside, code-at, codes-at, proper, home, clean-append, clean-one, clean-none, fine-by, fine-free}
 use Rattle.legal_statements.proofs.Uses.{number, reference-fault}
@@ -98,7 +98,7 @@ height-told n k e = go (leb k heightMost) refl
 
 module _ (S : Scene) where
   -- the first item of an expression makes what stands before it an operand
-  first-role : {s : Shape} (e : Exp s) (l : List Item) (i : ℕ) → Stands S i (code-exp e ++ l) → roleOf (getD (S .cs) i 0) ≡ 0
+  first-role : {s : Shape} (e : Exp s) (l : List Item) (i : ℕ) → StandsIn S i (code-exp e ++ l) → roleOf (getD (S .cs) i 0) ≡ 0
   first-role (plain w) l i s = ap roleOf (code-at S (i-name w) (i-plain ∷ l) i s) ∙ roles .0
   first-role (indexed w e) l i s = ap roleOf (code-at S (i-name w) ((code-exp e ++ i-index ∷ []) ++ l) i s) ∙ roles .0
   first-role (num n) l i s = ap roleOf (code-at S (i-number n) l i s) ∙ roles .1
@@ -115,29 +115,29 @@ module _ (S : Scene) where
       (front S (code-exp a ++ code-exp b ++ i-otherwise ∷ code-exp c) (i-choice ∷ []) i
       (front S (code-exp a ++ code-exp b ++ i-otherwise ∷ code-exp c ++ i-choice ∷ []) l i s)))
 
-  first-role-alone : {s : Shape} (e : Exp s) (i : ℕ) → Stands S i (code-exp e) → roleOf (getD (S .cs) i 0) ≡ 0
-  first-role-alone e i s = first-role e [] i (subst (Stands S i) (sym (append-nil (code-exp e))) s)
+  first-role-alone : {s : Shape} (e : Exp s) (i : ℕ) → StandsIn S i (code-exp e) → roleOf (getD (S .cs) i 0) ≡ 0
+  first-role-alone e i s = first-role e [] i (subst (StandsIn S i) (sym (append-nil (code-exp e))) s)
 
   -- one item with no rule
-  free : (x : Item) (l : List Item) (i c : ℕ) → Stands S i (x ∷ l) → codeOf x ≡ c → ruleOf c ≡ 0 → fine S i ≡ true
+  free : (x : Item) (l : List Item) (i c : ℕ) → StandsIn S i (x ∷ l) → codeOf x ≡ c → ruleOf c ≡ 0 → fine S i ≡ true
   free x l i c s e r = fine-free S i c (code-at S x l i s ∙ e) r
 
   -- behind an expression one last item
   last-item : (l : List Item) (x : Item) (i k : ℕ) (a b : Bool) → k ≡ i + length l → clean S i l ≡ a → fine S k ≡ b → clean S i (l ++ x ∷ []) ≡ both a b
   last-item l x i k a b e f g = clean-append S l (x ∷ []) i k e ∙ ap₂ both f (clean-one S x [] k ∙ ap₂ both g (clean-none S (suc k)) ∙ both-last b)
 
-  started : {s : Shape} (e : Exp s) (i j : ℕ) → Stands S i (code-exp e) → j ≡ i + length (code-exp e) - 1 → getD (starts S) j 0 ≡ i
+  started : {s : Shape} (e : Exp s) (i j : ℕ) → StandsIn S i (code-exp e) → j ≡ i + length (code-exp e) - 1 → getD (starts S) j 0 ≡ i
   started e i j s q =
       phrase-starts (S .cs) blank e (proper S e i s) i j (codes-at S (code-exp e) i s) (S .says .few) (omega (arith, S .says .few, length-replicate {A = ℕ} itemsMost 0))
       (omega (arith, s .high, S .within)) q
 
-  risen : {s : Shape} (e : Exp s) (i j : ℕ) → Stands S i (code-exp e) → j ≡ i + length (code-exp e) - 1 → getD (heights S) j 0 ≡ min (heightMost + 1) (height e)
+  risen : {s : Shape} (e : Exp s) (i j : ℕ) → StandsIn S i (code-exp e) → j ≡ i + length (code-exp e) - 1 → getD (heights S) j 0 ≡ min (heightMost + 1) (height e)
   risen e i j s q =
       phrase-heights (S .cs) blank blank e (proper S e i s) i j (codes-at S (code-exp e) i s) (S .says .few) (omega (arith, S .says .few, length-replicate {A = ℕ} itemsMost 0))
       (omega (arith, S .says .few, length-replicate {A = ℕ} itemsMost 0))
       (omega (arith, s .high, S .within)) q
 
-  pub phrase-fault : {s : Shape} (e : Exp s) (role : Role) (i k : ℕ) → Stands S i (code-exp e) → k ≡ i + length (code-exp e) → Stood s role → roleOf (getD (S .cs) k 0) ≡ number role
+  pub phrase-fault : {s : Shape} (e : Exp s) (role : Role) (i k : ℕ) → StandsIn S i (code-exp e) → k ≡ i + length (code-exp e) → Stood s role → roleOf (getD (S .cs) k 0) ≡ number role
       → clean S i (code-exp e) ≡ named (sense (S .at)) role e
   unfolding named
   phrase-fault (plain w) role i k s q o r =
@@ -229,7 +229,7 @@ module _ (S : Scene) where
       ∙ both-last (both (both na nb) nc) ∙ both-group na nb nc
 
   -- with the mark behind it, which judges the height
-  pub marked-fault : {s : Shape} (e : Exp s) (role : Role) (x : Item) (i r : ℕ) → Stands S i (code-exp e ++ x ∷ []) → Stood s role → roleOf (codeOf x) ≡ number role → ruleOf (codeOf x) ≡ r
+  pub marked-fault : {s : Shape} (e : Exp s) (role : Role) (x : Item) (i r : ℕ) → StandsIn S i (code-exp e ++ x ∷ []) → Stood s role → roleOf (codeOf x) ≡ number role → ruleOf (codeOf x) ≡ r
       → ((j : ℕ) → badBy (S .cs) (S .vs) (homes S) (starts S) (heights S) r j ≡ badHeight (heights S) j) → clean S i (code-exp e ++ x ∷ []) ≡ lawful (sense (S .at)) role e
   unfolding lawful badHeight
   marked-fault e role x i r s o n t f =

@@ -16,7 +16,7 @@ use Rattle.parse_code.specs.Code.{code-exp}
 use Rattle.table_entries.specs.Items.{Known, AllKnown}
 use Rattle.agree_eval.proofs.Operators.{known-proper}
 use Rattle.legal_terms.specs.Says.{itemAt}
-use Rattle.legal_statements.specs.Scene.{Scene, xs, homes, starts, heights, fine, clean, Items, Stands}
+use Rattle.legal_statements.specs.Scene.{Scene, xs, homes, starts, heights, fine, clean, Items, StandsIn}
 use Rattle.legal_statements.proofs.Tests.{both-group}
 
 known-at : (l : List Item) (i : ℕ) → AllKnown l → i < length l → Known (getD l i i-plain)
@@ -38,16 +38,16 @@ module _ (S : Scene) where
   items-back [] y i k e p = subst (λ j. Items S j y) (let z : i ≡ k = omega arith in z) p
   items-back (a ∷ x) y i k e p = items-back x y (suc i) k (omega arith) (p .1)
 
-  pub front : (x y : List Item) (i : ℕ) → Stands S i (x ++ y) → Stands S i x
+  pub front : (x y : List Item) (i : ℕ) → StandsIn S i (x ++ y) → StandsIn S i x
   front x y i s = record { items = items-front x y i (s .items); low = s .low; high = omega (arith, s .high, length-append x y) }
 
-  pub back : (x y : List Item) (i k : ℕ) → k ≡ i + length x → Stands S i (x ++ y) → Stands S k y
+  pub back : (x y : List Item) (i k : ℕ) → k ≡ i + length x → StandsIn S i (x ++ y) → StandsIn S k y
   back x y i k e s = record { items = items-back x y i k e (s .items); low = omega (arith, s .low); high = omega (arith, s .high, length-append x y) }
 
-  pub next : (x : Item) (l : List Item) (i : ℕ) → Stands S i (x ∷ l) → Stands S (suc i) l
+  pub next : (x : Item) (l : List Item) (i : ℕ) → StandsIn S i (x ∷ l) → StandsIn S (suc i) l
   next x l i s = record { items = s .items .1; low = omega (arith, s .low); high = omega (arith, s .high) }
 
-  pub inside : (x : Item) (l : List Item) (i : ℕ) → Stands S i (x ∷ l) → i < S .to
+  pub inside : (x : Item) (l : List Item) (i : ℕ) → StandsIn S i (x ∷ l) → i < S .to
   inside x l i s = omega (arith, s .high)
 
   pub as-many : length (S .cs) ≡ length (xs S)
@@ -57,23 +57,23 @@ module _ (S : Scene) where
   code-is i x e h = ap (λ (l : List ℕ). getD l i 0) (S .says .codes) ∙ mapped-at (xs S) i (omega (arith, as-many)) ∙ ap codeOf e
 
   -- the code of the first of them
-  pub code-at : (x : Item) (l : List Item) (i : ℕ) → Stands S i (x ∷ l) → getD (S .cs) i 0 ≡ codeOf x
+  pub code-at : (x : Item) (l : List Item) (i : ℕ) → StandsIn S i (x ∷ l) → getD (S .cs) i 0 ≡ codeOf x
   code-at x l i s = code-is i x (s .items .0) (omega (arith, s .high, S .within))
 
   -- all their codes
-  pub codes-at : (l : List Item) (i : ℕ) → Stands S i l → At (S .cs) i l
+  pub codes-at : (l : List Item) (i : ℕ) → StandsIn S i l → At (S .cs) i l
   codes-at [] i s = tt
   codes-at (x ∷ l) i s = (code-at x l i s, codes-at l (suc i) (next x l i s))
 
-  pub known : (l : List Item) (i : ℕ) → Stands S i l → AllKnown l
+  pub known : (l : List Item) (i : ℕ) → StandsIn S i l → AllKnown l
   known [] i s = tt
   known (x ∷ l) i s =
       (subst Known (s .items .0) (known-at (xs S) i (S .says .known) (omega (arith, s .high, S .within, as-many))), known l (suc i) (next x l i s))
 
-  pub proper : {s : Shape} (e : Exp s) (i : ℕ) → Stands S i (code-exp e) → Proper e
+  pub proper : {s : Shape} (e : Exp s) (i : ℕ) → StandsIn S i (code-exp e) → Proper e
   proper e i s = known-proper e (known (code-exp e) i s)
 
-  pub home : (x : Item) (l : List Item) (i : ℕ) → Stands S i (x ∷ l) → getD (homes S) i 0 ≡ S .h
+  pub home : (x : Item) (l : List Item) (i : ℕ) → StandsIn S i (x ∷ l) → getD (homes S) i 0 ≡ S .h
   home x l i s = S .setting .home i (s .low) (inside x l i s)
 
   -- ---- faults

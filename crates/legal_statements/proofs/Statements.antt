@@ -26,7 +26,7 @@ use Rattle.spec_rules.specs.Senses.{Sense, variable, constant, procedure, unkno
 use Rattle.spec_rules.specs.Expressions.{operand, channel, target, lawful, whole}
 use Rattle.spec_rules.specs.Statements.{all, sense, takes, runs, receives, formats, allowed}
 use Rattle.legal_terms.specs.Setting.{Runs}
-use Rattle.legal_statements.specs.Scene.{Scene, homes, starts, heights, clean, Stands}
+use Rattle.legal_statements.specs.Scene.{Scene, homes, starts, heights, clean, StandsIn}
 use Rattle.legal_statements.proofs.Tests.{both-turn, told-five}
 use Rattle.legal_statements.proofs.Stands.{front, back, next, inside, code-at, home, clean-append, clean-one, fine-by, fine-free}
 use Rattle.legal_statements.proofs.Uses.{pid-told}
@@ -114,7 +114,7 @@ module _ (S : Scene) where
   proctype-told g n unknown r = rw r refl
 
   -- a run behind its name, with n arguments
-  module _ (w : Name) (x : Item) (l : List Item) (i n : ℕ) (s : Stands S i (i-name w ∷ x ∷ l)) where
+  module _ (w : Name) (x : Item) (l : List Item) (i n : ℕ) (s : StandsIn S i (i-name w ∷ x ∷ l)) where
     abbrev global : ℕ
     global = globalOf (S .cs) (S .vs) (homes S) i
 
@@ -167,7 +167,7 @@ module _ (S : Scene) where
 
   -- name, run or set-run, arguments, end
   run-fault : (w : Name) (x : Item) (es : List Expr) (i : ℕ) → (codeOf x ≡ c-run) ⊎ (codeOf x ≡ c-set-run) → ruleOf (codeOf x) ≡ 10 → among 4 (codeOf x) ≡ true → among 5 (codeOf x) ≡ false
-      → Stands S i (i-name w ∷ x ∷ (each code-argument es ++ i-end ∷ [])) → clean S i (i-name w ∷ x ∷ (each code-argument es ++ i-end ∷ []))
+      → StandsIn S i (i-name w ∷ x ∷ (each code-argument es ++ i-end ∷ [])) → clean S i (i-name w ∷ x ∷ (each code-argument es ++ i-end ∷ []))
       ≡ both (runs (S .at) w (length es)) (all (whole (sense (S .at))) es)
   run-fault w x es i c r o m s =
       let L = each code-argument es ++ i-end ∷ [] in
@@ -192,22 +192,22 @@ module _ (S : Scene) where
   with-more l x m i k a b e f g = clean-append S (l ++ x ∷ []) m i k (let n = length-append l (x ∷ []) in omega arith) ∙ ap₂ both f g
 
   -- the second of two parts, with the mark before it
-  second : (l : List Item) (x y : Item) (m : List Item) (i : ℕ) → Stands S i ((l ++ x ∷ m) ++ y ∷ []) → Stands S (i + length l) (x ∷ (m ++ y ∷ []))
-  second l x y m i s = back S l (x ∷ (m ++ y ∷ [])) i (i + length l) refl (subst (Stands S i) (append-assoc l (x ∷ m) (y ∷ [])) s)
+  second : (l : List Item) (x y : Item) (m : List Item) (i : ℕ) → StandsIn S i ((l ++ x ∷ m) ++ y ∷ []) → StandsIn S (i + length l) (x ∷ (m ++ y ∷ []))
+  second l x y m i s = back S l (x ∷ (m ++ y ∷ [])) i (i + length l) refl (subst (StandsIn S i) (append-assoc l (x ∷ m) (y ∷ [])) s)
 
-  initial : (l : List Item) (x y : Item) (m : List Item) (i : ℕ) → Stands S i ((l ++ x ∷ m) ++ y ∷ []) → Stands S i (l ++ x ∷ [])
-  initial l x y m i s = front S (l ++ x ∷ []) (m ++ y ∷ []) i (subst (Stands S i) (regroup l m x y) s)
+  initial : (l : List Item) (x y : Item) (m : List Item) (i : ℕ) → StandsIn S i ((l ++ x ∷ m) ++ y ∷ []) → StandsIn S i (l ++ x ∷ [])
+  initial l x y m i s = front S (l ++ x ∷ []) (m ++ y ∷ []) i (subst (StandsIn S i) (regroup l m x y) s)
 
   format-rule : (j : ℕ) → badBy (S .cs) (S .vs) (homes S) (starts S) (heights S) 1 j ≡ pick (eqb (getD (S .vs) j 0 % 2) 1) 5 0
   unfolding badBy badFormat
   format-rule j = refl
 
   -- ---- the statements
-  pub express-fault : (e : Expr) (i : ℕ) (loops first : Bool) → Stands S i (code-tree (express e)) → clean S i (code-tree (express e)) ≡ allowed (S .at) loops first (express e)
+  pub express-fault : (e : Expr) (i : ℕ) (loops first : Bool) → StandsIn S i (code-tree (express e)) → clean S i (code-tree (express e)) ≡ allowed (S .at) loops first (express e)
   unfolding allowed
   express-fault e i loops first s = marked-fault S e operand i-express i 2 s refl (roles .0) (rules .0) (height-rule S)
 
-  pub assign-fault : (r : Ref) (e : Expr) (i : ℕ) (loops first : Bool) → Stands S i (code-tree (assign r e)) → clean S i (code-tree (assign r e)) ≡ allowed (S .at) loops first (assign r e)
+  pub assign-fault : (r : Ref) (e : Expr) (i : ℕ) (loops first : Bool) → StandsIn S i (code-tree (assign r e)) → clean S i (code-tree (assign r e)) ≡ allowed (S .at) loops first (assign r e)
   unfolding allowed
   assign-fault r e i loops first s =
       let R = code-exp r in
@@ -218,15 +218,15 @@ module _ (S : Scene) where
       (marked-fault S e operand i-assign (suc (i + length R)) 2 (next S i-target (E ++ i-assign ∷ []) (i + length R) (second R i-target i-assign E i s)) refl (roles .2) (rules .2)
       (height-rule S))
 
-  pub increment-fault : (r : Ref) (i : ℕ) (loops first : Bool) → Stands S i (code-tree (increment r)) → clean S i (code-tree (increment r)) ≡ allowed (S .at) loops first (increment r)
+  pub increment-fault : (r : Ref) (i : ℕ) (loops first : Bool) → StandsIn S i (code-tree (increment r)) → clean S i (code-tree (increment r)) ≡ allowed (S .at) loops first (increment r)
   unfolding allowed
   increment-fault r i loops first s = marked-fault S r target i-increment i 2 s tt (roles .3) (rules .3) (height-rule S)
 
-  pub decrement-fault : (r : Ref) (i : ℕ) (loops first : Bool) → Stands S i (code-tree (decrement r)) → clean S i (code-tree (decrement r)) ≡ allowed (S .at) loops first (decrement r)
+  pub decrement-fault : (r : Ref) (i : ℕ) (loops first : Bool) → StandsIn S i (code-tree (decrement r)) → clean S i (code-tree (decrement r)) ≡ allowed (S .at) loops first (decrement r)
   unfolding allowed
   decrement-fault r i loops first s = marked-fault S r target i-decrement i 2 s tt (roles .4) (rules .4) (height-rule S)
 
-  pub send-fault : (r : Ref) (es : List Expr) (i : ℕ) (loops first : Bool) → Stands S i (code-tree (send r es)) → clean S i (code-tree (send r es)) ≡ allowed (S .at) loops first (send r es)
+  pub send-fault : (r : Ref) (es : List Expr) (i : ℕ) (loops first : Bool) → StandsIn S i (code-tree (send r es)) → clean S i (code-tree (send r es)) ≡ allowed (S .at) loops first (send r es)
   unfolding allowed
   send-fault r es i loops first s =
       let R = code-exp r in
@@ -239,7 +239,7 @@ module _ (S : Scene) where
       (arguments-fault S i-send es k z (openers .0 .1) (openers .1 .1) ∙ ap (both (all (whole (sense (S .at))) es)) (sent-many k (length es) (code-at S i-send (L ++ i-end ∷ []) k z))
       ∙ both-turn (all (whole (sense (S .at))) es) (leb (length es) 4))
 
-  pub receive-fault : (r : Ref) (es : List Received) (i : ℕ) (loops first : Bool) → Stands S i (code-tree (receive r es)) → clean S i (code-tree (receive r es))
+  pub receive-fault : (r : Ref) (es : List Received) (i : ℕ) (loops first : Bool) → StandsIn S i (code-tree (receive r es)) → clean S i (code-tree (receive r es))
       ≡ allowed (S .at) loops first (receive r es)
   unfolding allowed
   receive-fault r es i loops first s =
@@ -253,11 +253,11 @@ module _ (S : Scene) where
       (receiveds-fault S i-receive es k z (openers .0 .2) (openers .1 .2) ∙ ap (both (all (receives (S .at)) es)) (received-many k (length es) (code-at S i-receive (L ++ i-end ∷ []) k z))
       ∙ both-turn (all (receives (S .at)) es) (leb (length es) 4))
 
-  pub assert-fault : (e : Expr) (i : ℕ) (loops first : Bool) → Stands S i (code-tree (assert e)) → clean S i (code-tree (assert e)) ≡ allowed (S .at) loops first (assert e)
+  pub assert-fault : (e : Expr) (i : ℕ) (loops first : Bool) → StandsIn S i (code-tree (assert e)) → clean S i (code-tree (assert e)) ≡ allowed (S .at) loops first (assert e)
   unfolding allowed
   assert-fault e i loops first s = marked-fault S e operand i-assert i 17 s refl (roles .7) (rules .7) (height-rule-behind S)
 
-  pub print-fault : (w : List ℕ) (es : List Expr) (i : ℕ) (loops first : Bool) → Stands S i (code-tree (print w es)) → clean S i (code-tree (print w es))
+  pub print-fault : (w : List ℕ) (es : List Expr) (i : ℕ) (loops first : Bool) → StandsIn S i (code-tree (print w es)) → clean S i (code-tree (print w es))
       ≡ allowed (S .at) loops first (print w es)
   unfolding allowed formats
   print-fault w es i loops first s =
@@ -272,11 +272,11 @@ module _ (S : Scene) where
       ∙ ap (both (all (whole (sense (S .at))) es)) (printed-many i (length es) it ∙ ap (λ n. eqb (length es) (n / 2)) v))
       ∙ format-last (eqb (formatOf w % 2) 0) (all (whole (sense (S .at))) es) (eqb (length es) (formatOf w / 2))
 
-  pub run-alone-fault : (w : Name) (es : List Expr) (i : ℕ) (loops first : Bool) → Stands S i (code-tree (run w es)) → clean S i (code-tree (run w es)) ≡ allowed (S .at) loops first (run w es)
+  pub run-alone-fault : (w : Name) (es : List Expr) (i : ℕ) (loops first : Bool) → StandsIn S i (code-tree (run w es)) → clean S i (code-tree (run w es)) ≡ allowed (S .at) loops first (run w es)
   unfolding allowed
   run-alone-fault w es i loops first s = run-fault w i-run es i (inl refl) (rules .9) (openers .0 .3) (openers .1 .3) s
 
-  pub set-run-fault : (r : Ref) (w : Name) (es : List Expr) (i : ℕ) (loops first : Bool) → Stands S i (code-tree (set-run r w es)) → clean S i (code-tree (set-run r w es))
+  pub set-run-fault : (r : Ref) (w : Name) (es : List Expr) (i : ℕ) (loops first : Bool) → StandsIn S i (code-tree (set-run r w es)) → clean S i (code-tree (set-run r w es))
       ≡ allowed (S .at) loops first (set-run r w es)
   unfolding allowed
   set-run-fault r w es i loops first s =

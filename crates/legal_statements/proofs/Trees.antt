@@ -17,7 +17,7 @@ use Rattle.base_codes.specs.Items.{Item, codeOf, i-do, i-end-option, i-fi, i-if
 use Rattle.base_codes.specs.Sets.{ruleOf}
 use Rattle.parse_code.specs.Code.{code-tree}
 use Rattle.spec_rules.specs.Statements.{has, isElse, labelsOf, allowed}
-use Rattle.legal_statements.specs.Scene.{Scene, clean, Stands}
+use Rattle.legal_statements.specs.Scene.{Scene, clean, StandsIn}
 use Rattle.legal_statements.proofs.Tests.{both-turn, both-group, both-last}
 use Rattle.legal_statements.proofs.Stands.{front, back, next, code-at, clean-append, clean-one, clean-none, fine-free}
 use Rattle.legal_statements.proofs.Phrases.{rules-none}
@@ -53,14 +53,14 @@ inner-judged f q l a e = ap (λ (t : Bool). both f (both t (both l a))) (sym e)
 
 module _ (S : Scene) (goes : Goes S (S .at .labels)) where
   -- an item with no rule
-  free : (x : Item) (l : List Item) (i : ℕ) → Stands S i (x ∷ l) → ruleOf (codeOf x) ≡ 0 → clean S i (x ∷ l) ≡ clean S (suc i) l
+  free : (x : Item) (l : List Item) (i : ℕ) → StandsIn S i (x ∷ l) → ruleOf (codeOf x) ≡ 0 → clean S i (x ∷ l) ≡ clean S (suc i) l
   free x l i s r = clean-one S x l i ∙ ap (λ (t : Bool). both t (clean S (suc i) l)) (fine-free S i (codeOf x) (code-at S x l i s) r)
 
-  free-one : (x : Item) (i : ℕ) → Stands S i (x ∷ []) → ruleOf (codeOf x) ≡ 0 → clean S i (x ∷ []) ≡ true
+  free-one : (x : Item) (i : ℕ) → StandsIn S i (x ∷ []) → ruleOf (codeOf x) ≡ 0 → clean S i (x ∷ []) ≡ true
   free-one x i s r = free x [] i s r ∙ clean-none S (suc i)
 
   -- items between two with no rule
-  between : (x y : Item) (o : List Item) (i : ℕ) (b : Bool) → Stands S i (x ∷ (o ++ y ∷ [])) → ruleOf (codeOf x) ≡ 0 → ruleOf (codeOf y) ≡ 0 → clean S (suc i) o ≡ b
+  between : (x y : Item) (o : List Item) (i : ℕ) (b : Bool) → StandsIn S i (x ∷ (o ++ y ∷ [])) → ruleOf (codeOf x) ≡ 0 → ruleOf (codeOf y) ≡ 0 → clean S (suc i) o ≡ b
       → clean S i (x ∷ (o ++ y ∷ [])) ≡ b
   between x y o i b s r t e =
       let n = next S x (o ++ y ∷ []) i s in
@@ -74,11 +74,11 @@ module _ (S : Scene) (goes : Goes S (S .at .labels)) where
   options-alike loops a b (option q os) = refl
 
   -- at the front of a selection no option is seen
-  none-seen : (x : Item) (l : List Item) (i : ℕ) → Stands S i (x ∷ l) → either (eqb (codeOf x) c-fi) (eqb (codeOf x) c-od) ≡ false → either (eqb (codeOf x) c-if) (eqb (codeOf x) c-do) ≡ true
+  none-seen : (x : Item) (l : List Item) (i : ℕ) → StandsIn S i (x ∷ l) → either (eqb (codeOf x) c-fi) (eqb (codeOf x) c-od) ≡ false → either (eqb (codeOf x) c-if) (eqb (codeOf x) c-do) ≡ true
       → eqb (codeOf x) c-option ≡ false → twin (S .cs) (suc i) 1 ≡ false
   none-seen x l i s a b c = twin-out (S .cs) i 1 (codeOf x) (code-at S x l i s) (omega arith) a b c ∙ twin-outside (S .cs) i
 
-  pub tree-fault : {k : Sort} (t : Tree k) (i : ℕ) (loops first twinned : Bool) (ls : List Name) → Stands S i (code-tree t) → Prior S i ls → Deep S i loops → Around S k i first twinned
+  pub tree-fault : {k : Sort} (t : Tree k) (i : ℕ) (loops first twinned : Bool) (ls : List Name) → StandsIn S i (code-tree t) → Prior S i ls → Deep S i loops → Around S k i first twinned
       → clean S i (code-tree t) ≡ both (fresh ls (labelsOf t)) (both (quota first twinned (isElse t)) (allowed (S .at) loops first t))
   unfolding allowed
   tree-fault (express e) i loops first twinned ls s p d h = leaf ls first twinned _ _ (express-fault S e i loops first s)

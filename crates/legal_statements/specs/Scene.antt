@@ -59,7 +59,7 @@ module _ (S : Scene) where
   Items i (x ∷ l) = (itemAt xs i ≡ x) × Items (suc i) l
 
   -- they do, among the statements
-  pub record Stands (i : ℕ) (l : List Item) : Type 0 where
+  pub record StandsIn (i : ℕ) (l : List Item) : Type 0 where
     pub items : Items i l
     pub low : S .from ≤ i
     pub high : i + length l ≤ S .to

@@ -8,7 +8,7 @@
 --   137        a declaration's names, one is behind                138        the options of a selection
 --   139        what a body belongs to                              140 141    parameters, groups: one is behind
 --   142        an mtype list, one name is behind                   143        units: always at the bottom
--- A row says what a symbol becomes at an item of a code. Code 229 is an `end` (187) whose arguments stand in parentheses. No row: the symbol goes, and nothing is written.
+-- A row says what a symbol becomes at an item of a code. `c-end-closed` is an `end` whose arguments stand in parentheses. No row: the symbol goes, and nothing is written.
 use mathlib.Core.List.{List, [], _∷_, _++_}
 use Prim.Native.Nat.{ℕ}
 use Rattle.base_codes.specs.Codes.{c-active, c-active-many, c-argument, c-assert, c-assign, c-bit, c-body, c-bool, c-break, c-byte, c-chan, c-channel, c-choice, c-complement, c-constant, c-declared, c-decrement, c-do, c-else, c-end, c-end-body, c-end-closed, c-end-option, c-equal, c-express, c-false, c-fi, c-field, c-global, c-goto, c-group, c-if, c-increment, c-index, c-init, c-int, c-into, c-label, c-len, c-local, c-message, c-minus, c-mtype, c-mtypes, c-name, c-named, c-negate, c-not, c-number, c-od, c-option, c-otherwise, c-parameter, c-pid, c-plain, c-proctype, c-receive, c-run, c-send, c-set-run, c-short, c-size, c-skip, c-target, c-text, c-timeout, c-true, c-value}

@@ -289,5 +289,5 @@ pub fn write_normal(t: &[u32], out: &mut [u8]) -> usize
     let mut stack = [0u32; ROOM];
     let mut toks = [0u32; ROOM];
     let first = turn(&rows, &codes[0..n], &mut stack, &mut toks);
-    normal_letters::put_tokens(t, &toks[first..65544], out)
+    normal_letters::put_tokens(t, &toks[first..ROOM], out)
 }

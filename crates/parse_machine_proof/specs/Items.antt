@@ -20,7 +20,7 @@ use Rattle.base_codes.specs.Codes.{c-or-else}
 use Rattle.base_kinds.specs.Kinds.{Token, sym, name, number, text}
 use Rattle.base_codes.specs.Items.{Item, i-name, i-number, i-plain, i-text}
 use Rattle.parse_proof.specs.Engine.{Answer as Parse, ok, bad}
-use Rattle.parse_proof.specs.Depth.{Judged, accepted, refused-2, refused-3}
+use Rattle.parse_proof.specs.Depth.{GrammarAnswer, accepted, refused-2, refused-3}
 use Rattle.parse_tables.specs.Numbering.{item}
 use Rattle.parse_machine_proof.specs.Machine.{Outcome, done, refused, spent, symbol-of, place-of, count-of}
 use Rattle.parse_machine_proof.specs.Answer.{Answer, items, refuse}
@@ -32,9 +32,13 @@ held (name w) = i-name w
 held (number n) = i-number n
 held (text w) = i-text w
 
--- the item of a number: up to 146 the symbol is a terminal, and its token has what it holds
+-- the item of code c at token k: below the codes of marks the symbol is a terminal, and its token has what it holds
+abbrev pub readAs : List Token → ℕ → ℕ → Item
+readAs ts c k = cond (ltb c c-or-else) (held (getD ts k (sym 0))) (item c)
+
+-- the item of a number
 abbrev pub read : List Token → ℕ → Item
-read ts v = cond (ltb (symbol-of v) c-or-else) (held (getD ts (place-of v) (sym 0))) (item (symbol-of v))
+read ts v = readAs ts (symbol-of v) (place-of v)
 
 abbrev pub answer-of : List Token → Outcome → Parse Item
 answer-of ts (done o) = ok (map (read ts) o)
@@ -53,7 +57,7 @@ All-proper [] = Unit {0}
 All-proper (c ∷ ts) = Proper c × All-proper ts
 
 -- an answer as `parse_proof` judges: the items, refusal 2 or refusal 3 at a place
-abbrev pub meant : List Token → Answer → Judged
+abbrev pub meant : List Token → Answer → GrammarAnswer
 meant ts (items o) = accepted (map (read ts) o)
 meant ts (refuse k i) = cond (eqb k 2) (refused-2 i) (refused-3 i)
 

@@ -52,16 +52,16 @@ abbrev pub too-deep : List Token → Option ℕ
 too-deep ts = deep-from 0 0 ts
 
 -- THE ANSWER OF THE PASS: the code of the tree; refusal 2 at a place; refusal 3 at a place
-pub data Judged : Type 0 where
-  accepted : List Item → Judged
-  refused-2 : ℕ → Judged
-  refused-3 : ℕ → Judged
+pub data GrammarAnswer : Type 0 where
+  accepted : List Item → GrammarAnswer
+  refused-2 : ℕ → GrammarAnswer
+  refused-3 : ℕ → GrammarAnswer
 
-abbrev pub judged : Answer Item → Option ℕ → Judged
+abbrev pub judged : Answer Item → Option ℕ → GrammarAnswer
 judged (ok o) none = accepted o
 judged (ok o) (some i) = refused-2 i
 judged (bad j) none = refused-3 j
 judged (bad j) (some i) = cond (leb i j) (refused-2 i) (refused-3 j)
 
-abbrev pub judge : List Token → Judged
+abbrev pub judge : List Token → GrammarAnswer
 judge ts = judged (parse-model ts) (too-deep ts)

@@ -24,15 +24,15 @@ module _ (cs vs hs : List ℕ) where
   unfoldable pub numbers : ℕ → ℕ
   numbers h = sum (numbersAt h) 0 (length cs)
 
--- the processes that the unit which item j begins starts: active (224) 1, active-many (225) the number two items before, init (226) 1
+-- the processes that the unit which item j begins starts: active 1, active-many the number two items before, init 1
 unfoldable pub startsAt : List ℕ → List ℕ → ℕ → ℕ
 startsAt cs vs j = pick (eqb (getD cs j 0) c-active) 1 (pick (eqb (getD cs j 0) c-active-many) (getD vs (j - 2) 0) (pick (eqb (getD cs j 0) c-init) 1 0))
 
--- the channels that a declaration `[n] of` (217) makes at the start: a global one 1, a local one 1 for each process of its unit that starts
+-- the channels that a declaration `[n] of` makes at the start: a global one 1, a local one 1 for each process of its unit that starts
 unfoldable pub makesAt : List ℕ → List ℕ → List ℕ → ℕ → ℕ
 makesAt cs vs hs j = pick (eqb (getD cs j 0) c-channel) (pick (eqb (getD hs j 0) 0) 1 (startsAt cs vs (getD hs j 0 - 1))) 0
 
--- 1 at the end (187) of a printf with more than 4 arguments
+-- 1 at the end of a printf with more than 4 arguments
 unfoldable pub wideAt : List ℕ → List ℕ → ℕ → ℕ
 wideAt cs hs j = pick (eqb (getD cs j 0) c-end) (pick (eqb (getD cs (opener cs j) 0) c-text) (pick (ltb printedMost (count cs hs 5 (getD hs j 0) (opener cs j) j)) 1 0) 0) 0
 

@@ -18,7 +18,7 @@ use Rattle.base_codes.specs.Sets.{within, ruleOf}
 unfoldable pub isArray : List ℕ → ℕ → Bool
 isArray cs d = both (eqb (getD cs (d + 1) 0) c-number) (eqb (getD cs (d + 2) 0) c-size)
 
--- the type, which stands before the last local, global or group, is `chan` (173)
+-- the type, which stands before the last local, global or group, is `chan`
 unfoldable pub isChan : List ℕ → ℕ → Bool
 isChan cs d = eqb (getD cs (last cs 3 d - 2) 0) c-chan
 
@@ -49,7 +49,7 @@ module _ (cs vs hs : List ℕ) where
       (pick (eqb (getD cs (lookup cs vs hs (getD vs m 0) h m) 0) c-message) (badPlain (either (eqb role 0) (eqb role 3)) indexed)
       (pick (among 14 (getD cs (lookup cs vs hs (getD vs m 0) h m) 0)) (badVariable cs (lookup cs vs hs (getD vs m 0) h m) role indexed) 4))
 
-  -- plain, index (177)
+  -- plain, index
   unfoldable pub badRef : List ℕ → ℕ → ℕ
   badRef ss j = badUse (getD ss j 0) (getD hs j 0) (roleOf (getD cs (j + 1) 0)) (eqb (getD cs j 0) c-index)
 
@@ -87,7 +87,7 @@ module _ (cs vs hs : List ℕ) where
   unfoldable pub badPassing : ℕ → ℕ → ℕ
   badPassing o k = pick (eqb (badRun cs vs hs o) 0) (pick (eqb k (count cs hs 6 (bodyOf cs (globalOf cs vs hs (o - 1))) 0 (length cs))) 0 5) 0
 
-  -- k arguments for what item o began: printf (72) as many as its `%d`; "more than 4 message arguments" (send 194, receive 195); run 202, set-run 203
+  -- k arguments for what item o began: printf as many as its `%d`; "more than 4 message arguments" (send, receive); run, set-run
   unfoldable pub badCount : ℕ → ℕ → ℕ
   badCount o k =
       pick (eqb (getD cs o 0) c-text) (pick (eqb k (getD vs o 0 / 2)) 0 5)
@@ -105,7 +105,7 @@ unfoldable pub badBreak : List ℕ → List ℕ → ℕ → ℕ
 badBreak cs hs j = pick (ltb (count cs hs 8 (getD hs j 0) 0 j) (count cs hs 7 (getD hs j 0) 0 j)) 0 5
 
 module _ (cs : List ℕ) where
-  -- going back over item k, how deep we are: 1 in the selection where we began, 0 outside it; fi 205 and od 207 lead in, if 204 and do 206 lead out
+  -- going back over item k, how deep we are: 1 in the selection where we began, 0 outside it; fi and od lead in, if and do lead out
   unfoldable pub depthOn : ℕ → ℕ → ℕ
   depthOn k d =
       pick (eqb d 0) 0
@@ -120,7 +120,7 @@ module _ (cs : List ℕ) where
   twin zero d = false
   twin (suc k) d = pick (twinAt k d) true (twin k (depthOn k d))
 
-  -- "`else` is only the first statement of an option, unlabelled, once per selection": the item before it is option (208), and no earlier option of the
+  -- "`else` is only the first statement of an option, unlabelled, once per selection": the item before it is option, and no earlier option of the
   -- selection begins with one; else 5
   unfoldable pub badElse : ℕ → ℕ
   badElse j = pick (eqb (getD cs (j - 1) 0) c-option) (pick (twin (j - 1) 1) 5 0) 5

@@ -19,7 +19,7 @@ use Rattle.rule_least.specs.declared.Fault.the-variants.{None, At}
 
 -- where the fault of item j by a rule stands, with `toks` the tokens of the items: rules 1 to 6 at the item's own token, 7 to 14 at the name, number or type
 -- before it, 15 at the reference's name, 17 two tokens on, behind `assert (` or `eval (`; 16, argument counts, at the statement's first token after a label:
--- that is the token of `end`, for `v = run` (203) that of its target
+-- that is the token of `end`, for `v = run` that of its target
 unfoldable pub placeBy : List ℕ → List ℕ → List ℕ → ℕ → ℕ → ℕ
 placeBy cs ss toks rule j =
     pick (ltb rule 7) (getD toks j 0)

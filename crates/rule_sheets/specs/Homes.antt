@@ -1,6 +1,6 @@
 -- Mechanism, held to the specification by `rules` (crate `legal_texts`).
--- Which body each item is in. A body has the number of the item that begins its unit (proctype, active, active-many or init, items 223 to 226), and 1; all
--- behind that item through the end of the body (228) is in it, so parameters are. What is in no body, and the item that begins a unit, has 0.
+-- Which body each item is in. A body has the number of the item that begins its unit (proctype, active, active-many or init), and 1; all
+-- behind that item through the end of the body is in it, so parameters are. What is in no body, and the item that begins a unit, has 0.
 -- Document 01, "Names": globals, mtype names and proctypes share one space; locals and labels are per body.
 use Prim.Native.Nat.{ℕ, zero, suc, _+_}
 use mathlib.Core.List.{List}

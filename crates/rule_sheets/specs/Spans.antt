@@ -12,7 +12,7 @@ use Rattle.base_bytes.specs.Choice.{pick, both, either}
 use Rattle.rule_sheets.specs.Walks.{filled}
 
 -- how an expression's last item builds on what stands before it:
--- 1 name plain (176) | 2 name A index (177) | 3 A len, A unary (180, 165 to 167) | 4 A B binary (147 to 164) | 5 A B otherwise C choice (182) | 0 any other
+-- 1 name plain | 2 name A index | 3 A len, A unary | 4 A B binary | 5 A B otherwise C choice | 0 any other
 unfoldable pub shapeOf : ℕ → ℕ
 shapeOf c =
     pick (eqb c c-plain) 1

@@ -75,7 +75,7 @@ fn perform_on(command: &[u8], tables: &[u32], trail: &[u8], limit: u32) -> u8
         return show_trails::steps(tables, trail);
     }
     if base_bytes::same(command, b"state") {
-        return show_trails::state(tables, trail);
+        return show_left::state(tables, trail);
     }
     unknown(command)
 }

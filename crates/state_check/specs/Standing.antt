@@ -36,11 +36,11 @@ module _ (t : List ℕ) where
   belongs u q = either (eqb q (linkOf t u)) (both (both (ltb u q) (ltb q (linkOf t u))) (placeAt q))
 
   module _ (s : List ℤ) where
-    -- what begins a unit with a body: 223 to 226
+    -- what begins a unit with a body
     unfoldable pub isProcess : ℕ → Bool
     isProcess p = both (within c-proctype c-init (codeOf t (unitOf s p))) (both (belongs (unitOf s p) (placeOf s p)) (localsFit t s p (unitOf s p)))
 
-    -- "channels with the capacity and fields of some declaration": a `channel` item (217)
+    -- "channels with the capacity and fields of some declaration": a `channel` item
     unfoldable pub isChannel : ℕ → Bool
     isChannel c =
         both (both (eqb (codeOf t (declaredOf s c)) c-channel) (leb (waitingOf s c) (capacityOf t (declaredOf s c))))

@@ -42,7 +42,7 @@ module _ (t : List ℕ) where
   declared p d s = variableMade (linkOf t d) p (valueAt t d) s
 
   -- ## processes
-  -- item j of a proctype, or of init: `body` (227) has the first place, `declared` (212) makes a variable
+  -- item j of a proctype, or of init: `body` has the first place, `declared` makes a variable
   unfoldable pub entered : ℕ → ℕ → List ℤ → List ℤ
   entered p j s = pick (eqb (codeOf t j) c-body) (set s (processAt p + 1) (kept (linkOf t j))) (pick (eqb (codeOf t j) c-declared) (declared p j s) s)
 
@@ -61,7 +61,7 @@ module _ (t : List ℕ) where
   unfoldable pub globalMade : ℕ → List ℤ → List ℤ
   globalMade j s = pick (eqb (codeOf t j) c-declared) (pick (eqb (linkOf t j / 8 % 2) 0) (declared 0 j s) s) s
 
-  -- how many processes the unit that item j begins starts: active (224) 1, active-many (225) the number two items before, init (226) 1
+  -- how many processes the unit that item j begins starts: active 1, active-many the number two items before, init 1
   unfoldable pub startsOf : ℕ → ℕ
   startsOf j = pick (eqb (codeOf t j) c-active) 1 (pick (eqb (codeOf t j) c-active-many) (numberOf t (j - 2)) (pick (eqb (codeOf t j) c-init) 1 0))
 

@@ -1,7 +1,7 @@
 -- Mechanism, held to the specification by `demand2` (crate `demands`).
 -- What a declaration says its variable starts with: document 01, "How it moves", "Variables start at 0 or their value".
--- Behind the `declared` item d stand, where there are any, a number and `size` (213), then the value's item and its mark: `value` (214), `minus` (215), `named` (216) or
--- `channel` (217).
+-- Behind the `declared` item d stand, where there are any, a number and `size`, then the value's item and its mark: `value`, `minus`, `named` or
+-- `channel`.
 use Prim.Native.Nat.{ℕ, _+_}
 use mathlib.Core.List.{List}
 use lib.IntN.{ℤ, pos}
@@ -17,7 +17,7 @@ module _ (t : List ℕ) where
   unfoldable pub valueAt : ℕ → ℕ
   valueAt d = pick (eqb (codeOf t (d + 2)) c-size) (d + 3) (d + 1)
 
-  -- a number, `true` (178) or `false`
+  -- a number, `true` or `false`
   unfoldable pub literalOf : ℕ → ℤ
   literalOf k = pick (eqb (codeOf t k) c-number) (kept (numberOf t k)) (pick (eqb (codeOf t k) c-true) (pos 1) (pos 0))
 

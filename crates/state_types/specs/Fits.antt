@@ -43,11 +43,11 @@ module _ (s : List ℤ) where
   variableFits l p = every (elementFits l p) 0 (sizeOf l)
 
 module _ (t : List ℕ) where
-  -- item j is a `declared` (212) that makes a global variable
+  -- item j is a `declared` that makes a global variable
   abbrev pub isGlobal : ℕ → Bool
   isGlobal j = both (eqb (codeOf t j) c-declared) (eqb (linkOf t j / 8 % 2) 0)
 
-  -- item j of a unit makes a variable of its processes: `declared` or `parameter` (222)
+  -- item j of a unit makes a variable of its processes: `declared` or `parameter`
   abbrev pub isLocal : ℕ → Bool
   isLocal j = either (eqb (codeOf t j) c-declared) (eqb (codeOf t j) c-parameter)
 

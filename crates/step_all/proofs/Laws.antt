@@ -4,6 +4,7 @@ use mathlib.Core.Path.{_≡_, refl, sym, _∙_, ap}
 use mathlib.Core.Bool.{Bool, true, false}
 use mathlib.Core.List.{List, [], _∷_, _++_}
 use native.Mathlib.Omega.{arith}
+use native.Mathlib.Decide.{ℕ-discrete}
 use borrow.Author.Tests.{ne-eqb}
 use lib.ListN.{length}
 use lib.IntN.{ℤ}
@@ -14,6 +15,7 @@ use Rattle.step_offers.specs.Offers.{isSome, pickAt}
 use Rattle.step_offers.specs.declared.Walk.{Walk}
 use Rattle.step_offers.specs.declared.Walk.the-variants.{Found, Left}
 use Rattle.step_all.specs.Moving.{processes, nthIn, machineIn, stepAs, verdictAs}
+use Rattle.step_all.specs.declared.Offer.{Offer}
 use Rattle.step_all.specs.declared.Offer.the-variants.{Step, Beyond}
 use Rattle.step_all.specs.declared.Verdict.the-variants.{Finished, Blocked, Open}
 use mathlib.Core.Logic.{inl, inr}
@@ -62,6 +64,25 @@ abbrev someStep : List machine.Step → Bool
 someStep [] = false
 someStep (x ∷ l) = true
 
+-- what a search finds shows that there is something
+step-some : (n : ℕ) (xs : List machine.Step) (p k q : ℕ) → nthIn n xs ≡ Step p k q → someStep xs ≡ true
+unfolding nthIn
+step-some n [] p k q e = let v : _≡_ {A = ℕ} 0 1 = cc in absurd (omega arith)
+step-some n (x ∷ xs) p k q e = refl
+
+long-some : (xs : List machine.Step) → (length xs ≡ 0 → ⊥) → someStep xs ≡ true
+long-some [] h = absurd (h refl)
+long-some (x ∷ xs) h = refl
+
+short-none : (xs : List machine.Step) → length xs ≡ 0 → someStep xs ≡ false
+short-none [] h = refl
+short-none (x ∷ xs) h = absurd (omega arith)
+
+found-some : (i : ℕ) (xs : List ℕ) (q : ℕ) → pickAt i xs ≡ Found q → machine.isSome xs ≡ true
+unfolding pickAt
+found-some i [] q e = absurd (not-found e)
+found-some i (x ∷ xs) q e = refl
+
 module _ (t : List ℕ) (s : List ℤ) where
   abbrev M : Machine (List ℤ)
   M = machineIn t
@@ -104,9 +125,38 @@ module _ (t : List ℕ) (s : List ℤ) where
   pub no-step : (p k : ℕ) → k ≡ 0 → stepAs p k (Left 0) ≡ asked (machineIn t) p k (offered (machineIn t) s)
   no-step p k q = none-asked M s p k (inr q)
 
-  pub step-is : (n p k : ℕ) {l : Bool} {w : Walk} → n ≡ processes s → p < n → (k ≡ 0 → ⊥) → l ≡ late (machineIn t) s → w ≡ pickAt (k - 1) (machineIn t .steps s l p)
-      → stepAs p k w ≡ asked (machineIn t) p k (offered (machineIn t) s)
-  step-is n p k e h q el ew = ap (stepAs p k) (ew ∙ ap (λ l. pickAt (k - 1) (M .steps s l p)) el) ∙ one-asked M s p k (k - 1) (omega arith) (omega arith)
+  step-is : (p k : ℕ) {l : Bool} {w : Walk} → p < processes s → (k ≡ 0 → ⊥) → late M s ≡ l → w ≡ pickAt (k - 1) (M .steps s l p) → stepAs p k w ≡ asked M p k (offered M s)
+  step-is p k h q el ew = ap (stepAs p k) (ew ∙ ap (λ l. pickAt (k - 1) (M .steps s l p)) (sym el)) ∙ one-asked M s p k (k - 1) (omega arith) h
+
+  any-of : (l : Bool) (p q n : ℕ) → q ≤ p → p < q + n → machine.isSome (M .steps s l p) ≡ true → anyFrom M s l q n ≡ true
+  unfolding anyFrom
+  any-of l p q zero a b e = absurd (omega arith)
+  any-of l p q (suc n) a b e = go (ℕ-discrete q p) (λ z. any-of l p (q + 1) n (omega arith) (omega arith) e)
+    where
+      past : (x : Bool) → anyFrom M s l (q + 1) n ≡ true → pick x true (anyFrom M s l (q + 1) n) ≡ true
+      past true f = refl
+      past false f = f
+
+      go : Dec (q ≡ p) → ((q ≡ p → ⊥) → anyFrom M s l (q + 1) n ≡ true) → pick (machine.isSome (M .steps s l q)) true (anyFrom M s l (q + 1) n) ≡ true
+      go (yes z) f = rw (z, e)
+      go (no z) f = past (machine.isSome (M .steps s l q)) (f z)
+
+  late-by : (b : Bool) → anyFrom M s false 0 (processes s) ≡ b → late M s ≡ pick b false true
+  unfolding late
+  late-by b e = rw e
+
+  -- a process that is offered a step without `timeout` shows that `timeout` is not executable
+  module _ (n p k : ℕ) (e : n ≡ processes s) (h : p < n) (one : k ≡ 0 → ⊥) {w : Walk} (ew : w ≡ pickAt (k - 1) (machineIn t .steps s false p)) where
+    pub step-found : (q : ℕ) → w ≡ Found q → stepAs p k (Found q) ≡ asked (machineIn t) p k (offered (machineIn t) s)
+    step-found q f =
+        step-is p k (omega arith) one (late-by true (any-of false p 0 (processes s) (omega arith) (omega arith) (found-some (k - 1) (M .steps s false p) q (sym ew ∙ f)))) (sym f ∙ ew)
+
+    module _ (m : ℕ) (f : w ≡ Left m) {b : Bool} (eb : b ≡ anyFrom (machineIn t) s false 0 (processes s)) where
+      pub step-none : b ≡ true → stepAs p k (Left m) ≡ asked (machineIn t) p k (offered (machineIn t) s)
+      step-none z = step-is p k (omega arith) one (late-by true (sym eb ∙ z)) (sym f ∙ ew)
+
+      pub step-late : b ≡ false → {v : Walk} → v ≡ pickAt (k - 1) (machineIn t .steps s true p) → stepAs p k v ≡ asked (machineIn t) p k (offered (machineIn t) s)
+      step-late z ev = step-is p k (omega arith) one (late-by false (sym eb ∙ z)) ev
 
   -- ---- the n-th step of all
   module _ (late : Bool) (p n k : ℕ) (h : p < n) {w : Walk} (e : w ≡ pickAt k (machineIn t .steps s late p)) where
@@ -125,9 +175,8 @@ module _ (t : List ℕ) (s : List ℤ) where
     pub left-less : (m : ℕ) → w ≡ Left m → m ≤ k
     left-less m f = left-most k (M .steps s late p) m (sym e ∙ f)
 
-  pub nth-start : {l : Bool} {c : ℕ} (n : ℕ) → l ≡ late (machineIn t) s → c ≡ processes s → nthIn n (listFrom (machineIn t) s l 0 (c - 0)) ≡ nthIn n (offered (machineIn t) s)
-  unfolding offered
-  nth-start {l} {c} n el ec = let z : c - 0 ≡ processes s = omega arith in rw (z, el)
+  pub nth-start : (late : Bool) {c : ℕ} (n : ℕ) → c ≡ processes s → nthIn n (listFrom (machineIn t) s late 0 (c - 0)) ≡ nthIn n (listFrom (machineIn t) s late 0 (processes s))
+  nth-start late {c} n ec = let z : c - 0 ≡ processes s = omega arith in rw z
 
   pub nth-end : (late : Bool) (p n k : ℕ) → n ≤ p → Beyond k ≡ nthIn k (listFrom (machineIn t) s late p (n - p))
   unfolding listFrom nthIn
@@ -142,6 +191,25 @@ module _ (t : List ℕ) (s : List ℤ) where
       go : (qs : List ℕ) → anyFrom M s l (p + 1) n ≡ someStep (listFrom M s l (p + 1) n) → pick (machine.isSome qs) true (anyFrom M s l (p + 1) n) ≡ someStep (numbered p 1 qs ++ listFrom M s l (p + 1) n)
       go [] h = h
       go (q ∷ qs) h = refl
+
+  -- ---- what is listed without `timeout` is all, where it is anything
+  listed-by : (b : Bool) → someStep (listFrom M s false 0 (processes s)) ≡ b → offered M s ≡ listFrom M s (pick b false true) 0 (processes s)
+  unfolding offered
+  listed-by b e = ap (λ l. listFrom M s l 0 (processes s)) (late-by b (any-some false 0 (processes s) ∙ e))
+
+  module _ (n : ℕ) {o : Offer} (e : o ≡ nthIn n (listFrom (machineIn t) s false 0 (processes s))) where
+    pub nth-found-off : (p k q : ℕ) → o ≡ Step p k q → Step p k q ≡ nthIn n (offered (machineIn t) s)
+    nth-found-off p k q f = sym f ∙ e ∙ ap (nthIn n) (sym (listed-by true (step-some n (listFrom M s false 0 (processes s)) p k q (sym e ∙ f))))
+
+    module _ (l : ℕ) (f : o ≡ Beyond l) where
+      rest : n ≡ l + length (listFrom M s false 0 (processes s))
+      rest = beyond-rest n (listFrom M s false 0 (processes s)) l (sym e ∙ f)
+
+      pub nth-past : (l ≡ n → ⊥) → Beyond l ≡ nthIn n (offered (machineIn t) s)
+      nth-past h = sym f ∙ e ∙ ap (nthIn n) (sym (listed-by true (long-some (listFrom M s false 0 (processes s)) (λ z. h (let r = rest in omega arith)))))
+
+      pub nth-late : l ≡ n → {x : Offer} → x ≡ nthIn n (listFrom (machineIn t) s true 0 (processes s)) → x ≡ nthIn n (offered (machineIn t) s)
+      nth-late h g = g ∙ ap (nthIn n) (sym (listed-by false (short-none (listFrom M s false 0 (processes s)) (let r = rest in omega arith))))
 
   module _ {a : Bool} (ea : a ≡ endedFrom (machineIn t) s 0 (processes s)) where
     pub finished : a ≡ true → Finished ≡ verdictAs (verdict (machineIn t) s)

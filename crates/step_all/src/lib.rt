@@ -52,7 +52,7 @@ fn is_late(t: &[u32], s: &[i32]) -> bool
     if is_any(t, s, false) { false } else { true }
 }
 
-// The place of the k-th step, from 1, that a process is offered.
+// The place of the k-th step, from 1, that a process is offered. It is asked without `timeout` first: what it is offered then shows that `timeout` is not executable, and the others need not be asked.
 pub fn step_at(t: &[u32], s: &[i32], process: u32, k: u32) -> Walk
     ensures { λ r. ⌜ moving.stepAs process k r ≡ machine.asked (machineIn (now (t .entry))) process k (machine.offered (machineIn (now (t .entry))) (now (s .entry))) ⌝ }
 {
@@ -62,16 +62,26 @@ pub fn step_at(t: &[u32], s: &[i32], process: u32, k: u32) -> Walk
     if k == 0 {
         return Walk::Left(0);
     }
-    step_offers::offered(t, s, process as u8, is_late(t, s), k - 1)
+    let w = step_offers::offered(t, s, process as u8, false, k - 1);
+    match w {
+        Walk::Found(q) => Walk::Found(q),
+        Walk::Left(l) => {
+            if is_any(t, s, false) {
+                Walk::Left(l)
+            } else {
+                step_offers::offered(t, s, process as u8, true, k - 1)
+            }
+        }
+    }
 }
 
-// The n-th step, from 0, of all that are offered, by process number, then text order.
-pub fn nth(t: &[u32], s: &[i32], n: u16) -> Offer
-    ensures { λ r. ⌜ r ≡ moving.nthIn n (machine.offered (machineIn (now (t .entry))) (now (s .entry))) ⌝ }
+// The n-th step, from 0, of all processes, by process number, then text order, where `late` says whether `timeout` is executable.
+fn nth_by(t: &[u32], s: &[i32], late: bool, n: u32) -> Offer
+    requires { ⌜ n ≤ 65535 ⌝ }
+    ensures { λ r. ⌜ r ≡ moving.nthIn n (machine.listFrom (machineIn (now (t .entry))) (now (s .entry)) late 0 (moving.processes (now (s .entry)))) ⌝ }
 {
-    let late = is_late(t, s);
     let count = processes(s);
-    let mut left = n as u32;
+    let mut left = n;
     let mut p: u32 = 0;
     while p < count {
         let w = step_offers::offered(t, s, p as u8, late, left);
@@ -86,6 +96,23 @@ pub fn nth(t: &[u32], s: &[i32], n: u16) -> Offer
         p += 1;
     }
     Offer::Beyond(left)
+}
+
+// The n-th step, from 0, of all that are offered. `timeout` is looked for only where nothing else is offered.
+pub fn nth(t: &[u32], s: &[i32], n: u16) -> Offer
+    ensures { λ r. ⌜ r ≡ moving.nthIn n (machine.offered (machineIn (now (t .entry))) (now (s .entry))) ⌝ }
+{
+    let o = nth_by(t, s, false, n as u32);
+    match o {
+        Offer::Step(p, k, q) => Offer::Step(p, k, q),
+        Offer::Beyond(l) => {
+            if l == n as u32 {
+                nth_by(t, s, true, n as u32)
+            } else {
+                Offer::Beyond(l)
+            }
+        }
+    }
 }
 
 // Has every process ended?

@@ -20,7 +20,7 @@ use Rattle.step_eval.specs.declared.Node.{Node}
 use Rattle.step_eval.specs.declared.Node.the-variants.{Number, True, False, Plain, Index, Length, Unary, Lazy, Binary, Choice, Other}
 use Rattle.step_eval.specs.Variables.{variableOf, slotOf, elementOf, loadOf, channelOf, lengthOf}
 
--- what an item of a code is: 146 + o the binary operator o, of which 1 and 2 are `||` and `&&`; 165 to 167 the unary `-` `!` `~` (15, 19, 20)
+-- what an item of a code is: a binary operator, of which `||` and `&&` are lazy; a unary `-` `!` `~`
 unfoldable pub nodeOf : ℕ → Node
 nodeOf c =
     pick (eqb c c-number) Number
@@ -77,7 +77,7 @@ abbrev pub startOf : List ℕ → ℕ → ℕ → ℕ
 startOf t from j = max from (min (linkOf t j) j)
 
 module _ (t : List ℕ) (s : List ℤ) (p : ℕ) where
-  -- a plain reference to declaration d: the number of an mtype name (220), `_pid` (its own name, 70), or a variable
+  -- a plain reference to declaration d: the number of an mtype name, `_pid` (its own name, 70), or a variable
   unfoldable pub plainOf : ℕ → Answer
   plainOf d =
       pick (eqb (codeOf t d) c-message) (Value (kept (linkOf t d)))

@@ -1,7 +1,7 @@
 -- Mechanism, held to the specification by `demand2` (crate `demands`).
 -- Arguments worked out, and messages put into and taken out of channels: document 01, "How it moves", "Within a statement work goes left to right in the text",
 -- "target indices are worked out in the state before the step, then stores go left to right. Sent values are cast to field types".
--- `t` are tables, `s` a state, p the number of the process; c is the record of a channel. Arguments begin at item a, each links to its mark, `end` (187) stands behind the last.
+-- `t` are tables, `s` a state, p the number of the process; c is the record of a channel. Arguments begin at item a, each links to its mark, `end` stands behind the last.
 use Prim.Native.Nat.{ℕ, zero, suc, _+_, _-_, _*_}
 use mathlib.Core.Bool.{Bool, true, false}
 use mathlib.Core.List.{List}

@@ -18,18 +18,18 @@ use Rattle.step_offers.specs.declared.Walk.{Walk}
 use Rattle.step_offers.specs.declared.Walk.the-variants.{Found, Left}
 
 module _ (t : List ℕ) where
-  -- if (204) or do (206)
+  -- if or do
   abbrev pub isSelection : ℕ → Bool
   isSelection q = either (eqb (codeOf t q) c-if) (eqb (codeOf t q) c-do)
 
-  -- ## options: each begins with `option` (208), which links to its end; the next stands behind that. Items from `stop` on are not looked at
+  -- ## options: each begins with `option`, which links to its end; the next stands behind that. Items from `stop` on are not looked at
   abbrev pub isOption : ℕ → ℕ → Bool
   isOption m stop = both (ltb m stop) (eqb (codeOf t m) c-option)
 
   abbrev pub endOf : ℕ → ℕ → ℕ
   endOf m stop = max (m + 1) (min (linkOf t m) stop)
 
-  -- the place of an option's first statement, behind a label (188)
+  -- the place of an option's first statement, behind a label
   unfoldable pub firstOf : ℕ → ℕ
   firstOf m = pick (eqb (codeOf t (m + 2)) c-label) (m + 3) (m + 1)
 
@@ -38,7 +38,7 @@ module _ (t : List ℕ) where
   eachOption g zero m stop = []
   eachOption g (suc n) m stop = pick (isOption m stop) (g (firstOf m) (endOf m stop) ++ eachOption g n (endOf m stop + 1) stop) []
 
-  -- the statement, if it is `else` (201)
+  -- the statement, if it is `else`
   abbrev pub elseAt : ℕ → ℕ → List ℕ
   elseAt q stop = pick (eqb (codeOf t q) c-else) (q ∷ []) []
 

@@ -21,7 +21,7 @@ use Rattle.step_eval.specs.Variables.{loadOf, channelOf}
 use Rattle.step_eval.specs.Expressions.{holds, evalOf, locateOf}
 
 module _ (t : List ℕ) where
-  -- a `channel` item d stands behind its capacity, and before its types, each followed by `field` (218)
+  -- a `channel` item d stands behind its capacity, and before its types, each followed by `field`
   abbrev pub capacityOf : ℕ → ℕ
   capacityOf d = numberOf t (d - 1)
 
@@ -31,7 +31,7 @@ module _ (t : List ℕ) where
       pick (eqb (codeOf t (d + 2)) c-field)
       (pick (eqb (codeOf t (d + 4)) c-field) (pick (eqb (codeOf t (d + 6)) c-field) (pick (eqb (codeOf t (d + 8)) c-field) 4 3) 2) 1) 0
 
-  -- ## arguments: the first item of one links to its mark, behind which the next begins; `end` (187) stands behind the last
+  -- ## arguments: the first item of one links to its mark, behind which the next begins; `end` stands behind the last
   unfoldable pub argumentsFrom : ℕ → ℕ → ℕ
   argumentsFrom zero a = 0
   argumentsFrom (suc n) a = pick (eqb (codeOf t a) c-end) 0 (1 + argumentsFrom n (linkOf t a + 1))
@@ -40,7 +40,7 @@ module _ (t : List ℕ) where
   abbrev pub argumentsOf : ℕ → ℕ
   argumentsOf a = argumentsFrom (fieldsMost + 1) a
 
-  -- a received argument with the mark m is compared, not stored: not `into` (184), or the mtype name (220) that it names
+  -- a received argument with the mark m is compared, not stored: not `into`, or the mtype name that it names
   unfoldable pub comparedAt : ℕ → Bool
   comparedAt m = pick (eqb (codeOf t m) c-into) (eqb (codeOf t (linkOf t (m - 1))) c-message) true
 

@@ -44,7 +44,7 @@ module _ (t : List ℕ) where
   unfoldable pub markOf : ℕ → ℕ
   markOf q = pick (isOwnMark (codeOf t q)) q (linkOf t q)
 
-  -- the channels that a process of the unit makes: its `channel` items (217), over n items from j on
+  -- the channels that a process of the unit makes: its `channel` items, over n items from j on
   unfoldable pub channelsFrom : ℕ → ℕ → ℕ
   channelsFrom zero j = 0
   channelsFrom (suc n) j = pick (eqb (codeOf t j) c-channel) 1 0 + channelsFrom n (j + 1)

@@ -27,7 +27,7 @@ module _ (t : List ℕ) where
   endFrom zero a = a
   endFrom (suc n) a = pick (eqb (codeOf t a) c-end) a (endFrom n (linkOf t a + 1))
 
-  -- item j, if it is a parameter (222) of process p: it gets its value of l
+  -- item j, if it is a parameter of process p: it gets its value of l
   unfoldable pub parameterSet : ℕ → List ℤ → ℕ → List ℤ → List ℤ
   parameterSet p l j s = pick (eqb (codeOf t j) c-parameter) (set s (slotOf (linkOf t j) p 0) (castOf (typeOf (linkOf t j)) (getD l (linkOf t j / 1024) (pos 0)))) s
 
@@ -53,7 +53,7 @@ module _ (t : List ℕ) where
     unfoldable pub setRan : ℕ → ℕ → ℕ → List ℤ → Result
     setRan q m e s = onPlace (locateOf t s p q m) (λ i. setRunAt i m e s) (fault s)
 
-    -- a target's statement: an assignment (191) or `v = run` (203)
+    -- a target's statement: an assignment or `v = run`
     unfoldable pub targeted : ℕ → ℕ → List ℤ → Result
     targeted q m s = pick (eqb (codeOf t (linkOf t m)) c-set-run) (setRan q m (linkOf t m) s) (assigned t p q m (linkOf t m) s)
 

@@ -24,7 +24,8 @@ use Rattle.table_entries.specs.Items.{entryOf}
 use Rattle.table_entries.specs.Sources.{bytesOf, valueOf, entryAt, entriesOf}
 use Rattle.table_entries.proofs.Items.{mark-entry}
 use Rattle.base_bytes.specs.Lists.{piece}
-use Rattle.table_proof.specs.Read.{held, read, nowhere, Right}
+use Rattle.parse_machine_proof.specs.Items.{held, readAs}
+use Rattle.table_proof.specs.Read.{nowhere, Right}
 use Rattle.table_proof.proofs.Tokens.{sound-held}
 use Rattle.base_codes.specs.Items.{Item}
 
@@ -177,7 +178,7 @@ module _ (t : List ℕ) (ps : List Placed) (e : reading t ≡ tokens ps) (x y : 
   ends = map Placed.end ps ++ y
 
   -- one item
-  read-one : (c k : ℕ) → Right ps c k → entry c (bytesOf t c (getD starts k 0) (getD ends k 0)) (valueOf t c (getD starts k 0) (getD ends k 0)) ≡ entryOf (read (tokensIn t ps) c k)
+  read-one : (c k : ℕ) → Right ps c k → entry c (bytesOf t c (getD starts k 0) (getD ends k 0)) (valueOf t c (getD starts k 0) (getD ends k 0)) ≡ entryOf (readAs (tokensIn t ps) c k)
   read-one c k (inl r) =
       let p = getD ps k nowhere in
       let l : k < length ps = r .2 in
@@ -188,9 +189,9 @@ module _ (t : List ℕ) (ps : List Placed) (e : reading t ≡ tokens ps) (x y : 
 
   -- the numbers v of o, of which f is the code and g the token
   module _ (f g : ℕ → ℕ) (o : List ℕ) (z : List ℕ) (few : length o ≤ itemsMost) (right : (j : ℕ) → j < length o → Right ps (f (getD o j 0)) (g (getD o j 0))) where
-    pub entries-read : entriesOf t (map Placed.start ps ++ x) (map Placed.end ps ++ y) (map f o) (map g o ++ z) ≡ map entryOf (map (λ v. read (tokensIn t ps) (f v) (g v)) o)
+    pub entries-read : entriesOf t (map Placed.start ps ++ x) (map Placed.end ps ++ y) (map f o) (map g o ++ z) ≡ map entryOf (map (λ v. readAs (tokensIn t ps) (f v) (g v)) o)
     unfolding entriesOf entryAt
     entries-read =
         let n : min itemsMost (length (map f o)) ≡ length o = omega (arith, length-map o f) in
-        rw n (runs-map (entryAt t starts ends (map f o) (map g o ++ z)) (λ v. read (tokensIn t ps) (f v) (g v)) o 0
+        rw n (runs-map (entryAt t starts ends (map f o) (map g o ++ z)) (λ v. readAs (tokensIn t ps) (f v) (g v)) o 0
         (λ j l. let q : 0 + j ≡ j = omega arith in rw (q, get-only f o j 0 0 l, get-map g o z j 0 0 l) (read-one (f (getD o j 0)) (g (getD o j 0)) (right j l))))

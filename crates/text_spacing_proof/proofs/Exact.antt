@@ -23,7 +23,7 @@ use Rattle.text_tokens.proofs.Scans.{pass}
 use Rattle.text_spacing_proof.specs.Spelled.{Spelled, joins}
 use Rattle.text_spacing_proof.specs.Layout.{Gap, none, blank, comment, Laid, ends, token}
 use Rattle.text_spacing_proof.proofs.Spans.{closing-more}
-use Rattle.text_spacing_proof.proofs.Fronts.{front-taken, Taken, front-sound, Skipped, skip-sound, spelled-some}
+use Rattle.text_spacing_proof.proofs.Fronts.{front-taken, FrontToken, front-sound, Skipped, skip-sound, spelled-some}
 
 -- ---- one piece at the front
 no-tokens : {X : Type 0} {x i n : ℕ} {ps : List Placed} → refused x i n ≡ tokens ps → X
@@ -134,7 +134,7 @@ read-laid (suc f) i left (b ∷ t) ps h e = go (pieceOf (b ∷ t)) refl (piece-s
     cons p left j x rest (tokens qs) a q l r = (qs, cc, r j left rest qs l a)
     cons p left j x rest (refused u v w) a q l r = no-tokens q
 
-    taken : (left k n : ℕ) → Taken (b ∷ t) k n → 0 < n → before (placed k i n) (readFrom (i + n) left 0 (drop n (b ∷ t))) ≡ tokens ps → Before → Reads i (suc left) (b ∷ t) ps
+    taken : (left k n : ℕ) → FrontToken (b ∷ t) k n → 0 < n → before (placed k i n) (readFrom (i + n) left 0 (drop n (b ∷ t))) ≡ tokens ps → Before → Reads i (suc left) (b ∷ t) ps
     taken left k n z h′ q r =
         let d : drop n (b ∷ t) ≡ z .rest = ap (drop n) (z .whole) ∙ drop-at (z .x) (z .rest) n (z .size) in
         let (qs, u, y) = cons (placed k i n) left (i + n) (z .x) (z .rest) (readFrom (i + n) left 0 (z .rest)) refl (rw d at q) (shorter b t (z .x) (z .rest) n f (z .whole) (z .size) h′ h) r in

@@ -118,7 +118,7 @@ front-taken rest (string {s = s} b h) j =
 front-taken rest (mark {k = k} {x = x} e) j = mark-front x rest k (mark-passes x k e) e (sym (joins-mark k x (getD rest 0 0) e) ∙ j)
 
 -- ---- THE FRONT, THE OTHER WAY: what is taken is a spelled token, and the longest
-pub record Taken (s : List ℕ) (k n : ℕ) : Type 0 where
+pub record FrontToken (s : List ℕ) (k n : ℕ) : Type 0 where
   pub x : List ℕ
   pub rest : List ℕ
   pub whole : s ≡ x ++ rest
@@ -137,7 +137,7 @@ split-run : (p : ℕ → Bool) (b : ℕ) (s : List ℕ) → p b ≡ true → (m 
 unfolding span
 split-run p b s e = (span p s, rw e, refl, span-all p s, span-le p s)
 
-word-taken : (b : ℕ) (s : List ℕ) (k n : ℕ) → isLetter b ≡ true → wordOf (b ∷ s) (span isWord (b ∷ s)) ≡ Take k n → Taken (b ∷ s) k n
+word-taken : (b : ℕ) (s : List ℕ) (k n : ℕ) → isLetter b ≡ true → wordOf (b ∷ s) (span isWord (b ∷ s)) ≡ Take k n → FrontToken (b ∷ s) k n
 word-taken b s k n l e = go (split-run isWord b s (first l))
   where
     first : isLetter b ≡ true → isWord b ≡ true
@@ -147,10 +147,10 @@ word-taken b s k n l e = go (split-run isWord b s (first l))
         last true = refl
         last false = refl
 
-    go : (m : ℕ) × (span isWord (b ∷ s) ≡ suc m) × (take (suc m) (b ∷ s) ≡ b ∷ take m s) × (all isWord (take m s) ≡ true) × (m ≤ length s) → Taken (b ∷ s) k n
-    go (m, u, v, a, h) = by-test (λ (p : Piece). p ≡ Take k n → Taken (b ∷ s) k n) (ltb wordMost (suc m)) (λ _ q. not-stopped q) taken (rw u at e)
+    go : (m : ℕ) × (span isWord (b ∷ s) ≡ suc m) × (take (suc m) (b ∷ s) ≡ b ∷ take m s) × (all isWord (take m s) ≡ true) × (m ≤ length s) → FrontToken (b ∷ s) k n
+    go (m, u, v, a, h) = by-test (λ (p : Piece). p ≡ Take k n → FrontToken (b ∷ s) k n) (ltb wordMost (suc m)) (λ _ q. not-stopped q) taken (rw u at e)
       where
-        taken : ltb wordMost (suc m) ≡ false → Take (wordKind (b ∷ take m s)) (suc m) ≡ Take k n → Taken (b ∷ s) k n
+        taken : ltb wordMost (suc m) ≡ false → Take (wordKind (b ∷ take m s)) (suc m) ≡ Take k n → FrontToken (b ∷ s) k n
         taken f q =
             let kk : wordKind (b ∷ take m s) ≡ k = cc in
             let nn : suc m ≡ n = cc in
@@ -165,13 +165,13 @@ word-taken b s k n l e = go (split-run isWord b s (first l))
               longest = joins-word (b ∷ take m s) (b ∷ take m s) (getD (drop m s) 0 0) ∙ (rw u at (span-stops isWord refl (b ∷ s)));
             })
 
-number-taken : (b : ℕ) (s : List ℕ) (k n : ℕ) → isDigit b ≡ true → numberOf (b ∷ s) (span isDigit (b ∷ s)) ≡ Take k n → Taken (b ∷ s) k n
+number-taken : (b : ℕ) (s : List ℕ) (k n : ℕ) → isDigit b ≡ true → numberOf (b ∷ s) (span isDigit (b ∷ s)) ≡ Take k n → FrontToken (b ∷ s) k n
 number-taken b s k n d e = go (split-run isDigit b s d)
   where
-    go : (m : ℕ) × (span isDigit (b ∷ s) ≡ suc m) × (take (suc m) (b ∷ s) ≡ b ∷ take m s) × (all isDigit (take m s) ≡ true) × (m ≤ length s) → Taken (b ∷ s) k n
-    go (m, u, v, a, h) = by-test (λ (p : Piece). p ≡ Take k n → Taken (b ∷ s) k n) (ltb numberMost (decimal (b ∷ take m s))) (λ _ q. not-stopped q) taken (rw u at e)
+    go : (m : ℕ) × (span isDigit (b ∷ s) ≡ suc m) × (take (suc m) (b ∷ s) ≡ b ∷ take m s) × (all isDigit (take m s) ≡ true) × (m ≤ length s) → FrontToken (b ∷ s) k n
+    go (m, u, v, a, h) = by-test (λ (p : Piece). p ≡ Take k n → FrontToken (b ∷ s) k n) (ltb numberMost (decimal (b ∷ take m s))) (λ _ q. not-stopped q) taken (rw u at e)
       where
-        taken : ltb numberMost (decimal (b ∷ take m s)) ≡ false → Take number-kind (suc m) ≡ Take k n → Taken (b ∷ s) k n
+        taken : ltb numberMost (decimal (b ∷ take m s)) ≡ false → Take number-kind (suc m) ≡ Take k n → FrontToken (b ∷ s) k n
         taken f q =
             let kk : number-kind ≡ k = cc in
             let nn : suc m ≡ n = cc in
@@ -186,10 +186,10 @@ number-taken b s k n d e = go (split-run isDigit b s d)
               longest = rw u at (span-stops isDigit refl (b ∷ s));
             })
 
-string-taken : (s : List ℕ) (k n : ℕ) (y : Quoted) → quoted false s ≡ y → stringOf y (length s) ≡ Take k n → Taken (quote ∷ s) k n
-string-taken s k n (Closed m) g e = by-test (λ (p : Piece). p ≡ Take k n → Taken (quote ∷ s) k n) (ltb (stringMost + 1) m) (λ _ q. not-stopped q) taken e
+string-taken : (s : List ℕ) (k n : ℕ) (y : Quoted) → quoted false s ≡ y → stringOf y (length s) ≡ Take k n → FrontToken (quote ∷ s) k n
+string-taken s k n (Closed m) g e = by-test (λ (p : Piece). p ≡ Take k n → FrontToken (quote ∷ s) k n) (ltb (stringMost + 1) m) (λ _ q. not-stopped q) taken e
   where
-    taken : ltb (stringMost + 1) m ≡ false → Take string-kind (m + 1) ≡ Take k n → Taken (quote ∷ s) k n
+    taken : ltb (stringMost + 1) m ≡ false → Take string-kind (m + 1) ≡ Take k n → FrontToken (quote ∷ s) k n
     taken f q =
         let kk : string-kind ≡ k = cc in
         let nn : m + 1 ≡ n = cc in
@@ -218,7 +218,7 @@ unfolding short
 no-third b a c = rw (fails-unfound short (b ∷ a ∷ c ∷ []) marks 1 refl refl, two-one b a slash)
 
 module _ (b : ℕ) where
-  two-taken : (s : List ℕ) (j : ℕ) → find (b ∷ getD s 0 0 ∷ []) marks 1 ≡ suc j → Taken (b ∷ s) (suc j) 2
+  two-taken : (s : List ℕ) (j : ℕ) → find (b ∷ getD s 0 0 ∷ []) marks 1 ≡ suc j → FrontToken (b ∷ s) (suc j) 2
   two-taken [] j q = absurd (let z = find-zero b marks 1 refl in omega arith)
   two-taken (a ∷ s) j q =
       record {
@@ -230,7 +230,7 @@ module _ (b : ℕ) where
         longest = joins-mark j (b ∷ a ∷ []) (getD s 0 0) q ∙ no-third b a (getD s 0 0);
       }
 
-  one-taken : (s : List ℕ) (j : ℕ) → both (eqb b slash) (eqb (getD s 0 0) star) ≡ false → find (b ∷ getD s 0 0 ∷ []) marks 1 ≡ 0 → find (b ∷ []) marks 1 ≡ suc j → Taken (b ∷ s) (suc j) 1
+  one-taken : (s : List ℕ) (j : ℕ) → both (eqb b slash) (eqb (getD s 0 0) star) ≡ false → find (b ∷ getD s 0 0 ∷ []) marks 1 ≡ 0 → find (b ∷ []) marks 1 ≡ suc j → FrontToken (b ∷ s) (suc j) 1
   one-taken s j c p q =
       record {
         x = b ∷ [];
@@ -241,19 +241,19 @@ module _ (b : ℕ) where
         longest = joins-mark j (b ∷ []) (getD s 0 0) q ∙ rw p (one-slash b (getD s 0 0) ∙ c);
       }
 
-same-take : {s : List ℕ} {i m k n : ℕ} → Take i m ≡ Take k n → Taken s i m → Taken s k n
+same-take : {s : List ℕ} {i m k n : ℕ} → Take i m ≡ Take k n → FrontToken s i m → FrontToken s k n
 same-take {s} {i} {m} {k} {n} e t =
     let p : i ≡ k = cc in
     let q : m ≡ n = cc in
     rw (← p, ← q) t
 
-mark-taken : (b : ℕ) (s : List ℕ) (k n : ℕ) → both (eqb b slash) (eqb (getD s 0 0) star) ≡ false → markOf b (getD s 0 0) ≡ Take k n → Taken (b ∷ s) k n
+mark-taken : (b : ℕ) (s : List ℕ) (k n : ℕ) → both (eqb b slash) (eqb (getD s 0 0) star) ≡ false → markOf b (getD s 0 0) ≡ Take k n → FrontToken (b ∷ s) k n
 mark-taken b s k n c e = go (find (b ∷ getD s 0 0 ∷ []) marks 1) refl (find (b ∷ []) marks 1) refl e
   where
     some : (j : ℕ) → eqb (suc j) 0 ≡ false
     some j = ne-eqb (suc j) 0 (λ z. omega arith)
 
-    go : (x : ℕ) → find (b ∷ getD s 0 0 ∷ []) marks 1 ≡ x → (y : ℕ) → find (b ∷ []) marks 1 ≡ y → pick (eqb x 0) (pick (eqb y 0) (Stop 1 1) (Take y 1)) (Take x 2) ≡ Take k n → Taken (b ∷ s) k n
+    go : (x : ℕ) → find (b ∷ getD s 0 0 ∷ []) marks 1 ≡ x → (y : ℕ) → find (b ∷ []) marks 1 ≡ y → pick (eqb x 0) (pick (eqb y 0) (Stop 1 1) (Take y 1)) (Take x 2) ≡ Take k n → FrontToken (b ∷ s) k n
     go zero p zero q e = not-stopped e
     go zero p (suc j) q e = same-take (rw (some j) at e) (one-taken b s j c p q)
     go (suc j) p y q e = same-take (rw (some j) at e) (two-taken b s j p)
@@ -262,14 +262,14 @@ not-commented : {X : Type 0} (x : Close) (m k n : ℕ) → commentOf x m ≡ Tak
 not-commented (After i) m k n e = not-taken e
 not-commented Never m k n e = not-stopped e
 
-pub front-sound : (b : ℕ) (s : List ℕ) (k n : ℕ) → pieceOf (b ∷ s) ≡ Take k n → Taken (b ∷ s) k n
+pub front-sound : (b : ℕ) (s : List ℕ) (k n : ℕ) → pieceOf (b ∷ s) ≡ Take k n → FrontToken (b ∷ s) k n
 unfolding pieceOf
 front-sound b s k n =
-    let P : Piece → Type 0 = λ p. p ≡ Take k n → Taken (b ∷ s) k n in
+    let P : Piece → Type 0 = λ p. p ≡ Take k n → FrontToken (b ∷ s) k n in
     by-test P (isBlank b) (λ _ e. not-taken e)
     (λ _. by-test P (isLetter b) (λ l. word-taken b s k n l)
     (λ _. by-test P (isDigit b) (λ d. number-taken b s k n d)
-    (λ _. by-test P (eqb b quote) (λ q e. subst (λ (a : ℕ). Taken (a ∷ s) k n) (sym (eqb-true b quote q)) (string-taken s k n (quoted false s) refl e))
+    (λ _. by-test P (eqb b quote) (λ q e. subst (λ (a : ℕ). FrontToken (a ∷ s) k n) (sym (eqb-true b quote q)) (string-taken s k n (quoted false s) refl e))
     (λ _. by-test P (both (eqb b slash) (eqb (getD s 0 0) star)) (λ _. not-commented (closing false (drop 1 s)) (length (drop 1 s)) k n)
     (λ c. mark-taken b s k n c)))))
 

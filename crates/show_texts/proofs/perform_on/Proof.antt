@@ -9,7 +9,7 @@ use Rattle.base_bytes.proofs.same.Reads as same-reads
 use Rattle.show_commands.proofs.replay.Reads as replay-reads
 use Rattle.show_commands.proofs.run.Reads as run-reads
 use Rattle.show_commands.proofs.start.Reads as start-reads
-use Rattle.show_trails.proofs.state.Reads as state-reads
+use Rattle.show_left.proofs.state.Reads as state-reads
 use Rattle.show_trails.proofs.steps.Reads as steps-reads
 use Rattle.show_answers.proofs.put.Reads as put-reads
 use Rattle.show_texts.proofs.unknown.Reads as unknown-reads

@@ -1,50 +1,26 @@
-use mathlib.Core.Path.{_≡_, _∙_}
-use native.Mathlib.Omega.{arith}
-use Rattle.spec_machine.specs.Machine.{listFrom, offered}
-use Rattle.step_all.specs.Moving.{machineIn, nthIn}
-use Prim.Native.Nat.{_≤_, _-_}
+use Rattle.step_all.proofs.Laws as laws
 use denote.Ref.{now}
 use borrow.Author.Needs.{needs}
 use Rattle.step_all.proofs.nth.Statement.{statement}
-use Rattle.base_ceilings.specs.Ceilings.{processesMost}
-use Rattle.step_all.proofs.Laws as laws
 use Rattle.step_all.proofs.nth.Tie as tie
 
-abbrev Inv-loop : tie.InvT-loop
-Inv-loop t s n late count left₀ p₀ left p = (p ≤ count) × ((count ≤ processesMost) × ((left ≤ 65535) × (nthIn left (listFrom (machineIn t) s late p (count - p)) ≡ nthIn n (offered (machineIn t) s))))
+returns : tie.Need-returns
+returns c = laws.nth-found-off (now (c .before .before .before .before .before .args .t)) (now (c .before .before .before .before .before .args .s)) (c .before .before .before .before .before .args .n) (c .before .before .before .nth-by .ensures) _ _ _ (c .before .o .given .1)
 
-abbrev μ-loop : tie.MeasureT-loop
-μ-loop t s n late count left₀ p₀ left p = count - p
+returns-2 : tie.Need-returns-2
+returns-2 c = laws.nth-late (now (c .before .before .before .before .before .before .before .args .t)) (now (c .before .before .before .before .before .before .before .args .s)) (c .before .before .before .before .before .before .before .args .n) (c .before .before .before .before .before .nth-by .ensures) _ (c .before .before .before .o2 .given .1) (c .before .if1 .taken) (c .nth-by2 .ensures)
 
-loop-holds : tie.Need-loop-holds Inv-loop μ-loop
-loop-holds c = (omega arith, (omega (arith, c .processes .ensures .1), (omega arith, laws.nth-start (now (c .before .before .before .args .t)) (now (c .before .before .before .args .s)) (c .before .before .before .args .n) (c .before .is-late .ensures) (c .processes .ensures .0))))
-
-returns : tie.Need-returns Inv-loop μ-loop
-returns c = laws.nth-here (now (c .before .before .before .before .before .before .before .before .before .args .t)) (now (c .before .before .before .before .before .before .before .before .before .args .s)) (c .before .before .before .before .before .before .before .is-late .result) (c .before .before .before .before .before .loop .p) (c .before .before .before .before .before .before .processes .result) (c .before .before .before .before .before .loop .left) (omega arith) (c .before .before .before .offered .ensures) (c .before .w .given .0 .0) (c .before .w .given .1) ∙ c .before .before .before .before .before .loop .inv .1 .1 .1
-
-loop-again : tie.Need-loop-again Inv-loop μ-loop
-loop-again c = (omega arith, (omega arith, (omega (arith, laws.left-less (now (c .before .before .before .before .before .before .before .before .before .args .t)) (now (c .before .before .before .before .before .before .before .before .before .args .s)) (c .before .before .before .before .before .before .before .is-late .result) (c .before .before .before .before .before .loop .p) (c .before .before .before .before .before .before .processes .result) (c .before .before .before .before .before .loop .left) (omega arith) (c .before .before .before .offered .ensures) (c .before .w2 .given .0 .0) (c .before .w2 .given .1)), laws.nth-more (now (c .before .before .before .before .before .before .before .before .before .args .t)) (now (c .before .before .before .before .before .before .before .before .before .args .s)) (c .before .before .before .before .before .before .before .is-late .result) (c .before .before .before .before .before .loop .p) (c .before .before .before .before .before .before .processes .result) (c .before .before .before .before .before .loop .left) (omega arith) (c .before .before .before .offered .ensures) (c .before .w2 .given .0 .0) (c .before .w2 .given .1) ∙ c .before .before .before .before .before .loop .inv .1 .1 .1)))
-
-returns-2 : tie.Need-returns-2 Inv-loop μ-loop
-returns-2 c = laws.nth-end (now (c .before .before .before .before .before .args .t)) (now (c .before .before .before .before .before .args .s)) (c .before .before .before .is-late .result) (c .before .loop .p) (c .before .before .processes .result) (c .before .loop .left) (omega arith) ∙ c .before .loop .inv .1 .1 .1
+returns-3 : tie.Need-returns-3
+returns-3 c = laws.nth-past (now (c .before .before .before .before .before .before .args .t)) (now (c .before .before .before .before .before .before .args .s)) (c .before .before .before .before .before .before .args .n) (c .before .before .before .before .nth-by .ensures) _ (c .before .before .o2 .given .1) (c .if1 .left)
 
 pub nth-spec : {M : Type 1} → statement M
 nth-spec =
     tie.close
     (tie.spec
-    Inv-loop
-    μ-loop
-    (λ c κs. search needs)
-    (λ c κs. search needs)
-    loop-holds
-    (λ c. search needs)
     (λ c κs. search needs)
     (λ c. search needs)
     (λ c. search needs)
-    (λ c. search needs)
+    (λ c κs. search needs)
     returns
-    (λ c. search needs)
-    (λ c. search needs)
-    (λ c. search needs)
-    loop-again
-    returns-2)
+    returns-2
+    returns-3)

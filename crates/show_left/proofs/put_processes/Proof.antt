@@ -1,9 +1,9 @@
 use native.Mathlib.Omega.{arith}
 use Prim.Native.Nat.{_≤_, _-_}
 use borrow.Author.Needs.{needs}
-use Rattle.show_trails.proofs.put_processes.Statement.{statement}
+use Rattle.show_left.proofs.put_processes.Statement.{statement}
 use Rattle.base_ceilings.specs.Ceilings.{processesMost}
-use Rattle.show_trails.proofs.put_processes.Tie as tie
+use Rattle.show_left.proofs.put_processes.Tie as tie
 
 abbrev Inv-loop : tie.InvT-loop
 Inv-loop t s text kinds starts ends toks n p₀ t11 t12 t13 t14 t15 p = (p ≤ n) × (n ≤ processesMost)

@@ -2,8 +2,8 @@ use mathlib.Core.Path.{refl}
 use Rattle.show_commands.specs.Statuses.{cleared}
 use Rattle.show_commands.proofs.Laws as laws
 use borrow.Author.Needs.{needs}
-use Rattle.show_trails.proofs.state.Statement.{statement}
-use Rattle.show_trails.proofs.state.Tie as tie
+use Rattle.show_left.proofs.state.Statement.{statement}
+use Rattle.show_left.proofs.state.Tie as tie
 
 returns : tie.Need-returns
 unfolding cleared
