@@ -16,6 +16,8 @@ use Rattle.agree_eval.proofs.Operators.{known-front, known-back}
 use Rattle.agree_nesting.specs.Balanced.{Balanced}
 use Rattle.agree_nesting.specs.Full.{FullBody, FullModel}
 use Rattle.agree_nesting.proofs.Trees.{model-balanced}
+use Rattle.spec_machine.specs.Sizes.{sizeActivity, sizePart}
+use Rattle.agree_sizes.proofs.Sizes.{size-activity, size-groups, size-part}
 use Rattle.spec_machine.specs.Program.{Holds, in-process, in-init, later}
 use Rattle.agree_control.proofs.Insides.{Inner, inner-groups}
 
@@ -43,7 +45,7 @@ module _ (cs : List ℕ) where
   unfolding classOf
   heads = (refl, refl, refl, refl)
 
-  activity-head : (x : Activity) (w : Name) (i u : ℕ) → suc u ≡ i + length (code-activity x w) → At cs i (code-activity x w)
+  activity-head : (x : Activity) (w : Name) (i u : ℕ) → suc u ≡ i + sizeActivity x → At cs i (code-activity x w)
       → (c-proctype ≤ getD cs u 0) × (getD cs u 0 ≤ c-init) × (classOf (getD cs u 0) ≡ 12)
   activity-head idle w i u e h = head-by c-proctype u (suc i) (omega arith) (h .1 .0) (omega arith) (omega arith) (heads .0)
   activity-head once w i u e h = head-by c-active u (suc i) (omega arith) (h .1 .0) (omega arith) (omega arith) (heads .1)
@@ -59,6 +61,8 @@ module _ (cs : List ℕ) where
       let kg = known-front (A ++ G) B kp in
       let hg = at-front cs i (A ++ G) B hp in
       let n1 = length-append A G in
+      let na = size-activity x w in
+      let ng = size-groups gs in
       let n2 = length-append (A ++ G) B in
       let n3 = length-append (A ++ G ++ B) (code m) in
       record {
@@ -66,8 +70,8 @@ module _ (cs : List ℕ) where
         between = G;
         inner = inner-groups gs;
         all-known = known-back A G kg;
-        behind-head = at-back cs A G i (suc u) e hg;
-        place = f;
+        behind-head = at-back cs A G i (suc u) (omega arith) hg;
+        place = omega arith;
         full = fm .0;
         known = known-back (A ++ G) B kp;
         stands = at-back cs (A ++ G) B i k (omega arith) hp;
@@ -96,4 +100,5 @@ module _ (cs : List ℕ) where
       }
   unit-whole {i = i} (later {x = x} {m = m} p) fm ka h g =
       let n = length-append (code-part x) (code m) in
-      unit-whole p (fm .1) (known-back (code-part x) (code m) ka) (at-back cs (code-part x) (code m) i (i + length (code-part x)) refl h) (omega arith)
+      let z = size-part x in
+      unit-whole p (fm .1) (known-back (code-part x) (code m) ka) (at-back cs (code-part x) (code m) i (i + sizePart x) (omega arith) h) (omega arith)

@@ -2,40 +2,41 @@
 use Prim.Native.Nat.{ℕ, _+_, _<_}
 use native.Mathlib.Omega.{arith}
 use mathlib.Core.Path.{_≡_}
-use mathlib.Core.Bool.{Bool, true, false}
+use mathlib.Core.Bool.{true, false}
 use mathlib.Core.Logic.{inl, inr}
 use mathlib.Core.List.{List, _++_}
-use lib.Dec.{eqb}
 use borrow.Author.Tests.{le-leb, lt-leb, ne-eqb}
-use Rattle.base_codes.specs.Codes.{c-break, c-complement, c-do, c-end-body, c-if, c-name, c-number, c-or-else, c-plain, c-proctype, c-skip, c-text}
+use Rattle.base_codes.specs.Codes.{c-break, c-complement, c-do, c-end-body, c-express, c-goto, c-if, c-increment, c-name, c-number, c-or-else, c-plain, c-proctype, c-run, c-skip, c-text}
 use Rattle.base_codes.specs.Items.{Item, codeOf, i-type, i-local, i-global}
-use Rattle.base_codes.specs.Sets.{isPart, isAlone}
-use Rattle.base_bytes.specs.Choice.{pick}
+use Rattle.base_codes.specs.Sets.{isPart, isAlone, isLead}
 use Rattle.spec_grammar.specs.Tree.{Name, Sort, Tree, Declaration, Group, mtypes}
 use Rattle.parse_code.specs.Code.{each, code-tree, code-declaration, code-group, code-part, code-message}
 use Rattle.table_entries.specs.Items.{Known, is-type}
+use Rattle.agree_nesting.proofs.Leaves.{quiet}
 use Rattle.agree_eval.proofs.Ranges.{Every, every-append, every-lift, InTree, tree-codes, InDeclaration, local-codes, global-codes, InGroup, groups-codes, InMessages, messages-codes}
 
--- no part of an expression, no statement that begins with its own mark, and no end of a body
-unfoldable pub quiet : ℕ → Bool
-quiet c = pick (isPart c) false (pick (isAlone c) false (pick (eqb c c-end-body) false true))
+-- a mark that begins no statement
+abbrev pub Still : ℕ → Type 0
+Still c = (quiet c ≡ true) × (isLead c ≡ false)
 
-pub type-quiet : {k : ℕ} → Known (i-type k) → quiet (codeOf (i-type k)) ≡ true
-unfolding quiet isPart isAlone
-type-quiet (is-type {k} a b) =
-    rw (
-      le-leb c-name (130 + k) (omega arith),
-      lt-leb (130 + k) c-number (omega arith),
-      le-leb c-or-else (130 + k) (omega arith),
-      lt-leb (130 + k) c-complement (omega arith),
-      lt-leb c-plain (130 + k) (omega arith),
-      ne-eqb (130 + k) c-text (λ z. omega arith),
-      ne-eqb (130 + k) c-skip (λ z. omega arith),
-      lt-leb c-break (130 + k) (omega arith),
-      ne-eqb (130 + k) c-if (λ z. omega arith),
-      ne-eqb (130 + k) c-do (λ z. omega arith),
-      ne-eqb (130 + k) c-end-body (λ z. omega arith),
-    )
+pub type-still : {k : ℕ} → Known (i-type k) → Still (codeOf (i-type k))
+unfolding quiet isPart isAlone isLead
+type-still (is-type {k} a b) = (
+  rw (
+    le-leb c-name (130 + k) (omega arith),
+    lt-leb (130 + k) c-number (omega arith),
+    le-leb c-or-else (130 + k) (omega arith),
+    lt-leb (130 + k) c-complement (omega arith),
+    lt-leb c-plain (130 + k) (omega arith),
+    ne-eqb (130 + k) c-text (λ z. omega arith),
+    ne-eqb (130 + k) c-skip (λ z. omega arith),
+    lt-leb c-break (130 + k) (omega arith),
+    ne-eqb (130 + k) c-if (λ z. omega arith),
+    ne-eqb (130 + k) c-do (λ z. omega arith),
+    ne-eqb (130 + k) c-end-body (λ z. omega arith),
+  ),
+  rw (lt-leb c-express (130 + k) (omega arith), lt-leb c-increment (130 + k) (omega arith), ne-eqb (130 + k) c-goto (λ z. omega arith), ne-eqb (130 + k) c-run (λ z. omega arith)),
+)
 
 -- ---- items inside of a unit
 abbrev pub InUnit : ℕ → Type 0

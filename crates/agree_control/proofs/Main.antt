@@ -3,7 +3,7 @@
 use Prim.Native.Nat.{ℕ, zero, suc, _+_, _-_, _≤_, _<_, min}
 use native.Mathlib.Omega.{arith}
 use native.Mathlib.Decide.{decLt}
-use mathlib.Core.Path.{_≡_, refl, sym, ap, _∙_, subst}
+use mathlib.Core.Path.{_≡_, refl, sym, ap, ap₂, _∙_, subst}
 use mathlib.Core.Bool.{Bool, true, false}
 use mathlib.Core.List.{List, [], _∷_, _++_, map, append-nil}
 use lib.ListN.{length, getD, replicate, length-append, length-map}
@@ -13,7 +13,7 @@ use Rattle.base_ceilings.specs.Ceilings.{itemsMost}
 use Rattle.base_codes.specs.Codes.{c-body, c-break, c-end-body, c-init, c-proctype}
 use Rattle.base_bytes.specs.Choice.{pick, both}
 use Rattle.rule_sheets.proofs.Walks.{first-most}
-use Rattle.spec_grammar.specs.Tree.{Name, action, sequence, Tree, express, assign, increment, decrement, send, receive, assert, print, skip, goto, break, timeout, else, run, set-run, select, loop, end, then, Declaration, Body, body}
+use Rattle.spec_grammar.specs.Tree.{Name, action, sequence, Tree, leaf, express, assign, increment, decrement, send, receive, assert, print, skip, goto, break, timeout, else, run, set-run, select, loop, end, then, Declaration, Body, body}
 use Rattle.base_codes.specs.Items.{Item, i-end-body, i-local}
 use Rattle.parse_code.specs.Code.{each, code-tree, code-declaration, code-body, code}
 use Rattle.base_codes.specs.Items as items
@@ -38,7 +38,9 @@ use Rattle.keep_tables.specs.Held.{Held}
 use Rattle.keep_tables.proofs.Links.{back-keeps, link-is}
 use Rattle.keep_tables.proofs.Tables.{codesAt, saidAt, text-held}
 use Rattle.spec_machine.specs.Stage.{Ways}
-use Rattle.spec_machine.specs.Program.{sizeIn, enter, Within, Holds, startIn, endIn, sequenceOf, Statement}
+use Rattle.spec_machine.specs.Sizes.{sum, sizeDeclaration, sizeIn}
+use Rattle.agree_sizes.proofs.Sizes.{size-tree, size-body, size-declarations}
+use Rattle.spec_machine.specs.Program.{enter, Within, Holds, startIn, endIn, sequenceOf, Statement}
 use Rattle.agree_stage.specs.Tables.{Leads}
 use Rattle.agree_control.specs.Onward.{Onward}
 use Rattle.agree_control.proofs.Insides.{inner-append, inner-tree, inner-declarations}
@@ -112,11 +114,11 @@ module _ (cs vs : List ℕ) (few : length cs ≤ itemsMost) {u k : ℕ} (ds : Li
   abbrev e : ℕ
   e = endIn (body ds q) k
 
-  size : length (code-body (body ds q)) ≡ suc (length D + sizeIn q + 1)
-  size = let a = length-append (D ++ code-tree q) (i-end-body ∷ []) in let b = length-append D (code-tree q) in omega arith
+  before : length (D ++ code-tree q) ≡ sum sizeDeclaration ds + sizeIn q
+  before = length-append D (code-tree q) ∙ ap₂ _+_ (size-declarations ds) (size-tree q)
 
   fits : e < length cs
-  fits = let a = size in let b = w .all in omega arith
+  fits = let b = w .all in omega (arith, size-body (body ds q))
 
   front : At cs (suc k) (D ++ code-tree q)
   front = at-front cs (suc k) (D ++ code-tree q) (i-end-body ∷ []) (w .stands .1)
@@ -125,17 +127,17 @@ module _ (cs vs : List ℕ) (few : length cs ≤ itemsMost) {u k : ℕ} (ds : Li
   known = known-front (D ++ code-tree q) (i-end-body ∷ []) (w .known .1)
 
   at-end : getD cs e 0 ≡ c-end-body
-  at-end = let b = length-append D (code-tree q) in at-back cs (D ++ code-tree q) (i-end-body ∷ []) (suc k) e (omega arith) (w .stands .1) .0
+  at-end = at-back cs (D ++ code-tree q) (i-end-body ∷ []) (suc k) e (omega (arith, before)) (w .stands .1) .0
 
   here : Here cs sequence q s
-  here = record { full = w .full; known = known-back D (code-tree q) known; stands = at-back cs D (code-tree q) (suc k) s (omega arith) front; ends = fits }
+  here = record { full = w .full; known = known-back D (code-tree q) known; stands = at-back cs D (code-tree q) (suc k) s (omega (arith, size-declarations ds)) front; ends = fits }
 
   -- to its end
   closes : closeOf cs 3 (u + 1) ≡ e
   closes =
       let p = w .place in
       let f = fits in
-      let b = length-append D (code-tree q) in
+      let b = before in
       ap (closeOf cs 3) (let z : u + 1 ≡ suc u = omega arith in z) ∙ close-inner cs (w .between) (w .inner) (w .all-known) (suc u) (w .behind-head) (omega arith) ∙ ap (closeOf cs 3) (sym p)
       ∙ close-pass cs 3 k c-body (omega arith) (w .stands .0) (body-codes .1) (body-codes .2) ∙ ap (closeOf cs 3) (let z : k + 1 ≡ suc k = omega arith in z)
       ∙ close-inner cs (D ++ code-tree q) (inner-append D (code-tree q) (inner-declarations ds) (inner-tree q)) known (suc k) front (omega arith)
@@ -156,9 +158,11 @@ module _ (cs vs : List ℕ) (few : length cs ≤ itemsMost) {u k : ℕ} (ds : Li
   enters : placeFrom cs (k + 1) ≡ enter q s e
   enters =
       let f = fits in
-      let d = dull-declarations ds (known-front D (code-tree q) known) in
+      let n = size-declarations ds in
+      let a = known-front D (code-tree q) known in
+      let d = dull-declarations ds a in
       let h = at-front cs (suc k) D (code-tree q) front in
-      ap (placeFrom cs) (let z : k + 1 ≡ suc k = omega arith in z) ∙ dull-skip cs d (suc k) h (omega arith) ∙ ap (placeFrom cs) (let z : suc k + length D ≡ s = omega arith in z)
+      ap (placeFrom cs) (let z : k + 1 ≡ suc k = omega arith in z) ∙ dull-skip cs d a (suc k) h (omega arith) ∙ ap (placeFrom cs) (let z : suc k + length D ≡ s = omega arith in z)
       ∙ enter-from cs q s e here refl at-end
       (ap (λ i. isMark (getD cs i 0)) (let z : s - 1 ≡ k + length D = omega arith in z) ∙ dull-last cs d k (ap isMark (w .stands .0) ∙ body-codes .0) h)
 
@@ -178,7 +182,7 @@ module _ (cs vs : List ℕ) (few : length cs ≤ itemsMost) {u k : ℕ} (ds : Li
   behind-all : Behind cs vs few e e 0
   behind-all =
       let f = fits in
-      let a = size in
+      let a = size-body (body ds q) in
       let b = w .all in
       let n : e + 1 ≡ k + length (code-body (body ds q)) = omega arith in
       record {
@@ -209,7 +213,7 @@ module _ (cs vs : List ℕ) (few : length cs ≤ itemsMost) where
   unfolding linkBy classOf pastLoop
   break-link m j = refl
 
-  break-at : (j n o : ℕ) → Behind cs vs few (j + 1) n o → Here cs action break j → getD (linksIn cs vs) j 0 ≡ o
+  break-at : (j n o : ℕ) → Behind cs vs few (j + 1) n o → Here cs action (leaf break) j → getD (linksIn cs vs) j 0 ≡ o
   break-at j n o b h =
       let e = h .ends in
       let l = link-is cs vs j few (omega arith) in
@@ -276,31 +280,31 @@ module _ (t : List ℕ) (a : Accepts t) where
       H .links (j + sizeIn x - 1) (omega arith) ∙ onward-at C S (H .few) x j (h .next) (h .out) w (r .0) (r .1)
 
   -- `break` links to the place behind its loop
-  pub text-out : {u j : ℕ} {h : Ways} → Statement (a .tree) u break j h → linkOf (tablesText t) j ≡ h .out
+  pub text-out : {u j : ℕ} {h : Ways} → Statement (a .tree) u (leaf break) j h → linkOf (tablesText t) j ≡ h .out
   text-out {u} {j} {h} s =
       let r = reached C S (H .few) (s .own) (whole (s .held)) (s .inside) in
       let e = r .1 .ends in
       H .links j (omega arith) ∙ break-at C S (H .few) j (h .next) (h .out) (r .0) (r .1)
 
-  leads-by : (x : Tree action) {u j : ℕ} {h : Ways} → Statement (a .tree) u x j h → ((w : Name) → x ≡ goto w → linkOf (tablesText t) (j + 1) ≡ h .label w) → Leads (tablesText t) h x j
-  leads-by (express e) s g = text-next s tt
-  leads-by (assign r e) s g = text-next s tt
-  leads-by (increment r) s g = text-next s tt
-  leads-by (decrement r) s g = text-next s tt
-  leads-by (send r es) s g = text-next s tt
-  leads-by (receive r xs) s g = text-next s tt
-  leads-by (assert e) s g = text-next s tt
-  leads-by (print w es) s g = text-next s tt
-  leads-by skip s g = text-next s tt
-  leads-by (goto w) s g = g w refl
-  leads-by break s g = text-out s
-  leads-by timeout s g = text-next s tt
-  leads-by else s g = text-next s tt
-  leads-by (run w es) s g = text-next s tt
-  leads-by (set-run r w es) s g = text-next s tt
+  leads-by : (x : Tree action) {u j : ℕ} {h : Ways} → Statement (a .tree) u x j h → ((w : Name) → x ≡ leaf (goto w) → linkOf (tablesText t) (j + 1) ≡ h .label w) → Leads (tablesText t) h x j
+  leads-by (leaf (express e)) s g = text-next s tt
+  leads-by (leaf (assign r e)) s g = text-next s tt
+  leads-by (leaf (increment r)) s g = text-next s tt
+  leads-by (leaf (decrement r)) s g = text-next s tt
+  leads-by (leaf (send mk r es)) s g = text-next s tt
+  leads-by (leaf (receive mk r xs)) s g = text-next s tt
+  leads-by (leaf (assert e)) s g = text-next s tt
+  leads-by (leaf (print w es)) s g = text-next s tt
+  leads-by (leaf skip) s g = text-next s tt
+  leads-by (leaf (goto w)) s g = g w refl
+  leads-by (leaf break) s g = text-out s
+  leads-by (leaf timeout) s g = text-next s tt
+  leads-by (leaf else) s g = text-next s tt
+  leads-by (leaf (run w es)) s g = text-next s tt
+  leads-by (leaf (set-run r w es)) s g = text-next s tt
   leads-by (select os) s g = tt
   leads-by (loop os) s g = tt
 
   -- from every statement the tables lead where the tree does, if `goto` does
-  pub text-leads : {u j : ℕ} {x : Tree action} {h : Ways} → Statement (a .tree) u x j h → ((w : Name) → x ≡ goto w → linkOf (tablesText t) (j + 1) ≡ h .label w) → Leads (tablesText t) h x j
+  pub text-leads : {u j : ℕ} {x : Tree action} {h : Ways} → Statement (a .tree) u x j h → ((w : Name) → x ≡ leaf (goto w) → linkOf (tablesText t) (j + 1) ≡ h .label w) → Leads (tablesText t) h x j
   text-leads {x = x} s g = leads-by x s g

@@ -3,7 +3,7 @@ use Prim.Native.Nat.{ℕ, suc, _+_, _-_, _≤_, _<_}
 use native.Mathlib.Omega.{arith}
 use mathlib.Core.Path.{_≡_, refl, ap, _∙_}
 use mathlib.Core.Bool.{true, false}
-use mathlib.Core.Logic.{_⊎_, inl, inr}
+use mathlib.Core.Logic.{_⊎_}
 use mathlib.Core.List.{List, [], _∷_, _++_}
 use lib.ListN.{length, getD, length-append}
 use lib.Dec.{eqb}
@@ -17,7 +17,7 @@ use Rattle.link_places.specs.Places.{deeper, closeFrom, closeOf, shallower, ope
 use Rattle.link_phrases_proof.specs.Phrases.{At}
 use Rattle.link_phrases_proof.proofs.Starts.{at-front, at-back}
 use Rattle.agree_nesting.specs.Balanced.{Pair, if-fi, do-od, an-option, Balanced, none, other, pair}
-use Rattle.agree_nesting.proofs.Skips.{Kind, pass, stop, skip, deep-not, back-one}
+use Rattle.agree_nesting.proofs.Skips.{Kind, pass, stop, neither-is, skip, deep-not, back-one}
 use Rattle.agree_control.proofs.Insides.{Inner}
 
 -- ---- going back over one item
@@ -29,10 +29,6 @@ module _ (cs : List ℕ) where
   pub back-stop : (k c : ℕ) → getD cs k 0 ≡ c → isOpening 0 c ≡ true → openOf cs (suc k) 1 ≡ k
   unfolding openOf
   back-stop k c e h = rw (e, h)
-
-neither-is : (c a : ℕ) → c-if ≤ a → a ≤ c-end-option → (c < c-if) ⊎ (c-end-option < c) → eqb c a ≡ false
-neither-is c a g k (inl h) = ne-eqb c a (λ e. omega arith)
-neither-is c a g k (inr h) = ne-eqb c a (λ e. omega arith)
 
 neither-back : (c d : ℕ) → (c < c-if) ⊎ (c-end-option < c) → (both (isOpening 0 c) (eqb d 1) ≡ false) × (shallower c d ≡ d)
 unfolding isOpening isClosing shallower

@@ -6,9 +6,9 @@ use mathlib.Core.List.{List, [], _∷_, _++_}
 use lib.ListN.{length, length-append}
 use lib.IntN.{ℤ}
 use Rattle.base_codes.specs.Codes.{c-declared}
-use Rattle.spec_grammar.specs.Tree.{Name, Shape, Exp, Expr, Received, into, equal, exactly, exactly-true, exactly-false, Sort, action, sequence, Tree, express, assign, increment, decrement, send, receive, assert, print, skip, goto, break, timeout, else, run, set-run, select, loop, bare, labelled, end, then, over, option, Body}
-use Rattle.base_codes.specs.Items.{Item, i-argument, i-assert, i-assign, i-break, i-constant, i-decrement, i-do, i-else, i-end, i-end-option, i-equal, i-express, i-false, i-fi, i-goto, i-if, i-increment, i-into, i-label, i-name, i-number, i-od, i-option, i-receive, i-run, i-send, i-set-run, i-skip, i-target, i-text, i-timeout, i-true}
-use Rattle.parse_code.specs.Code.{each, code-exp, code-argument, code-received, code-tree, code-body, code}
+use Rattle.spec_grammar.specs.Tree.{Name, Shape, Exp, Sort, action, sequence, Tree, Body}
+use Rattle.base_codes.specs.Items.{Item}
+use Rattle.parse_code.specs.Code.{code-exp, code-tree, code-body, code}
 use Rattle.base_codes.specs.Items as items
 use Rattle.link_phrases_proof.proofs.Inside.{phrase-inside}
 use Rattle.read_passes.specs.Judging.{tablesText}
@@ -25,6 +25,7 @@ use Rattle.agree_effects.specs.Stages.{unitAt, stageAt}
 use Rattle.agree_effects.proofs.Meant.{Quiet, quiet-join, decl-same}
 use Rattle.agree_effects.proofs.Parts.{Here}
 use Rattle.agree_effects.proofs.Lists.{quiet-mark}
+use Rattle.parse_parts_proof.proofs.Closed.{closed-tree, tree-code}
 
 module _ (t : List ℕ) (a : Accepts t) where
   abbrev xs : List Item
@@ -51,73 +52,8 @@ module _ (t : List ℕ) (a : Accepts t) where
   calm-exp e i p y u v =
       let l = low-at (codesAt t a) (code-exp e) i y (phrase-inside e (text-proper t a e (p .front) (p .rest) (p .split))) (at-there t a (code-exp e) i p) u v in omega arith
 
-  -- an expression and its mark
-  calm-phrase : {k : Shape} (e : Exp k) (x : Item) → items.codeOf x < c-declared → Calm (code-exp e ++ x ∷ [])
-  calm-phrase e x h = calm-join (code-exp e) (x ∷ []) (calm-exp e) (calm-item x h)
-
-  calm-two : (x y : Item) → items.codeOf x < c-declared → items.codeOf y < c-declared → Calm (x ∷ y ∷ [])
-  calm-two x y h g = calm-join (x ∷ []) (y ∷ []) (calm-item x h) (calm-item y g)
-
-  calm-each : {A : Type 0} (f : A → List Item) → ((x : A) → Calm (f x)) → (l : List A) → Calm (each f l)
-  calm-each f h [] = calm-none
-  calm-each f h (x ∷ l) = calm-join (f x) (each f l) (h x) (calm-each f h l)
-
-  calm-received : (x : Received) → Calm (code-received x)
-  calm-received (into r) = calm-phrase r i-into (omega arith)
-  calm-received (equal e) = calm-phrase e i-equal (omega arith)
-  calm-received (exactly n) = calm-two (i-number n) i-constant (omega arith) (omega arith)
-  calm-received exactly-true = calm-two i-true i-constant (omega arith) (omega arith)
-  calm-received exactly-false = calm-two i-false i-constant (omega arith) (omega arith)
-
-  -- what begins a list of items
-  calm-first : (x : Item) (l : List Item) → items.codeOf x < c-declared → Calm l → Calm (x ∷ l)
-  calm-first x l h f = calm-join (x ∷ []) l (calm-item x h) f
-
-  calm-last : (l : List Item) (x : Item) → items.codeOf x < c-declared → Calm l → Calm (l ++ x ∷ [])
-  calm-last l x h f = calm-join l (x ∷ []) f (calm-item x h)
-
-  calm-arguments : (es : List Expr) → Calm (each code-argument es)
-  calm-arguments = calm-each code-argument (λ e. calm-phrase e i-argument (omega arith))
-
   calm-tree : {k : Sort} (x : Tree k) → Calm (code-tree x)
-  calm-tree (express e) = calm-phrase e i-express (omega arith)
-  calm-tree (assign r e) =
-      calm-last (code-exp r ++ i-target ∷ code-exp e) i-assign (omega arith)
-      (calm-join (code-exp r) (i-target ∷ code-exp e) (calm-exp r) (calm-first i-target (code-exp e) (omega arith) (calm-exp e)))
-  calm-tree (increment r) = calm-phrase r i-increment (omega arith)
-  calm-tree (decrement r) = calm-phrase r i-decrement (omega arith)
-  calm-tree (send r es) =
-      let E = each code-argument es in
-      calm-last (code-exp r ++ i-send ∷ E) i-end (omega arith) (calm-join (code-exp r) (i-send ∷ E) (calm-exp r) (calm-first i-send E (omega arith) (calm-arguments es)))
-  calm-tree (receive r ys) =
-      let E = each code-received ys in
-      calm-last (code-exp r ++ i-receive ∷ E) i-end (omega arith) (calm-join (code-exp r) (i-receive ∷ E) (calm-exp r)
-      (calm-first i-receive E (omega arith) (calm-each code-received calm-received ys)))
-  calm-tree (assert e) = calm-phrase e i-assert (omega arith)
-  calm-tree (print w es) = let E = each code-argument es in calm-last (i-text w ∷ E) i-end (omega arith) (calm-first (i-text w) E (omega arith) (calm-arguments es))
-  calm-tree skip = calm-item i-skip (omega arith)
-  calm-tree (goto w) = calm-two (i-name w) i-goto (omega arith) (omega arith)
-  calm-tree break = calm-item i-break (omega arith)
-  calm-tree timeout = calm-item i-timeout (omega arith)
-  calm-tree else = calm-item i-else (omega arith)
-  calm-tree (run w es) =
-      let E = each code-argument es in
-      calm-last (i-name w ∷ i-run ∷ E) i-end (omega arith) (calm-first (i-name w) (i-run ∷ E) (omega arith) (calm-first i-run E (omega arith) (calm-arguments es)))
-  calm-tree (set-run r w es) =
-      let E = each code-argument es in
-      calm-last (code-exp r ++ i-target ∷ i-name w ∷ i-set-run ∷ E) i-end (omega arith)
-      (calm-join (code-exp r) (i-target ∷ i-name w ∷ i-set-run ∷ E) (calm-exp r)
-      (calm-first i-target (i-name w ∷ i-set-run ∷ E) (omega arith) (calm-first (i-name w) (i-set-run ∷ E) (omega arith) (calm-first i-set-run E (omega arith) (calm-arguments es)))))
-  calm-tree (select os) = calm-last (i-if ∷ code-tree os) i-fi (omega arith) (calm-first i-if (code-tree os) (omega arith) (calm-tree os))
-  calm-tree (loop os) = calm-last (i-do ∷ code-tree os) i-od (omega arith) (calm-first i-do (code-tree os) (omega arith) (calm-tree os))
-  calm-tree (bare x) = calm-tree x
-  calm-tree (labelled w x) = calm-first (i-name w) (i-label ∷ code-tree x) (omega arith) (calm-first i-label (code-tree x) (omega arith) (calm-tree x))
-  calm-tree end = calm-none
-  calm-tree (then x q) = calm-join (code-tree x) (code-tree q) (calm-tree x) (calm-tree q)
-  calm-tree over = calm-none
-  calm-tree (option q os) =
-      calm-join (i-option ∷ code-tree q) (i-end-option ∷ code-tree os) (calm-first i-option (code-tree q) (omega arith) (calm-tree q))
-      (calm-first i-end-option (code-tree os) (omega arith) (calm-tree os))
+  calm-tree x = closed-tree Calm calm-none calm-join (λ s e. calm-exp e) (λ i h. let p = tree-code h in calm-item i (omega arith)) x
 
   -- ---- the statements of a body
   module _ (b : Body) (u k : ℕ) (held : Holds (a .tree) 0 u b k) where

@@ -11,8 +11,8 @@ use borrow.Author.Tests.{ltb-true, ltb-false}
 use Rattle.base_codes.specs.Codes.{c-end, c-false, c-name, c-number, c-text, c-true}
 use Rattle.base_bytes.specs.Choice.{pick}
 use Rattle.base_bytes.proofs.Tests.{true-false}
-use Rattle.spec_grammar.specs.Tree.{Shape, Exp, plain, indexed, num, tru, fls, get, len, unary, binary, choice}
-use Rattle.base_codes.specs.Items.{Item, i-binary, i-choice, i-len, i-otherwise, i-unary}
+use Rattle.spec_grammar.specs.Tree.{Shape, Exp, plain, indexed, num, tru, fls, get, query, unary, binary, choice}
+use Rattle.base_codes.specs.Items.{Item, i-binary, i-choice, i-query, i-otherwise, i-unary}
 use Rattle.parse_code.specs.Code.{code-exp}
 use Rattle.base_codes.specs.Items as items
 use Rattle.base_codes.specs.Sets.{isPart, classOf, isAlone}
@@ -73,7 +73,7 @@ begins-leaf cs i (num n) h = subst Leaf (sym (h .0)) a-number
 begins-leaf cs i tru h = subst Leaf (sym (h .0)) a-true
 begins-leaf cs i fls h = subst Leaf (sym (h .0)) a-false
 begins-leaf cs i (get r) h = begins-leaf cs i r h
-begins-leaf cs i (len r) h = begins-leaf cs i r (at-front cs i (code-exp r) (i-len ∷ []) h)
+begins-leaf cs i (query mk r) h = begins-leaf cs i r (at-front cs i (code-exp r) (i-query mk ∷ []) h)
 begins-leaf cs i (unary o e) h = begins-leaf cs i e (at-front cs i (code-exp e) (i-unary o ∷ []) h)
 begins-leaf cs i (binary o x y) h = begins-leaf cs i x (at-front cs i (code-exp x) (code-exp y) (at-front cs i (code-exp x ++ code-exp y) (i-binary o ∷ []) h))
 begins-leaf cs i (choice x y z) h =

@@ -99,11 +99,11 @@ pub refers-decrement : Refers i-decrement
 unfolding ruleOf isPart roleOf
 refers-decrement = record { behind = record { closes = plainly refl; mark = refl }; role = λ e. omega arith }
 
-pub refers-send : Refers i-send
+pub refers-send : {mk : ℕ} → Refers (i-send mk)
 unfolding ruleOf isPart roleOf
 refers-send = record { behind = record { closes = plainly refl; mark = refl }; role = λ e. omega arith }
 
-pub refers-receive : Refers i-receive
+pub refers-receive : {mk : ℕ} → Refers (i-receive mk)
 unfolding ruleOf isPart roleOf
 refers-receive = record { behind = record { closes = plainly refl; mark = refl }; role = λ e. omega arith }
 

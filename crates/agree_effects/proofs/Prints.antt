@@ -11,7 +11,7 @@ use Rattle.base_ceilings.specs.Ceilings.{numbersMost}
 use Rattle.table_layout.specs.Access.{codeOf, nameLength, nameByte}
 use Rattle.table_layout.specs.Trees.{entriesIn}
 use Rattle.table_layout.proofs.Holds.{holds-name-length, holds-name-byte}
-use Rattle.spec_grammar.specs.Tree.{Expr, action, Tree, express, assign, increment, decrement, send, receive, assert, print, skip, goto, break, timeout, else, run, set-run, select, loop}
+use Rattle.spec_grammar.specs.Tree.{Expr, action, Tree, leaf, express, assign, increment, decrement, send, receive, assert, print, skip, goto, break, timeout, else, run, set-run, select, loop}
 use Rattle.table_entries.specs.Entry.{nothing}
 use Rattle.table_proof.proofs.Read.{get-only}
 use Rattle.table_proof.proofs.Accepted.{accepted-fair, accepted-small}
@@ -40,6 +40,7 @@ use Rattle.base_codes.specs.Items.{Item, i-assert, i-assign, i-break, i-decreme
 use Rattle.parse_code.specs.Code.{each, code-exp, code-argument, code-received, code-tree, code}
 use Rattle.table_entries.specs.Items.{entryOf}
 use Rattle.base_codes.specs.Items as items
+use Rattle.spec_machine.specs.Sizes as tree
 
 -- ---- a format, byte by byte
 format-is : (t : List ℕ) (vs : List ℤ) (w : List ℕ) (n j i was k : ℕ) → n ≡ length w → ((d : ℕ) → d < length w → nameByte t j (i + d) ≡ getD w d 0)
@@ -95,11 +96,11 @@ module _ (t : List ℕ) (a : Accepts t) where
     unfolding printedAt
     text-printed e = rw e
 
-    print-prints : (w : List ℕ) (es : List Expr) → Here t a (code-tree (print w es)) j → length es ≤ numbersMost → printedAt T s p j ≡ textBy w (values (sceneOf T s p (declAt t a j)) es)
+    print-prints : (w : List ℕ) (es : List Expr) → Here t a (code-tree (leaf (print w es))) j → length es ≤ numbersMost → printedAt T s p j ≡ textBy w (values (sceneOf T s p (declAt t a j)) es)
     print-prints w es h few =
         let g = printing t a w es j h in
         text-printed (g .coded) ∙ ap (λ y. unlessFailed y (textOf T (gatherList T s p numbersMost (j + 1) 0 (replicate numbersMost (pos 0))) j)) (gather-ends T (declAt t a j) s p (g .passed) numbersMost few)
-        ∙ go (j + length (code-tree (print w es)) - 1) (values (sceneOf T s p (declAt t a j)) es) (λ vs e. gathered-alike T (declAt t a j) s p (g .passed) few vs e) refl
+        ∙ go (j + tree.sizeIn (leaf (print w es)) - 1) (values (sceneOf T s p (declAt t a j)) es) (λ vs e. gathered-alike T (declAt t a j) s p (g .passed) few vs e) refl
       where
         go : (z : ℕ) (y : WorkedOut)
             → ((vs : List ℤ) → values (sceneOf T s p (declAt t a j)) es ≡ all vs → (i : ℕ) → getD (gatherList T s p numbersMost (j + 1) 0 (replicate numbersMost (pos 0))) i (pos 0) ≡ getD vs i (pos 0))
@@ -111,27 +112,27 @@ module _ (t : List ℕ) (a : Accepts t) where
     alone-prints x z h n = none-printed (λ e. n (sym (first-code t a x z j h) ∙ e))
 
     prints-at : (x : Tree action) → Here t a (code-tree x) j → Few x → printedAt T s p j ≡ prints (stageAt t a s p j) x
-    prints-at (express e) h few = none-printed (leaf-no-text (leaf-there t a e (i-express ∷ []) j h))
-    prints-at (assign r e) h few =
+    prints-at (leaf (express e)) h few = none-printed (leaf-no-text (leaf-there t a e (i-express ∷ []) j h))
+    prints-at (leaf (assign r e)) h few =
         none-printed (leaf-no-text (leaf-there t a r (i-target ∷ (code-exp e ++ i-assign ∷ [])) j
         (subst (λ l. Here t a l j) (append-assoc (code-exp r) (i-target ∷ code-exp e) (i-assign ∷ [])) h)))
-    prints-at (increment r) h few = none-printed (leaf-no-text (leaf-there t a r (i-increment ∷ []) j h))
-    prints-at (decrement r) h few = none-printed (leaf-no-text (leaf-there t a r (i-decrement ∷ []) j h))
-    prints-at (send r es) h few =
+    prints-at (leaf (increment r)) h few = none-printed (leaf-no-text (leaf-there t a r (i-increment ∷ []) j h))
+    prints-at (leaf (decrement r)) h few = none-printed (leaf-no-text (leaf-there t a r (i-decrement ∷ []) j h))
+    prints-at (leaf (send mk r es)) h few =
         let E = each code-argument es in
-        none-printed (leaf-no-text (leaf-there t a r (i-send ∷ (E ++ i-end ∷ [])) j (subst (λ l. Here t a l j) (append-assoc (code-exp r) (i-send ∷ E) (i-end ∷ [])) h)))
-    prints-at (receive r ys) h few =
+        none-printed (leaf-no-text (leaf-there t a r (i-send mk ∷ (E ++ i-end ∷ [])) j (subst (λ l. Here t a l j) (append-assoc (code-exp r) (i-send mk ∷ E) (i-end ∷ [])) h)))
+    prints-at (leaf (receive mk r ys)) h few =
         let E = each code-received ys in
-        none-printed (leaf-no-text (leaf-there t a r (i-receive ∷ (E ++ i-end ∷ [])) j (subst (λ l. Here t a l j) (append-assoc (code-exp r) (i-receive ∷ E) (i-end ∷ [])) h)))
-    prints-at (assert e) h few = none-printed (leaf-no-text (leaf-there t a e (i-assert ∷ []) j h))
-    prints-at (print w es) h few = print-prints w es h few
-    prints-at skip h few = alone-prints i-skip [] h (λ e. omega arith)
-    prints-at (goto w) h few = alone-prints (i-name w) (i-goto ∷ []) h (λ e. omega arith)
-    prints-at break h few = alone-prints i-break [] h (λ e. omega arith)
-    prints-at timeout h few = alone-prints i-timeout [] h (λ e. omega arith)
-    prints-at else h few = alone-prints i-else [] h (λ e. omega arith)
-    prints-at (run w es) h few = alone-prints (i-name w) (i-run ∷ (each code-argument es ++ i-end ∷ [])) h (λ e. omega arith)
-    prints-at (set-run r w es) h few =
+        none-printed (leaf-no-text (leaf-there t a r (i-receive mk ∷ (E ++ i-end ∷ [])) j (subst (λ l. Here t a l j) (append-assoc (code-exp r) (i-receive mk ∷ E) (i-end ∷ [])) h)))
+    prints-at (leaf (assert e)) h few = none-printed (leaf-no-text (leaf-there t a e (i-assert ∷ []) j h))
+    prints-at (leaf (print w es)) h few = print-prints w es h few
+    prints-at (leaf skip) h few = alone-prints i-skip [] h (λ e. omega arith)
+    prints-at (leaf (goto w)) h few = alone-prints (i-name w) (i-goto ∷ []) h (λ e. omega arith)
+    prints-at (leaf break) h few = alone-prints i-break [] h (λ e. omega arith)
+    prints-at (leaf timeout) h few = alone-prints i-timeout [] h (λ e. omega arith)
+    prints-at (leaf else) h few = alone-prints i-else [] h (λ e. omega arith)
+    prints-at (leaf (run w es)) h few = alone-prints (i-name w) (i-run ∷ (each code-argument es ++ i-end ∷ [])) h (λ e. omega arith)
+    prints-at (leaf (set-run r w es)) h few =
         let E = each code-argument es in
         none-printed (leaf-no-text (leaf-there t a r (i-target ∷ i-name w ∷ i-set-run ∷ (E ++ i-end ∷ [])) j
         (subst (λ l. Here t a l j) (append-assoc (code-exp r) (i-target ∷ i-name w ∷ i-set-run ∷ E) (i-end ∷ [])) h)))

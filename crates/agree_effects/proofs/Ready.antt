@@ -6,31 +6,30 @@ use mathlib.Core.Bool.{Bool, true, false}
 use mathlib.Core.List.{List, [], _∷_, _++_, append-assoc}
 use lib.ListN.{length}
 use lib.IntN.{ℤ}
-use lib.Dec.{eqb}
 use Rattle.base_ceilings.specs.Ceilings.{fieldsMost}
 use Rattle.base_codes.specs.Codes.{c-assert, c-break, c-decrement, c-do, c-else, c-express, c-goto, c-if, c-increment, c-receive, c-run, c-send, c-skip, c-target, c-timeout, c-text}
-use Rattle.base_bytes.specs.Choice.{pick}
 use Rattle.table_layout.specs.Access.{codeOf, linkOf}
 use Rattle.base_values.specs.declared.Answer.{Answer}
 use Rattle.base_values.specs.declared.Answer.the-variants.{Value, Fails}
-use Rattle.state_layout.specs.Layout.{waitingOf}
 use Rattle.base_bytes.specs.Numbers.{nat}
-use Rattle.spec_grammar.specs.Tree.{Ref, Expr, Received, action, Tree, express, assign, increment, decrement, send, receive, assert, print, skip, goto, break, timeout, else, run, set-run, select, loop}
+use Rattle.spec_grammar.specs.Tree.{Ref, Expr, Received, action, Tree, leaf, express, assign, increment, decrement, send, receive, assert, print, skip, goto, break, timeout, else, run, set-run, select, loop}
 use Rattle.read_passes.specs.Judging.{tablesText}
 use Rattle.read_accepts_proof.specs.Meaning.{Accepts}
 use Rattle.step_eval.specs.Expressions.{evalOf}
+use Rattle.step_ready.specs.Channels.{triedOf}
 use Rattle.step_ready.specs.Executing.{isAlways, markOf, fitsOf, readyBy, readyOf, messageOf, isOwnMark}
 use Rattle.spec_machine.specs.Eval.{eval}
 use Rattle.agree_stage.specs.Scenes.{sceneOf, sizeIn}
 use Rattle.agree_eval.specs.Names.{declAt}
 use Rattle.spec_machine.specs.Stage.{Stage}
-use Rattle.spec_machine.specs.Arguments.{Reach, channel, astray, reach, agrees}
-use Rattle.spec_machine.specs.Ready.{passes, sendable, receivable, ready}
+use Rattle.spec_machine.specs.Arguments.{Reach, channel, astray, reach, finding}
+use Rattle.spec_machine.specs.Messages.{Finding, found, none, spoilt}
+use Rattle.spec_machine.specs.Ready.{passes, sendable, finds, receivable, ready}
 use Rattle.agree_stage.proofs.Stands.{Lying, lying-back}
 use Rattle.agree_effects.specs.Stages.{unitAt, stageAt}
 use Rattle.agree_effects.specs.Walked.{Got}
 use Rattle.agree_effects.proofs.Gathers.{count-is}
-use Rattle.agree_effects.proofs.Receives.{got-count, matches-is}
+use Rattle.agree_effects.proofs.Receives.{asFound, got-count, found-is}
 use Rattle.agree_effects.proofs.Channels.{recordOf, Arrived, message-is, reach-few}
 use Rattle.agree_effects.proofs.Parts.{Here, first-code}
 use Rattle.agree_effects.proofs.Phrases.{Refers, behind-express, refers-target, refers-increment, refers-decrement, works}
@@ -40,6 +39,7 @@ use Rattle.agree_effects.proofs.Shapes.{reference-there, sending, recei
 use Rattle.base_codes.specs.Items.{Item, i-assert, i-assign, i-break, i-decrement, i-do, i-else, i-express, i-fi, i-goto, i-if, i-increment, i-name, i-od, i-skip, i-target, i-timeout}
 use Rattle.parse_code.specs.Code.{code-exp, code-tree, code}
 use Rattle.base_codes.specs.Items as items
+use Rattle.step_ready.specs.Channels as channels
 use Rattle.step_ready.specs.Executing as tables
 
 -- ---- by the code of the mark
@@ -112,6 +112,11 @@ passes-is : (x : Answer) → tables.passes x ≡ passes x
 passes-is (Value v) = refl
 passes-is (Fails f) = refl
 
+finds-is : (x : Finding) → channels.finds (asFound x) ≡ finds x
+finds-is (found k) = refl
+finds-is none = refl
+finds-is (spoilt f) = refl
+
 module _ (t : List ℕ) (a : Accepts t) where
   abbrev T : List ℕ
   T = tablesText t
@@ -124,14 +129,14 @@ module _ (t : List ℕ) (a : Accepts t) where
     at-mark : (m : ℕ) → markOf T j ≡ m → readyOf T s p late j ≡ readyBy T s p late j m
     at-mark m e = ap (readyBy T s p late j) e
 
-    express-ready : (e : Expr) → Here t a (code-tree (express e)) j → readyOf T s p late j ≡ passes (eval (sceneOf T s p (declAt t a j)) e)
+    express-ready : (e : Expr) → Here t a (code-tree (leaf (express e))) j → readyOf T s p late j ≡ passes (eval (sceneOf T s p (declAt t a j)) e)
     express-ready e h =
         at-mark (j + sizeIn e) (phrase-mark t a e i-express [] j h (marks .0)) ∙ by-express T s p late j (j + sizeIn e) (mark-code t a e i-express [] j h)
         ∙ ap tables.passes (works t a j j (omega arith) (λ y u v. absurd (omega arith)) e i-express [] h behind-express s p) ∙ passes-is (eval (sceneOf T s p (declAt t a j)) e)
 
-    send-ready : (r : Ref) (es : List Expr) → Here t a (code-tree (send r es)) j → readyOf T s p late j ≡ sendable (stageAt t a s p j) (reach (stageAt t a s p j) r (length es))
-    send-ready r es h =
-        let f = sending t a r es j h in
+    send-ready : (mk : ℕ) (r : Ref) (es : List Expr) → Here t a (code-tree (leaf (send mk r es))) j → readyOf T s p late j ≡ sendable (stageAt t a s p j) (reach (stageAt t a s p j) r (length es))
+    send-ready mk r es h =
+        let f = sending t a mk r es j h in
         let g = f .0 in
         let m = j + sizeIn r in
         at-mark m (g .mark) ∙ by-send T s p late j m (g .coded)
@@ -141,9 +146,9 @@ module _ (t : List ℕ) (a : Accepts t) where
         go (channel v) = refl
         go (astray f) = refl
 
-    receive-ready : (r : Ref) (ys : List Received) → Here t a (code-tree (receive r ys)) j → readyOf T s p late j ≡ receivable (stageAt t a s p j) ys (reach (stageAt t a s p j) r (length ys))
-    receive-ready r ys h =
-        let f = receiving t a r ys j h in
+    receive-ready : (mk : ℕ) (r : Ref) (ys : List Received) → Here t a (code-tree (leaf (receive mk r ys))) j → readyOf T s p late j ≡ receivable (stageAt t a s p j) ys (reach (stageAt t a s p j) r (length ys))
+    receive-ready mk r ys h =
+        let f = receiving t a mk r ys j h in
         let g = f .0 in
         let m = j + sizeIn r in
         at-mark m (g .mark) ∙ by-receive T s p late j m (g .coded)
@@ -153,9 +158,8 @@ module _ (t : List ℕ) (a : Accepts t) where
         go : {z : ℕ} → Got T (declAt t a j) ys (j + sizeIn r + 1) z → (y : Reach) → reach (stageAt t a s p j) r (length ys) ≡ y
             → tables.receivable T s p (j + sizeIn r + 1) (recordOf y) ≡ receivable (stageAt t a s p j) ys y
         go k (channel v) e =
-            ap (λ y. pick (eqb (waitingOf s (nat v - 1)) 0) false y)
-            (ap tables.passes (matches-is T (declAt t a j) s p (unitAt t a) k fieldsMost (reach-few T (declAt t a j) s p (unitAt t a) r (length ys) (subst Arrived (sym e) tt)) v 0)
-            ∙ passes-is (agrees c v 0 ys))
+            ap channels.finds (found-is T (declAt t a j) s p (unitAt t a) k (reach-few T (declAt t a j) s p (unitAt t a) r (length ys) (subst Arrived (sym e) tt)) v (triedOf s (nat v - 1)) 0)
+            ∙ finds-is (finding c v ys)
         go k (astray f) e = refl
 
     alone-ready : (x : Item) (l : List Item) (b : Bool) → Here t a (x ∷ l) j → isOwnMark (items.codeOf x) ≡ true → (codeOf T j ≡ items.codeOf x → readyBy T s p late j j ≡ b)
@@ -168,25 +172,25 @@ module _ (t : List ℕ) (a : Accepts t) where
 
     ready-at : (x : Tree action) → Here t a (code-tree x) j → readyOf T s p late j ≡ ready (stageAt t a s p j) late x
     unfolding ready
-    ready-at (express e) h = express-ready e h
-    ready-at (assign r e) h =
+    ready-at (leaf (express e)) h = express-ready e h
+    ready-at (leaf (assign r e)) h =
         reference-ready r i-target (code-exp e ++ i-assign ∷ []) refers-target (subst (λ l. Here t a l j) (append-assoc (code-exp r) (i-target ∷ code-exp e) (i-assign ∷ [])) h)
         (by-target T s p late j (j + sizeIn r))
-    ready-at (increment r) h = reference-ready r i-increment [] refers-increment h (by-increment T s p late j (j + sizeIn r))
-    ready-at (decrement r) h = reference-ready r i-decrement [] refers-decrement h (by-decrement T s p late j (j + sizeIn r))
-    ready-at (send r es) h = send-ready r es h
-    ready-at (receive r ys) h = receive-ready r ys h
-    ready-at (assert e) h = at-mark (j + sizeIn e) (phrase-mark t a e i-assert [] j h (marks .1)) ∙ by-assert T s p late j (j + sizeIn e) (mark-code t a e i-assert [] j h)
-    ready-at (print w es) h = let g = printing t a w es j h in at-mark j (g .mark) ∙ by-text T s p late j j (g .coded)
-    ready-at skip h = alone-ready i-skip [] true h (alones .0) (by-skip T s p late j j)
-    ready-at (goto w) h =
+    ready-at (leaf (increment r)) h = reference-ready r i-increment [] refers-increment h (by-increment T s p late j (j + sizeIn r))
+    ready-at (leaf (decrement r)) h = reference-ready r i-decrement [] refers-decrement h (by-decrement T s p late j (j + sizeIn r))
+    ready-at (leaf (send mk r es)) h = send-ready mk r es h
+    ready-at (leaf (receive mk r ys)) h = receive-ready mk r ys h
+    ready-at (leaf (assert e)) h = at-mark (j + sizeIn e) (phrase-mark t a e i-assert [] j h (marks .1)) ∙ by-assert T s p late j (j + sizeIn e) (mark-code t a e i-assert [] j h)
+    ready-at (leaf (print w es)) h = let g = printing t a w es j h in at-mark j (g .mark) ∙ by-text T s p late j j (g .coded)
+    ready-at (leaf skip) h = alone-ready i-skip [] true h (alones .0) (by-skip T s p late j j)
+    ready-at (leaf (goto w)) h =
         at-mark (j + 1) (name-mark t a w i-goto [] j h (marks .2)) ∙ by-goto T s p late j (j + 1)
         (first-code t a i-goto [] (j + 1) (lying-back (code (a .tree)) (i-name w ∷ []) (i-goto ∷ []) 0 j (j + 1) refl h))
-    ready-at break h = alone-ready i-break [] true h (alones .1) (by-break T s p late j j)
-    ready-at timeout h = alone-ready i-timeout [] late h (alones .2) (by-timeout T s p late j j)
-    ready-at else h = alone-ready i-else [] false h (alones .3) (by-else T s p late j j)
-    ready-at (run w es) h = let g = running t a w es j h in at-mark (j + 1) (g .0) ∙ by-run T s p late j (j + 1) (g .1 .coded) ∙ ap (fitsOf T s) (g .1 .begun)
-    ready-at (set-run r w es) h = let g = set-running t a r w es j h .0 in at-mark (j + sizeIn r) (g .mark) ∙ by-target T s p late j (j + sizeIn r) (g .coded)
+    ready-at (leaf break) h = alone-ready i-break [] true h (alones .1) (by-break T s p late j j)
+    ready-at (leaf timeout) h = alone-ready i-timeout [] late h (alones .2) (by-timeout T s p late j j)
+    ready-at (leaf else) h = alone-ready i-else [] false h (alones .3) (by-else T s p late j j)
+    ready-at (leaf (run w es)) h = let g = running t a w es j h in at-mark (j + 1) (g .0) ∙ by-run T s p late j (j + 1) (g .1 .coded) ∙ ap (fitsOf T s) (g .1 .begun)
+    ready-at (leaf (set-run r w es)) h = let g = set-running t a r w es j h .0 in at-mark (j + sizeIn r) (g .mark) ∙ by-target T s p late j (j + sizeIn r) (g .coded)
     ready-at (select os) h = alone-ready i-if (code-tree os ++ i-fi ∷ []) false h (alones .4) (by-if T s p late j j)
     ready-at (loop os) h = alone-ready i-do (code-tree os ++ i-od ∷ []) false h (alones .5) (by-do T s p late j j)
 

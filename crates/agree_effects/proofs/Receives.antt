@@ -1,4 +1,4 @@
--- RECEIVED ARGUMENTS over tables: they agree with the oldest message where the tree's do, their targets are the tree's or the first fault, and what is stored goes where the tree says.
+-- RECEIVED ARGUMENTS over tables: they agree with a message where the tree's do, and find the same, their targets are the tree's or the first fault, and what is stored goes where the tree says.
 use Prim.Native.Nat.{ℕ, zero, suc, _+_, _-_, _≤_, _<_, min}
 use native.Mathlib.Omega.{arith}
 use mathlib.Core.Path.{_≡_, refl, sym, ap, _∙_}
@@ -8,6 +8,7 @@ use lib.ListN.{length, getD, set}
 use lib.IntN.{ℤ, pos, negsuc}
 use lib.Dec.{eqb, ltb}
 use borrow.Author.Tests.{eq-eqb, ne-eqb}
+use Rattle.base_ceilings.specs.Ceilings.{fieldsMost}
 use Rattle.base_codes.specs.Codes.{c-end, c-into, c-message}
 use Rattle.base_bytes.specs.Choice.{pick}
 use Rattle.table_layout.specs.Access.{codeOf, linkOf}
@@ -15,7 +16,7 @@ use Rattle.base_values.specs.Types.{castOf}
 use Rattle.base_values.specs.declared.Fault.the-variants.{Index}
 use Rattle.base_values.specs.declared.Answer.{Answer}
 use Rattle.base_values.specs.declared.Answer.the-variants.{Value, Fails}
-use Rattle.base_values.specs.Operators.{equalBy}
+use Rattle.base_values.specs.Operators.{isTrue, equalBy}
 use Rattle.state_layout.specs.Layout.{fieldOf}
 use Rattle.base_bytes.specs.Numbers.{nat}
 use Rattle.spec_grammar.specs.Tree.{Name, Ref, plain, indexed, Received, into, equal, exactly, exactly-true, exactly-false}
@@ -23,13 +24,16 @@ use Rattle.step_eval.specs.declared.Located.{Located}
 use Rattle.step_eval.specs.declared.Located.the-variants.{At, Astray}
 use Rattle.step_eval.specs.Variables.{typeOf, sizeOf, slotOf, elementOf}
 use Rattle.step_eval.specs.Expressions.{holds, evalOf}
-use Rattle.step_ready.specs.Channels.{argumentsFrom, comparedAt, agreesOf, matchesFrom}
+use Rattle.step_ready.specs.Channels.{argumentsFrom, comparedAt, agreesOf, matchesFrom, foundBy, foundFrom}
+use Rattle.step_ready.specs.declared.Found.{Found}
+use Rattle.step_ready.specs.declared.Found.the-variants.{Message, Nothing, Spoilt}
 use Rattle.step_messages.specs.declared.Gathered.{Gathered}
 use Rattle.step_messages.specs.declared.Gathered.the-variants.{Upto, Failed}
 use Rattle.step_messages.specs.Messages.{onPlace, aimOf, aimEnd, aimList, deliveredOne, delivered}
 use Rattle.spec_machine.specs.Eval.{eval}
 use Rattle.agree_stage.specs.Scenes.{sceneOf, locate}
 use Rattle.spec_machine.specs.Stage.{Stage}
+use Rattle.spec_machine.specs.Messages.{Finding, found, none, spoilt, findBy, findFrom}
 use Rattle.agree_stage.specs.Tables.{stageIn}
 use Rattle.spec_machine.specs.Arguments.{nameOf, Aim, hit, miss, aimBy, aim, agree, agreeBy, agrees, Aims, hits, missed, before, aimsBy, target, targets}
 use Rattle.spec_machine.specs.Effect.{delivery, deliveries}
@@ -39,6 +43,20 @@ use Rattle.agree_effects.proofs.Gathers.{fill}
 abbrev pub endAims : ℕ → Aims → Gathered
 endAims z (hits ks) = Upto z
 endAims z (missed f) = Failed f
+
+-- what is found, as the tables' machine says it
+abbrev pub asFound : Finding → Found
+asFound (found k) = Message k
+asFound none = Nothing
+asFound (spoilt f) = Spoilt f
+
+found-by : (w : ℕ) (x : Answer) (rest : Finding) → foundBy w x (asFound rest) ≡ asFound (findBy w x rest)
+found-by w (Value v) rest = go (isTrue v)
+  where
+    go : (b : Bool) → pick b (Message w) (asFound rest) ≡ asFound (pick b (found w) rest)
+    go true = refl
+    go false = refl
+found-by w (Fails f) rest = refl
 
 abbrev pub Sure : Aims → Type 0
 Sure (hits ks) = Unit {0}
@@ -120,35 +138,47 @@ module _ (t : List ℕ) (decl : Name → ℕ) where
     abbrev c : Stage (List ℤ)
     c = stageIn t s p decl unit
 
-    -- ---- agreement with the oldest message
-    agreed-other : (v : ℤ) (f a m : ℕ) (y : Answer) → (codeOf t m ≡ c-into → ⊥) → evalOf t s p a m ≡ y → agreesOf t s p (nat v - 1) a m f ≡ equalBy y (fieldOf s (nat v - 1) 0 f)
+    -- ---- agreement with message w of channel v
+    abbrev message : ℤ → ℕ → ℕ → ℤ
+    message v w = stageIn t s p decl unit .message v w
+
+    agreed-other : (v : ℤ) (w f a m : ℕ) (y : Answer) → (codeOf t m ≡ c-into → ⊥) → evalOf t s p a m ≡ y → agreesOf t s p (nat v - 1) w a m f ≡ equalBy y (fieldOf s (nat v - 1) w f)
     unfolding agreesOf
-    agreed-other v f a m y n e = rw (other-compared m n, e)
+    agreed-other v w f a m y n e = rw (other-compared m n, e)
 
-    agree-is : (x : Received) (a m : ℕ) → Agreed t decl x a m → (v : ℤ) (f : ℕ) → agreesOf t s p (nat v - 1) a m f ≡ agree (stageIn t s p decl unit) v f x
+    agree-is : (x : Received) (a m : ℕ) → Agreed t decl x a m → (v : ℤ) (w f : ℕ) → agreesOf t s p (nat v - 1) w a m f ≡ agree (stageIn t s p decl unit) (message v w) f x
     unfolding agreesOf eval
-    agree-is (into r) a m g v f =
+    agree-is (into r) a m g v w f =
         rw (stored-compared r a m g) (ap (λ y. pick (constant (nameOf r)) y (Value (pos 1)))
-        (ap (λ y. equalBy y (fieldOf s (nat v - 1) 0 f)) (g .worked s p)))
-    agree-is (equal e) a m g v f = agreed-other v f a m (eval (c .scene) e) (g .mark) (g .worked s p)
-    agree-is (exactly n) a m g v f = agreed-other v f a m (Value (pos n)) (g .mark) (g .worked s p)
-    agree-is exactly-true a m g v f = agreed-other v f a m (Value (pos 1)) (g .mark) (g .worked s p)
-    agree-is exactly-false a m g v f = agreed-other v f a m (Value (pos 0)) (g .mark) (g .worked s p)
+        (ap (λ y. equalBy y (fieldOf s (nat v - 1) w f)) (g .worked s p)))
+    agree-is (equal e) a m g v w f = agreed-other v w f a m (eval (c .scene) e) (g .mark) (g .worked s p)
+    agree-is (exactly n) a m g v w f = agreed-other v w f a m (Value (pos n)) (g .mark) (g .worked s p)
+    agree-is exactly-true a m g v w f = agreed-other v w f a m (Value (pos 1)) (g .mark) (g .worked s p)
+    agree-is exactly-false a m g v w f = agreed-other v w f a m (Value (pos 0)) (g .mark) (g .worked s p)
 
-    pub matches-is : {xs : List Received} {a z : ℕ} → Got t decl xs a z → (n : ℕ) → length xs ≤ n → (v : ℤ) (f : ℕ)
-        → matchesFrom t s p n (nat v - 1) a f ≡ agrees (stageIn t s p decl unit) v f xs
+    matches-is : {xs : List Received} {a z : ℕ} → Got t decl xs a z → (n : ℕ) → length xs ≤ n → (v : ℤ) (w f : ℕ)
+        → matchesFrom t s p n (nat v - 1) w a f ≡ agrees (stageIn t s p decl unit) (message v w) f xs
     unfolding matchesFrom agrees
-    matches-is (no-more e) zero h v f = refl
-    matches-is (no-more {a = a} e) (suc n) h v f = rw (eq-eqb (codeOf t a) c-end e)
-    matches-is (one-more m k l g r) zero h v f = absurd (omega arith)
-    matches-is (one-more {x = x} {xs = xs} {a = a} m k l g r) (suc n) h v f =
-        rw (ne-eqb (codeOf t a) c-end k) (ap (λ i. pick (holds (agreesOf t s p (nat v - 1) a i f)) (matchesFrom t s p n (nat v - 1) (i + 1) (f + 1)) (agreesOf t s p (nat v - 1) a i f)) l
-        ∙ ap (λ y. pick (holds y) (matchesFrom t s p n (nat v - 1) (m + 1) (f + 1)) y) (agree-is x a m g v f)
-        ∙ ap (λ y. pick (holds (agree c v f x)) y (agree c v f x)) (matches-is r n (omega arith) v (f + 1)) ∙ go (agree c v f x) (agrees c v (f + 1) xs))
+    matches-is (no-more e) zero h v w f = refl
+    matches-is (no-more {a = a} e) (suc n) h v w f = rw (eq-eqb (codeOf t a) c-end e)
+    matches-is (one-more m k l g r) zero h v w f = absurd (omega arith)
+    matches-is (one-more {x = x} {xs = xs} {a = a} m k l g r) (suc n) h v w f =
+        rw (ne-eqb (codeOf t a) c-end k) (ap (λ i. pick (holds (agreesOf t s p (nat v - 1) w a i f)) (matchesFrom t s p n (nat v - 1) w (i + 1) (f + 1)) (agreesOf t s p (nat v - 1) w a i f)) l
+        ∙ ap (λ y. pick (holds y) (matchesFrom t s p n (nat v - 1) w (m + 1) (f + 1)) y) (agree-is x a m g v w f)
+        ∙ ap (λ y. pick (holds (agree c (message v w) f x)) y (agree c (message v w) f x)) (matches-is r n (omega arith) v w (f + 1)) ∙ go (agree c (message v w) f x) (agrees c (message v w) (f + 1) xs))
       where
         go : (y z : Answer) → pick (holds y) z y ≡ agreeBy y z
         go (Value w) z = refl
         go (Fails w) z = refl
+
+    -- ---- what is found among n messages of channel v, from message w on
+    pub found-is : {xs : List Received} {a z : ℕ} → Got t decl xs a z → length xs ≤ fieldsMost → (v : ℤ) (n w : ℕ)
+        → foundFrom t s p n (nat v - 1) w a ≡ asFound (findFrom (λ k. agrees (stageIn t s p decl unit) (stageIn t s p decl unit .message v k) 0 xs) w n)
+    unfolding foundFrom findFrom
+    found-is g h v zero w = refl
+    found-is {xs} {a} g h v (suc n) w =
+        ap (λ y. foundBy w y (foundFrom t s p n (nat v - 1) (w + 1) a)) (matches-is g fieldsMost h v w 0)
+        ∙ ap (foundBy w (agrees c (message v w) 0 xs)) (found-is g h v n (w + 1)) ∙ found-by w (agrees c (message v w) 0 xs) (findFrom (λ k. agrees c (message v k) 0 xs) (w + 1) n)
 
     -- ---- targets
     abbrev spotBy : Received → Aim → Located
@@ -202,43 +232,43 @@ module _ (t : List ℕ) (decl : Name → ℕ) where
         go (miss f) q w below = absurd w
 
     -- ---- stores
-    stored-there : (r : Ref) (a m : ℕ) → Stored t decl r a m → (v : ℤ) (f k : ℕ) (ps : List ℕ) (l : List ℤ) → getD ps f 0 ≡ spot p (into r) k → getD l f (pos 0) ≡ fieldOf s (nat v - 1) 0 f
-        → (x : List ℤ) → deliveredOne t m f ps l x ≡ delivery (stageIn t s p decl unit) v f (into r) k x
-    stored-there r a m g v f k ps l e d x =
+    stored-there : (r : Ref) (a m : ℕ) → Stored t decl r a m → (u : ℕ → ℤ) (f k : ℕ) (ps : List ℕ) (l : List ℤ) → getD ps f 0 ≡ spot p (into r) k → getD l f (pos 0) ≡ u f
+        → (x : List ℤ) → deliveredOne t m f ps l x ≡ delivery (stageIn t s p decl unit) u f (into r) k x
+    stored-there r a m g u f k ps l e d x =
         rw (stored-compared r a m g) (ap (λ i. pick (constant w) x (set x (getD ps f 0) (castOf (typeOf (linkOf t i)) (getD l f (pos 0))))) (g .declared)
         ∙ ap (λ y. pick (constant w) x (set x (getD ps f 0) (castOf (typeOf (linkOf t (decl w))) y))) d ∙ go (constant w) refl)
       where
         w : Name
         w = nameOf r
 
-        go : (b : Bool) → eqb (codeOf t (decl (nameOf r))) c-message ≡ b → pick b x (set x (getD ps f 0) (castOf (typeOf (linkOf t (decl (nameOf r)))) (fieldOf s (nat v - 1) 0 f)))
-            ≡ pick b x (set x (slotOf (linkOf t (decl (nameOf r))) p k) (castOf (typeOf (linkOf t (decl (nameOf r)))) (fieldOf s (nat v - 1) 0 f)))
+        go : (b : Bool) → eqb (codeOf t (decl (nameOf r))) c-message ≡ b → pick b x (set x (getD ps f 0) (castOf (typeOf (linkOf t (decl (nameOf r)))) (u f)))
+            ≡ pick b x (set x (slotOf (linkOf t (decl (nameOf r))) p k) (castOf (typeOf (linkOf t (decl (nameOf r)))) (u f)))
         go true q = refl
-        go false q = ap (λ i. set x i (castOf (typeOf (linkOf t (decl (nameOf r)))) (fieldOf s (nat v - 1) 0 f))) (e ∙ rw q)
+        go false q = ap (λ i. set x i (castOf (typeOf (linkOf t (decl (nameOf r)))) (u f))) (e ∙ rw q)
 
     other-there : (m f : ℕ) (ps : List ℕ) (l x : List ℤ) → (codeOf t m ≡ c-into → ⊥) → deliveredOne t m f ps l x ≡ x
     other-there m f ps l x n = rw (other-compared m n)
 
-    one-delivered : (y : Received) (a m : ℕ) → Agreed t decl y a m → (v : ℤ) (f k : ℕ) (ps : List ℕ) (l : List ℤ) → getD ps f 0 ≡ spot p y k → getD l f (pos 0) ≡ fieldOf s (nat v - 1) 0 f
-        → (x : List ℤ) → deliveredOne t m f ps l x ≡ delivery (stageIn t s p decl unit) v f y k x
-    one-delivered (into r) a m g v f k ps l e d x = stored-there r a m g v f k ps l e d x
-    one-delivered (equal y) a m g v f k ps l e d x = other-there m f ps l x (g .mark)
-    one-delivered (exactly n) a m g v f k ps l e d x = other-there m f ps l x (g .mark)
-    one-delivered exactly-true a m g v f k ps l e d x = other-there m f ps l x (g .mark)
-    one-delivered exactly-false a m g v f k ps l e d x = other-there m f ps l x (g .mark)
+    one-delivered : (y : Received) (a m : ℕ) → Agreed t decl y a m → (u : ℕ → ℤ) (f k : ℕ) (ps : List ℕ) (l : List ℤ) → getD ps f 0 ≡ spot p y k → getD l f (pos 0) ≡ u f
+        → (x : List ℤ) → deliveredOne t m f ps l x ≡ delivery (stageIn t s p decl unit) u f y k x
+    one-delivered (into r) a m g u f k ps l e d x = stored-there r a m g u f k ps l e d x
+    one-delivered (equal y) a m g u f k ps l e d x = other-there m f ps l x (g .mark)
+    one-delivered (exactly n) a m g u f k ps l e d x = other-there m f ps l x (g .mark)
+    one-delivered exactly-true a m g u f k ps l e d x = other-there m f ps l x (g .mark)
+    one-delivered exactly-false a m g u f k ps l e d x = other-there m f ps l x (g .mark)
 
-    pub delivered-is : {xs : List Received} {a z : ℕ} → Got t decl xs a z → (n : ℕ) → length xs ≤ n → (v : ℤ) (f : ℕ) (ps : List ℕ) (l : List ℤ) (ks : List ℕ) → length ks ≡ length xs
-        → ((i : ℕ) → i < length xs → getD ps (f + i) 0 ≡ getD (spots p xs ks) i 0) → ((i : ℕ) → i < length xs → getD l (f + i) (pos 0) ≡ fieldOf s (nat v - 1) 0 (f + i))
-        → (x : List ℤ) → delivered t n a f ps l x ≡ deliveries (stageIn t s p decl unit) v f xs ks x
+    pub delivered-is : {xs : List Received} {a z : ℕ} → Got t decl xs a z → (n : ℕ) → length xs ≤ n → (u : ℕ → ℤ) (f : ℕ) (ps : List ℕ) (l : List ℤ) (ks : List ℕ) → length ks ≡ length xs
+        → ((i : ℕ) → i < length xs → getD ps (f + i) 0 ≡ getD (spots p xs ks) i 0) → ((i : ℕ) → i < length xs → getD l (f + i) (pos 0) ≡ u (f + i))
+        → (x : List ℤ) → delivered t n a f ps l x ≡ deliveries (stageIn t s p decl unit) u f xs ks x
     unfolding delivered deliveries
-    delivered-is (no-more e) zero h v f ps l ks q gp gl x = refl
-    delivered-is (no-more {a = a} e) (suc n) h v f ps l ks q gp gl x = rw (eq-eqb (codeOf t a) c-end e)
-    delivered-is (one-more m d e g r) zero h v f ps l ks q gp gl x = absurd (omega arith)
-    delivered-is (one-more m d e g r) (suc n) h v f ps l [] q gp gl x = absurd (omega arith)
-    delivered-is (one-more {x = y} {xs = xs} {a = a} m d e g r) (suc n) h v f ps l (k ∷ ks) q gp gl x =
+    delivered-is (no-more e) zero h u f ps l ks q gp gl x = refl
+    delivered-is (no-more {a = a} e) (suc n) h u f ps l ks q gp gl x = rw (eq-eqb (codeOf t a) c-end e)
+    delivered-is (one-more m d e g r) zero h u f ps l ks q gp gl x = absurd (omega arith)
+    delivered-is (one-more m d e g r) (suc n) h u f ps l [] q gp gl x = absurd (omega arith)
+    delivered-is (one-more {x = y} {xs = xs} {a = a} m d e g r) (suc n) h u f ps l (k ∷ ks) q gp gl x =
         let z : f ≡ f + 0 = omega arith in
         rw (ne-eqb (codeOf t a) c-end d) (ap (λ i. delivered t n (i + 1) (f + 1) ps l (deliveredOne t i f ps l x)) e
-        ∙ ap (delivered t n (m + 1) (f + 1) ps l) (one-delivered y a m g v f k ps l (ap (λ i. getD ps i 0) z ∙ gp 0 (omega arith))
-        (ap (λ i. getD l i (pos 0)) z ∙ gl 0 (omega arith) ∙ ap (λ i. fieldOf s (nat v - 1) 0 i) (sym z)) x)
-        ∙ delivered-is r n (omega arith) v (f + 1) ps l ks (omega arith) (λ i u. let w : f + 1 + i ≡ f + suc i = omega arith in ap (λ j. getD ps j 0) w ∙ gp (suc i) (omega arith))
-        (λ i u. let w : f + 1 + i ≡ f + suc i = omega arith in ap (λ j. getD l j (pos 0)) w ∙ gl (suc i) (omega arith) ∙ ap (λ j. fieldOf s (nat v - 1) 0 j) (sym w)) (delivery c v f y k x))
+        ∙ ap (delivered t n (m + 1) (f + 1) ps l) (one-delivered y a m g u f k ps l (ap (λ i. getD ps i 0) z ∙ gp 0 (omega arith))
+        (ap (λ i. getD l i (pos 0)) z ∙ gl 0 (omega arith) ∙ ap u (sym z)) x)
+        ∙ delivered-is r n (omega arith) u (f + 1) ps l ks (omega arith) (λ i b. let w : f + 1 + i ≡ f + suc i = omega arith in ap (λ j. getD ps j 0) w ∙ gp (suc i) (omega arith))
+        (λ i b. let w : f + 1 + i ≡ f + suc i = omega arith in ap (λ j. getD l j (pos 0)) w ∙ gl (suc i) (omega arith) ∙ ap u (sym w)) (delivery c u f y k x))

@@ -9,7 +9,7 @@ use lib.ListN.{length, length-append}
 use lib.IntN.{ℤ}
 use Rattle.base_codes.specs.Codes.{c-run, c-set-run, c-text}
 use Rattle.table_layout.specs.Access.{codeOf, linkOf}
-use Rattle.spec_grammar.specs.Tree.{Name, Ref, Expr, Received, send, receive, print, run, set-run}
+use Rattle.spec_grammar.specs.Tree.{Name, Ref, Expr, Received, leaf, send, receive, print, run, set-run}
 use Rattle.base_codes.specs.Items.{Item, i-end, i-name, i-receive, i-run, i-send, i-set-run, i-target, i-text}
 use Rattle.parse_code.specs.Code.{each, code-exp, code-argument, code-received, code-tree, code}
 use Rattle.base_codes.specs.Items as items
@@ -22,7 +22,7 @@ use Rattle.step_ready.specs.Executing.{markOf, isOwnMark}
 use Rattle.agree_stage.specs.Scenes.{sizeIn, locate}
 use Rattle.agree_eval.specs.Names.{declAt}
 use Rattle.spec_machine.specs.Arguments.{nameOf}
-use Rattle.spec_machine.specs.Program as tree
+use Rattle.spec_machine.specs.Sizes as tree
 use Rattle.agree_stage.proofs.Stands.{lying-back}
 use Rattle.agree_effects.specs.Stages.{unitAt}
 use Rattle.agree_effects.specs.Walked.{Passed, Got}
@@ -31,6 +31,7 @@ use Rattle.agree_effects.proofs.Parts.{Here, first-code}
 use Rattle.agree_effects.proofs.Phrases.{Refers, refers-target, refers-send, refers-receive, refers-linked, refers-located}
 use Rattle.agree_effects.proofs.Lists.{quiet-mark, quiet-phrase, mark-code, behind-there, arguments-there, received-there}
 use Rattle.agree_effects.proofs.Begins.{alone-mark, phrase-mark, name-mark, target-run, run-unit}
+use Rattle.agree_sizes.proofs.Sizes.{size-leaf}
 
 run-mark : isMark c-run ≡ true
 unfolding isPart
@@ -67,28 +68,30 @@ module _ (t : List ℕ) (a : Accepts t) where
       }
 
   -- ---- each of them
-  pub sending : (r : Ref) (es : List Expr) (j : ℕ) → Here t a (code-tree (send r es)) j
-      → Reference r i-send j (j + sizeIn r) × Passed (tablesText t) (declAt t a j) es (j + sizeIn r + 1) (j + tree.sizeIn (send r es) - 1)
-  sending r es j p =
+  pub sending : (mk : ℕ) (r : Ref) (es : List Expr) (j : ℕ) → Here t a (code-tree (leaf (send mk r es))) j
+      → Reference r (i-send mk) j (j + sizeIn r) × Passed (tablesText t) (declAt t a j) es (j + sizeIn r + 1) (j + tree.sizeIn (leaf (send mk r es)) - 1)
+  sending mk r es j p =
+      let sz = size-leaf (send mk r es) in
       let R = code-exp r in
       let E = each code-argument es in
-      let h = subst (λ l. Here t a l j) (append-assoc R (i-send ∷ E) (i-end ∷ [])) p in
-      let n : length ((R ++ i-send ∷ E) ++ i-end ∷ []) ≡ sizeIn r + 1 + length E + 1 = omega (arith, length-append (R ++ i-send ∷ E) (i-end ∷ []), length-append R (i-send ∷ E)) in (
-        reference-there r i-send (E ++ i-end ∷ []) j refers-send h,
-        arguments-there t a es j (j + sizeIn r + 1) (j + tree.sizeIn (send r es) - 1) (omega arith)
-            (quiet-phrase t a j j (none-yet j) r i-send (E ++ i-end ∷ []) h (omega arith)) (behind-there t a r i-send (E ++ i-end ∷ []) j h) (omega arith),
+      let h = subst (λ l. Here t a l j) (append-assoc R (i-send mk ∷ E) (i-end ∷ [])) p in
+      let n : length ((R ++ i-send mk ∷ E) ++ i-end ∷ []) ≡ sizeIn r + 1 + length E + 1 = omega (arith, length-append (R ++ i-send mk ∷ E) (i-end ∷ []), length-append R (i-send mk ∷ E)) in (
+        reference-there r (i-send mk) (E ++ i-end ∷ []) j refers-send h,
+        arguments-there t a es j (j + sizeIn r + 1) (j + tree.sizeIn (leaf (send mk r es)) - 1) (omega arith)
+            (quiet-phrase t a j j (none-yet j) r (i-send mk) (E ++ i-end ∷ []) h (omega arith)) (behind-there t a r (i-send mk) (E ++ i-end ∷ []) j h) (omega arith),
       )
 
-  pub receiving : (r : Ref) (ys : List Received) (j : ℕ) → Here t a (code-tree (receive r ys)) j
-      → Reference r i-receive j (j + sizeIn r) × Got (tablesText t) (declAt t a j) ys (j + sizeIn r + 1) (j + tree.sizeIn (receive r ys) - 1)
-  receiving r ys j p =
+  pub receiving : (mk : ℕ) (r : Ref) (ys : List Received) (j : ℕ) → Here t a (code-tree (leaf (receive mk r ys))) j
+      → Reference r (i-receive mk) j (j + sizeIn r) × Got (tablesText t) (declAt t a j) ys (j + sizeIn r + 1) (j + tree.sizeIn (leaf (receive mk r ys)) - 1)
+  receiving mk r ys j p =
+      let sz = size-leaf (receive mk r ys) in
       let R = code-exp r in
       let E = each code-received ys in
-      let h = subst (λ l. Here t a l j) (append-assoc R (i-receive ∷ E) (i-end ∷ [])) p in
-      let n : length ((R ++ i-receive ∷ E) ++ i-end ∷ []) ≡ sizeIn r + 1 + length E + 1 = omega (arith, length-append (R ++ i-receive ∷ E) (i-end ∷ []), length-append R (i-receive ∷ E)) in (
-        reference-there r i-receive (E ++ i-end ∷ []) j refers-receive h,
-        received-there t a ys j (j + sizeIn r + 1) (j + tree.sizeIn (receive r ys) - 1) (omega arith)
-            (quiet-phrase t a j j (none-yet j) r i-receive (E ++ i-end ∷ []) h (omega arith)) (behind-there t a r i-receive (E ++ i-end ∷ []) j h) (omega arith),
+      let h = subst (λ l. Here t a l j) (append-assoc R (i-receive mk ∷ E) (i-end ∷ [])) p in
+      let n : length ((R ++ i-receive mk ∷ E) ++ i-end ∷ []) ≡ sizeIn r + 1 + length E + 1 = omega (arith, length-append (R ++ i-receive mk ∷ E) (i-end ∷ []), length-append R (i-receive mk ∷ E)) in (
+        reference-there r (i-receive mk) (E ++ i-end ∷ []) j refers-receive h,
+        received-there t a ys j (j + sizeIn r + 1) (j + tree.sizeIn (leaf (receive mk r ys)) - 1) (omega arith)
+            (quiet-phrase t a j j (none-yet j) r (i-receive mk) (E ++ i-end ∷ []) h (omega arith)) (behind-there t a r (i-receive mk) (E ++ i-end ∷ []) j h) (omega arith),
       )
 
   pub record Printing (es : List Expr) (j z : ℕ) : Type 0 where
@@ -96,12 +99,13 @@ module _ (t : List ℕ) (a : Accepts t) where
     pub coded : codeOf (tablesText t) j ≡ c-text
     pub passed : Passed (tablesText t) (declAt t a j) es (j + 1) z
 
-  pub printing : (w : List ℕ) (es : List Expr) (j : ℕ) → Here t a (code-tree (print w es)) j → Printing es j (j + tree.sizeIn (print w es) - 1)
+  pub printing : (w : List ℕ) (es : List Expr) (j : ℕ) → Here t a (code-tree (leaf (print w es))) j → Printing es j (j + tree.sizeIn (leaf (print w es)) - 1)
   printing w es j p =
+      let sz = size-leaf (print w es) in
       let E = each code-argument es in
       let n : length (E ++ i-end ∷ []) ≡ length E + 1 = length-append E (i-end ∷ []) in
       let k =
-      arguments-there t a es j (j + 1) (j + tree.sizeIn (print w es) - 1) (omega arith) (quiet-mark t a (i-text w) (E ++ i-end ∷ []) j p (omega arith))
+      arguments-there t a es j (j + 1) (j + tree.sizeIn (leaf (print w es)) - 1) (omega arith) (quiet-mark t a (i-text w) (E ++ i-end ∷ []) j p (omega arith))
       (lying-back xs (i-text w ∷ []) (E ++ i-end ∷ []) 0 j (j + 1) refl p) (omega arith) in
       record {
         mark = alone-mark t a (i-text w) (E ++ i-end ∷ []) j p text-alone;
@@ -115,14 +119,15 @@ module _ (t : List ℕ) (a : Accepts t) where
     pub begun : linkOf (tablesText t) m ≡ unitAt t a w
     pub passed : Passed (tablesText t) (declAt t a j) es (m + 1) z
 
-  pub running : (w : Name) (es : List Expr) (j : ℕ) → Here t a (code-tree (run w es)) j → (markOf (tablesText t) j ≡ j + 1) × Running w es c-run j (j + 1) (j + tree.sizeIn (run w es) - 1)
+  pub running : (w : Name) (es : List Expr) (j : ℕ) → Here t a (code-tree (leaf (run w es))) j → (markOf (tablesText t) j ≡ j + 1) × Running w es c-run j (j + 1) (j + tree.sizeIn (leaf (run w es)) - 1)
   running w es j p =
+      let sz = size-leaf (run w es) in
       let E = each code-argument es in
       let n : length (E ++ i-end ∷ []) ≡ length E + 1 = length-append E (i-end ∷ []) in
       let q = lying-back xs (i-name w ∷ []) (i-run ∷ (E ++ i-end ∷ [])) 0 j (j + 1) refl p in
       let r = lying-back xs (i-run ∷ []) (E ++ i-end ∷ []) 0 (j + 1) (j + 1 + 1) refl q in
       let k =
-      arguments-there t a es j (j + 1 + 1) (j + tree.sizeIn (run w es) - 1) (omega arith)
+      arguments-there t a es j (j + 1 + 1) (j + tree.sizeIn (leaf (run w es)) - 1) (omega arith)
       (quiet-join t a j (j + 1) (j + 1 + 1) (quiet-mark t a (i-name w) (i-run ∷ (E ++ i-end ∷ [])) j p (omega arith)) (quiet-mark t a i-run (E ++ i-end ∷ []) (j + 1) q (omega arith))) r
       (omega arith) in (
         name-mark t a w i-run (E ++ i-end ∷ []) j p run-mark,
@@ -133,13 +138,14 @@ module _ (t : List ℕ) (a : Accepts t) where
         },
       )
 
-  pub set-running : (r : Ref) (w : Name) (es : List Expr) (j : ℕ) → Here t a (code-tree (set-run r w es)) j
-      → Reference r i-target j (j + sizeIn r) × (linkOf (tablesText t) (j + sizeIn r) ≡ j + sizeIn r + 2) × Running w es c-set-run j (j + sizeIn r + 2) (j + tree.sizeIn (set-run r w es) - 1)
+  pub set-running : (r : Ref) (w : Name) (es : List Expr) (j : ℕ) → Here t a (code-tree (leaf (set-run r w es))) j
+      → Reference r i-target j (j + sizeIn r) × (linkOf (tablesText t) (j + sizeIn r) ≡ j + sizeIn r + 2) × Running w es c-set-run j (j + sizeIn r + 2) (j + tree.sizeIn (leaf (set-run r w es)) - 1)
   set-running r w es j p =
+      let sz = size-leaf (set-run r w es) in
       let R = code-exp r in
       let E = each code-argument es in
       let m = j + sizeIn r in
-      let z = j + tree.sizeIn (set-run r w es) - 1 in
+      let z = j + tree.sizeIn (leaf (set-run r w es)) - 1 in
       let Y = E ++ i-end ∷ [] in
       let h = subst (λ l. Here t a l j) (append-assoc R (i-target ∷ i-name w ∷ i-set-run ∷ E) (i-end ∷ [])) p in
       let n : length ((R ++ i-target ∷ i-name w ∷ i-set-run ∷ E) ++ i-end ∷ []) ≡ sizeIn r + 3 + length E + 1 =

@@ -10,13 +10,13 @@ use Rattle.base_codes.specs.Codes.{c-parameter}
 use Rattle.base_bytes.specs.Choice.{pick}
 use Rattle.table_layout.specs.Access.{codeOf, linkOf, nameByte}
 use Rattle.base_values.specs.Types.{castOf}
-use Rattle.state_layout.specs.Layout.{kept, channelAt, fieldAt, declaredOf, waitingOf, processesOf}
+use Rattle.state_layout.specs.Layout.{kept, channelAt, fieldAt, declaredOf, processesOf}
 use Rattle.state_layout.specs.Walks.{walk}
 use Rattle.spec_grammar.specs.Tree.{Name, Expr}
 use Rattle.step_eval.specs.Variables.{typeOf, slotOf}
 use Rattle.state_start.specs.Starting.{unitLength, processMade}
 use Rattle.step_ready.specs.Channels.{fieldsOf}
-use Rattle.step_messages.specs.Messages.{fieldType, gatherList, appended}
+use Rattle.step_messages.specs.Messages.{fieldType, gatherList, putIn}
 use Rattle.step_statements.specs.Statements.{blank}
 use Rattle.step_take.specs.Effects.{parameterSet, called}
 use Rattle.step_prints.specs.Printing.{writtenFrom}
@@ -30,11 +30,10 @@ use Rattle.agree_effects.proofs.Gathers.{Whole, listed, fill-blank, val
 abbrev pub Alike : List ℤ → List ℤ → Type 0
 Alike l m = (i : ℕ) → getD l i (pos 0) ≡ getD m i (pos 0)
 
-pub appended-alike : (t : List ℕ) (c : ℕ) (l m s : List ℤ) → Alike l m → appended t c l s ≡ appended t c m s
-unfolding appended
-appended-alike t c l m s e =
-    λ k. set (walk (λ f x. set x (fieldAt c (waitingOf s c) f) (castOf (fieldType t (declaredOf s c) f) (e f k))) 0 (fieldsOf t (declaredOf s c)) s) (channelAt c + 1)
-    (kept (waitingOf s c + 1))
+pub put-alike : (t : List ℕ) (c w : ℕ) (l m s : List ℤ) → Alike l m → putIn t c w l s ≡ putIn t c w m s
+unfolding putIn
+put-alike t c w l m s e =
+    λ k. set (walk (λ f x. set x (fieldAt c w f) (castOf (fieldType t (declaredOf s c) f) (e f k))) 0 (fieldsOf t (declaredOf s c)) s) (channelAt c + 1) (kept (w + 1))
 
 pub called-alike : (t : List ℕ) (u : ℕ) (l m s : List ℤ) → Alike l m → called t u l s ≡ called t u m s
 unfolding called parameterSet

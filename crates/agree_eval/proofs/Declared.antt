@@ -11,7 +11,7 @@ use Rattle.base_ceilings.specs.Ceilings.{itemsMost}
 use Rattle.base_codes.specs.Codes.{c-argument, c-index, c-message, c-name}
 use Rattle.base_bytes.specs.Choice.{pick, either}
 use Rattle.base_bytes.proofs.Tests.{true-false}
-use Rattle.spec_grammar.specs.Tree.{Name, Shape, Exp, plain, indexed, num, tru, fls, get, len, unary, binary, choice}
+use Rattle.spec_grammar.specs.Tree.{Name, Shape, Exp, plain, indexed, num, tru, fls, get, query, unary, binary, choice}
 use Rattle.parse_machine_proof.specs.Machine.{place-of}
 use Rattle.rule_sheets.specs.Homes.{insideOf}
 use Rattle.rule_sheets.specs.Spans.{startsOf, heightsOf}
@@ -30,7 +30,7 @@ use Rattle.agree_eval.proofs.Main.{items-long}
 use Rattle.agree_eval.proofs.Said.{first-said, home-same}
 use Rattle.agree_eval.proofs.Names.{Lies, lies-front, lies-back, meaning, means-none}
 use Rattle.rule_least.proofs.Theorems.{sooner-some}
-use Rattle.base_codes.specs.Items.{Item, i-binary, i-choice, i-index, i-len, i-name, i-otherwise, i-plain, i-unary}
+use Rattle.base_codes.specs.Items.{Item, i-binary, i-choice, i-index, i-query, i-name, i-otherwise, i-plain, i-unary}
 use Rattle.base_codes.specs.Sets.{ruleOf}
 use Rattle.parse_code.specs.Code.{code-exp, code}
 
@@ -131,9 +131,9 @@ module _ (t : List ℕ) (a : Accepts t) where
     arrays-in tru k p l h b g = tt
     arrays-in fls k p l h b g = tt
     arrays-in (get v) k p l h b g = arrays-in v k p l h b g
-    arrays-in (len v) k p l h b g =
-        let q : length (code-exp v ++ i-len ∷ []) ≡ sizeIn v + 1 = length-append (code-exp v) (i-len ∷ []) in
-        arrays-in v k p (lies-front xs k (code-exp v) (i-len ∷ []) l) (at-front C k (code-exp v) (i-len ∷ []) h) b (omega arith)
+    arrays-in (query mk v) k p l h b g =
+        let q : length (code-exp v ++ i-query mk ∷ []) ≡ sizeIn v + 1 = length-append (code-exp v) (i-query mk ∷ []) in
+        arrays-in v k p (lies-front xs k (code-exp v) (i-query mk ∷ []) l) (at-front C k (code-exp v) (i-query mk ∷ []) h) b (omega arith)
     arrays-in (unary o e) k p l h b g =
         let q : length (code-exp e ++ i-unary o ∷ []) ≡ sizeIn e + 1 = length-append (code-exp e) (i-unary o ∷ []) in
         arrays-in e k (p .1) (lies-front xs k (code-exp e) (i-unary o ∷ []) l) (at-front C k (code-exp e) (i-unary o ∷ []) h) b (omega arith)

@@ -8,8 +8,8 @@ use lib.ListN.{length, getD, replicate, length-map, length-append, length-replic
 use lib.IntN.{ℤ}
 use Rattle.base_ceilings.specs.Ceilings.{heightMost, itemsMost}
 use Rattle.base_codes.specs.Codes.{c-choice, c-otherwise}
-use Rattle.spec_grammar.specs.Tree.{Name, Shape, Exp, plain, indexed, num, tru, fls, get, len, unary, binary, choice}
-use Rattle.base_codes.specs.Items.{Item, i-binary, i-choice, i-index, i-len, i-otherwise, i-unary}
+use Rattle.spec_grammar.specs.Tree.{Name, Shape, Exp, plain, indexed, num, tru, fls, get, query, unary, binary, choice}
+use Rattle.base_codes.specs.Items.{Item, i-binary, i-choice, i-index, i-query, i-otherwise, i-unary}
 use Rattle.parse_code.specs.Code.{code-exp, code}
 use Rattle.table_entries.specs.Items.{entryOf}
 use Rattle.base_codes.specs.Items as items
@@ -63,9 +63,9 @@ module _ (t : List ℕ) (a : Accepts t) where
   stands-in tru i p h k l = k .0
   stands-in fls i p h k l = k .0
   stands-in (get r) i p h k l = stands-in r i p h k l
-  stands-in (len r) i p h k l =
-      let q : length (code-exp r ++ i-len ∷ []) ≡ sizeIn r + 1 = length-append (code-exp r) (i-len ∷ []) in
-      (stands-in r i p (at-front C i (code-exp r) (i-len ∷ []) h) (held-front U i (code-exp r) (i-len ∷ []) k) (omega arith), held-back U (code-exp r) (i-len ∷ []) i (i + sizeIn r) refl k .0)
+  stands-in (query mk r) i p h k l =
+      let q : length (code-exp r ++ i-query mk ∷ []) ≡ sizeIn r + 1 = length-append (code-exp r) (i-query mk ∷ []) in
+      (stands-in r i p (at-front C i (code-exp r) (i-query mk ∷ []) h) (held-front U i (code-exp r) (i-query mk ∷ []) k) (omega arith), held-back U (code-exp r) (i-query mk ∷ []) i (i + sizeIn r) refl k .0)
   stands-in (unary o e) i p h k l =
       let q : length (code-exp e ++ i-unary o ∷ []) ≡ sizeIn e + 1 = length-append (code-exp e) (i-unary o ∷ []) in (
         stands-in e i (p .1) (at-front C i (code-exp e) (i-unary o ∷ []) h) (held-front U i (code-exp e) (i-unary o ∷ []) k) (omega arith),

@@ -15,7 +15,7 @@ use Rattle.base_ceilings.specs.Ceilings.{heightMost, itemsMost}
 use Rattle.base_codes.specs.Codes.{c-argument, c-index, c-plain, c-name}
 use Rattle.base_bytes.specs.Choice.{pick}
 use Rattle.base_bytes.proofs.Tests.{true-false}
-use Rattle.spec_grammar.specs.Tree.{Name, Shape, reference, Exp, plain, indexed, num, tru, fls, get, len, unary, binary, choice}
+use Rattle.spec_grammar.specs.Tree.{Name, Shape, reference, Exp, plain, indexed, num, tru, fls, get, query, unary, binary, choice}
 use Rattle.rule_sheets.specs.Homes.{insideOf}
 use Rattle.rule_search.specs.Search.{find, lookup}
 use Rattle.base_bytes.specs.Lists.{same}
@@ -38,7 +38,7 @@ use Rattle.agree_eval.proofs.Items.{link-held, code-held}
 use Rattle.agree_eval.proofs.Main.{U, items-long, stands-at, text-eval}
 use Rattle.agree_eval.proofs.Lookups.{lookup-most, lookup-further, lookup-none}
 use Rattle.agree_eval.proofs.Said.{pid-said, first-said, first-code, home-same}
-use Rattle.base_codes.specs.Items.{Item, i-binary, i-choice, i-index, i-len, i-name, i-otherwise, i-plain, i-unary}
+use Rattle.base_codes.specs.Items.{Item, i-binary, i-choice, i-index, i-query, i-name, i-otherwise, i-plain, i-unary}
 use Rattle.parse_code.specs.Code.{code-exp, code}
 use Rattle.base_codes.specs.Sets.{classOf, isPart}
 use Rattle.base_codes.specs.Items as items
@@ -172,9 +172,9 @@ module _ (t : List ℕ) (a : Accepts t) where
     named-in tru k p l h b g r = tt
     named-in fls k p l h b g r = tt
     named-in (get v) k p l h b g r = named-in v k p l h b g r
-    named-in (len v) k p l h b g r =
-        let q : length (code-exp v ++ i-len ∷ []) ≡ sizeIn v + 1 = length-append (code-exp v) (i-len ∷ []) in
-        named-in v k p (lies-front xs k (code-exp v) (i-len ∷ []) l) (at-front C k (code-exp v) (i-len ∷ []) h) b (omega arith) r
+    named-in (query mk v) k p l h b g r =
+        let q : length (code-exp v ++ i-query mk ∷ []) ≡ sizeIn v + 1 = length-append (code-exp v) (i-query mk ∷ []) in
+        named-in v k p (lies-front xs k (code-exp v) (i-query mk ∷ []) l) (at-front C k (code-exp v) (i-query mk ∷ []) h) b (omega arith) r
     named-in (unary o e) k p l h b g r =
         let q : length (code-exp e ++ i-unary o ∷ []) ≡ sizeIn e + 1 = length-append (code-exp e) (i-unary o ∷ []) in
         named-in e k (p .1) (lies-front xs k (code-exp e) (i-unary o ∷ []) l) (at-front C k (code-exp e) (i-unary o ∷ []) h) b (omega arith) r

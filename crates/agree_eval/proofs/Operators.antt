@@ -2,9 +2,9 @@
 use Prim.Native.Nat.{ℕ, _-_, _≤_}
 use mathlib.Core.Path.{_≡_, subst}
 use mathlib.Core.List.{List, [], _∷_, _++_}
-use Rattle.spec_grammar.specs.Tree.{Shape, Exp, plain, indexed, num, tru, fls, get, len, unary, binary, choice}
+use Rattle.spec_grammar.specs.Tree.{Shape, Exp, plain, indexed, num, tru, fls, get, query, unary, binary, choice}
 use Rattle.spec_grammar.specs.Grammar.{Is-unary}
-use Rattle.base_codes.specs.Items.{Item, i-binary, i-choice, i-index, i-len, i-otherwise, i-unary}
+use Rattle.base_codes.specs.Items.{Item, i-binary, i-choice, i-index, i-query, i-otherwise, i-unary}
 use Rattle.parse_code.specs.Code.{code-exp, code}
 use Rattle.table_entries.specs.Items.{Known, AllKnown, is-unary, is-binary}
 use Rattle.link_phrases_proof.specs.Phrases.{Proper}
@@ -33,7 +33,7 @@ known-proper (num n) k = tt
 known-proper tru k = tt
 known-proper fls k = tt
 known-proper (get r) k = known-proper r k
-known-proper (len r) k = known-proper r (known-front (code-exp r) (i-len ∷ []) k)
+known-proper (query mk r) k = known-proper r (known-front (code-exp r) (i-query mk ∷ []) k)
 known-proper (unary o e) k = (unary-is (known-back (code-exp e) (i-unary o ∷ []) k .0), known-proper e (known-front (code-exp e) (i-unary o ∷ []) k))
 known-proper (binary o x y) k =
     let h = known-front (code-exp x ++ code-exp y) (i-binary o ∷ []) k in

@@ -11,13 +11,15 @@ use borrow.Author.Tests.{leb-true, leb-false, le-leb, lt-leb}
 use Rattle.base_bytes.proofs.Tests.{true-false}
 use Rattle.base_codes.specs.Codes.{c-argument, c-choice, c-complement, c-constant, c-end-option, c-field, c-group, c-int, c-local, c-message, c-name, c-number, c-or-else, c-parameter, c-plain, c-size, c-text}
 use Rattle.base_codes.specs.Sets.{isPart}
-use Rattle.spec_grammar.specs.Tree.{Name, Shape, Exp, plain, indexed, num, tru, fls, get, len, unary, binary, choice, Expr, Received, into, equal, exactly, exactly-true, exactly-false, Sort, Tree, express, assign, increment, decrement, send, receive, assert, print, skip, goto, break, timeout, else, run, set-run, select, loop, bare, labelled, end, then, over, option, Value, unset, set-number, set-minus, set-true, set-false, set-name, set-channel, Variable, variable, Declaration, declare, Group, group}
-use Rattle.base_codes.specs.Items.{Item, codeOf, i-argument, i-assert, i-assign, i-binary, i-choice, i-decrement, i-end, i-end-option, i-equal, i-express, i-fi, i-global, i-increment, i-index, i-into, i-len, i-local, i-name, i-od, i-otherwise, i-receive, i-send, i-set-run, i-target, i-type, i-unary}
+use Rattle.spec_grammar.specs.Tree.{Name, Shape, Exp, plain, indexed, num, tru, fls, get, query, unary, binary, choice, Expr, Received, into, equal, exactly, exactly-true, exactly-false, Sort, Tree, Value, unset, set-number, set-minus, set-true, set-false, set-name, set-channel, Variable, variable, Declaration, declare, Group, group}
+use Rattle.base_codes.specs.Items.{Item, codeOf, i-argument, i-binary, i-choice, i-equal, i-global, i-index, i-into, i-query, i-local, i-otherwise, i-type, i-unary}
 use Rattle.parse_code.specs.Code.{each, code-exp, code-argument, code-received, code-tree, code-field, code-size, code-value, code-variable, code-declaration, code-parameter, code-group, code-message}
 use Rattle.spec_grammar.specs.Grammar.{is-minus, is-not, is-flip}
 use Rattle.table_entries.specs.Items.{Known, is-unary, is-binary}
 use Rattle.table_entries.proofs.Items.{type-code}
 use Rattle.link_phrases_proof.proofs.Inside.{mark-outside, text-outside}
+use Rattle.parse_parts_proof.specs.Parts.{Spoken, Framing}
+use Rattle.parse_parts_proof.proofs.Closed.{closed-tree, tree-code}
 
 -- types: below all marks
 abbrev pub Low : ℕ → Type 0
@@ -67,7 +69,7 @@ exp-parts (num n) = (λ k. refl, tt)
 exp-parts tru = (λ k. refl, tt)
 exp-parts fls = (λ k. refl, tt)
 exp-parts (get r) = exp-parts r
-exp-parts (len r) = every-append InPart (code-exp r) (i-len ∷ []) (exp-parts r) (λ k. refl, tt)
+exp-parts (query mk r) = every-append InPart (code-exp r) (i-query mk ∷ []) (exp-parts r) (λ k. refl, tt)
 exp-parts (unary o e) = every-append InPart (code-exp e) (i-unary o ∷ []) (exp-parts e) (unary-part, tt)
 exp-parts (binary o a b) = every-append InPart (code-exp a ++ code-exp b) (i-binary o ∷ []) (every-append InPart (code-exp a) (code-exp b) (exp-parts a) (exp-parts b)) (binary-part, tt)
 exp-parts (choice a b c) =
@@ -114,47 +116,11 @@ InTree c = c ≤ c-end-option
 exp-tree : {s : Shape} (e : Exp s) → Every InTree (code-exp e)
 exp-tree e = every-lift InExp InTree (λ c h. omega arith) (code-exp e) (exp-codes e)
 
-args-tree : (es : List Expr) → Every InTree (each code-argument es)
-args-tree es = every-lift InArgs InTree (λ c h. omega arith) (each code-argument es) (args-codes es)
-
-received-tree : (xs : List Received) → Every InTree (each code-received xs)
-received-tree xs = every-lift InArgs InTree (λ c h. omega arith) (each code-received xs) (all-received-codes xs)
+one-code : (i : Item) → Spoken i ⊎ Framing i → Every InTree (i ∷ [])
+one-code i h = (λ k. tree-code h, tt)
 
 pub tree-codes : {k : Sort} (t : Tree k) → Every InTree (code-tree t)
-tree-codes (express e) = every-append InTree (code-exp e) (i-express ∷ []) (exp-tree e) (λ k. omega arith, tt)
-tree-codes (assign r e) =
-    every-append InTree (code-exp r ++ i-target ∷ code-exp e) (i-assign ∷ []) (every-append InTree (code-exp r) (i-target ∷ code-exp e) (exp-tree r) (λ k. omega arith, exp-tree e))
-    (λ k. omega arith, tt)
-tree-codes (increment r) = every-append InTree (code-exp r) (i-increment ∷ []) (exp-tree r) (λ k. omega arith, tt)
-tree-codes (decrement r) = every-append InTree (code-exp r) (i-decrement ∷ []) (exp-tree r) (λ k. omega arith, tt)
-tree-codes (send r es) =
-    every-append InTree (code-exp r ++ i-send ∷ each code-argument es) (i-end ∷ [])
-    (every-append InTree (code-exp r) (i-send ∷ each code-argument es) (exp-tree r) (λ k. omega arith, args-tree es)) (λ k. omega arith, tt)
-tree-codes (receive r xs) =
-    every-append InTree (code-exp r ++ i-receive ∷ each code-received xs) (i-end ∷ [])
-    (every-append InTree (code-exp r) (i-receive ∷ each code-received xs) (exp-tree r) (λ k. omega arith, received-tree xs)) (λ k. omega arith, tt)
-tree-codes (assert e) = every-append InTree (code-exp e) (i-assert ∷ []) (exp-tree e) (λ k. omega arith, tt)
-tree-codes (print w es) = (λ k. omega arith, every-append InTree (each code-argument es) (i-end ∷ []) (args-tree es) (λ k. omega arith, tt))
-tree-codes skip = (λ k. omega arith, tt)
-tree-codes (goto w) = (λ k. omega arith, (λ k. omega arith, tt))
-tree-codes break = (λ k. omega arith, tt)
-tree-codes timeout = (λ k. omega arith, tt)
-tree-codes else = (λ k. omega arith, tt)
-tree-codes (run w es) = (λ k. omega arith, (λ k. omega arith, every-append InTree (each code-argument es) (i-end ∷ []) (args-tree es) (λ k. omega arith, tt)))
-tree-codes (set-run r w es) =
-    every-append InTree (code-exp r ++ i-target ∷ i-name w ∷ i-set-run ∷ each code-argument es) (i-end ∷ [])
-    (every-append InTree (code-exp r) (i-target ∷ i-name w ∷ i-set-run ∷ each code-argument es) (exp-tree r)
-    (λ k. omega arith, (λ k. omega arith, (λ k. omega arith, args-tree es))))
-    (λ k. omega arith, tt)
-tree-codes (select os) = (λ k. omega arith, every-append InTree (code-tree os) (i-fi ∷ []) (tree-codes os) (λ k. omega arith, tt))
-tree-codes (loop os) = (λ k. omega arith, every-append InTree (code-tree os) (i-od ∷ []) (tree-codes os) (λ k. omega arith, tt))
-tree-codes (bare a) = tree-codes a
-tree-codes (labelled w a) = (λ k. omega arith, (λ k. omega arith, tree-codes a))
-tree-codes end = tt
-tree-codes (then s q) = every-append InTree (code-tree s) (code-tree q) (tree-codes s) (tree-codes q)
-tree-codes over = tt
-tree-codes (option q os) =
-    (λ k. omega arith, every-append InTree (code-tree q) (i-end-option ∷ code-tree os) (tree-codes q) (λ k. omega arith, tree-codes os))
+tree-codes t = closed-tree (Every InTree) tt (every-append InTree) (λ s e. exp-tree e) one-code t
 
 -- ---- declarations: nothing that stands in statements alone
 abbrev pub InDeclaration : ℕ → Type 0

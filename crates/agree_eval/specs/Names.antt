@@ -10,7 +10,7 @@ use Rattle.base_ceilings.specs.Ceilings.{itemsMost}
 use Rattle.base_bytes.specs.Choice.{pick}
 use Rattle.base_bytes.specs.Lists.{same}
 use Rattle.text_tokens.specs.Reading.{Placed}
-use Rattle.spec_grammar.specs.Tree.{Name, Shape, Exp, plain, indexed, num, tru, fls, get, len, unary, binary, choice}
+use Rattle.spec_grammar.specs.Tree.{Name, Shape, Exp, plain, indexed, num, tru, fls, get, query, unary, binary, choice}
 use Rattle.parse_machine_proof.specs.Machine.{symbol-of, place-of}
 use Rattle.rule_sheets.specs.Homes.{insideOf, homesOf}
 use Rattle.rule_search.specs.Search.{lookup}
@@ -57,7 +57,7 @@ module _ (t : List ℕ) (a : Accepts t) where
   Arrays i tru = Unit {0}
   Arrays i fls = Unit {0}
   Arrays i (get r) = Arrays i r
-  Arrays i (len r) = Arrays i r
+  Arrays i (query mk r) = Arrays i r
   Arrays i (unary o e) = Arrays i e
   Arrays i (binary o x y) = Arrays i x × Arrays i y
   Arrays i (choice x y z) = Arrays i x × Arrays i y × Arrays i z

@@ -1,4 +1,5 @@
 -- SOMETHING COMES OF EVERY STEP THAT MAY BE TAKEN: it is done, or it fails.
+use Prim.Native.Nat.{ℕ}
 use mathlib.Core.Path.{_≡_, refl, sym as inv}
 use mathlib.Core.Bool.{Bool, true, false}
 use mathlib.Core.List.{List}
@@ -11,11 +12,12 @@ use Rattle.base_values.specs.declared.Answer.{Answer}
 use Rattle.base_values.specs.declared.Answer.the-variants.{Value, Fails}
 use Rattle.base_outcome.specs.declared.Taken.{Taken}
 use Rattle.base_outcome.specs.declared.Taken.the-variants.{Done, Refuted, Faulted, Idle}
-use Rattle.spec_grammar.specs.Tree.{Name, Received, action, Tree, express, assign, increment, decrement, send, receive, assert, print, skip, goto, break, timeout, else, run, set-run, select, loop}
+use Rattle.spec_grammar.specs.Tree.{Name, Received, action, Tree, leaf, express, assign, increment, decrement, send, receive, assert, print, skip, goto, break, timeout, else, run, set-run, select, loop}
 use Rattle.spec_machine.specs.Eval.{eval}
 use Rattle.spec_machine.specs.Stage.{Stage, Ways}
-use Rattle.spec_machine.specs.Arguments.{nameOf, Aim, hit, miss, aim, Reach, channel, astray, reach, WorkedOut, all, stopped, values, agrees, Aims, hits, missed, targets}
-use Rattle.spec_machine.specs.Ready.{ready}
+use Rattle.spec_machine.specs.Arguments.{nameOf, Aim, hit, miss, aim, Reach, channel, astray, reach, WorkedOut, all, stopped, values, finding, Aims, hits, missed, targets}
+use Rattle.spec_machine.specs.Messages.{Finding, found, none, spoilt}
+use Rattle.spec_machine.specs.Ready.{finds, receivable, ready}
 use Rattle.spec_machine.specs.Effect.{Outcome, expressedBy, assertedBy, assignedBy, steppedBy, sentBy, receivedAt, receivedIf, receivedBy, printedBy, ranBy, setRunBy, effect}
 use Rattle.agree_transfer.specs.Agrees.{takable}
 
@@ -54,17 +56,18 @@ module _ {S : Type 0} (c : Stage S) (h : Ways) (s : S) where
   sent (all vs) (astray f) = tt
   sent (stopped f) (astray g) = tt
 
-  received-at : (v : ℤ) (xs : List Received) (ks : Aims) → Busy (receivedAt c (h .next) s v xs ks .0)
-  received-at v xs (hits ks) = tt
-  received-at v xs (missed f) = tt
+  received-at : (v : ℤ) (k : ℕ) (xs : List Received) (ks : Aims) → Busy (receivedAt c (h .next) s v k xs ks .0)
+  received-at v k xs (hits ks) = tt
+  received-at v k xs (missed f) = tt
 
-  received-if : (v : ℤ) (xs : List Received) (z : Answer) → Busy (receivedIf c (h .next) s v xs z .0)
-  received-if v xs (Value z) = received-at v xs (targets c xs)
-  received-if v xs (Fails f) = tt
+  received-if : (v : ℤ) (xs : List Received) (z : Finding) → finds z ≡ true → Busy (receivedIf c (h .next) s v xs z .0)
+  received-if v xs (found k) e = received-at v k xs (targets c xs)
+  received-if v xs none e = absurd (true-false (inv e))
+  received-if v xs (spoilt f) e = tt
 
-  received : (xs : List Received) (r : Reach) → Busy (receivedBy c (h .next) s xs r .0)
-  received xs (channel v) = received-if v xs (agrees c v 0 xs)
-  received xs (astray f) = tt
+  received : (xs : List Received) (r : Reach) → receivable c xs r ≡ true → Busy (receivedBy c (h .next) s xs r .0)
+  received xs (channel v) e = received-if v xs (finding c v xs) e
+  received xs (astray f) e = tt
 
   printed : (vs : WorkedOut) → Busy (printedBy c (h .next) s vs .0)
   printed (all vs) = tt
@@ -83,20 +86,20 @@ module _ {S : Type 0} (c : Stage S) (h : Ways) (s : S) where
 
   pub busy : (a : Tree action) → takable c a ≡ true → Busy (effect c h s a .0)
   unfolding effect ready
-  busy (express e) k = expressed (eval (c .scene) e)
-  busy (assign r e) k = assigned (nameOf r) (eval (c .scene) e) (aim (c .scene) r)
-  busy (increment r) k = stepped (nameOf r) (pos 1) (aim (c .scene) r)
-  busy (decrement r) k = stepped (nameOf r) (negsuc 0) (aim (c .scene) r)
-  busy (send r es) k = sent (values (c .scene) es) (reach c r (length es))
-  busy (receive r xs) k = received xs (reach c r (length xs))
-  busy (assert e) k = asserted (eval (c .scene) e)
-  busy (print w es) k = printed (values (c .scene) es)
-  busy skip k = tt
-  busy (goto w) k = tt
-  busy break k = tt
-  busy timeout k = tt
-  busy else k = tt
-  busy (run w es) k = ran w (values (c .scene) es) (c .room w) k
-  busy (set-run r w es) k = set-ran (nameOf r) w (values (c .scene) es) (aim (c .scene) r) (c .room w) refl
+  busy (leaf (express e)) k = expressed (eval (c .scene) e)
+  busy (leaf (assign r e)) k = assigned (nameOf r) (eval (c .scene) e) (aim (c .scene) r)
+  busy (leaf (increment r)) k = stepped (nameOf r) (pos 1) (aim (c .scene) r)
+  busy (leaf (decrement r)) k = stepped (nameOf r) (negsuc 0) (aim (c .scene) r)
+  busy (leaf (send mk r es)) k = sent (values (c .scene) es) (reach c r (length es))
+  busy (leaf (receive mk r xs)) k = received xs (reach c r (length xs)) k
+  busy (leaf (assert e)) k = asserted (eval (c .scene) e)
+  busy (leaf (print w es)) k = printed (values (c .scene) es)
+  busy (leaf skip) k = tt
+  busy (leaf (goto w)) k = tt
+  busy (leaf break) k = tt
+  busy (leaf timeout) k = tt
+  busy (leaf else) k = tt
+  busy (leaf (run w es)) k = ran w (values (c .scene) es) (c .room w) k
+  busy (leaf (set-run r w es)) k = set-ran (nameOf r) w (values (c .scene) es) (aim (c .scene) r) (c .room w) refl
   busy (select os) k = absurd (true-false (inv k))
   busy (loop os) k = absurd (true-false (inv k))

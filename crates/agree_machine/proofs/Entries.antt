@@ -28,11 +28,11 @@ use Rattle.spec_machine.specs.Begins.{initial}
 use Rattle.state_encode.specs.Encode.{encode}
 use Rattle.spec_machine.specs.Places.{Belongs}
 use Rattle.spec_machine.specs.Fits.{Fits}
-use Rattle.spec_machine.specs.Machine.{Machine, Step, late, offered, verdict, asked}
+use Rattle.spec_machine.specs.Machine.{Machine, Step, late, offered, advance, verdict, asked}
 use Rattle.spec_trails.specs.Runs.{Ending, runFrom}
 use Rattle.spec_trails.specs.Replays.{Claim, claimBy, Replayed, replayFrom}
 use Rattle.spec_machine.specs.Steps.{machineOf}
-use Rattle.agree_transfer.proofs.Machines.{offered-same, verdict-same, run-same, replay-same}
+use Rattle.agree_transfer.proofs.Machines.{offered-same, verdict-same, advance-same, run-same, replay-same}
 use Rattle.step_all.specs.Moving.{machineIn, nthIn, verdictAs}
 use Rattle.agree_states.proofs.Cells.{encode-long}
 use Rattle.agree_states.proofs.Texts.{text-held-state, text-starts, text-initially}
@@ -116,10 +116,10 @@ module _ (ts : List ℕ) (big : tablesRoom ≤ length ts) (real : genuine ts ≡
         ∙ ap (λ (s : List ℤ). (ran.Ended (endingAs (runFrom MP n σ .ending)) (runFrom MP n σ .count), s)) (r .2 .is)
 
     -- what a step that is asked for leaves fits
-    pub keeps : (p k : ℕ) (x : Step) → asked (machineOf (a .tree)) p k (offered (machineOf (a .tree)) σ) ≡ some x → Fits (Belongs (a .tree)) (a .tree) (machineOf (a .tree) .take σ (x .process) (x .place) .1)
+    pub keeps : (p k : ℕ) (x : Step) → asked (machineOf (a .tree)) p k (offered (machineOf (a .tree)) σ) ≡ some x → Fits (Belongs (a .tree)) (a .tree) (advance (machineOf (a .tree)) σ x .1)
     keeps p k x e =
         let l = asked-listed MP σ p k x e in
-        text-same t a rest .take holding (late MP σ) (x .process) (x .place) (l .0) (l .1) .1 .fits
+        advance-same (Holds t a rest) MP (machineIn T) (text-same t a rest) holding (late MP σ) x (l .0) (l .1) .1 .fits
 
     -- what a run leaves fits
     pub run-fits : (n : ℕ) → Fits (Belongs (a .tree)) (a .tree) (runFrom (machineOf (a .tree)) n σ .state)

@@ -14,7 +14,7 @@ use Rattle.base_bytes.proofs.Tests.{true-false, both-true}
 use Rattle.text_pieces.specs.Bytes.{isEscape}
 use Rattle.text_spacing_proof.specs.Spelled.{Between, empty, plain, escape}
 use Rattle.spec_text.specs.Formats.{moveOf, formatFrom, formatOf}
-use Rattle.spec_grammar.specs.Tree.{action, Tree, express, assign, increment, decrement, send, receive, assert, print, skip, goto, break, timeout, else, run, set-run, select, loop}
+use Rattle.spec_grammar.specs.Tree.{action, Tree, leaf, express, assign, increment, decrement, send, receive, assert, print, skip, goto, break, timeout, else, run, set-run, select, loop}
 use Rattle.spec_text.specs.Formats.{decimalOf, escaped, formatted, opened, counted}
 use Rattle.spec_rules.specs.Expressions.{whole}
 use Rattle.spec_rules.specs.Statements as statements
@@ -164,24 +164,24 @@ module _ (vs : List ℤ) where
 -- WHAT A LAWFUL STATEMENT PRINTS is short
 pub prints-short : {S : Type 0} (c : Stage S) (at : Place) (l f : Bool) (x : Tree action) → allowed at l f x ≡ true → Worded x → length (prints c x) ≤ 100
 unfolding allowed
-prints-short c at l f (express e) h g = omega arith
-prints-short c at l f (assign r e) h g = omega arith
-prints-short c at l f (increment r) h g = omega arith
-prints-short c at l f (decrement r) h g = omega arith
-prints-short c at l f (send r es) h g = omega arith
-prints-short c at l f (receive r xs) h g = omega arith
-prints-short c at l f (assert e) h g = omega arith
-prints-short c at l f (print w es) h g = go (values (c .scene) es)
+prints-short c at l f (leaf (express e)) h g = omega arith
+prints-short c at l f (leaf (assign r e)) h g = omega arith
+prints-short c at l f (leaf (increment r)) h g = omega arith
+prints-short c at l f (leaf (decrement r)) h g = omega arith
+prints-short c at l f (leaf (send mk r es)) h g = omega arith
+prints-short c at l f (leaf (receive mk r xs)) h g = omega arith
+prints-short c at l f (leaf (assert e)) h g = omega arith
+prints-short c at l f (leaf (print w es)) h g = go (values (c .scene) es)
   where
     go : (vs : WorkedOut) → length (textBy w vs) ≤ 100
     go (all vs) = text-most vs at w (length es) (g .0) (g .1) (both-true (formats at w (length es)) (statements.all (whole (sense at)) es) h .0)
     go (stopped f) = omega arith
-prints-short c at l f skip h g = omega arith
-prints-short c at l f (goto w) h g = omega arith
-prints-short c at l f break h g = omega arith
-prints-short c at l f timeout h g = omega arith
-prints-short c at l f else h g = omega arith
-prints-short c at l f (run w es) h g = omega arith
-prints-short c at l f (set-run r w es) h g = omega arith
+prints-short c at l f (leaf skip) h g = omega arith
+prints-short c at l f (leaf (goto w)) h g = omega arith
+prints-short c at l f (leaf break) h g = omega arith
+prints-short c at l f (leaf timeout) h g = omega arith
+prints-short c at l f (leaf else) h g = omega arith
+prints-short c at l f (leaf (run w es)) h g = omega arith
+prints-short c at l f (leaf (set-run r w es)) h g = omega arith
 prints-short c at l f (select os) h g = omega arith
 prints-short c at l f (loop os) h g = omega arith

@@ -28,7 +28,8 @@ use Rattle.keep_tables.specs.Held.{Held}
 use Rattle.keep_tables.proofs.Tables.{codesAt, saidAt, text-held}
 use Rattle.keep_tables.proofs.Known.{text-facts}
 use Rattle.keep_tables.proofs.Marks.{stop-of}
-use Rattle.spec_machine.specs.Program.{sizeIn, Within, itself, in-if, in-do, unlabelled, behind-label, in-first, in-rest, in-option, in-others, Holds, startIn, endIn, sequenceOf}
+use Rattle.spec_machine.specs.Sizes.{sizeIn}
+use Rattle.spec_machine.specs.Program.{Within, itself, in-if, in-do, unlabelled, behind-label, in-first, in-rest, in-option, in-others, Holds, startIn, endIn, sequenceOf}
 use Rattle.agree_control.proofs.Begins.{dull-last, dull-declarations, statement-from}
 use Rattle.agree_control.proofs.Bodies.{Whole, unit-whole}
 use Rattle.agree_control.proofs.Follows.{statement-last, Here, here-if, here-do, here-bare, here-labelled, here-first, here-rest, here-option, here-others}
@@ -42,6 +43,7 @@ use Rattle.state_encode.proofs.Units.{unit-holds}
 use Rattle.agree_transfer.proofs.Statements.{within-range}
 use Rattle.agree_states.specs.Charted.{Placed}
 use Rattle.agree_states.proofs.Held.{code-inside}
+use Rattle.agree_sizes.proofs.Sizes.{size-declarations, size-tree}
 
 codes : (isMark c-body ≡ true) × (isMark c-label ≡ true) × (isMark c-option ≡ true)
 unfolding isPart
@@ -75,7 +77,9 @@ module _ (cs : List ℕ) where
       let a = length-append (D ++ code-tree q) (i-end-body ∷ []) in
       let b = length-append D (code-tree q) in
       let all = w .all in
-      let s = k + 1 + length D in
+      let s = startIn (body ds q) k in
+      let y = size-declarations ds in
+      let z = size-tree q in
       let front = at-front cs (suc k) (D ++ code-tree q) (i-end-body ∷ []) (w .stands .1) in
       let known = known-front (D ++ code-tree q) (i-end-body ∷ []) (w .known .1) in
       let d = dull-declarations ds (known-front D (code-tree q) known) in (
@@ -90,6 +94,8 @@ module _ (cs : List ℕ) where
       let b = length-append D (code-tree q) in
       let all = w .all in
       let p = w .place in
+      let y = size-declarations ds in
+      let z = size-tree q in
       (omega arith, omega arith, refl)
 
 module _ (t : List ℕ) (a : Accepts t) where

@@ -1,5 +1,5 @@
 -- WHAT A STEP PRINTS: for an accepted text, a step that is offered prints by its tables what it prints by its tree (`text-printed`), at most 100 bytes (`text-short`); and something comes of it (`text-busy`).
-use Prim.Native.Nat.{ℕ, suc, _+_, _≤_, _<_}
+use Prim.Native.Nat.{ℕ, _+_, _≤_, _<_}
 use native.Mathlib.Omega.{arith}
 use mathlib.Core.Path.{_≡_, refl, sym as inv, ap, _∙_, subst}
 use mathlib.Core.Bool.{Bool, true, false}
@@ -15,7 +15,8 @@ use Rattle.read_accepts_proof.specs.Meaning.{Accepts}
 use Rattle.step_prints.specs.Printing.{printedAt}
 use Rattle.spec_rules.specs.Statements.{allowed}
 use Rattle.spec_rules.specs.Units.{ofModel, partsLawful, mtypesIn, initsIn, tally, modelLawful}
-use Rattle.spec_machine.specs.Program.{sizeIn, startIn, endIn, labelIn, sequenceOf, Statement}
+use Rattle.spec_machine.specs.Sizes.{sizeIn}
+use Rattle.spec_machine.specs.Program.{startIn, endIn, labelIn, sequenceOf, Statement}
 use Rattle.agree_stage.specs.Tables.{stageIn}
 use Rattle.agree_eval.specs.Names.{declAt}
 use Rattle.agree_effects.specs.Stages as doing
@@ -25,7 +26,7 @@ use Rattle.spec_machine.specs.State.{State, noProcess}
 use Rattle.spec_machine.specs.Names.{unitAt}
 use Rattle.spec_machine.specs.Begins.{itemsBefore, bodyOf}
 use Rattle.spec_machine.specs.Plain.{plainStage}
-use Rattle.agree_transfer.specs.Alike.{In, first, behind}
+use Rattle.agree_transfer.specs.Alike.{In, first}
 use Rattle.spec_machine.specs.Steps.{waysOf, stepsBy, takeBy, printBy, stepsOf, takeOf, printOf}
 use Rattle.state_encode.specs.Encode.{headOf, encode}
 use Rattle.spec_machine.specs.Places.{Bodied, bodyAt, startOf, endOf, At, Belongs, ends, stands, settingOf}

@@ -27,18 +27,21 @@ use Rattle.legal_declarations.proofs.Judging.{hs, last-here, last-skip, last-ov
 use Rattle.legal_declarations.proofs.Variables.{low-one, After}
 use Rattle.legal_declarations.proofs.Declarations.{after-groups, after-declarations}
 use Rattle.legal_declarations.proofs.Bodies.{Frame, frame-behind, home-in}
+use Rattle.spec_machine.specs.Sizes as sizes
+use Rattle.spec_machine.specs.Sizes.{sizeIn, sizeSize, sizeVariable, sizeDeclaration, sizeGroup, sizeActivity, sizePart}
+use Rattle.agree_sizes.proofs.Sizes.{size-size, size-variable, size-declaration, size-declarations, size-group, size-groups, size-activity, size-part}
 use Rattle.spec_machine.specs.Names.{Var, ofVariable, ofParameter, globalIn, messageIn, unitAt}
 use Rattle.spec_machine.specs.Begins.{itemsBefore, bodyIn, bodyOf}
 use Rattle.state_encode.specs.Encode.{headIn}
 use Rattle.spec_machine.specs.Places.{Bodied}
 use Rattle.state_encode.specs.Tabled.{totalOf}
-use Rattle.spec_machine.specs.Program.{sizeIn, startIn, endIn}
+use Rattle.spec_machine.specs.Program.{startIn, endIn}
 use Rattle.agree_names.specs.Entries.{slot, Entry, entriesIn}
 use Rattle.agree_names.proofs.Scopes.{Declares, Quiet, Scoped, scoped-start, numbers-next, quiet-numbers, good-adds, starts}
 use Rattle.agree_names.proofs.Ends.{free-after}
 use Rattle.agree_names.proofs.Declared.{sets, type-at, one-number, size-is}
 use Rattle.legal_declarations.proofs.Variables.{low-three}
-use Rattle.agree_names.proofs.Units.{flat, inner-declarations, body-long, unit-behind, first-stands}
+use Rattle.agree_names.proofs.Units.{flat, inner-declarations, unit-behind, first-stands}
 use Rattle.agree_states.proofs.Sites.{some-items}
 use Rattle.agree_states.specs.Sites.{Site, sitesOf, sitesIn, localSites, nameSites, groupIn, groupSites, unitSites, globalHere, globalSites}
 
@@ -153,9 +156,11 @@ module _ (m : Model) (cs vs : List ℕ) (S : Says m cs vs) where
         let X = code-variable (variable w s v) in
         let E = each code-variable us in
         let sizes : length (X ++ E) ≡ length X + length E = length-append X E in
-        let k2 = k + length X in
+        let sx = size-variable (variable w s v) in
+        let ss = size-size s in
+        let k2 = k + sizeVariable (variable w s v) in
         let sv : length (code-size s ++ code-value v) ≡ length (code-size s) + length (code-value v) = length-append (code-size s) (code-value v) in
-        let r = lies-back xs X E k k2 refl y in
+        let r = lies-back xs X E k k2 (omega arith) y in
         let f = lies-front xs k X E y in
         let aft = after-variables us k2 r (subst (After m cs vs S) (let z : e ≡ k2 + length E = omega arith in z) a) in
         let ends : k2 ≡ suc (suc k) + length (code-size s ++ code-value v) = omega arith in
@@ -172,7 +177,7 @@ module _ (m : Model) (cs vs : List ℕ) (S : Says m cs vs) where
           all = (
             record {
               declares = subst (λ i. Declares cs vs H h i (ofVariable t (variable w s v)) o) (let z : suc k ≡ k + 1 = omega arith in z) (one .declares);
-              value = lies-back xs (code-size s) (code-value v) (suc (suc k)) (k + 2 + length (code-size s)) (omega arith) (f .2 .2);
+              value = lies-back xs (code-size s) (code-value v) (suc (suc k)) (k + 2 + sizeSize s) (omega arith) (f .2 .2);
               from = λ z. omega arith;
               to = λ z. omega arith;
               inner = λ j g u. home j (omega arith) (omega arith);
@@ -237,9 +242,10 @@ module _ (m : Model) (cs vs : List ℕ) (S : Says m cs vs) where
         let X = code-declaration i-local (declare t us) in
         let E = each (code-declaration i-local) ds in
         let sizes : length (X ++ E) ≡ length X + length E = length-append X E in
-        let k2 = k + length X in
-        let back = lies-back xs X E k k2 refl y in
-        let W = declaration-walk i-local c-local t us k k2 o refl (sets .4) (sets .7) refl b (omega arith) (lies-front xs k X E y)
+        let sx = size-declaration i-local (declare t us) in
+        let k2 = k + sizeDeclaration (declare t us) in
+        let back = lies-back xs X E k k2 (omega arith) y in
+        let W = declaration-walk i-local c-local t us k k2 o refl (sets .4) (sets .7) (omega arith) b (omega arith) (lies-front xs k X E y)
         (after-declarations m cs vs S ds k2 back (subst (After m cs vs S) (let z : e ≡ k2 + length E = omega arith in z) a)) n in
         walk-join h lo hi (sitesIn (declare t us) k) (localSites ds k2) e o (W .all) (declarations-walk ds k2 e (o + sizesOf (sitesIn (declare t us) k)) (omega arith) (omega arith) d back a (W .numbers))
 
@@ -251,9 +257,10 @@ module _ (m : Model) (cs vs : List ℕ) (S : Says m cs vs) where
         let X = code-group (group t ws) in
         let G = each code-group gs in
         let sizes : length (X ++ G) ≡ length X + length G = length-append X G in
-        let k3 = k + length X in
+        let sx = size-group (group t ws) in
+        let k3 = k + sizeGroup (group t ws) in
         let front = lies-front xs k X G y in
-        let back = lies-back xs X G k k3 refl y in
+        let back = lies-back xs X G k k3 (omega arith) y in
         let T = type-at m cs vs S k t (y .0) (y .1) in
         let cg = code-is m cs vs S (suc k) i-group (y .2 .0) (y .2 .1) in
         let W = parameters-walk t h lo hi k home top (T .0) (T .1) (T .2) ws (suc (suc k)) k3 o (omega arith) (omega arith) (omega arith) (front .2 .2) (last-here m cs vs S 3 (suc k) (ap (among 3) cg ∙ sets .9))
@@ -304,78 +311,79 @@ module _ (m : Model) (cs vs : List ℕ) (S : Says m cs vs) where
         bare [] i o a = tt
         bare (group k ws ∷ gs) i o a =
             let G = nameSites k ws (i + 2) in
-            let R = groupSites gs (i + length (code-group (group k ws))) in
+            let R = groupSites gs (i + sizeGroup (group k ws)) in
             let q = part G R o a in
-            all-join (suc u) b f G R o (names k ws (i + 2) o (q .0)) (bare gs (i + length (code-group (group k ws))) (o + sizesOf G) (q .1))
+            all-join (suc u) b f G R o (names k ws (i + 2) o (q .0)) (bare gs (i + sizeGroup (group k ws)) (o + sizesOf G) (q .1))
 
   -- of unit x, whose items begin at item j
   pub unit-sited : (x : Part) (j : ℕ) → Bodied x → Frame m cs vs S (headIn x j) (bodyIn x j) (startIn (bodyOf x) (bodyIn x j)) (endIn (bodyOf x) (bodyIn x j)) → Lies xs j (code-part x)
-      → After m cs vs S (j + length (code-part x)) → AllSited (suc (headIn x j)) (bodyIn x j) (startIn (bodyOf x) (bodyIn x j)) (unitSites x j) 0
+      → After m cs vs S (j + sizePart x) → AllSited (suc (headIn x j)) (bodyIn x j) (startIn (bodyOf x) (bodyIn x j)) (unitSites x j) 0
   unit-sited (mtypes ws) j bo F y after = absurd bo
   unit-sited (global d) j bo F y after = absurd bo
   unit-sited (process a w gs (body ds q)) j bo F y after =
       let A = code-activity a w in
       let G = each code-group gs in
-      let D = each (code-declaration i-local) ds in
       let X = code-body (body ds q) in
       let s1 : length (A ++ G) ≡ length A + length G = length-append A G in
-      let s2 : length ((A ++ G) ++ X) ≡ length (A ++ G) + length X = length-append (A ++ G) X in
-      let s3 = body-long m cs vs S ds q in
-      let u = j + length A - 1 in
-      let b = j + length A + length G in
-      let f = b + 1 + length D in
+      let s2 = size-activity a w in
+      let s3 = size-groups gs in
+      let s4 = size-declarations ds in
+      let u = j + sizeActivity a - 1 in
+      let b = j + sizeActivity a + sizes.sum sizeGroup gs in
+      let f = b + 1 + sizes.sum sizeDeclaration ds in
       let t = f + sizeIn q in
       let i0 = F .parts in
-      let la = some-items a w in
-      let z1 : suc (j + length A - 1) ≡ j + length A = omega arith in
-      let aft = subst (After m cs vs S) (let z : j + length ((A ++ G) ++ X) ≡ suc t = omega arith in z) after in
+      let la = some-items a in
+      let z1 : suc (j + sizeActivity a - 1) ≡ j + sizeActivity a = omega arith in
+      let aft = subst (After m cs vs S) (let z : j + sizePart (process a w gs (body ds q)) ≡ suc t = omega arith in z) after in
       let yb = lies-back xs (A ++ G) X j b (omega arith) y in
       let r = own-sites u b f t F (frame-behind m cs vs S u b f t F (aft .0)) gs ds (omega arith) (omega arith) (lies-back xs A G j (suc u) (omega arith) (lies-front xs j (A ++ G) X y))
       (inner-declarations m cs vs S ds q b yb) in
       subst (λ i. AllSited (suc u) b f (groupSites gs i ++ localSites ds (b + 1)) 0) z1
       (subst (λ i. AllSited (suc u) b f (groupSites gs (suc u) ++ localSites ds i) 0) (let z : suc b ≡ b + 1 = omega arith in z) r)
   unit-sited (init (body ds q)) j bo F y after =
-      let D = each (code-declaration i-local) ds in
-      let s3 = body-long m cs vs S ds q in
+      let s4 = size-declarations ds in
       let b = j + 1 in
-      let f = b + 1 + length D in
+      let f = b + 1 + sizes.sum sizeDeclaration ds in
       let t = f + sizeIn q in
       let yb : Lies xs b (code-body (body ds q)) = subst (λ i. Lies xs i (code-body (body ds q))) (let z : suc j ≡ j + 1 = omega arith in z) (y .2) in
-      let aft = subst (After m cs vs S) (let z : j + suc (length (code-body (body ds q))) ≡ suc t = omega arith in z) after in
+      let aft = subst (After m cs vs S) (let z : j + sizePart (init (body ds q)) ≡ suc t = omega arith in z) after in
       let r = own-sites j b f t F (frame-behind m cs vs S j b f t F (aft .0)) [] ds (omega arith) (omega arith) tt (inner-declarations m cs vs S ds q b yb) in
       subst (λ i. AllSited (suc j) b f (localSites ds i) 0) (let z : suc b ≡ b + 1 = omega arith in z) r
 
   -- where the items of a unit stand, and what stands behind it
   units-stand : (n : Model) (front : List Item) (j k i : ℕ) → xs ≡ front ++ code n → j ≡ length front → i ≡ j + itemsBefore n k → Bodied (unitAt n k)
-      → Lies xs i (code-part (unitAt n k)) × After m cs vs S (i + length (code-part (unitAt n k)))
+      → Lies xs i (code-part (unitAt n k)) × After m cs vs S (i + sizePart (unitAt n k))
   unfolding itemsBefore
   units-stand [] front j k i split at ei b = absurd b
   units-stand (x ∷ n) front j zero i split at ei b =
       let r = first-stands m cs vs S x n front j split at in
-      subst (λ i. Lies xs i (code-part x) × After m cs vs S (i + length (code-part x))) (let z : j ≡ i = omega arith in z) (r .0, free-after m cs vs S (j + length (code-part x)) (r .2))
+      subst (λ i. Lies xs i (code-part x) × After m cs vs S (i + sizePart x)) (let z : j ≡ i = omega arith in z) (r .0, free-after m cs vs S (j + sizePart x) (r .2))
   units-stand (x ∷ n) front j (suc k) i split at ei b =
       let s3 : length (front ++ code-part x) ≡ length front + length (code-part x) = length-append front (code-part x) in
-      units-stand n (front ++ code-part x) (j + length (code-part x)) k i (split ∙ inv (append-assoc front (code-part x) (code n))) (omega arith) (omega arith) b
+      let s4 = size-part x in
+      units-stand n (front ++ code-part x) (j + sizePart x) k i (split ∙ inv (append-assoc front (code-part x) (code n))) (omega arith) (omega arith) b
 
-  pub unit-there : (k : ℕ) → Bodied (unitAt m k) → Lies (code m) (itemsBefore m k) (code-part (unitAt m k)) × After m cs vs S (itemsBefore m k + length (code-part (unitAt m k)))
+  pub unit-there : (k : ℕ) → Bodied (unitAt m k) → Lies (code m) (itemsBefore m k) (code-part (unitAt m k)) × After m cs vs S (itemsBefore m k + sizePart (unitAt m k))
   unit-there k b = units-stand m [] 0 k (itemsBefore m k) refl refl (omega arith) b
 
   -- ---- the globals
-  here-walk : (x : Part) (j o : ℕ) → Lies xs j (code-part x) → j + length (code-part x) ≤ length cs → After m cs vs S (j + length (code-part x)) → insideOf cs j ≡ 0 → N 0 j ≡ o
+  here-walk : (x : Part) (j o : ℕ) → Lies xs j (code-part x) → j + sizePart x ≤ length cs → After m cs vs S (j + sizePart x) → insideOf cs j ≡ 0 → N 0 j ≡ o
       → AllSited 0 0 (length cs) (globalHere x j) o × (sizesOf (globalHere x j) ≡ totalOf (globalIn x))
   here-walk (mtypes ws) j o y top after ins n = (tt, refl)
   here-walk (global (declare t us)) j o y top after ins n =
-      let e = j + length (code-part (global (declare t us))) in
+      let e = j + sizePart (global (declare t us)) in
+      let sz = size-part (global (declare t us)) in
       let lg = long m cs vs S in
       let fl = flat m cs vs S j e ins (omega arith) top (λ i u v. (let w = settled-at m cs vs S i (omega arith) (lies-all xs settled (code-declaration i-global (declare t us)) j y
       (all-declaration i-global global-settled (declare t us)) i u (omega arith)) .0 in
       omega arith)) in
-      let W = declaration-walk 0 j e (fl .0) top i-global c-global t us j e o refl (sets .5) (sets .8) refl (omega arith) (omega arith) y after n in
+      let W = declaration-walk 0 j e (fl .0) top i-global c-global t us j e o refl (sets .5) (sets .8) (omega arith) (omega arith) (omega arith) y after n in
       (wider 0 j e 0 (length cs) (omega arith) top (sitesIn (declare t us) j) o (W .all), totals t us (j + 2))
     where
       totals : (t : ℕ) (us : List Variable) (i : ℕ) → sizesOf (sitesOf t us i) ≡ totalOf (globalIn (global (declare t us)))
       totals t [] i = refl
-      totals t (variable w s v ∷ us) i = ap (λ n. sizeOf s + n) (totals t us (i + length (code-variable (variable w s v))))
+      totals t (variable w s v ∷ us) i = ap (λ n. sizeOf s + n) (totals t us (i + sizeVariable (variable w s v)))
   here-walk (process a w gs b) j o y top after ins n = (tt, refl)
   here-walk (init b) j o y top after ins n = (tt, refl)
 
@@ -385,13 +393,14 @@ module _ (m : Model) (cs vs : List ℕ) (S : Says m cs vs) where
   units-walk (x ∷ n) front E j o c split at sc ins =
       let r = first-stands m cs vs S x n front j split at in
       let X = code-part x in
-      let af = free-after m cs vs S (j + length X) (r .2) in
+      let sx = size-part x in
+      let af = free-after m cs vs S (j + sizePart x) (r .2) in
       let p = o + totalOf (globalIn x) in
       let b = unit-behind m cs vs S E j o c x (r .0) (r .1) af sc ins in
       let s3 : length (front ++ X) ≡ length front + length X = length-append front X in
       let h = here-walk x j o (r .0) (r .1) af ins (sc .numbers) in
-      let w = units-walk n (front ++ X) (E ++ entriesIn j o c x) (j + length X) p (c + length (messageIn x)) (split ∙ inv (append-assoc front X (code n))) (omega arith) (b .0) (b .1) in
-      all-join 0 0 (length cs) (globalHere x j) (globalSites n (j + length X)) o (h .0) (subst (λ i. AllSited 0 0 (length cs) (globalSites n (j + length X)) (o + i)) (inv (h .1)) w)
+      let w = units-walk n (front ++ X) (E ++ entriesIn j o c x) (j + sizePart x) p (c + length (messageIn x)) (split ∙ inv (append-assoc front X (code n))) (omega arith) (b .0) (b .1) in
+      all-join 0 0 (length cs) (globalHere x j) (globalSites n (j + sizePart x)) o (h .0) (subst (λ i. AllSited 0 0 (length cs) (globalSites n (j + sizePart x)) (o + i)) (inv (h .1)) w)
 
   pub globals-sited : AllSited 0 0 (length cs) (globalSites m 0) 0
   globals-sited = units-walk m [] [] 0 0 0 refl refl (scoped-start m cs vs H S 0) (inside-none cs)

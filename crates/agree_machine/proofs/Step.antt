@@ -13,11 +13,10 @@ use Rattle.base_bytes.specs.Choice.{pick}
 use Rattle.step_prints.specs.Printing.{Pen, pen, puts}
 use Rattle.base_outcome.specs.declared.Taken.{Taken}
 use Rattle.base_outcome.specs.declared.Taken.the-variants.{Done, Refuted, Faulted, Idle}
-use Rattle.spec_grammar.specs.Tree.{action, Tree, express, assign, increment, decrement, send, receive, assert, print, skip, goto, break, timeout, else, run, set-run, select, loop, Model}
+use Rattle.spec_grammar.specs.Tree.{action, Tree, leaf, express, assign, increment, decrement, send, receive, assert, print, skip, goto, break, timeout, else, run, set-run, select, loop, Model}
 use Rattle.read_passes.specs.Judging.{tablesText}
 use Rattle.read_accepts_proof.specs.Meaning.{Accepts}
 use Rattle.table_genuine.specs.Genuine.{written, genuine}
-use Rattle.step_take.specs.Effects.{takenOf}
 use Rattle.step_entry.specs.Entries.{Outcome, tookBy, refusedBy, outcomeBy, askedIn, stepRefusal, outcomeOf}
 use Rattle.spec_machine.specs.Stage.{Stage, Ways}
 use Rattle.spec_machine.specs.Arguments.{WorkedOut, all, stopped, values}
@@ -26,13 +25,16 @@ use Rattle.spec_machine.specs.State.{State}
 use Rattle.state_encode.specs.Encode.{encode}
 use Rattle.spec_machine.specs.Places.{Belongs}
 use Rattle.spec_machine.specs.Fits.{Fits}
-use Rattle.spec_machine.specs.Machine.{Machine, Step, late, offered, asked}
-use Rattle.spec_machine.specs.Steps.{waysOf, takeBy, printBy, takeOf, printOf, machineOf}
+use Rattle.spec_machine.specs.Machine.{Machine, Step, late, offered, advance, asked}
+use Rattle.spec_machine.specs.Steps.{waysOf, takeBy, printBy, stepsOf, takeOf, printOf, machineOf}
 use Rattle.step_all.specs.Moving.{machineIn}
 use Rattle.agree_states.proofs.Texts.{text-single}
-use Rattle.agree_machine.proofs.Survey.{text-modest, text-surveyed, text-same}
+use Rattle.agree_machine.proofs.Survey.{text-modest, text-surveyed, Holds, text-same}
 use Rattle.agree_machine.proofs.Asked.{asked-listed}
-use Rattle.step_take.proofs.Still.{Still, taken-still}
+use Rattle.step_take.proofs.Still.{Still}
+use Rattle.step_all.proofs.Laws.{advance-still}
+use Rattle.agree_transfer.proofs.Machines.{advance-same}
+use Rattle.agree_tables.proofs.Main.{in-alone}
 use Rattle.agree_machine.proofs.Prints.{text-printed, text-short}
 use Rattle.agree_machine.proofs.Fitted.{text-fits}
 use Rattle.agree_machine.proofs.Entries.{none-refused, holding, same-offered}
@@ -55,35 +57,39 @@ hush Idle = refl
 module _ {S : Type 0} (c : Stage S) (h : Ways) (s : S) where
   silent : (x : Tree action) → Silent (effect c h s x .0) (prints c x)
   unfolding effect
-  silent (express e) = hush (effect c h s (express e) .0)
-  silent (assign r e) = hush (effect c h s (assign r e) .0)
-  silent (increment r) = hush (effect c h s (increment r) .0)
-  silent (decrement r) = hush (effect c h s (decrement r) .0)
-  silent (send r es) = hush (effect c h s (send r es) .0)
-  silent (receive r xs) = hush (effect c h s (receive r xs) .0)
-  silent (assert e) = hush (effect c h s (assert e) .0)
-  silent (print w es) = go (values (c .scene) es)
+  silent (leaf (express e)) = hush (effect c h s (leaf (express e)) .0)
+  silent (leaf (assign r e)) = hush (effect c h s (leaf (assign r e)) .0)
+  silent (leaf (increment r)) = hush (effect c h s (leaf (increment r)) .0)
+  silent (leaf (decrement r)) = hush (effect c h s (leaf (decrement r)) .0)
+  silent (leaf (send mk r es)) = hush (effect c h s (leaf (send mk r es)) .0)
+  silent (leaf (receive mk r xs)) = hush (effect c h s (leaf (receive mk r xs)) .0)
+  silent (leaf (assert e)) = hush (effect c h s (leaf (assert e)) .0)
+  silent (leaf (print w es)) = go (values (c .scene) es)
     where
       go : (vs : WorkedOut) → Silent (printedBy c (h .next) s vs .0) (textBy w vs)
       go (all vs) = tt
       go (stopped f) = refl
-  silent skip = tt
-  silent (goto w) = tt
-  silent break = tt
-  silent timeout = tt
-  silent else = tt
-  silent (run w es) = hush (effect c h s (run w es) .0)
-  silent (set-run r w es) = hush (effect c h s (set-run r w es) .0)
+  silent (leaf skip) = tt
+  silent (leaf (goto w)) = tt
+  silent (leaf break) = tt
+  silent (leaf timeout) = tt
+  silent (leaf else) = tt
+  silent (leaf (run w es)) = hush (effect c h s (leaf (run w es)) .0)
+  silent (leaf (set-run r w es)) = hush (effect c h s (leaf (set-run r w es)) .0)
   silent (select os) = refl
   silent (loop os) = refl
 
-pub take-silent : (m : Model) (σ : State) (p q : ℕ) → Silent (takeOf m σ p q .0) (printOf m σ p q)
+take-silent : (m : Model) (σ : State) (p q : ℕ) → Silent (takeOf m σ p q .0) (printOf m σ p q)
 unfolding takeOf printOf
 take-silent m σ p q = go (steps.standing m σ p q)
   where
     go : (f : steps.Found) → Silent (takeBy m σ p f .0) (printBy m σ p f)
     go steps.nothing = refl
     go (steps.found a n o) = silent (steps.stageOf m σ p) (waysOf m σ p n o) σ a
+
+pub advance-silent : (m : Model) (σ : State) (x : Step) → Silent (advance (machineOf m) σ x .0) (machineOf m .printed σ x)
+unfolding advance
+advance-silent m σ x = take-silent m σ (x .process) (x .place)
 
 -- the outcome of what came of a step, the numbers after it and the bytes as far as written
 abbrev leaves : Taken → List ℤ → Pen → Outcome
@@ -112,13 +118,12 @@ module _ (ts : List ℕ) (big : tablesRoom ≤ length ts) (real : genuine ts ≡
 
     -- a step that fails, or does nothing, leaves the state
     pub step-still : (p k : ℕ) (x : Step) → asked (machineOf (a .tree)) p k (offered (machineOf (a .tree)) σ) ≡ some x
-        → Still σ (machineOf (a .tree) .take σ (x .process) (x .place) .0) (machineOf (a .tree) .take σ (x .process) (x .place) .1)
+        → Still σ (advance (machineOf (a .tree)) σ x .0) (advance (machineOf (a .tree)) σ x .1)
     step-still p k x e =
-        let i = x .process in
-        let j = x .place in
         let l = asked-listed MP σ p k x e in
-        let R = text-same t a rest .take (holding ts big real t a own σ rest f) (late MP σ) i j (l .0) (l .1) in
-        still-by (takeOf m σ i j .0) (takeOf m σ i j .1) (takenOf T i j E .1) (R .1 .fits) (R .1 .is) (subst (λ y. Still E y (takenOf T i j E .1)) (inv (R .0)) (taken-still E T i j))
+        let R = advance-same (Holds t a rest) MP (machineIn T) (text-same t a rest) (holding ts big real t a own σ rest f) (late MP σ) x (l .0) (l .1) in
+        let N = advance (machineIn T) E x in
+        still-by (advance MP σ x .0) (advance MP σ x .1) (N .1) (R .1 .fits) (R .1 .is) (subst (λ y. Still E y (N .1)) (inv (R .0)) (advance-still T E x))
       where
         still-by : (k : Taken) (τ : State) (s : List ℤ) → Fits (Belongs m) m τ → s ≡ encode m τ ++ rest → Still E k s → Still σ k τ
         still-by Done τ s g e q = tt
@@ -145,9 +150,9 @@ module _ (ts : List ℕ) (big : tablesRoom ≤ length ts) (real : genuine ts ≡
       abbrev pub taken : Step → Outcome
       taken x =
           record {
-            answer = tookBy (takeOf (a .tree) σ (x .process) (x .place) .0) (length (printOf (a .tree) σ (x .process) (x .place)));
-            state = encode (a .tree) (takeOf (a .tree) σ (x .process) (x .place) .1) ++ rest;
-            printed = printOf (a .tree) σ (x .process) (x .place) ++ drop (length (printOf (a .tree) σ (x .process) (x .place))) out;
+            answer = tookBy (advance (machineOf (a .tree)) σ x .0) (length (machineOf (a .tree) .printed σ x));
+            state = encode (a .tree) (advance (machineOf (a .tree)) σ x .1) ++ rest;
+            printed = machineOf (a .tree) .printed σ x ++ drop (length (machineOf (a .tree) .printed σ x)) out;
           }
 
       pub step-some : (x : Step) → asked (machineOf (a .tree)) p k (offered (machineOf (a .tree)) σ) ≡ some x → outcomeOf ts (encode (a .tree) σ ++ rest) p k out ≡ taken x
@@ -155,8 +160,9 @@ module _ (ts : List ℕ) (big : tablesRoom ≤ length ts) (real : genuine ts ≡
           let i = x .process in
           let j = x .place in
           let l = asked-listed MP σ p k x e in
-          let R = text-same t a rest .take (holding ts big real t a own σ rest f) (late MP σ) i j (l .0) (l .1) in
-          let w = text-short t a rest σ f i (l .0) (late MP σ) j (l .1) in
+          let h = in-alone (stepsOf m σ i (late MP σ)) (l .1) in
+          let R = advance-same (Holds t a rest) MP (machineIn T) (text-same t a rest) (holding ts big real t a own σ rest f) (late MP σ) x (l .0) (l .1) in
+          let w = text-short t a rest σ f i (l .0) (late MP σ) j h in
           let-through ∙ ap (λ o. outcomeBy o T E out) e
-          ∙ ap₂ (λ (y : Taken) (text : List ℕ). leaves y (takenOf T i j E .1) (puts text (pen out 0))) (inv (R .0)) (inv (text-printed t a rest σ f i (l .0) (late MP σ) j (l .1)))
-          ∙ ap₂ (λ (s : List ℤ) (n : Pen). leaves (takeOf m σ i j .0) s n) (R .1 .is) (text-fits (printOf m σ i j) out (omega arith))
+          ∙ ap₂ (λ (y : Taken) (text : List ℕ). leaves y (advance (machineIn T) E x .1) (puts text (pen out 0))) (inv (R .0)) (inv (text-printed t a rest σ f i (l .0) (late MP σ) j h))
+          ∙ ap₂ (λ (s : List ℤ) (n : Pen). leaves (advance MP σ x .0) s n) (R .1 .is) (text-fits (printOf m σ i j) out (omega arith))

@@ -15,8 +15,8 @@ use Rattle.text_spacing_proof.specs.Writing.{AllSound}
 use Rattle.text_spacing_proof.proofs.Tables.{mark-range, word-range}
 use Rattle.text_spacing_proof.proofs.Written.{tokens-sound}
 use Rattle.spec_grammar.specs.Marks.{'lpar, 'rpar, 'rbrace, 'fi, 'od, 'proctype}
-use Rattle.spec_grammar.specs.Tree.{Sort, action, Tree, express, assign, increment, decrement, send, receive, assert, print, skip, goto, break, timeout, else, run, set-run, select, loop, bare, labelled, end, then, over, option, Body, Part, process, init, Model}
-use Rattle.spec_grammar.specs.Grammar.{D, s-express, s-assign, s-increment, s-decrement, s-send, s-receive, s-assert, s-print-alone, s-print, s-skip, s-goto, s-break, s-timeout, s-else, s-run, s-set-run, s-if, s-do, s-bare, s-label, q-last, q-then, o-last, o-also, Items, statements, declared, A-body, a-body, A-unit, u-mtypes, u-global, u-process, u-init, Gram, g-last, g-more}
+use Rattle.spec_grammar.specs.Tree.{Sort, action, Tree, leaf, express, assign, increment, decrement, send, receive, assert, print, skip, goto, break, timeout, else, run, set-run, select, loop, bare, labelled, end, then, over, option, Body, Part, process, init, Model}
+use Rattle.spec_grammar.specs.Grammar.{D, s-leaf, s-express, s-assign, s-increment, s-decrement, s-send, s-receive, s-assert, s-print-alone, s-print, s-skip, s-goto, s-break, s-timeout, s-else, s-run, s-set-run, s-if, s-do, s-bare, s-label, q-last, q-then, o-last, o-also, Items, statements, declared, A-body, a-body, A-unit, u-mtypes, u-global, u-process, u-init, Gram, g-last, g-more}
 use Rattle.read_accepts_proof.specs.Meaning.{Accepts}
 use Rattle.spec_rules.specs.Statements.{all}
 use Rattle.spec_rules.specs.Ceilings.{narrow, light}
@@ -42,21 +42,21 @@ text-fair w (mark {k = k} {x = x} f) h e = absurd (omega (arith, mark-range x k 
 
 -- each printf has a format that is such a string, and few arguments
 abbrev pub Worded : {k : Sort} → Tree k → Type 0
-Worded (express e) = Unit {0}
-Worded (assign r e) = Unit {0}
-Worded (increment r) = Unit {0}
-Worded (decrement r) = Unit {0}
-Worded (send r es) = Unit {0}
-Worded (receive r xs) = Unit {0}
-Worded (assert e) = Unit {0}
-Worded (print w es) = Fair w × (length es ≤ printedMost)
-Worded skip = Unit {0}
-Worded (goto w) = Unit {0}
-Worded break = Unit {0}
-Worded timeout = Unit {0}
-Worded else = Unit {0}
-Worded (run w es) = Unit {0}
-Worded (set-run r w es) = Unit {0}
+Worded (leaf (express e)) = Unit {0}
+Worded (leaf (assign r e)) = Unit {0}
+Worded (leaf (increment r)) = Unit {0}
+Worded (leaf (decrement r)) = Unit {0}
+Worded (leaf (send mk r es)) = Unit {0}
+Worded (leaf (receive mk r xs)) = Unit {0}
+Worded (leaf (assert e)) = Unit {0}
+Worded (leaf (print w es)) = Fair w × (length es ≤ printedMost)
+Worded (leaf skip) = Unit {0}
+Worded (leaf (goto w)) = Unit {0}
+Worded (leaf break) = Unit {0}
+Worded (leaf timeout) = Unit {0}
+Worded (leaf else) = Unit {0}
+Worded (leaf (run w es)) = Unit {0}
+Worded (leaf (set-run r w es)) = Unit {0}
 Worded (select os) = Worded os
 Worded (loop os) = Worded os
 Worded (bare a) = Worded a
@@ -79,22 +79,22 @@ within-worded (in-others w) h = within-worded w (h .1)
 
 -- ---- the trees of texts
 worded : {k : Sort} {ts : List Token} {x : Tree k} → D k ts x → AllSound ts → narrow x ≡ true → Worded x
-worded (s-express e) h n = tt
-worded (s-assign r e) h n = tt
-worded (s-increment r) h n = tt
-worded (s-decrement r) h n = tt
-worded (s-send r es) h n = tt
-worded (s-receive r xs) h n = tt
-worded (s-assert e) h n = tt
-worded (s-print-alone {w = w}) h n = (text-fair w (h .1 .1 .0) refl refl, omega arith)
-worded (s-print {w = w} {es = es} d) h n = (text-fair w (h .1 .1 .0) refl refl, leb-true (length es) printedMost n)
-worded s-skip h n = tt
-worded s-goto h n = tt
-worded s-break h n = tt
-worded s-timeout h n = tt
-worded s-else h n = tt
-worded (s-run es) h n = tt
-worded (s-set-run r es) h n = tt
+worded (s-leaf (s-express e)) h n = tt
+worded (s-leaf (s-assign r e)) h n = tt
+worded (s-leaf (s-increment r)) h n = tt
+worded (s-leaf (s-decrement r)) h n = tt
+worded (s-leaf (s-send kind r es)) h n = tt
+worded (s-leaf (s-receive kind r xs)) h n = tt
+worded (s-leaf (s-assert e)) h n = tt
+worded (s-leaf (s-print-alone {w = w})) h n = (text-fair w (h .1 .1 .0) refl refl, omega arith)
+worded (s-leaf (s-print {w = w} {es = es} d)) h n = (text-fair w (h .1 .1 .0) refl refl, leb-true (length es) printedMost n)
+worded (s-leaf s-skip) h n = tt
+worded (s-leaf s-goto) h n = tt
+worded (s-leaf s-break) h n = tt
+worded (s-leaf s-timeout) h n = tt
+worded (s-leaf s-else) h n = tt
+worded (s-leaf (s-run es)) h n = tt
+worded (s-leaf (s-set-run r es)) h n = tt
 worded (s-if {ts = ts} d) h n = worded d (sound-front ts ('fi ∷ []) (h .1)) n
 worded (s-do {ts = ts} d) h n = worded d (sound-front ts ('od ∷ []) (h .1)) n
 worded (s-bare d) h n = worded d h n

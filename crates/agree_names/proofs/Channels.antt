@@ -22,7 +22,9 @@ use Rattle.spec_rules.specs.Units as units
 use Rattle.spec_rules.specs.Units.{ofPart, sized, valued, localLawful, globalLawful, variables, declarations, joins, bodyLawful, partLawful, partsLawful}
 use Rattle.legal_terms.specs.Says.{Says}
 use Rattle.legal_declarations.proofs.Standing.{Lies, lies-front, lies-back}
-use Rattle.spec_machine.specs.Names.{Var, ofVariable, ofDeclaration, ofDeclarations, ofParameter, ofGroup, ofGroups, variablesOf, unitAt}
+use Rattle.spec_machine.specs.Sizes.{sum, sizeSize, sizeVariable, sizeDeclaration, sizeGroup, sizeActivity, sizePart}
+use Rattle.agree_sizes.proofs.Sizes.{size-size, size-variable, size-declaration, size-groups, size-body, size-activity, size-part}
+use Rattle.spec_machine.specs.Names.{Var, ofVariable, ofDeclarations, ofParameter, ofGroup, ofGroups, variablesOf, unitAt}
 use Rattle.spec_machine.specs.Begins.{itemsBefore}
 use Rattle.spec_machine.specs.Plain.{noVar}
 use Rattle.state_encode.specs.Encode.{variableAt, declaredAt, countGroups, channelItemIn}
@@ -120,7 +122,8 @@ module _ (m : Model) (cs vs : List ℕ) (S : Says m cs vs) where
         let Y = set-channel n ks in
         let n1 : length (X ++ E) ≡ length X + length E = length-append X E in
         let n2 : length (H ++ code-value v) ≡ length H + length (code-value v) = length-append H (code-value v) in
-        let i = k + 2 + length (code-size s) in
+        let n3 = size-size s in
+        let i = k + 2 + sizeSize s in
         let f2 = free-variables m cs vs S us (k + length X) (lies-back xs X E k (k + length X) refl y) (subst (Free cs) (let z : k + length (X ++ E) ≡ k + length X + length E = omega arith in z) f) in
         record {
           from = i;
@@ -133,15 +136,17 @@ module _ (m : Model) (cs vs : List ℕ) (S : Says m cs vs) where
         let X = code-variable (variable w s v) in
         let E = each code-variable us in
         let n1 : length (X ++ E) ≡ length X + length E = length-append X E in
-        variables-made t us (k + length X) j (lies-back xs X E k (k + length X) refl y) (subst (Free cs) (let z : k + length (X ++ E) ≡ k + length X + length E = omega arith in z) f) (g .1) e
+        let n2 = size-variable (variable w s v) in
+        let i = k + sizeVariable (variable w s v) in
+        variables-made t us i j (lies-back xs X E k i (omega arith) y) (subst (Free cs) (let z : k + length (X ++ E) ≡ i + length E = omega arith in z) f) (g .1) e
 
     -- of one declaration, with its type and mark
-    declared-made : (x : Item) (t : ℕ) (us : List Variable) (k j : ℕ) → Lies xs k (code-declaration x (declare t us)) → Free cs (k + length (code-declaration x (declare t us))) → Fine us
+    declared-made : (x : Item) (t : ℕ) (us : List Variable) (k j : ℕ) → Lies xs k (code-declaration x (declare t us)) → Free cs (k + sizeDeclaration (declare t us)) → Fine us
         → Chan (getD (map (ofVariable t) us) j noVar) → Made (variableAt us j (k + 2)) n ks
     declared-made x t us k j y f g e =
         let z : suc (suc k) ≡ k + 2 = omega arith in
         variables-made t us (k + 2) j (subst (λ i. Lies xs i (each code-variable us)) z (y .2 .2))
-        (subst (Free cs) (let w : k + length (code-declaration x (declare t us)) ≡ k + 2 + length (each code-variable us) = omega arith in w) f) g e
+        (subst (Free cs) (let w : k + sizeDeclaration (declare t us) ≡ k + 2 + length (each code-variable us) = omega (arith, size-declaration x (declare t us)) in w) f) g e
 
     declarations-made : (G l : Scope) (ds : List Declaration) (k j : ℕ) → Lies xs k (each (code-declaration i-local) ds) → Free cs (k + length (each (code-declaration i-local) ds))
         → declarations G l ds ≡ true → Chan (getD (ofDeclarations ds) j noVar) → Made (declaredAt ds j k) n ks
@@ -151,15 +156,17 @@ module _ (m : Model) (cs vs : List ℕ) (S : Says m cs vs) where
         let X = code-declaration i-local (declare t us) in
         let E = each (code-declaration i-local) ds in
         let n1 : length (X ++ E) ≡ length X + length E = length-append X E in
+        let n2 = size-declaration i-local (declare t us) in
+        let i = k + sizeDeclaration (declare t us) in
         let p = both-true (variables (λ l x. localLawful G l t x) t l us) (declarations G (l ++ units.scopeOfDeclaration (declare t us)) ds) g in
-        let y2 = lies-back xs X E k (k + length X) refl y in
-        let f2 = subst (Free cs) (let z : k + length (X ++ E) ≡ k + length X + length E = omega arith in z) f in
-        go (ltb j (length us)) refl (declared-made i-local t us k j (lies-front xs k X E y) (free-declarations m cs vs S ds (k + length X) y2 f2) (fine-local G t l us (p .0)))
-        (declarations-made G (l ++ units.scopeOfDeclaration (declare t us)) ds (k + length X) (j - length us) y2 f2 (p .1))
+        let y2 = lies-back xs X E k i (omega arith) y in
+        let f2 = subst (Free cs) (let z : k + length (X ++ E) ≡ i + length E = omega arith in z) f in
+        go (ltb j (length us)) refl (declared-made i-local t us k j (lies-front xs k X E y) (free-declarations m cs vs S ds i y2 f2) (fine-local G t l us (p .0)))
+        (declarations-made G (l ++ units.scopeOfDeclaration (declare t us)) ds i (j - length us) y2 f2 (p .1))
       where
         go : (b : Bool) → ltb j (length us) ≡ b → (Chan (getD (map (ofVariable t) us) j noVar) → Made (variableAt us j (k + 2)) n ks)
-            → (Chan (getD (ofDeclarations ds) (j - length us) noVar) → Made (declaredAt ds (j - length us) (k + length (code-declaration i-local (declare t us)))) n ks)
-            → Made (pick b (variableAt us j (k + 2)) (declaredAt ds (j - length us) (k + length (code-declaration i-local (declare t us))))) n ks
+            → (Chan (getD (ofDeclarations ds) (j - length us) noVar) → Made (declaredAt ds (j - length us) (k + sizeDeclaration (declare t us))) n ks)
+            → Made (pick b (variableAt us j (k + 2)) (declaredAt ds (j - length us) (k + sizeDeclaration (declare t us)))) n ks
         go true q a b = a (ap (λ (x : Var). x .value) (inv (front-at (map (ofVariable t) us) (ofDeclarations ds) j (ap (ltb j) (length-map us (ofVariable t)) ∙ q))) ∙ e)
         go false q a b =
             let c = length-map us (ofVariable t) in
@@ -175,7 +182,7 @@ module _ (m : Model) (cs vs : List ℕ) (S : Says m cs vs) where
         declarations-made G l ds (b + 1) j (subst (λ i. Lies xs i D) z (yd .2)) (subst (λ i. Free cs (i + length D)) z (free-body m cs vs S ds q b y f))
         (both-true (declarations G l ds) _ g .0) e
 
-    part-made : (M G : Scope) (x : Part) (i j : ℕ) → Lies xs i (code-part x) → Free cs (i + length (code-part x)) → partLawful M G x ≡ true → Chan (getD (variablesOf x) j noVar)
+    part-made : (M G : Scope) (x : Part) (i j : ℕ) → Lies xs i (code-part x) → Free cs (i + sizePart x) → partLawful M G x ≡ true → Chan (getD (variablesOf x) j noVar)
         → Made (channelItemIn x j i) n ks
     part-made M G (mtypes ws) i j y f g e = absurd (no-channel unset n ks refl e)
     part-made M G (global (declare t us)) i j y f g e = declared-made i-global t us i j y f (fine-global t G us g) e
@@ -184,13 +191,15 @@ module _ (m : Model) (cs vs : List ℕ) (S : Says m cs vs) where
         let P = each code-group gs in
         let X = code-body (body ds q) in
         let s1 : length (A ++ P) ≡ length A + length P = length-append A P in
-        let s2 : length ((A ++ P) ++ X) ≡ length (A ++ P) + length X = length-append (A ++ P) X in
-        let b = i + length A + length P in
+        let s2 = size-activity a w in
+        let s3 = size-groups gs in
+        let s4 = size-body (body ds q) in
+        let b = i + sizeActivity a + sum sizeGroup gs in
         let G2 = G ++ ofPart (process a w gs (body ds q)) in
         let h1 = both-true (fresh G w) (both (joins [] (units.scopeOfGroups gs)) (bodyLawful M G2 (units.scopeOfGroups gs) (body ds q))) g .1 in
         let h2 = both-true (joins [] (units.scopeOfGroups gs)) (bodyLawful M G2 (units.scopeOfGroups gs) (body ds q)) h1 .1 in
         body-made M G2 (units.scopeOfGroups gs) ds q b (j - countGroups gs) (lies-back xs (A ++ P) X i b (omega arith) y)
-        (subst (Free cs) (let z : i + length ((A ++ P) ++ X) ≡ b + length X = omega arith in z) f) h2 (go (ltb j (length (ofGroups gs))) refl)
+        (subst (Free cs) (let z : i + sizePart (process a w gs (body ds q)) ≡ b + length X = omega arith in z) f) h2 (go (ltb j (length (ofGroups gs))) refl)
       where
         go : (c : Bool) → ltb j (length (ofGroups gs)) ≡ c → Chan (getD (ofDeclarations ds) (j - countGroups gs) noVar)
         go true r = absurd (no-channel unset n ks refl (inv (groups-unset gs j) ∙ ap (λ (x : Var). x .value) (inv (front-at (ofGroups gs) (ofDeclarations ds) j r)) ∙ e))
@@ -199,7 +208,7 @@ module _ (m : Model) (cs vs : List ℕ) (S : Says m cs vs) where
     part-made M G (init (body ds q)) i j y f g e =
         let z : suc i ≡ i + 1 = omega arith in
         body-made M G [] ds q (i + 1) j (subst (λ i. Lies xs i (code-body (body ds q))) z (y .2))
-        (subst (Free cs) (let w : i + suc (length (code-body (body ds q))) ≡ i + 1 + length (code-body (body ds q)) = omega arith in w) f) g e
+        (subst (Free cs) (let w : i + sizePart (init (body ds q)) ≡ i + 1 + length (code-body (body ds q)) = omega (arith, size-body (body ds q)) in w) f) g e
 
     units-made : (M G : Scope) (u : Model) (front : List Item) (i p j k : ℕ) → xs ≡ front ++ code u → i ≡ length front → k ≡ i + itemsBefore u p → partsLawful M G u ≡ true
         → Chan (getD (variablesOf (unitAt u p)) j noVar) → Made (channelItemIn (unitAt u p) j k) n ks
@@ -211,7 +220,8 @@ module _ (m : Model) (cs vs : List ℕ) (S : Says m cs vs) where
         (part-made M G x i j (r .0) (r .2) (both-true (partLawful M G x) (partsLawful M (G ++ ofPart x) u) g .0) e)
     units-made M G (x ∷ u) front i (suc p) j k split at ek g e =
         let s3 : length (front ++ code-part x) ≡ length front + length (code-part x) = length-append front (code-part x) in
-        units-made M (G ++ ofPart x) u (front ++ code-part x) (i + length (code-part x)) p j k (split ∙ inv (append-assoc front (code-part x) (code u))) (omega arith) (omega arith)
+        let s4 = size-part x in
+        units-made M (G ++ ofPart x) u (front ++ code-part x) (i + sizePart x) p j k (split ∙ inv (append-assoc front (code-part x) (code u))) (omega arith) (omega arith)
         (both-true (partLawful M G x) (partsLawful M (G ++ ofPart x) u) g .1) e
 
     -- variable j of unit p, which makes a channel

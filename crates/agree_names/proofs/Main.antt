@@ -18,7 +18,7 @@ use Rattle.base_bytes.proofs.Tests.{true-false, both-true}
 use Rattle.spec_text.specs.Names.{pid}
 use Rattle.rule_sheets.specs.Homes.{insideOf}
 use Rattle.rule_search.specs.Search.{find, lookup}
-use Rattle.spec_grammar.specs.Tree.{Sort, Name, action, Tree, express, assign, increment, decrement, send, receive, assert, print, skip, goto, break, timeout, else, run, set-run, select, loop, set-channel, Body, body, mtypes, process, init, Model}
+use Rattle.spec_grammar.specs.Tree.{Sort, Name, action, Tree, leaf, express, assign, increment, decrement, send, receive, assert, print, skip, goto, break, timeout, else, run, set-run, select, loop, set-channel, Body, body, mtypes, process, init, Model}
 use Rattle.read_passes.specs.Judging.{tablesText}
 use Rattle.read_accepts_proof.specs.Meaning.{Accepts}
 use Rattle.table_layout.specs.Access.{codeOf, linkOf}
@@ -33,7 +33,8 @@ use Rattle.spec_rules.specs.Statements.{all, Place, sense, takes, runs, allowed
 use Rattle.spec_rules.specs.Ceilings.{madeByBody, narrow, modest}
 use Rattle.spec_rules.specs.Units.{ofPart, ofModel, partsLawful, mtypesIn, initsIn, tally, modelLawful}
 use Rattle.legal_terms.specs.Says.{itemAt, Says}
-use Rattle.spec_machine.specs.Program.{Within, itself, in-if, in-do, unlabelled, behind-label, in-first, in-rest, in-option, in-others, sizeIn, startIn, endIn, sequenceOf}
+use Rattle.spec_machine.specs.Sizes.{sizeIn}
+use Rattle.spec_machine.specs.Program.{Within, itself, in-if, in-do, unlabelled, behind-label, in-first, in-rest, in-option, in-others, startIn, endIn, sequenceOf}
 use Rattle.agree_eval.specs.Names.{codesAt, saidAt, homesAt, meantAt, declAt}
 use Rattle.agree_eval.proofs.Said.{first-said}
 use Rattle.agree_transfer.proofs.Ways.{within-lawful}
@@ -495,21 +496,21 @@ module _ (t : List ℕ) (a : Accepts t) (legal : modelLawful (a .tree) ≡ true)
   module _ (k : ℕ) (b : Bodied (unitAt m k)) where
     few-in : (x : Tree action) (loops first : Bool) → allowed (settingOf m k) loops first x ≡ true → narrow x ≡ true → arguments.Few x
     unfolding allowed
-    few-in (express e) c d h n = tt
-    few-in (assign r e) c d h n = tt
-    few-in (increment r) c d h n = tt
-    few-in (decrement r) c d h n = tt
-    few-in (send r es) c d h n = tt
-    few-in (receive r xs) c d h n = tt
-    few-in (assert e) c d h n = tt
-    few-in (print w es) c d h n = let z = leb-true (length es) printedMost n in omega arith
-    few-in skip c d h n = tt
-    few-in (goto w) c d h n = tt
-    few-in break c d h n = tt
-    few-in timeout c d h n = tt
-    few-in else c d h n = tt
-    few-in (run w es) c d h n = run-few k b w (length es) (both-true (runs (settingOf m k) w (length es)) (all (whole (sense (settingOf m k))) es) h .0)
-    few-in (set-run r w es) c d h n =
+    few-in (leaf (express e)) c d h n = tt
+    few-in (leaf (assign r e)) c d h n = tt
+    few-in (leaf (increment r)) c d h n = tt
+    few-in (leaf (decrement r)) c d h n = tt
+    few-in (leaf (send mk r es)) c d h n = tt
+    few-in (leaf (receive mk r xs)) c d h n = tt
+    few-in (leaf (assert e)) c d h n = tt
+    few-in (leaf (print w es)) c d h n = let z = leb-true (length es) printedMost n in omega arith
+    few-in (leaf skip) c d h n = tt
+    few-in (leaf (goto w)) c d h n = tt
+    few-in (leaf break) c d h n = tt
+    few-in (leaf timeout) c d h n = tt
+    few-in (leaf else) c d h n = tt
+    few-in (leaf (run w es)) c d h n = run-few k b w (length es) (both-true (runs (settingOf m k) w (length es)) (all (whole (sense (settingOf m k))) es) h .0)
+    few-in (leaf (set-run r w es)) c d h n =
         let p = both-true (lawful (sense (settingOf m k)) target r) (both (runs (settingOf m k) w (length es)) (all (whole (sense (settingOf m k))) es)) h .1 in
         run-few k b w (length es) (both-true (runs (settingOf m k) w (length es)) (all (whole (sense (settingOf m k))) es) p .0)
     few-in (select os) c d h n = tt

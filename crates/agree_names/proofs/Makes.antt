@@ -22,7 +22,9 @@ use Rattle.spec_rules.specs.Units.{tally}
 use Rattle.legal_terms.specs.Says.{itemAt, Says}
 use Rattle.table_layout.specs.Access.{codeOf}
 use Rattle.step_ready.specs.Executing.{channelsFrom}
-use Rattle.spec_machine.specs.Program.{sizeIn, startIn, endIn}
+use Rattle.spec_machine.specs.Sizes.{sum, sizeIn, sizeDeclaration, sizeGroup, sizeActivity}
+use Rattle.agree_sizes.proofs.Sizes.{size-tree, size-declarations, size-groups, size-activity}
+use Rattle.spec_machine.specs.Program.{startIn, endIn}
 use Rattle.table_entries.proofs.Items.{type-code}
 use Rattle.legal_declarations.proofs.Standing.{Lies, lies-front, lies-back, long, known-at, code-is}
 use Rattle.legal_declarations.proofs.Bodies.{Frame}
@@ -183,6 +185,7 @@ module _ (t : List ℕ) (m : Model) (cs vs : List ℕ) (S : Says m cs vs) (H : H
       let top = F .top in
       let hd = head-code (getD cs u 0) (F .head) in
       let lg = long m cs vs S in
+      let sq = size-tree q in
       let yd = lies-front xs b (i-body ∷ D) T (lies-front xs b (i-body ∷ D ++ T) (i-end-body ∷ []) yb) in
       let n : e - u ≡ suc (length P + suc (length D + length T)) = omega arith in
       let s0 = ap (λ i. channelsFrom t i u) n in
@@ -197,10 +200,10 @@ module _ (t : List ℕ) (m : Model) (cs vs : List ℕ) (S : Says m cs vs) (H : H
       let st = from-none t (length T) f (λ i x y z. (let c = F .said i x (omega arith) in let w = table-code i (getD cs i 0) (omega arith) refl in omega arith)) in
       omega arith
 
-  some-activity : (a : Activity) (w : Name) → 1 ≤ length (code-activity a w)
-  some-activity idle w = omega arith
-  some-activity once w = omega arith
-  some-activity (times n) w = omega arith
+  some-activity : (a : Activity) → 1 ≤ sizeActivity a
+  some-activity idle = omega arith
+  some-activity once = omega arith
+  some-activity (times n) = omega arith
 
   -- a unit whose items begin at item i
   pub unit-makes : (x : Part) (i : ℕ) → Bodied x → Lies xs i (code-part x)
@@ -213,13 +216,17 @@ module _ (t : List ℕ) (m : Model) (cs vs : List ℕ) (S : Says m cs vs) (H : H
       let P = each code-group gs in
       let X = code-body (body ds q) in
       let s1 : length (A ++ P) ≡ length A + length P = length-append A P in
-      let l = some-activity a w in
-      let u = i + length A - 1 in
-      let b = i + length A + length P in
-      let f = b + 1 + length (each (code-declaration i-local) ds) in
+      let s2 = size-activity a w in
+      let s3 = size-groups gs in
+      let s4 = size-declarations ds in
+      let l = some-activity a in
+      let u = i + sizeActivity a - 1 in
+      let b = i + sizeActivity a + sum sizeGroup gs in
+      let f = b + 1 + sum sizeDeclaration ds in
       body-makes gs ds q u b f (f + sizeIn q) F (omega arith) (omega arith) refl (lies-back xs A P i (suc u) (omega arith) (lies-front xs i (A ++ P) X y))
       (lies-back xs (A ++ P) X i b (omega arith) y)
   unit-makes (init (body ds q)) i bo y F =
+      let s4 = size-declarations ds in
       let b = i + 1 in
-      let f = b + 1 + length (each (code-declaration i-local) ds) in
+      let f = b + 1 + sum sizeDeclaration ds in
       body-makes [] ds q i b f (f + sizeIn q) F (omega arith) (omega arith) refl tt (subst (λ i. Lies xs i (code-body (body ds q))) (let z : suc i ≡ i + 1 = omega arith in z) (y .2))

@@ -13,11 +13,11 @@ use Rattle.base_bytes.proofs.Tests.{true-false, both-true}
 use Rattle.base_bytes.proofs.Lists.{same-eq}
 use Rattle.spec_text.specs.Names.{pid}
 use Rattle.spec_grammar.specs.Tree.{Name, Variable, variable, Declaration, declare, Group, group, body, Part, mtypes, global, process, init, Model}
-use Rattle.parse_code.specs.Code.{code-part}
 use Rattle.spec_rules.specs.Senses as senses
 use Rattle.spec_rules.specs.Senses.{Sense, constant, procedure, unknown, Scope, senseIn, isUnknown, fresh, senseOf}
 use Rattle.spec_rules.specs.Units as units
 use Rattle.spec_rules.specs.Units.{ofMessage, ofPart, ofModel, globalLawful, variables, bodyLawful, partLawful, partsLawful, joins, sized, valued}
+use Rattle.spec_machine.specs.Sizes.{sizePart}
 use Rattle.spec_machine.specs.Names.{Var, ofVariable, ofDeclaration, ofDeclarations, ofParameter, ofGroup, ofGroups, variablesOf, parametersOf, globalIn, globalsOf, messageIn, messagesOf, unitAt, proctypeFrom, Meaning, message, variableFrom, messageFrom}
 use Rattle.spec_machine.specs.Names as names
 use Rattle.spec_machine.specs.Begins.{itemsBefore}
@@ -120,8 +120,8 @@ alike-part (init b) s o n = tt
 pub alike-model : (m : Model) (s o n : ℕ) → Alike (ofModel m) (entriesOf s o n m)
 alike-model [] s o n = tt
 alike-model (u ∷ m) s o n =
-    let R = entriesOf (s + length (code-part u)) (o + totalOf (globalIn u)) (n + length (messageIn u)) m in
-    alike-append (ofPart u) (ofModel m) (entriesIn s o n u) R (alike-part u s o n) (alike-model m (s + length (code-part u)) (o + totalOf (globalIn u)) (n + length (messageIn u)))
+    let R = entriesOf (s + sizePart u) (o + totalOf (globalIn u)) (n + length (messageIn u)) m in
+    alike-append (ofPart u) (ofModel m) (entriesIn s o n u) R (alike-part u s o n) (alike-model m (s + sizePart u) (o + totalOf (globalIn u)) (n + length (messageIn u)))
 
 -- what names stand for in the statements of unit k
 pub alike-locals : (M g : Scope) (m : Model) (k : ℕ) → Bodied (unitAt m k) → Alike (settingFrom M g m k .locals) (slots 0 (variablesOf (unitAt m k)))
@@ -141,7 +141,7 @@ alike-globals-from M g E (process x w gs (body ds q) ∷ m) zero s o n b a =
     let u = process x w gs (body ds q) in alike-append g (ofPart u) E (entriesIn s o n u) a (alike-part u s o n)
 alike-globals-from M g E (init (body ds q) ∷ m) zero s o n b a = subst (Alike g) (inv (append-nil E)) a
 alike-globals-from M g E (u ∷ m) (suc k) s o n b a =
-    let r = s + length (code-part u) in
+    let r = s + sizePart u in
     let p = o + totalOf (globalIn u) in
     let q = n + length (messageIn u) in
     subst (Alike (settingFrom M (g ++ ofPart u) m k .globals)) (append-assoc E (entriesIn s o n u) (entriesTo r p q m k))
@@ -299,7 +299,7 @@ module _ (M : Scope) (f : ℕ → Var → Meaning) (w : Name) (d : Meaning) wher
   globals-mean g E s b o n (mtypes ws ∷ m) a h =
       let u = mtypes ws in
       let p = both-true (partLawful M g u) (partsLawful M (g ++ ofPart u) m) h .1 in
-      let r = s + length (code-part u) in
+      let r = s + sizePart u in
       let R = entriesOf r (o + 0) (n + length ws) m in
       subst (G b o n (u ∷ m)) (inv (what-append (numbers n ws) R w))
       (go (whatIn (numbers n ws) w) (whatIn R w) (messages-mean n ws (messagesOf m) w) (λ i e. globals-other M (g ++ ofPart u) m f b w d p (message-known g E ws n i w a e)) refl
@@ -319,7 +319,7 @@ module _ (M : Scope) (f : ℕ → Var → Meaning) (w : Name) (d : Meaning) wher
       let u = global (declare k us) in
       let p = both-true (partLawful M g u) (partsLawful M (g ++ ofPart u) m) h .1 in
       let X = map (ofVariable k) us in
-      let r = s + length (code-part u) in
+      let r = s + sizePart u in
       let R = entriesOf r (o + totalOf X) (n + 0) m in
       subst (G b o n (u ∷ m)) (inv (what-append (slots o X) R w))
       (go (whatIn (slots o X) w) (whatIn R w) (variables-mean f b o X w (variableFrom f (b + length X) (globalsOf m) w d)) (variable-append f b X (globalsOf m) w d)
@@ -349,7 +349,7 @@ module _ (M : Scope) (f : ℕ → Var → Meaning) (w : Name) (d : Meaning) wher
   globals-mean g E s b o n (process x v gs y ∷ m) a h =
       let u = process x v gs y in
       let p = both-true (partLawful M g u) (partsLawful M (g ++ ofPart u) m) h .1 in
-      let r = s + length (code-part u) in
+      let r = s + sizePart u in
       go (same v w) (whatIn (entriesOf r (o + 0) (n + 0) m) w)
       (globals-mean (g ++ ofPart u) (E ++ entriesIn s o n u) r b (o + 0) (n + 0) m (alike-append g (ofPart u) E (entriesIn s o n u) a (alike-part u s o n)) p)
     where
@@ -359,7 +359,7 @@ module _ (M : Scope) (f : ℕ → Var → Meaning) (w : Name) (d : Meaning) wher
   globals-mean g E s b o n (init y ∷ m) a h =
       let u = init y in
       let p = both-true (partLawful M g u) (partsLawful M (g ++ ofPart u) m) h .1 in
-      let r = s + length (code-part u) in
+      let r = s + sizePart u in
       plus-none b o n m (whatIn (entriesOf r (o + 0) (n + 0) m) w)
       (globals-mean (g ++ ofPart u) (E ++ []) r b (o + 0) (n + 0) m (alike-append g (ofPart u) E [] a tt) p)
 
@@ -368,9 +368,9 @@ pub so-far : (s o n : ℕ) (m : Model) (k : ℕ) (w : Name) (y : What) → whatI
 unfolding whatIn
 so-far s o n [] k w y e = absurd (true-false (inv (ap known e)))
 so-far s o n (u ∷ m) zero w y e =
-    let R = entriesOf (s + length (code-part u)) (o + totalOf (globalIn u)) (n + length (messageIn u)) m in what-append (entriesIn s o n u) R w ∙ ap (λ x. orElse x (whatIn R w)) e
+    let R = entriesOf (s + sizePart u) (o + totalOf (globalIn u)) (n + length (messageIn u)) m in what-append (entriesIn s o n u) R w ∙ ap (λ x. orElse x (whatIn R w)) e
 so-far s o n (u ∷ m) (suc k) w y e =
-    let r = s + length (code-part u) in
+    let r = s + sizePart u in
     let p = o + totalOf (globalIn u) in
     let q = n + length (messageIn u) in
     what-append (entriesIn s o n u) (entriesOf r p q m) w
@@ -407,13 +407,13 @@ pub record Proctype (m : Model) (k s : ℕ) (w : Name) (d : ℕ) : Type 0 where
   pub other : same w pid ≡ false
 
 proctype-later : (u : Part) (m : Model) (k s : ℕ) (w : Name) (d : ℕ) → proctypeFrom k (u ∷ m) w ≡ proctypeFrom (suc k) m w → senseIn (ofModel (u ∷ m)) w ≡ senseIn (ofModel m) w
-    → Proctype m (suc k) (s + length (code-part u)) w d → Proctype (u ∷ m) k s w d
+    → Proctype m (suc k) (s + sizePart u) w d → Proctype (u ∷ m) k s w d
 unfolding itemsBefore
 proctype-later u m k s w d e q r =
     record {
       unit = suc (r .unit);
       found = e ∙ r .found ∙ (let z : suc k + r .unit ≡ k + suc (r .unit) = omega arith in z);
-      head = r .head ∙ ap (headIn (unitAt m (r .unit))) (let z : s + length (code-part u) + itemsBefore m (r .unit) ≡ s + (length (code-part u) + itemsBefore m (r .unit)) = omega arith in z);
+      head = r .head ∙ ap (headIn (unitAt m (r .unit))) (let z : s + sizePart u + itemsBefore m (r .unit) ≡ s + (sizePart u + itemsBefore m (r .unit)) = omega arith in z);
       bodied = r .bodied;
       sense = q ∙ r .sense;
       other = r .other;
@@ -448,21 +448,21 @@ unfolding whatIn senseIn partsLawful proctypeFrom itemsBefore begun
 proctype-mean M g [] k s o n w d h e = absurd (true-false (inv (ap known e)))
 proctype-mean M g (mtypes ws ∷ m) k s o n w d h e =
     let u = mtypes ws in
-    let r = s + length (code-part u) in
+    let r = s + sizePart u in
     let c = later-found (numbers n ws) (entriesOf r (o + 0) (n + length ws) m) w d (numbers-none n ws w d) e in
     proctype-later u m k s w d refl (alike-none (ofPart u) (numbers n ws) (ofModel m) w (alike-part u s o n) (c .0))
     (proctype-mean M (g ++ ofPart u) m (suc k) r (o + 0) (n + length ws) w d (both-true (partLawful M g u) (partsLawful M (g ++ ofPart u) m) h .1) (c .1))
 proctype-mean M g (global (declare t us) ∷ m) k s o n w d h e =
     let u = global (declare t us) in
     let X = ofDeclaration (declare t us) in
-    let r = s + length (code-part u) in
+    let r = s + sizePart u in
     let c = later-found (slots o X) (entriesOf r (o + totalOf X) (n + 0) m) w d (slots-none o X w d) e in
     proctype-later u m k s w d refl (alike-none (ofPart u) (slots o X) (ofModel m) w (alike-part u s o n) (c .0))
     (proctype-mean M (g ++ ofPart u) m (suc k) r (o + totalOf X) (n + 0) w d (both-true (partLawful M g u) (partsLawful M (g ++ ofPart u) m) h .1) (c .1))
 proctype-mean M g (process a v gs b ∷ m) k s o n w d h e =
     let u = process a v gs b in
     let p = both-true (partLawful M g u) (partsLawful M (g ++ ofPart u) m) h in
-    let r = s + length (code-part u) in
+    let r = s + sizePart u in
     go (same v w) (whatIn (entriesOf r (o + 0) (n + 0) m) w) refl e (both-true (fresh g v) (both (joins [] (units.scopeOfGroups gs)) (bodyLawful M (g ++ ofPart u) (units.scopeOfGroups gs) b)) (p .0) .0)
     (proctype-mean M (g ++ ofPart u) m (suc k) r (o + 0) (n + 0) w d (p .1))
   where
@@ -470,7 +470,7 @@ proctype-mean M g (process a v gs b ∷ m) k s o n w d h e =
     own = procedure (length (units.scopeOfGroups gs))
 
     go : (c : Bool) (z : Option What) → same v w ≡ c → pick c (some (proctype (headIn (process a v gs b) s))) z ≡ some (proctype d) → fresh g v ≡ true
-        → (z ≡ some (proctype d) → Proctype m (suc k) (s + length (code-part (process a v gs b))) w d) → Proctype (process a v gs b ∷ m) k s w d
+        → (z ≡ some (proctype d) → Proctype m (suc k) (s + sizePart (process a v gs b)) w d) → Proctype (process a v gs b ∷ m) k s w d
     go true z q e f r =
         record {
           unit = 0;
@@ -485,4 +485,4 @@ proctype-mean M g (process a v gs b ∷ m) k s o n w d h e =
 proctype-mean M g (init b ∷ m) k s o n w d h e =
     let u = init b in
     proctype-later u m k s w d refl refl
-    (proctype-mean M (g ++ ofPart u) m (suc k) (s + length (code-part u)) (o + 0) (n + 0) w d (both-true (partLawful M g u) (partsLawful M (g ++ ofPart u) m) h .1) e)
+    (proctype-mean M (g ++ ofPart u) m (suc k) (s + sizePart u) (o + 0) (n + 0) w d (both-true (partLawful M g u) (partsLawful M (g ++ ofPart u) m) h .1) e)

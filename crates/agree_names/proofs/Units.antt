@@ -17,7 +17,9 @@ use Rattle.base_codes.specs.Items.{Item, codeOf, i-active, i-active-many, i-bod
 use Rattle.base_codes.specs.Sets.{isUnit}
 use Rattle.parse_code.specs.Code.{each, code-tree, code-declaration, code-group, code-body, code-activity, code-message, code-part, code}
 use Rattle.legal_terms.specs.Says.{itemAt, Says}
-use Rattle.spec_machine.specs.Program.{sizeIn, startIn, endIn}
+use Rattle.spec_machine.specs.Sizes.{sum, sizeIn, sizeDeclaration, sizeGroup, sizeActivity, sizePart}
+use Rattle.agree_sizes.proofs.Sizes.{size-tree, size-declarations, size-groups, size-activity, size-part}
+use Rattle.spec_machine.specs.Program.{startIn, endIn}
 use Rattle.legal_declarations.proofs.Items.{settled, all-declaration, global-settled, All, all-each}
 use Rattle.legal_declarations.proofs.Standing.{Lies, lies-front, lies-back, lies-all, lies-whole, long, code-at, code-is, settled-at}
 use Rattle.legal_declarations.proofs.Homes.{inside-none, inside-over, home-inside, home-of-head, home-most}
@@ -108,7 +110,7 @@ module _ (m : Model) (cs vs : List ℕ) (S : Says m cs vs) where
   -- a proctype, whose name is item i
   process-in : (a : Activity) (w : Name) (gs : List Group) (ds : List Declaration) (q : Tree sequence) (E : List Entry) (i u b f t k o n : ℕ) → u ≡ suc i → isUnit k ≡ true → among 13 k ≡ true
       → i < length xs → itemAt xs i ≡ i-name w → suc i < length xs → getD cs (suc i) 0 ≡ k
-      → b ≡ suc u + length (each code-group gs) → f ≡ suc b + length (each (code-declaration i-local) ds) → t ≡ f + sizeIn q
+      → b ≡ suc u + length (each code-group gs) → f ≡ suc b + length (each (code-declaration i-local) ds) → t ≡ f + length (code-tree q)
       → Lies xs (suc u) (each code-group gs) → Lies xs b (code-body (body ds q)) → After m cs vs S (suc t) → Sc E 0 i o n
       → InUnit (process a w gs (body ds q)) (E ++ entry w (proctype u) ∷ []) u b f t (o + 0) (n + 0)
   process-in a w gs ds q E i u b f t k o n eu hd pr bi qi bu ck eb ef et yg yb after sc =
@@ -134,13 +136,6 @@ module _ (m : Model) (cs vs : List ℕ) (S : Says m cs vs) where
       subst (λ i. Sc (E ++ []) 0 j i (n + 0)) (let z : o ≡ o + 0 = omega arith in z)
       (subst (λ i. Sc (E ++ []) 0 j o i) (let z : n ≡ n + 0 = omega arith in z) (subst (λ (l : List Entry). Sc l 0 j o n) (inv (append-nil E)) sc))
 
-  -- how many items a body has
-  pub body-long : (ds : List Declaration) (q : Tree sequence) → length (code-body (body ds q)) ≡ suc (suc (length (each (code-declaration i-local) ds) + sizeIn q))
-  body-long ds q =
-      let a = length-append (i-body ∷ each (code-declaration i-local) ds) (code-tree q) in
-      let b = length-append (i-body ∷ each (code-declaration i-local) ds ++ code-tree q) (i-end-body ∷ []) in
-      omega arith
-
   -- a unit whose items begin at item j, behind the entries E
   module _ (E : List Entry) (j o n : ℕ) where
     abbrev In : Part → Type 0
@@ -148,26 +143,26 @@ module _ (m : Model) (cs vs : List ℕ) (S : Says m cs vs) where
         InUnit x (E ++ entriesIn j o n x) (headIn x j) (bodyIn x j) (startIn (bodyOf x) (bodyIn x j)) (endIn (bodyOf x) (bodyIn x j)) (o + totalOf (globalIn x)) (n + length (messageIn x))
 
     -- a proctype whose name is item i
-    proctype-in : (a : Activity) (w : Name) (gs : List Group) (ds : List Declaration) (q : Tree sequence) (i k : ℕ) → suc (suc i) ≡ j + length (code-activity a w) → isUnit k ≡ true → among 13 k ≡ true
+    proctype-in : (a : Activity) (w : Name) (gs : List Group) (ds : List Declaration) (q : Tree sequence) (i k : ℕ) → suc (suc i) ≡ j + sizeActivity a → isUnit k ≡ true → among 13 k ≡ true
         → i < length xs → itemAt xs i ≡ i-name w → suc i < length xs → getD cs (suc i) 0 ≡ k
-        → Lies xs j (code-part (process a w gs (body ds q))) → After m cs vs S (j + length (code-part (process a w gs (body ds q)))) → Sc E 0 i o n → In (process a w gs (body ds q))
+        → Lies xs j (code-part (process a w gs (body ds q))) → After m cs vs S (j + sizePart (process a w gs (body ds q))) → Sc E 0 i o n → In (process a w gs (body ds q))
     proctype-in a w gs ds q i k ei hd pr bi qi bu ck y after sc =
         let A = code-activity a w in
         let G = each code-group gs in
-        let D = each (code-declaration i-local) ds in
         let X = code-body (body ds q) in
         let s1 : length (A ++ G) ≡ length A + length G = length-append A G in
-        let s2 : length ((A ++ G) ++ X) ≡ length (A ++ G) + length X = length-append (A ++ G) X in
-        let s3 = body-long ds q in
-        let u = j + length A - 1 in
-        let b = j + length A + length G in
-        let f = b + 1 + length D in
+        let s2 = size-activity a w in
+        let s3 = size-groups gs in
+        let s4 = size-declarations ds in
+        let u = j + sizeActivity a - 1 in
+        let b = j + sizeActivity a + sum sizeGroup gs in
+        let f = b + 1 + sum sizeDeclaration ds in
         let t = f + sizeIn q in
-        process-in a w gs ds q E i u b f t k o n (omega arith) hd pr bi qi bu ck (omega arith) (omega arith) refl
+        process-in a w gs ds q E i u b f t k o n (omega arith) hd pr bi qi bu ck (omega arith) (omega arith) (omega (arith, size-tree q))
         (lies-back xs A G j (suc u) (omega arith) (lies-front xs j (A ++ G) X y)) (lies-back xs (A ++ G) X j b (omega arith) y)
-        (subst (After m cs vs S) (let z : j + length ((A ++ G) ++ X) ≡ suc t = omega arith in z) after) sc
+        (subst (After m cs vs S) (let z : j + sizePart (process a w gs (body ds q)) ≡ suc t = omega arith in z) after) sc
 
-    pub unit-in : (x : Part) → Bodied x → Lies xs j (code-part x) → After m cs vs S (j + length (code-part x)) → Sc E 0 j o n → In x
+    pub unit-in : (x : Part) → Bodied x → Lies xs j (code-part x) → After m cs vs S (j + sizePart x) → Sc E 0 j o n → In x
     unit-in (mtypes ws) bo y after sc = absurd bo
     unit-in (global d) bo y after sc = absurd bo
     unit-in (process idle w gs (body ds q)) bo y after sc =
@@ -178,17 +173,16 @@ module _ (m : Model) (cs vs : List ℕ) (S : Says m cs vs) where
         proctype-in (times r) w gs ds q (suc j) c-active-many (omega arith) refl (marks .6) (y .2 .0) (y .2 .1) (y .2 .2 .0) (code-is m cs vs S (suc (suc j)) i-active-many (y .2 .2 .0) (y .2 .2 .1)) y after
         (scoped-one m cs vs H S E 0 j o n c-number (code-is m cs vs S j (i-number r) (y .0) (y .1)) (marks .3) sc)
     unit-in (init (body ds q)) bo y after sc =
-        let D = each (code-declaration i-local) ds in
-        let s3 = body-long ds q in
+        let s4 = size-declarations ds in
         let ci = code-is m cs vs S j i-init (y .0) (y .1) in
         let b = j + 1 in
-        let f = b + 1 + length D in
+        let f = b + 1 + sum sizeDeclaration ds in
         let t = f + sizeIn q in
         let yb : Lies xs b (code-body (body ds q)) = subst (λ i. Lies xs i (code-body (body ds q))) (let z : suc j ≡ j + 1 = omega arith in z) (y .2) in
-        let F = frame-made m cs vs S [] ds q j b f t (ap isUnit ci) (omega arith) (omega arith) refl tt yb (y .0) in
+        let F = frame-made m cs vs S [] ds q j b f t (ap isUnit ci) (omega arith) (omega arith) (omega (arith, size-tree q)) tt yb (y .0) in
         let i1 = F .inner in
         let i2 = F .last in
-        let aft = subst (After m cs vs S) (let z : j + suc (length (code-body (body ds q))) ≡ suc t = omega arith in z) after in
+        let aft = subst (After m cs vs S) (let z : j + sizePart (init (body ds q)) ≡ suc t = omega arith in z) after in
         let s1 = scoped-one m cs vs H S E 0 j o n c-init ci (marks .1) sc in
         record {
           frame = F;
@@ -198,9 +192,9 @@ module _ (m : Model) (cs vs : List ℕ) (S : Says m cs vs) where
 
     -- behind the unit
     abbrev Behind : Part → Type 0
-    Behind x = Sc (E ++ entriesIn j o n x) 0 (j + length (code-part x)) (o + totalOf (globalIn x)) (n + length (messageIn x)) × (insideOf cs (j + length (code-part x)) ≡ 0)
+    Behind x = Sc (E ++ entriesIn j o n x) 0 (j + sizePart x) (o + totalOf (globalIn x)) (n + length (messageIn x)) × (insideOf cs (j + sizePart x) ≡ 0)
 
-    bodied-behind : (x : Part) (u b f t : ℕ) → suc t ≡ j + length (code-part x) → InUnit x (E ++ entriesIn j o n x) u b f t (o + totalOf (globalIn x)) (n + length (messageIn x)) → Behind x
+    bodied-behind : (x : Part) (u b f t : ℕ) → suc t ≡ j + sizePart x → InUnit x (E ++ entriesIn j o n x) u b f t (o + totalOf (globalIn x)) (n + length (messageIn x)) → Behind x
     bodied-behind x u b f t e I =
         let i0 = I .frame .parts in
         let i1 = I .frame .inner in
@@ -210,9 +204,10 @@ module _ (m : Model) (cs vs : List ℕ) (S : Says m cs vs) where
           ap (insideOf cs) (inv e) ∙ inside-after m cs vs S u b f t (I .frame),
         )
 
-    pub unit-behind : (x : Part) → Lies xs j (code-part x) → j + length (code-part x) ≤ length cs → After m cs vs S (j + length (code-part x)) → Sc E 0 j o n → insideOf cs j ≡ 0 → Behind x
+    pub unit-behind : (x : Part) → Lies xs j (code-part x) → j + sizePart x ≤ length cs → After m cs vs S (j + sizePart x) → Sc E 0 j o n → insideOf cs j ≡ 0 → Behind x
     unit-behind (mtypes ws) y top after sc ins =
-        let e = j + length (code-part (mtypes ws)) in
+        let e = j + sizePart (mtypes ws) in
+        let sz = size-part (mtypes ws) in
         let lg = long m cs vs S in
         let cm = code-is m cs vs S j i-mtypes (y .0) (y .1) in
         let codes : (i : ℕ) → suc j ≤ i → i < e → getD cs i 0 ≤ c-parameter =
@@ -227,25 +222,19 @@ module _ (m : Model) (cs vs : List ℕ) (S : Says m cs vs) where
         upto i e u v cm codes (yes z) = let w : getD cs i 0 ≡ c-mtypes = ap (λ n. getD cs n 0) z ∙ cm in omega arith
         upto i e u v cm codes (no z) = codes i (omega arith) v
     unit-behind (global (declare t us)) y top after sc ins =
-        let e = j + length (code-part (global (declare t us))) in
+        let e = j + sizePart (global (declare t us)) in
+        let sz = size-part (global (declare t us)) in
         let lg = long m cs vs S in
         let fl = flat j e ins (omega arith) top (λ i u v. (let w = settled-at m cs vs S i (omega arith) (lies-all xs settled (code-declaration i-global (declare t us)) j y
         (all-declaration i-global global-settled (declare t us)) i u (omega arith)) .0 in
         omega arith)) in
-        let r = one-declaration m cs vs S 0 j e (fl .0) top i-global c-global t us E j e o n refl (sets .5) (sets .8) refl (omega arith) (omega arith) y after sc in
+        let r = one-declaration m cs vs S 0 j e (fl .0) top i-global c-global t us E j e o n refl (sets .5) (sets .8) (omega arith) (omega arith) (omega arith) y after sc in
         (subst (λ i. Sc (E ++ entriesIn j o n (global (declare t us))) 0 e (o + totalOf (ofDeclaration (declare t us))) i) (let z : n ≡ n + 0 = omega arith in z) r, fl .1)
     unit-behind (process a w gs (body ds q)) y top after sc ins =
-        let A = code-activity a w in
-        let G = each code-group gs in
-        let X = code-body (body ds q) in
-        let s1 : length (A ++ G) ≡ length A + length G = length-append A G in
-        let s2 : length ((A ++ G) ++ X) ≡ length (A ++ G) + length X = length-append (A ++ G) X in
-        let s3 = body-long ds q in
         let b = bodyIn (process a w gs (body ds q)) j in
         bodied-behind (process a w gs (body ds q)) (headIn (process a w gs (body ds q)) j) b (startIn (body ds q) b) (endIn (body ds q) b) (omega arith)
         (unit-in (process a w gs (body ds q)) tt y after sc)
     unit-behind (init (body ds q)) y top after sc ins =
-        let s3 = body-long ds q in
         let b = j + 1 in
         bodied-behind (init (body ds q)) j b (startIn (body ds q) b) (endIn (body ds q) b) (omega arith) (unit-in (init (body ds q)) tt y after sc)
 
@@ -257,15 +246,16 @@ module _ (m : Model) (cs vs : List ℕ) (S : Says m cs vs) where
 
   -- a unit x of the model, behind the items `front` and before the units n
   pub first-stands : (x : Part) (n : Model) (front : List Item) (j : ℕ) → xs ≡ front ++ code (x ∷ n) → j ≡ length front
-      → Lies xs j (code-part x) × (j + length (code-part x) ≤ length cs) × Free cs (j + length (code-part x))
+      → Lies xs j (code-part x) × (j + sizePart x ≤ length cs) × Free cs (j + sizePart x)
   first-stands x n front j split at =
       let X = code-part x in
       let y : Lies xs j (X ++ code n) =
       subst (λ i. Lies xs i (X ++ code n)) (inv at) (subst (λ i. Lies i (length front) (X ++ code n)) (inv split) (lies-whole front (X ++ code n))) in
       let s1 : length xs ≡ length front + length (X ++ code n) = ap length split ∙ length-append front (X ++ code n) in
       let s2 : length (X ++ code n) ≡ length X + length (code n) = length-append X (code n) in
+      let s3 = size-part x in
       let lg = long m cs vs S in
-      (lies-front xs j X (code n) y, omega arith, free-units m cs vs S n (j + length X) (lies-back xs X (code n) j (j + length X) refl y) (omega arith))
+      (lies-front xs j X (code n) y, omega arith, free-units m cs vs S n (j + sizePart x) (lies-back xs X (code n) j (j + sizePart x) (omega arith) y) (omega arith))
 
   units-in : (n : Model) (front : List Item) (E : List Entry) (j o c k i : ℕ) → xs ≡ front ++ code n → j ≡ length front → i ≡ j + itemsBefore n k → Sc E 0 j o c → insideOf cs j ≡ 0
       → Bodied (unitAt n k) → (p : ℕ) × ((q : ℕ) × Unit-at n k i (E ++ entriesTo j o c n k) p q)
@@ -275,16 +265,17 @@ module _ (m : Model) (cs vs : List ℕ) (S : Says m cs vs) where
       let r = first-stands x n front j split at in
       let p = o + totalOf (globalIn x) in
       let q = c + length (messageIn x) in
-      (p, (q, subst (λ i. Unit-at (x ∷ n) 0 i (E ++ entriesIn j o c x) p q) (let z : j ≡ i = omega arith in z) (unit-in E j o c x bo (r .0) (free-after m cs vs S (j + length (code-part x)) (r .2)) sc)))
+      (p, (q, subst (λ i. Unit-at (x ∷ n) 0 i (E ++ entriesIn j o c x) p q) (let z : j ≡ i = omega arith in z) (unit-in E j o c x bo (r .0) (free-after m cs vs S (j + sizePart x) (r .2)) sc)))
   units-in (x ∷ n) front E j o c (suc k) i split at ei sc ins bo =
       let r = first-stands x n front j split at in
       let X = code-part x in
       let p = o + totalOf (globalIn x) in
       let q = c + length (messageIn x) in
-      let b = unit-behind E j o c x (r .0) (r .1) (free-after m cs vs S (j + length X) (r .2)) sc ins in
+      let b = unit-behind E j o c x (r .0) (r .1) (free-after m cs vs S (j + sizePart x) (r .2)) sc ins in
       let s3 : length (front ++ X) ≡ length front + length X = length-append front X in
-      let w = units-in n (front ++ X) (E ++ entriesIn j o c x) (j + length X) p q k i (split ∙ inv (append-assoc front X (code n))) (omega arith) (omega arith) (b .0) (b .1) bo in
-      (w .0, (w .1 .0, subst (λ (l : List Entry). Unit-at n k i l (w .0) (w .1 .0)) (append-assoc E (entriesIn j o c x) (entriesTo (j + length X) p q n k)) (w .1 .1)))
+      let s4 = size-part x in
+      let w = units-in n (front ++ X) (E ++ entriesIn j o c x) (j + sizePart x) p q k i (split ∙ inv (append-assoc front X (code n))) (omega arith) (omega arith) (b .0) (b .1) bo in
+      (w .0, (w .1 .0, subst (λ (l : List Entry). Unit-at n k i l (w .0) (w .1 .0)) (append-assoc E (entriesIn j o c x) (entriesTo (j + sizePart x) p q n k)) (w .1 .1)))
 
   pub unit-entries : (k : ℕ) → Bodied (unitAt m k) → (p : ℕ) × ((q : ℕ) × Unit-at m k (itemsBefore m k) (entriesTo 0 0 0 m k) p q)
   unit-entries k bo = units-in m [] [] 0 0 0 k (itemsBefore m k) refl refl (omega arith) (scoped-start m cs vs H S 0) (inside-none cs) bo
@@ -300,10 +291,11 @@ module _ (m : Model) (cs vs : List ℕ) (S : Says m cs vs) where
       let X = code-part x in
       let p = o + totalOf (globalIn x) in
       let q = c + length (messageIn x) in
-      let b = unit-behind E j o c x (r .0) (r .1) (free-after m cs vs S (j + length X) (r .2)) sc ins in
+      let b = unit-behind E j o c x (r .0) (r .1) (free-after m cs vs S (j + sizePart x) (r .2)) sc ins in
       let s3 : length (front ++ X) ≡ length front + length X = length-append front X in
-      let w = units-all n (front ++ X) (E ++ entriesIn j o c x) (j + length X) p q (split ∙ inv (append-assoc front X (code n))) (omega arith) (b .0) (b .1) in
-      (w .0, (w .1 .0, subst (λ (l : List Entry). Sc l 0 (length cs) (w .0) (w .1 .0)) (append-assoc E (entriesIn j o c x) (entriesOf (j + length X) p q n)) (w .1 .1)))
+      let s4 = size-part x in
+      let w = units-all n (front ++ X) (E ++ entriesIn j o c x) (j + sizePart x) p q (split ∙ inv (append-assoc front X (code n))) (omega arith) (b .0) (b .1) in
+      (w .0, (w .1 .0, subst (λ (l : List Entry). Sc l 0 (length cs) (w .0) (w .1 .0)) (append-assoc E (entriesIn j o c x) (entriesOf (j + sizePart x) p q n)) (w .1 .1)))
 
   pub model-entries : (p : ℕ) × ((q : ℕ) × Sc (entriesOf 0 0 0 m) 0 (length cs) p q)
   model-entries = units-all m [] [] 0 0 0 refl refl (scoped-start m cs vs H S 0) (inside-none cs)
@@ -315,7 +307,8 @@ module _ (m : Model) (cs vs : List ℕ) (S : Says m cs vs) where
   units-lie (x ∷ n) front j zero i split at ei b = subst (λ i. Lies xs i (code-part x)) (let z : j ≡ i = omega arith in z) (first-stands x n front j split at .0)
   units-lie (x ∷ n) front j (suc k) i split at ei b =
       let s3 : length (front ++ code-part x) ≡ length front + length (code-part x) = length-append front (code-part x) in
-      units-lie n (front ++ code-part x) (j + length (code-part x)) k i (split ∙ inv (append-assoc front (code-part x) (code n))) (omega arith) (omega arith) b
+      let s4 = size-part x in
+      units-lie n (front ++ code-part x) (j + sizePart x) k i (split ∙ inv (append-assoc front (code-part x) (code n))) (omega arith) (omega arith) b
 
   pub unit-lies : (k : ℕ) → Bodied (unitAt m k) → Lies xs (itemsBefore m k) (code-part (unitAt m k))
   unit-lies k b = units-lie m [] 0 k (itemsBefore m k) refl refl (omega arith) b

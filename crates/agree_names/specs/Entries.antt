@@ -9,7 +9,7 @@ use Rattle.base_bytes.specs.Choice.{pick}
 use Rattle.base_bytes.specs.Lists.{same}
 use Rattle.spec_grammar.specs.Tree.{Name, Part, mtypes, process, init, Model}
 use Rattle.spec_grammar.specs.Tree as tree
-use Rattle.parse_code.specs.Code.{code-part}
+use Rattle.spec_machine.specs.Sizes.{sizePart}
 use Rattle.spec_machine.specs.Names.{Var, ofDeclaration, globalIn, messageIn}
 use Rattle.state_encode.specs.Encode.{headIn}
 use Rattle.state_encode.specs.Tabled.{totalOf}
@@ -63,9 +63,9 @@ entriesIn i o n (init b) = []
 
 abbrev pub entriesOf : ℕ → ℕ → ℕ → Model → List Entry
 entriesOf i o n [] = []
-entriesOf i o n (u ∷ m) = entriesIn i o n u ++ entriesOf (i + length (code-part u)) (o + totalOf (globalIn u)) (n + length (messageIn u)) m
+entriesOf i o n (u ∷ m) = entriesIn i o n u ++ entriesOf (i + sizePart u) (o + totalOf (globalIn u)) (n + length (messageIn u)) m
 
 abbrev pub entriesTo : ℕ → ℕ → ℕ → Model → ℕ → List Entry
 entriesTo i o n [] k = []
 entriesTo i o n (u ∷ m) zero = entriesIn i o n u
-entriesTo i o n (u ∷ m) (suc k) = entriesIn i o n u ++ entriesTo (i + length (code-part u)) (o + totalOf (globalIn u)) (n + length (messageIn u)) m k
+entriesTo i o n (u ∷ m) (suc k) = entriesIn i o n u ++ entriesTo (i + sizePart u) (o + totalOf (globalIn u)) (n + length (messageIn u)) m k

@@ -2,17 +2,19 @@
 use Prim.Native.Nat.{suc, _≤_}
 use native.Mathlib.Omega.{arith}
 use mathlib.Core.Path.{_≡_, refl, sym, ap, _∙_, subst}
+use mathlib.Core.Bool.{Bool, false}
 use mathlib.Core.Logic.{_⊎_, inl, inr}
 use mathlib.Core.List.{List, [], _∷_, _++_, append-assoc}
 use lib.ListN.{length}
 use Rattle.base_codes.specs.Codes.{c-label}
 use Rattle.base_kinds.specs.Kinds.{Token}
-use Rattle.spec_grammar.specs.Tree.{Sort, action, statement, sequence, Tree, express, assign, increment, decrement, send, receive, assert, print, skip, goto, break, timeout, else, run, set-run, select, loop, bare, labelled, end, then, Body, Part, Model}
-use Rattle.base_codes.specs.Items.{Item, codeOf, i-assert, i-assign, i-break, i-decrement, i-do, i-else, i-end, i-express, i-fi, i-goto, i-if, i-increment, i-label, i-name, i-od, i-receive, i-run, i-send, i-set-run, i-skip, i-target, i-text, i-timeout}
-use Rattle.parse_code.specs.Code.{each, code-exp, code-argument, code-received, code-tree}
-use Rattle.spec_grammar.specs.Grammar.{D, s-express, s-assign, s-increment, s-decrement, s-send, s-receive, s-assert, s-print-alone, s-print, s-skip, s-goto, s-break, s-timeout, s-else, s-run, s-set-run, s-if, s-do, s-bare, s-label, q-last, q-then, o-last, o-also, Items, statements, declared, A-body, a-body, A-unit, u-mtypes, u-global, u-process, u-init, Gram, g-last, g-more}
+use Rattle.spec_grammar.specs.Tree.{Sort, action, statement, sequence, Tree, leaf, select, loop, bare, labelled, end, then, Body, Part, Model}
+use Rattle.base_codes.specs.Items.{Item, codeOf, i-do, i-fi, i-if, i-label, i-name, i-od}
+use Rattle.parse_code.specs.Code.{code-tree}
+use Rattle.spec_grammar.specs.Grammar.{D, s-leaf, s-if, s-do, s-bare, s-label, q-last, q-then, o-last, o-also, Items, statements, declared, A-body, a-body, A-unit, u-mtypes, u-global, u-process, u-init, Gram, g-last, g-more}
 use Rattle.agree_nesting.specs.Balanced.{Begun}
 use Rattle.agree_nesting.specs.Full.{Starts, Full, FullBody, FullPart, FullModel}
+use Rattle.agree_nesting.proofs.Leaves.{InLeaf, Mark, Phrases, none, said, Leafy, led, alone, leafy}
 
 -- ---- the last item of a statement is no label
 record Ended (l : List Item) : Type 0 where
@@ -30,22 +32,21 @@ begun-ended (x ∷ y ∷ f) last n = (omega arith, λ e. three f)
     three [] = omega arith
     three (z ∷ f) = omega arith
 
+behind : (p : List Item) (y : Item) {l : List Item} → InLeaf (codeOf y) → (l ≡ []) ⊎ Ended l → Ended (p ++ y ∷ l)
+behind p y i (inl e) = record { front = p; last = y; is = ap (λ z. p ++ y ∷ z) e; plain = i .1 }
+behind p y i (inr r) =
+    record { front = p ++ y ∷ r .front; last = r .last; is = ap (λ z. p ++ y ∷ z) (r .is) ∙ sym (append-assoc p (y ∷ r .front) (r .last ∷ [])); plain = r .plain }
+
+phrases-ended : {l : List Item} → Phrases (Mark false) l → (l ≡ []) ⊎ Ended l
+phrases-ended none = inl refl
+phrases-ended (said p y e m q) = inr (behind p y (m .2) (phrases-ended q))
+
+leafy-ended : {b : Bool} {l : List Item} → Leafy b l → Ended l
+leafy-ended (led p y n e m q) = behind p y (m .2) (phrases-ended q)
+leafy-ended (alone x a i q) = behind [] x i (phrases-ended q)
+
 action-ended : (a : Tree action) → Ended (code-tree a)
-action-ended (express e) = record { front = code-exp e; last = i-express; is = refl; plain = λ z. omega arith }
-action-ended (assign r e) = record { front = code-exp r ++ i-target ∷ code-exp e; last = i-assign; is = refl; plain = λ z. omega arith }
-action-ended (increment r) = record { front = code-exp r; last = i-increment; is = refl; plain = λ z. omega arith }
-action-ended (decrement r) = record { front = code-exp r; last = i-decrement; is = refl; plain = λ z. omega arith }
-action-ended (send r es) = record { front = code-exp r ++ i-send ∷ each code-argument es; last = i-end; is = refl; plain = λ z. omega arith }
-action-ended (receive r es) = record { front = code-exp r ++ i-receive ∷ each code-received es; last = i-end; is = refl; plain = λ z. omega arith }
-action-ended (assert e) = record { front = code-exp e; last = i-assert; is = refl; plain = λ z. omega arith }
-action-ended (print w es) = record { front = i-text w ∷ each code-argument es; last = i-end; is = refl; plain = λ z. omega arith }
-action-ended skip = record { front = []; last = i-skip; is = refl; plain = λ z. omega arith }
-action-ended (goto w) = record { front = i-name w ∷ []; last = i-goto; is = refl; plain = λ z. omega arith }
-action-ended break = record { front = []; last = i-break; is = refl; plain = λ z. omega arith }
-action-ended timeout = record { front = []; last = i-timeout; is = refl; plain = λ z. omega arith }
-action-ended else = record { front = []; last = i-else; is = refl; plain = λ z. omega arith }
-action-ended (run w es) = record { front = i-name w ∷ i-run ∷ each code-argument es; last = i-end; is = refl; plain = λ z. omega arith }
-action-ended (set-run r w es) = record { front = code-exp r ++ i-target ∷ i-name w ∷ i-set-run ∷ each code-argument es; last = i-end; is = refl; plain = λ z. omega arith }
+action-ended (leaf l) = leafy-ended (leafy l)
 action-ended (select os) = record { front = i-if ∷ code-tree os; last = i-fi; is = refl; plain = λ z. omega arith }
 action-ended (loop os) = record { front = i-do ∷ code-tree os; last = i-od; is = refl; plain = λ z. omega arith }
 
@@ -78,22 +79,7 @@ starts (q-last s u) = tt
 starts (q-then s u q) = tt
 
 full : {k : Sort} {ts : List Token} {x : Tree k} → D k ts x → Full x
-full (s-express e) = tt
-full (s-assign r e) = tt
-full (s-increment r) = tt
-full (s-decrement r) = tt
-full (s-send r es) = tt
-full (s-receive r es) = tt
-full (s-assert e) = tt
-full s-print-alone = tt
-full (s-print es) = tt
-full s-skip = tt
-full s-goto = tt
-full s-break = tt
-full s-timeout = tt
-full s-else = tt
-full (s-run es) = tt
-full (s-set-run r es) = tt
+full (s-leaf l) = tt
 full (s-if os) = full os
 full (s-do os) = full os
 full (s-bare a) = full a

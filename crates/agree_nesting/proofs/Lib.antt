@@ -1,4 +1,5 @@
 pub mod Skips
+pub mod Leaves
 pub mod Matches
 pub mod Begun
 pub mod Trees

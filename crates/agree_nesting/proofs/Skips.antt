@@ -34,23 +34,21 @@ module _ (cs : List ℕ) where
   stop p k f c e h = rw (e, h)
 
 -- an item that is none of them
+pub neither-is : (c a : ℕ) → c-if ≤ a → a ≤ c-end-option → (c < c-if) ⊎ (c-end-option < c) → eqb c a ≡ false
+neither-is c a g k (inl h) = ne-eqb c a (λ e. omega arith)
+neither-is c a g k (inr h) = ne-eqb c a (λ e. omega arith)
+
 neither-closing : {p : ℕ} → Kind p → (c : ℕ) → (c < c-if) ⊎ (c-end-option < c) → isClosing p c ≡ false
 unfolding isClosing
-neither-closing selections c (inl h) = rw (ne-eqb c c-fi (λ e. omega arith), ne-eqb c c-od (λ e. omega arith))
-neither-closing selections c (inr h) = rw (ne-eqb c c-fi (λ e. omega arith), ne-eqb c c-od (λ e. omega arith))
-neither-closing loops c (inl h) = rw (ne-eqb c c-od (λ e. omega arith))
-neither-closing loops c (inr h) = rw (ne-eqb c c-od (λ e. omega arith))
-neither-closing options c (inl h) = rw (ne-eqb c c-end-option (λ e. omega arith))
-neither-closing options c (inr h) = rw (ne-eqb c c-end-option (λ e. omega arith))
+neither-closing selections c h = rw (neither-is c c-fi (omega arith) (omega arith) h, neither-is c c-od (omega arith) (omega arith) h)
+neither-closing loops c h = neither-is c c-od (omega arith) (omega arith) h
+neither-closing options c h = neither-is c c-end-option (omega arith) (omega arith) h
 
 neither-opening : {p : ℕ} → Kind p → (c : ℕ) → (c < c-if) ⊎ (c-end-option < c) → isOpening p c ≡ false
 unfolding isOpening
-neither-opening selections c (inl h) = rw (ne-eqb c c-if (λ e. omega arith), ne-eqb c c-do (λ e. omega arith))
-neither-opening selections c (inr h) = rw (ne-eqb c c-if (λ e. omega arith), ne-eqb c c-do (λ e. omega arith))
-neither-opening loops c (inl h) = rw (ne-eqb c c-do (λ e. omega arith))
-neither-opening loops c (inr h) = rw (ne-eqb c c-do (λ e. omega arith))
-neither-opening options c (inl h) = rw (ne-eqb c c-option (λ e. omega arith))
-neither-opening options c (inr h) = rw (ne-eqb c c-option (λ e. omega arith))
+neither-opening selections c h = rw (neither-is c c-if (omega arith) (omega arith) h, neither-is c c-do (omega arith) (omega arith) h)
+neither-opening loops c h = neither-is c c-do (omega arith) (omega arith) h
+neither-opening options c h = neither-is c c-option (omega arith) (omega arith) h
 
 neither-deeper : {p : ℕ} → Kind p → (c d : ℕ) → (c < c-if) ⊎ (c-end-option < c) → deeper p c d ≡ d
 unfolding deeper

@@ -6,14 +6,15 @@ use mathlib.Core.Path.{_≡_, sym, subst}
 use mathlib.Core.Logic.{_⊎_, inl, inr}
 use mathlib.Core.List.{List, [], _∷_, _++_, append-assoc}
 use Rattle.base_codes.specs.Codes.{c-argument, c-end-option, c-if, c-plain}
-use Rattle.spec_grammar.specs.Tree.{Name, Shape, Exp, Expr, Received, Sort, Tree, express, assign, increment, decrement, send, receive, assert, print, skip, goto, break, timeout, else, run, set-run, select, loop, bare, labelled, end, then, over, option, Declaration, Group, Body, body, Activity, idle, once, times, Part, mtypes, global, process, init, Model}
-use Rattle.base_codes.specs.Items.{Item, i-init, i-label, i-assert, i-assign, i-body, i-decrement, i-end, i-end-body, i-end-option, i-express, i-fi, i-global, i-increment, i-local, i-name, i-od, i-receive, i-send, i-set-run, i-target}
-use Rattle.parse_code.specs.Code.{each, code-exp, code-argument, code-received, code-tree, code-declaration, code-group, code-body, code-activity, code-message, code-part, code}
+use Rattle.spec_grammar.specs.Tree.{Name, Sort, Tree, leaf, select, loop, bare, labelled, end, then, over, option, Declaration, Group, Body, body, Activity, idle, once, times, Part, mtypes, global, process, init, Model}
+use Rattle.base_codes.specs.Items.{Item, i-init, i-label, i-body, i-end-body, i-end-option, i-fi, i-global, i-local, i-name, i-od}
+use Rattle.parse_code.specs.Code.{each, code-leaf, code-tree, code-declaration, code-group, code-body, code-activity, code-message, code-part, code}
 use Rattle.table_entries.specs.Items.{AllKnown}
-use Rattle.agree_eval.proofs.Ranges.{Every, every-append, every-lift, InExp, exp-codes, InArgs, args-codes, all-received-codes, InDeclaration, local-codes, global-codes, InGroup, groups-codes, InMessages, messages-codes}
+use Rattle.agree_eval.proofs.Ranges.{Every, every-append, every-lift, InDeclaration, local-codes, global-codes, InGroup, groups-codes, InMessages, messages-codes}
 use Rattle.agree_eval.proofs.Operators.{known-front, known-back}
 use Rattle.agree_nesting.specs.Full.{Full, FullBody, FullPart, FullModel}
 use Rattle.agree_nesting.proofs.Begun.{sequence-begun}
+use Rattle.agree_nesting.proofs.Leaves.{InLeaf, leaf-codes}
 use Rattle.agree_nesting.specs.Balanced.{if-fi, do-od, an-option, Begun, Balanced, none, other, pair}
 
 -- ---- lists of items that open and close neither
@@ -32,16 +33,7 @@ balanced-append none b = b
 balanced-append (other t a) b = other t (balanced-append a b)
 balanced-append {v} (pair {q} {x} {y} {m} {l} p g a d) b = subst (λ z. Balanced (x ∷ z)) (sym (append-assoc m (y ∷ l) v)) (pair p g a (balanced-append d b))
 
--- ---- expressions, arguments, declarations
-flat-exp : {s : Shape} (e : Exp s) → Every Apart (code-exp e)
-flat-exp e = every-lift InExp Apart (λ c h. inl (let z = h .0 in omega arith)) (code-exp e) (exp-codes e)
-
-flat-arguments : (es : List Expr) → Every Apart (each code-argument es)
-flat-arguments es = every-lift InArgs Apart (λ c h. inl (let z = h .0 in omega arith)) (each code-argument es) (args-codes es)
-
-flat-received : (xs : List Received) → Every Apart (each code-received xs)
-flat-received xs = every-lift InArgs Apart (λ c h. inl (let z = h .0 in omega arith)) (each code-received xs) (all-received-codes xs)
-
+-- ---- declarations
 declared-apart : (c : ℕ) → InDeclaration c → Apart c
 declared-apart c h = go (decLt c c-argument)
   where
@@ -82,29 +74,7 @@ no-option : (m : List Item) → _≡_ {A = ℕ} 0 2 → Begun m
 no-option m e = absurd (omega arith)
 
 pub tree-balanced : {k : Sort} (x : Tree k) → Full x → AllKnown (code-tree x) → Balanced (code-tree x)
-tree-balanced (express e) f k = flat-balanced _ (flat-append (code-exp e) (i-express ∷ []) (flat-exp e) (λ k. inl (omega arith), tt)) k
-tree-balanced (assign r e) f k =
-    flat-balanced _ (flat-append (code-exp r ++ i-target ∷ code-exp e) (i-assign ∷ []) (flat-append (code-exp r) (i-target ∷ code-exp e) (flat-exp r) (λ k. inl (omega arith), flat-exp e)) (λ k. inl (omega arith), tt)) k
-tree-balanced (increment r) f k = flat-balanced _ (flat-append (code-exp r) (i-increment ∷ []) (flat-exp r) (λ k. inl (omega arith), tt)) k
-tree-balanced (decrement r) f k = flat-balanced _ (flat-append (code-exp r) (i-decrement ∷ []) (flat-exp r) (λ k. inl (omega arith), tt)) k
-tree-balanced (send r es) f k =
-    flat-balanced _
-    (flat-append (code-exp r ++ i-send ∷ each code-argument es) (i-end ∷ []) (flat-append (code-exp r) (i-send ∷ each code-argument es) (flat-exp r) (λ k. inl (omega arith), flat-arguments es)) (λ k. inl (omega arith), tt)) k
-tree-balanced (receive r es) f k =
-    flat-balanced _
-    (flat-append (code-exp r ++ i-receive ∷ each code-received es) (i-end ∷ []) (flat-append (code-exp r) (i-receive ∷ each code-received es) (flat-exp r) (λ k. inl (omega arith), flat-received es)) (λ k. inl (omega arith), tt)) k
-tree-balanced (assert e) f k = flat-balanced _ (flat-append (code-exp e) (i-assert ∷ []) (flat-exp e) (λ k. inl (omega arith), tt)) k
-tree-balanced (print w es) f k = flat-balanced _ (λ k. inl (omega arith), flat-append (each code-argument es) (i-end ∷ []) (flat-arguments es) (λ k. inl (omega arith), tt)) k
-tree-balanced skip f k = flat-balanced _ (λ k. inl (omega arith), tt) k
-tree-balanced (goto w) f k = flat-balanced _ (λ k. inl (omega arith), (λ k. inl (omega arith), tt)) k
-tree-balanced break f k = flat-balanced _ (λ k. inl (omega arith), tt) k
-tree-balanced timeout f k = flat-balanced _ (λ k. inl (omega arith), tt) k
-tree-balanced else f k = flat-balanced _ (λ k. inl (omega arith), tt) k
-tree-balanced (run w es) f k = flat-balanced _ (λ k. inl (omega arith), (λ k. inl (omega arith), flat-append (each code-argument es) (i-end ∷ []) (flat-arguments es) (λ k. inl (omega arith), tt))) k
-tree-balanced (set-run r w es) f k =
-    flat-balanced _
-    (flat-append (code-exp r ++ i-target ∷ i-name w ∷ i-set-run ∷ each code-argument es) (i-end ∷ [])
-    (flat-append (code-exp r) (i-target ∷ i-name w ∷ i-set-run ∷ each code-argument es) (flat-exp r) (λ k. inl (omega arith), (λ k. inl (omega arith), (λ k. inl (omega arith), flat-arguments es)))) (λ k. inl (omega arith), tt)) k
+tree-balanced (leaf l) f k = flat-balanced _ (every-lift InLeaf Apart (λ c h. inl (h .0)) (code-leaf l) (leaf-codes l)) k
 tree-balanced (select os) f k = pair if-fi (no-option (code-tree os)) (tree-balanced os f (known-front (code-tree os) (i-fi ∷ []) (k .1))) none
 tree-balanced (loop os) f k = pair do-od (no-option (code-tree os)) (tree-balanced os f (known-front (code-tree os) (i-od ∷ []) (k .1))) none
 tree-balanced (bare a) f k = tree-balanced a f k

@@ -1,7 +1,7 @@
 -- Bridge, for `demand2` (crate `demands`).
 -- Trees whose options each hold a statement: document 01, "`if`/`do` with one or more options, each `::` and a statement sequence".
 use mathlib.Core.List.{[], _∷_}
-use Rattle.spec_grammar.specs.Tree.{Sort, sequence, Tree, express, assign, increment, decrement, send, receive, assert, print, skip, goto, break, timeout, else, run, set-run, select, loop, bare, labelled, end, then, over, option, Body, body, Part, mtypes, global, process, init, Model}
+use Rattle.spec_grammar.specs.Tree.{Sort, sequence, Tree, leaf, select, loop, bare, labelled, end, then, over, option, Body, body, Part, mtypes, global, process, init, Model}
 
 -- a statement stands in the sequence
 abbrev pub Starts : Tree sequence → Type 0
@@ -9,21 +9,7 @@ Starts end = ⊥
 Starts (then s q) = Unit {0}
 
 abbrev pub Full : {k : Sort} → Tree k → Type 0
-Full (express e) = Unit {0}
-Full (assign r e) = Unit {0}
-Full (increment r) = Unit {0}
-Full (decrement r) = Unit {0}
-Full (send r es) = Unit {0}
-Full (receive r es) = Unit {0}
-Full (assert e) = Unit {0}
-Full (print w es) = Unit {0}
-Full skip = Unit {0}
-Full (goto w) = Unit {0}
-Full break = Unit {0}
-Full timeout = Unit {0}
-Full else = Unit {0}
-Full (run w es) = Unit {0}
-Full (set-run r w es) = Unit {0}
+Full (leaf l) = Unit {0}
 Full (select os) = Full os
 Full (loop os) = Full os
 Full (bare a) = Full a

@@ -10,7 +10,7 @@ use borrow.Author.Tests.{ltb-false}
 use Rattle.base_ceilings.specs.Ceilings.{channelsMost, globalsMost, itemsMost, mtypesMost, processesMost, proctypesMost, statementsMost}
 use Rattle.base_bytes.specs.Choice.{pick, either}
 use Rattle.base_bytes.proofs.Tests.{true-false, either-false}
-use Rattle.spec_grammar.specs.Tree.{action, statement, sequence, options, Tree, express, assign, increment, decrement, send, receive, assert, print, skip, goto, break, timeout, else, run, set-run, select, loop, bare, labelled, end, then, over, option}
+use Rattle.spec_grammar.specs.Tree.{action, statement, sequence, options, Tree, leaf, express, assign, increment, decrement, send, receive, assert, print, skip, goto, break, timeout, else, run, set-run, select, loop, bare, labelled, end, then, over, option}
 use Rattle.base_codes.specs.Items.{Item, codeOf, i-assert, i-assign, i-decrement, i-do, i-end, i-end-option, i-express, i-fi, i-if, i-increment, i-name, i-od, i-receive, i-run, i-send, i-set-run, i-target, i-text}
 use Rattle.parse_code.specs.Code.{each, code-exp, code-argument, code-received, code-tree, code}
 use Rattle.rule_sheets.specs.Walks.{sum}
@@ -44,21 +44,21 @@ marked-before x y h = let a = marks-append x y in omega arith
 
 action-marked : (x : Tree action) → 1 ≤ marks (code-tree x)
 unfolding one among
-action-marked (express e) = marked-behind (code-exp e) i-express [] refl
-action-marked (assign r e) = marked-behind (code-exp r ++ i-target ∷ code-exp e) i-assign [] refl
-action-marked (increment r) = marked-behind (code-exp r) i-increment [] refl
-action-marked (decrement r) = marked-behind (code-exp r) i-decrement [] refl
-action-marked (send r es) = marked-before (code-exp r ++ i-send ∷ each code-argument es) (i-end ∷ []) (marked-behind (code-exp r) i-send (each code-argument es) refl)
-action-marked (receive r xs) = marked-before (code-exp r ++ i-receive ∷ each code-received xs) (i-end ∷ []) (marked-behind (code-exp r) i-receive (each code-received xs) refl)
-action-marked (assert e) = marked-behind (code-exp e) i-assert [] refl
-action-marked (print w es) = marked-behind [] (i-text w) (each code-argument es ++ i-end ∷ []) refl
-action-marked skip = omega arith
-action-marked (goto w) = omega arith
-action-marked break = omega arith
-action-marked timeout = omega arith
-action-marked else = omega arith
-action-marked (run w es) = marked-behind (i-name w ∷ []) i-run (each code-argument es ++ i-end ∷ []) refl
-action-marked (set-run r w es) =
+action-marked (leaf (express e)) = marked-behind (code-exp e) i-express [] refl
+action-marked (leaf (assign r e)) = marked-behind (code-exp r ++ i-target ∷ code-exp e) i-assign [] refl
+action-marked (leaf (increment r)) = marked-behind (code-exp r) i-increment [] refl
+action-marked (leaf (decrement r)) = marked-behind (code-exp r) i-decrement [] refl
+action-marked (leaf (send mk r es)) = marked-before (code-exp r ++ i-send mk ∷ each code-argument es) (i-end ∷ []) (marked-behind (code-exp r) (i-send mk) (each code-argument es) refl)
+action-marked (leaf (receive mk r xs)) = marked-before (code-exp r ++ i-receive mk ∷ each code-received xs) (i-end ∷ []) (marked-behind (code-exp r) (i-receive mk) (each code-received xs) refl)
+action-marked (leaf (assert e)) = marked-behind (code-exp e) i-assert [] refl
+action-marked (leaf (print w es)) = marked-behind [] (i-text w) (each code-argument es ++ i-end ∷ []) refl
+action-marked (leaf skip) = omega arith
+action-marked (leaf (goto w)) = omega arith
+action-marked (leaf break) = omega arith
+action-marked (leaf timeout) = omega arith
+action-marked (leaf else) = omega arith
+action-marked (leaf (run w es)) = marked-behind (i-name w ∷ []) i-run (each code-argument es ++ i-end ∷ []) refl
+action-marked (leaf (set-run r w es)) =
     marked-before (code-exp r ++ i-target ∷ i-name w ∷ i-set-run ∷ each code-argument es) (i-end ∷ [])
     (let a = marks-append (code-exp r) (i-target ∷ i-name w ∷ i-set-run ∷ each code-argument es) in omega arith)
 action-marked (select os) = marked-behind [] i-if (code-tree os ++ i-fi ∷ []) refl

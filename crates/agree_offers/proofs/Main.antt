@@ -25,6 +25,7 @@ use Rattle.agree_eval.proofs.Main.{items-long}
 use Rattle.spec_machine.specs.Stage.{Ways}
 use Rattle.spec_machine.specs.Program.{Within, itself, in-if, in-do, unlabelled, behind-label, in-first, in-rest, in-option, in-others, Holds, in-process, in-init, later, endIn, sequenceOf, Statement, BodyEnd}
 use Rattle.spec_machine.specs.Offers.{offers}
+use Rattle.agree_sizes.proofs.Sizes.{size-tree, size-declarations}
 use Rattle.agree_stage.proofs.Stands.{Lying, body-lies, statement-lies, lying-back}
 use Rattle.agree_nesting.specs.Full.{Full, FullBody, FullModel}
 use Rattle.agree_nesting.proofs.Begun.{full-model}
@@ -90,7 +91,7 @@ module _ (t : List ℕ) (a : Accepts t) where
       let d = text-shallow (st .held) in
       let e = within-depth (st .inside) in
       let b = inside-there t a (code-tree x) j l in
-      walked (T t a) s p late x j (selectionsMost + 1) itemsMost (told t a x j (text-full st) l) (omega arith) (omega (arith, items-long t a, codes-few t a))
+      walked (T t a) s p late x j (selectionsMost + 1) itemsMost (told t a x j (text-full st) l) (omega arith) (omega (arith, size-tree x, items-long t a, codes-few t a))
 
   pub text-offers : {u j : ℕ} {x : Tree action} {h : Ways} → Statement (a .tree) u x j h → (s : List ℤ) (p : ℕ) (late : Bool)
       → offersOf (tablesText t) s p late j ≡ offers (λ y i. readyOf (tablesText t) s p late i) x j
@@ -101,8 +102,8 @@ module _ (t : List ℕ) (a : Accepts t) where
   end-in-tables : (b : Body) (k : ℕ) → Lying (xs t a) 0 (code-body b) k → codeOf (T t a) (endIn b k) ≡ c-end-body
   end-in-tables (body ds q) k l =
       let D = i-body ∷ each (code-declaration i-local) ds in
-      let n = length-append D (code-tree q) in
-      held-there t a (i-end-body ∷ []) (endIn (body ds q) k) (lying-back (xs t a) (D ++ code-tree q) (i-end-body ∷ []) 0 k (endIn (body ds q) k) (omega arith) l) .0
+      held-there t a (i-end-body ∷ []) (endIn (body ds q) k)
+      (lying-back (xs t a) (D ++ code-tree q) (i-end-body ∷ []) 0 k (endIn (body ds q) k) (omega (arith, size-declarations ds, size-tree q, length-append D (code-tree q))) l) .0
 
   -- a unit ends with `end-body` (228)
   pub text-ends : {u j : ℕ} → BodyEnd (a .tree) u j → codeOf (tablesText t) j ≡ c-end-body

@@ -5,13 +5,12 @@ use mathlib.Core.Path.{_≡_, refl, sym as inv, ap, subst, _∙_}
 use mathlib.Core.Bool.{true}
 use mathlib.Core.List.{List, _∷_, _++_}
 use lib.ListN.{length, length-append}
-use Rattle.spec_grammar.specs.Tree.{Shape, Exp}
 use Rattle.base_codes.specs.Items.{Item}
-use Rattle.parse_code.specs.Code.{code-exp, code}
+use Rattle.parse_code.specs.Code.{code}
 use Rattle.base_codes.specs.Items.{codeOf as itemCode}
 use Rattle.base_codes.specs.Sets.{isClosing}
 use Rattle.table_entries.specs.Items.{AllKnown}
-use Rattle.link_phrases_proof.specs.Phrases.{At, Proper}
+use Rattle.link_phrases_proof.specs.Phrases.{At}
 use Rattle.link_phrases_proof.proofs.Starts.{at-front, at-back}
 use Rattle.table_layout.specs.Access.{linkOf}
 use Rattle.table_proof.proofs.Accepted.{accepted-known}
@@ -20,7 +19,7 @@ use Rattle.agree_eval.specs.Held.{Held}
 use Rattle.agree_eval.specs.Names.{codesAt}
 use Rattle.agree_eval.proofs.Items.{T, part-held}
 use Rattle.agree_eval.proofs.Main.{items-long}
-use Rattle.agree_eval.proofs.Operators.{known-front, known-back, text-proper}
+use Rattle.agree_eval.proofs.Operators.{known-front, known-back}
 use Rattle.agree_stage.proofs.Stands.{Lying}
 use Rattle.agree_nesting.specs.Balanced.{Begun, Balanced}
 use Rattle.agree_nesting.proofs.Matches.{Opener, Match}
@@ -48,9 +47,6 @@ module _ (t : List ℕ) (a : Accepts t) where
 
     pub known-there : AllKnown x
     known-there = known-front x (l .rest) (known-back (l .front) (x ++ l .rest) (subst AllKnown (l .split) (accepted-known t (a .parts) (a .tree) (a .reads) (a .gram))))
-
-  pub proper-there : {s : Shape} (e : Exp s) (i : ℕ) → Lying xs 0 (code-exp e) i → Proper e
-  proper-there e i l = text-proper t a e (l .front) (l .rest) (l .split)
 
   -- the item y closes what x opens, with balanced items m between them
   pub linked-there : (p : ℕ) (x y : Item) (m r : List Item) (i : ℕ) → Opener p (itemCode x) → isClosing p (itemCode y) ≡ true → (p ≡ 2 → Begun m) → Balanced m

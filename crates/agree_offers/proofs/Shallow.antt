@@ -11,8 +11,8 @@ use Rattle.base_ceilings.specs.Ceilings.{bracketsMost, selectionsMost}
 use Rattle.base_bytes.proofs.Tests.{true-false}
 use Rattle.base_kinds.specs.Kinds.{Token, sym as mark, name, level}
 use Rattle.spec_grammar.specs.Marks.{'!, '?, '=, '++, '--, '->, ':, '::, 'lpar, 'rpar, '], 'lbrace, 'rbrace, 'if, 'fi, 'do, 'od, 'run, 'init, 'proctype}
-use Rattle.spec_grammar.specs.Tree.{Sort, Expr, Received, Tree, Value, Variable, Declaration, Group, Body, Activity, Name, Part, Model}
-use Rattle.spec_grammar.specs.Grammar.{Listed, one, more, Maybe-listed, no-list, a-list, Message, commas, call, Semicolons, no-semi, semi, Trailing, none-trails, semi-trails, arrow-trails, Parted, by-semi, by-arrow, A-name, a-name, Is-type, is-bit, is-bool, is-byte, is-mtype, is-pid, is-chan, is-short, is-int, A-type, a-type, Is-unary, is-minus, is-not, is-flip, E, e-plain, e-index, e-number, e-true, e-false, e-len, e-group, e-choice, e-unary, e-binary, e-up, An-expression, A-received, r-into, r-eval, r-number, r-true, r-false, D, s-express, s-assign, s-increment, s-decrement, s-send, s-receive, s-assert, s-print-alone, s-print, s-skip, s-goto, s-break, s-timeout, s-else, s-run, s-set-run, s-if, s-do, s-bare, s-label, q-last, q-then, o-last, o-also, A-value, v-number, v-minus, v-true, v-false, v-name, A-variable, x-bare, x-set, x-array, x-array-set, x-channel, A-declaration, declaration, A-group, a-group, Items, statements, declared, A-body, a-body, An-activity, not-active, active, active-times, A-unit, u-mtypes, u-global, u-process, u-init, Gram, g-last, g-more}
+use Rattle.spec_grammar.specs.Tree.{Sort, Expr, Received, Leaf, Tree, Value, Variable, Declaration, Group, Body, Activity, Name, Part, Model}
+use Rattle.spec_grammar.specs.Grammar.{Listed, one, more, Maybe-listed, no-list, a-list, Message, commas, call, Semicolons, no-semi, semi, Trailing, none-trails, semi-trails, arrow-trails, Parted, by-semi, by-arrow, A-name, a-name, Is-type, is-bit, is-bool, is-byte, is-mtype, is-pid, is-chan, is-short, is-int, A-type, a-type, Is-unary, is-minus, is-not, is-flip, E, e-plain, e-index, e-number, e-true, e-false, e-query, e-group, e-choice, e-unary, e-binary, e-up, An-expression, A-received, r-into, r-eval, r-number, r-true, r-false, is-len, is-bang, is-ask, A-leaf, D, s-leaf, s-express, s-assign, s-increment, s-decrement, s-send, s-receive, s-assert, s-print-alone, s-print, s-skip, s-goto, s-break, s-timeout, s-else, s-run, s-set-run, s-if, s-do, s-bare, s-label, q-last, q-then, o-last, o-also, A-value, v-number, v-minus, v-true, v-false, v-name, A-variable, x-bare, x-set, x-array, x-array-set, x-channel, A-declaration, declaration, A-group, a-group, Items, statements, declared, A-body, a-body, An-activity, not-active, active, active-times, A-unit, u-mtypes, u-global, u-process, u-init, Gram, g-last, g-more}
 use Rattle.spec_grammar.proofs.Levels.{operator-small}
 use Rattle.parse_proof.specs.Depth.{opens-bracket, closes-bracket, opens-selection, closes-selection, count-after, passes, one-later, deep-from, too-deep}
 use Rattle.agree_offers.specs.Depth.{depth, ShallowBody, ShallowPart, ShallowModel}
@@ -125,7 +125,7 @@ quiet-exp (e-index {ts = ts} x) = (refl, (refl, quiet-append ts ('] ∷ []) (qui
 quiet-exp e-number = (refl, tt)
 quiet-exp e-true = (refl, tt)
 quiet-exp e-false = (refl, tt)
-quiet-exp (e-len {ts = ts} x) = (refl, (refl, quiet-append ts ('rpar ∷ []) (quiet-exp x) (refl, tt)))
+quiet-exp (e-query {ts = ts} is-len x) = (refl, (refl, quiet-append ts ('rpar ∷ []) (quiet-exp x) (refl, tt)))
 quiet-exp (e-group {ts = ts} x) = (refl, quiet-append ts ('rpar ∷ []) (quiet-exp x) (refl, tt))
 quiet-exp (e-choice {xs = xs} {ys = ys} {zs = zs} x y z) =
     let h = quiet-append xs ('-> ∷ ys) (quiet-exp x) (refl, quiet-exp y) in
@@ -143,6 +143,27 @@ quiet-received (r-eval {ts = ts} x) = (refl, (refl, quiet-append ts ('rpar ∷ [
 quiet-received r-number = (refl, tt)
 quiet-received r-true = (refl, tt)
 quiet-received r-false = (refl, tt)
+
+-- statements that hold no other
+quiet-leaf : {ts : List Token} {l : Leaf} → A-leaf ts l → Quiet ts
+quiet-leaf (s-express e) = quiet-exp e
+quiet-leaf (s-assign {ts = x} {us = y} r e) = quiet-append x ('= ∷ y) (quiet-exp r) (refl, quiet-exp e)
+quiet-leaf (s-increment {ts = x} r) = quiet-append x ('++ ∷ []) (quiet-exp r) (refl, tt)
+quiet-leaf (s-decrement {ts = x} r) = quiet-append x ('-- ∷ []) (quiet-exp r) (refl, tt)
+quiet-leaf (s-send {ts = x} {us = y} is-bang r es) = quiet-append x ('! ∷ y) (quiet-exp r) (refl, quiet-message An-expression expressions es)
+quiet-leaf (s-receive {ts = x} {us = y} is-ask r xs) = quiet-append x ('? ∷ y) (quiet-exp r) (refl, quiet-message A-received (λ ts x r. quiet-received r) xs)
+quiet-leaf (s-assert {ts = x} e) = (refl, (refl, quiet-append x ('rpar ∷ []) (quiet-exp e) (refl, tt)))
+quiet-leaf s-print-alone = (refl, (refl, (refl, (refl, tt))))
+quiet-leaf (s-print {ts = x} es) = (refl, (refl, (refl, (refl, quiet-append x ('rpar ∷ []) (quiet-listed An-expression expressions refl es) (refl, tt)))))
+quiet-leaf s-skip = (refl, tt)
+quiet-leaf s-goto = (refl, (refl, tt))
+quiet-leaf s-break = (refl, tt)
+quiet-leaf s-timeout = (refl, tt)
+quiet-leaf s-else = (refl, tt)
+quiet-leaf (s-run {ts = x} es) = (refl, (refl, (refl, quiet-append x ('rpar ∷ []) (quiet-maybe An-expression expressions refl es) (refl, tt))))
+quiet-leaf (s-set-run {ts = x} {us = y} {w = w} r es) =
+    quiet-append (x ++ '= ∷ 'run ∷ name w ∷ 'lpar ∷ y) ('rpar ∷ [])
+    (quiet-append x ('= ∷ 'run ∷ name w ∷ 'lpar ∷ y) (quiet-exp r) (refl, (refl, (refl, (refl, quiet-maybe An-expression expressions refl es))))) (refl, tt)
 
 -- declarations
 quiet-value : {ts : List Token} {v : Value} → A-value ts v → Quiet ts
@@ -200,24 +221,7 @@ nests-same : (ts : List Token) (n m : ℕ) → n ≡ m → Nests ts n → Nests 
 nests-same ts n m e f = subst (Nests ts) e f
 
 nests : {k : Sort} {ts : List Token} {x : Tree k} → D k ts x → Nests ts (depth x)
-nests {ts = ts} (s-express e) = nests-quiet ts (quiet-exp e)
-nests {ts = ts} (s-assign {ts = x} {us = y} r e) = nests-quiet ts (quiet-append x ('= ∷ y) (quiet-exp r) (refl, quiet-exp e))
-nests {ts = ts} (s-increment {ts = x} r) = nests-quiet ts (quiet-append x ('++ ∷ []) (quiet-exp r) (refl, tt))
-nests {ts = ts} (s-decrement {ts = x} r) = nests-quiet ts (quiet-append x ('-- ∷ []) (quiet-exp r) (refl, tt))
-nests {ts = ts} (s-send {ts = x} {us = y} r es) = nests-quiet ts (quiet-append x ('! ∷ y) (quiet-exp r) (refl, quiet-message An-expression expressions es))
-nests {ts = ts} (s-receive {ts = x} {us = y} r xs) = nests-quiet ts (quiet-append x ('? ∷ y) (quiet-exp r) (refl, quiet-message A-received (λ ts x r. quiet-received r) xs))
-nests {ts = ts} (s-assert {ts = x} e) = nests-quiet ts (refl, (refl, quiet-append x ('rpar ∷ []) (quiet-exp e) (refl, tt)))
-nests {ts = ts} s-print-alone = nests-quiet ts (refl, (refl, (refl, (refl, tt))))
-nests {ts = ts} (s-print {ts = x} es) = nests-quiet ts (refl, (refl, (refl, (refl, quiet-append x ('rpar ∷ []) (quiet-listed An-expression expressions refl es) (refl, tt)))))
-nests {ts = ts} s-skip = nests-quiet ts (refl, tt)
-nests {ts = ts} s-goto = nests-quiet ts (refl, (refl, tt))
-nests {ts = ts} s-break = nests-quiet ts (refl, tt)
-nests {ts = ts} s-timeout = nests-quiet ts (refl, tt)
-nests {ts = ts} s-else = nests-quiet ts (refl, tt)
-nests {ts = ts} (s-run {ts = x} es) = nests-quiet ts (refl, (refl, (refl, quiet-append x ('rpar ∷ []) (quiet-maybe An-expression expressions refl es) (refl, tt))))
-nests {ts = ts} (s-set-run {ts = x} {us = y} {w = w} r es) =
-    let h = quiet-append x ('= ∷ 'run ∷ name w ∷ 'lpar ∷ y) (quiet-exp r) (refl, (refl, (refl, (refl, quiet-maybe An-expression expressions refl es)))) in
-    nests-quiet ts (quiet-append (x ++ '= ∷ 'run ∷ name w ∷ 'lpar ∷ y) ('rpar ∷ []) h (refl, tt))
+nests {ts = ts} (s-leaf l) = nests-quiet ts (quiet-leaf l)
 nests (s-if {ts = ts} {os = os} d) = nests-in 'if 'fi ts (depth os) refl refl refl (nests d)
 nests (s-do {ts = ts} {os = os} d) = nests-in 'do 'od ts (depth os) refl refl refl (nests d)
 nests (s-bare d) = nests d

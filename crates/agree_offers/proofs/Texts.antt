@@ -6,25 +6,28 @@ use mathlib.Core.Bool.{true}
 use mathlib.Core.List.{List, [], _∷_, _++_, append-assoc}
 use lib.ListN.{length}
 use borrow.Author.Tests.{eq-eqb, ne-eqb}
-use Rattle.base_codes.specs.Codes.{c-break, c-end-option, c-fi, c-label, c-name, c-od, c-skip, c-text, c-timeout}
-use Rattle.spec_grammar.specs.Tree.{Sort, sequence, options, Exp, Shape, Tree, express, assign, increment, decrement, send, receive, assert, print, skip, goto, break, timeout, else, run, set-run, select, loop, bare, labelled, end, then, over, option}
-use Rattle.base_codes.specs.Items.{Item, i-assert, i-assign, i-decrement, i-do, i-end, i-end-option, i-express, i-fi, i-if, i-increment, i-label, i-name, i-od, i-option, i-receive, i-send, i-set-run, i-target}
+use Rattle.base_codes.specs.Codes.{c-end-option, c-fi, c-label, c-od}
+use Rattle.spec_grammar.specs.Tree.{Sort, sequence, options, Tree, leaf, select, loop, bare, labelled, end, then, over, option}
+use Rattle.base_codes.specs.Items.{Item, i-do, i-end-option, i-fi, i-if, i-label, i-name, i-od, i-option}
 use Rattle.base_codes.specs.Sets.{isClosing}
-use Rattle.parse_code.specs.Code.{each, code-exp, code-argument, code-received, code-tree}
+use Rattle.parse_code.specs.Code.{code-leaf, code-tree}
 use Rattle.table_layout.specs.Access.{codeOf}
 use Rattle.step_offers.specs.Offers.{firstOf}
 use Rattle.read_accepts_proof.specs.Meaning.{Accepts}
 use Rattle.agree_eval.proofs.Items.{T}
-use Rattle.spec_machine.specs.Program.{sizeIn, enter}
+use Rattle.spec_machine.specs.Sizes.{sizeIn}
+use Rattle.agree_sizes.proofs.Sizes.{size-tree}
+use Rattle.spec_machine.specs.Program.{enter}
 use Rattle.agree_stage.proofs.Stands.{Lying, lying-front, lying-back, lying-between}
 use Rattle.agree_nesting.specs.Full.{Starts, Full}
 use Rattle.agree_nesting.proofs.Begun.{sequence-begun}
+use Rattle.agree_nesting.proofs.Leaves.{leafy}
 use Rattle.agree_nesting.proofs.Matches.{is-if, is-do, is-option}
 use Rattle.agree_nesting.proofs.Trees.{tree-balanced}
-use Rattle.agree_offers.specs.Told.{Plain, Told}
+use Rattle.agree_offers.specs.Told.{Told}
 use Rattle.agree_offers.proofs.Counted.{few-options}
 use Rattle.agree_offers.proofs.Places.{xs, held-there, known-there, linked-there}
-use Rattle.agree_offers.proofs.Firsts.{exp-plain, code-plain, rest-first, action-second}
+use Rattle.agree_offers.proofs.Firsts.{leaf-told, rest-first, action-second}
 
 closes-if : isClosing 0 c-fi ≡ true
 unfolding isClosing
@@ -51,9 +54,6 @@ module _ (t : List ℕ) (a : Accepts t) where
   back : (x y : List Item) (i k : ℕ) → k ≡ i + length x → L (x ++ y) i → L y k
   back x y i k e p = lying-back (xs t a) x y 0 i k e p
 
-  front-plain : {s : Shape} (e : Exp s) (l : List Item) (i : ℕ) → L (code-exp e ++ l) i → Plain U i
-  front-plain e l i p = exp-plain U e l i (held-there t a (code-exp e ++ l) i p)
-
   -- ---- the first statement of an option
   first-labelled : (i : ℕ) → codeOf U (suc (suc i)) ≡ c-label → firstOf U i ≡ i + 1 + 2
   unfolding firstOf
@@ -72,58 +72,46 @@ module _ (t : List ℕ) (a : Accepts t) where
   option-first (then (bare x) q) os i h p =
       let R = i-end-option ∷ code-tree os in
       let B = back (i-option ∷ []) ((code-tree x ++ code-tree q) ++ R) i (i + 1) refl p in
+      let F = front (code-tree x ++ code-tree q) R (i + 1) B in
+      let A = front (code-tree x) (code-tree q) (i + 1) F in
+      let j = i + 1 + sizeIn x in
+      let n : j ≡ i + 1 + length (code-tree x) = omega (arith, size-tree x) in
       first-bare i
-      (action-second t a x (i + 1) (front (code-tree x) (code-tree q) (i + 1) (front (code-tree x ++ code-tree q) R (i + 1) B))
-      (rest-first U q (code-tree os) (i + 1 + sizeIn x)
-      (held-there t a (code-tree q ++ R) (i + 1 + sizeIn x)
-      (back (code-tree x) (code-tree q ++ R) (i + 1) (i + 1 + sizeIn x) refl (subst (λ (l : List Item). L l (i + 1)) (append-assoc (code-tree x) (code-tree q) R) B)))))
+      (action-second U x (i + 1) (known-there t a (code-tree x) (i + 1) A) (held-there t a (code-tree x) (i + 1) A)
+      (rest-first U q (code-tree os) j (known-there t a (code-tree q) j (back (code-tree x) (code-tree q) (i + 1) j n F))
+      (held-there t a (code-tree q ++ R) j (back (code-tree x) (code-tree q ++ R) (i + 1) j n (subst (λ (l : List Item). L l (i + 1)) (append-assoc (code-tree x) (code-tree q) R) B)))))
   option-first (then (labelled w x) q) os i h p = first-labelled i (held-there t a (code-tree (option (then (labelled w x) q) os)) i p .2 .2 .0)
 
   -- ---- trees
   pub told : {k : Sort} (x : Tree k) (i : ℕ) → Full x → L (code-tree x) i → Told U x i
-  told (express e) i f p = front-plain e (i-express ∷ []) i p
-  told (assign r e) i f p = front-plain r (i-target ∷ code-exp e) i (front (code-exp r ++ i-target ∷ code-exp e) (i-assign ∷ []) i p)
-  told (increment r) i f p = front-plain r (i-increment ∷ []) i p
-  told (decrement r) i f p = front-plain r (i-decrement ∷ []) i p
-  told (send r es) i f p = front-plain r (i-send ∷ each code-argument es) i (front (code-exp r ++ i-send ∷ each code-argument es) (i-end ∷ []) i p)
-  told (receive r es) i f p = front-plain r (i-receive ∷ each code-received es) i (front (code-exp r ++ i-receive ∷ each code-received es) (i-end ∷ []) i p)
-  told (assert e) i f p = front-plain e (i-assert ∷ []) i p
-  told (print w es) i f p = code-plain U i c-text (held-there t a (code-tree (print w es)) i p .0) (omega arith)
-  told skip i f p = code-plain U i c-skip (held-there t a (code-tree skip) i p .0) (omega arith)
-  told (goto w) i f p = code-plain U i c-name (held-there t a (code-tree (goto w)) i p .0) (omega arith)
-  told break i f p = code-plain U i c-break (held-there t a (code-tree break) i p .0) (omega arith)
-  told timeout i f p = code-plain U i c-timeout (held-there t a (code-tree timeout) i p .0) (omega arith)
-  told else i f p = held-there t a (code-tree else) i p .0
-  told (run w es) i f p = code-plain U i c-name (held-there t a (code-tree (run w es)) i p .0) (omega arith)
-  told (set-run r w es) i f p =
-      front-plain r (i-target ∷ i-name w ∷ i-set-run ∷ each code-argument es) i (front (code-exp r ++ i-target ∷ i-name w ∷ i-set-run ∷ each code-argument es) (i-end ∷ []) i p)
+  told (leaf l) i f p = leaf-told U (leafy l) (known-there t a (code-leaf l) i p) i (held-there t a (code-leaf l) i p)
   told (select os) i f p =
       let o = lying-between (xs t a) i-if (code-tree os) i-fi 0 i p in (
         held-there t a (code-tree (select os)) i p .0,
-        linked-there t a 0 i-if i-fi (code-tree os) [] i (is-if refl) closes-if (λ e. absurd (omega arith)) (tree-balanced os f (known-there t a (code-tree os) (i + 1) o)) p,
+        linked-there t a 0 i-if i-fi (code-tree os) [] i (is-if refl) closes-if (λ e. absurd (omega arith)) (tree-balanced os f (known-there t a (code-tree os) (i + 1) o)) p ∙ ap (i + 1 +_) (size-tree os),
         few-options t a os (i + 1) f o,
         told os (i + 1) f o,
       )
   told (loop os) i f p =
       let o = lying-between (xs t a) i-do (code-tree os) i-od 0 i p in (
         held-there t a (code-tree (loop os)) i p .0,
-        linked-there t a 0 i-do i-od (code-tree os) [] i (is-do refl) closes-do (λ e. absurd (omega arith)) (tree-balanced os f (known-there t a (code-tree os) (i + 1) o)) p,
+        linked-there t a 0 i-do i-od (code-tree os) [] i (is-do refl) closes-do (λ e. absurd (omega arith)) (tree-balanced os f (known-there t a (code-tree os) (i + 1) o)) p ∙ ap (i + 1 +_) (size-tree os),
         few-options t a os (i + 1) f o,
         told os (i + 1) f o,
       )
   told (bare x) i f p = told x i f p
   told (labelled w x) i f p = told x (i + 2) f (back (i-name w ∷ i-label ∷ []) (code-tree x) i (i + 2) refl p)
   told end i f p = tt
-  told (then s q) i f p = (told s i (f .0) (front (code-tree s) (code-tree q) i p), told q (i + sizeIn s) (f .1) (back (code-tree s) (code-tree q) i (i + sizeIn s) refl p))
+  told (then s q) i f p = (told s i (f .0) (front (code-tree s) (code-tree q) i p), told q (i + sizeIn s) (f .1) (back (code-tree s) (code-tree q) i (i + sizeIn s) (omega (arith, size-tree s)) p))
   told over i f p = tt
   told (option q os) i f p =
       let B = back (i-option ∷ []) (code-tree q ++ (i-end-option ∷ code-tree os)) i (i + 1) refl p in
       let Q = front (code-tree q) (i-end-option ∷ code-tree os) (i + 1) B in
-      let E = back (code-tree q) (i-end-option ∷ code-tree os) (i + 1) (i + 1 + sizeIn q) refl B in
+      let E = back (code-tree q) (i-end-option ∷ code-tree os) (i + 1) (i + 1 + sizeIn q) (omega (arith, size-tree q)) B in
       let R = back (i-end-option ∷ []) (code-tree os) (i + 1 + sizeIn q) (i + 2 + sizeIn q) (omega arith) E in
       let G = tree-balanced q (f .1) (known-there t a (code-tree q) (i + 1) Q) in (
         held-there t a (code-tree (option q os)) i p .0,
-        linked-there t a 2 i-option i-end-option (code-tree q) (code-tree os) i (is-option refl) closes-option (λ e. sequence-begun q (f .0)) G p,
+        linked-there t a 2 i-option i-end-option (code-tree q) (code-tree os) i (is-option refl) closes-option (λ e. sequence-begun q (f .0)) G p ∙ ap (i + 1 +_) (size-tree q),
         f .0,
         option-first q os i (f .0) p,
         told q (i + 1) (f .1) Q,

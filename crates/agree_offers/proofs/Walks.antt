@@ -4,35 +4,23 @@ use native.Mathlib.Omega.{arith}
 use mathlib.Core.Path.{_≡_, refl, ap, ap₂, _∙_}
 use mathlib.Core.Bool.{Bool, true, false}
 use mathlib.Core.List.{List, [], _∷_, _++_}
-use lib.ListN.{length-append}
 use lib.IntN.{ℤ}
 use borrow.Author.Tests.{lt-ltb, le-ltb, eq-eqb, ne-eqb}
 use Rattle.base_ceilings.specs.Ceilings.{statementsMost}
 use Rattle.base_codes.specs.Codes.{c-do, c-else, c-if, c-option}
 use Rattle.base_bytes.specs.Choice.{pick}
 use Rattle.table_layout.specs.Access.{codeOf, linkOf}
-use Rattle.spec_grammar.specs.Tree.{Sort, action, statement, sequence, options, Tree, express, assign, increment, decrement, send, receive, assert, print, skip, goto, break, timeout, else, run, set-run, select, loop, bare, labelled, end, then, over, option}
-use Rattle.base_codes.specs.Items.{i-do, i-end-option, i-fi, i-if, i-od, i-option}
-use Rattle.parse_code.specs.Code.{code-tree}
+use Rattle.spec_grammar.specs.Tree.{Sort, action, statement, sequence, options, Tree, leaf, select, loop, bare, labelled, end, then, over, option}
 use Rattle.step_ready.specs.Executing.{readyOf}
 use Rattle.step_offers.specs.Offers.{isSelection, endOf, firstOf, eachOption, elseAt, offersFrom}
 use Rattle.base_bytes.specs.Lists.{orElse}
 use Rattle.agree_offers.proofs.Lists.{list-plain, list-selection}
-use Rattle.spec_machine.specs.Program.{sizeIn, placeIn, enter}
+use Rattle.spec_machine.specs.Sizes.{sizeIn}
+use Rattle.spec_machine.specs.Program.{placeIn, enter}
 use Rattle.spec_machine.specs.Offers.{elseOf, offers}
 use Rattle.agree_nesting.specs.Full.{Starts}
 use Rattle.agree_offers.specs.Depth.{depth, optionsIn}
 use Rattle.agree_offers.specs.Told.{Told}
-
--- ---- sizes
-option-size : (q : Tree sequence) (os : Tree options) → sizeIn (option q os) ≡ sizeIn q + sizeIn os + 2
-option-size q os = let e = length-append (i-option ∷ code-tree q) (i-end-option ∷ code-tree os) in omega arith
-
-select-size : (os : Tree options) → sizeIn (select os) ≡ sizeIn os + 2
-select-size os = let e = length-append (i-if ∷ code-tree os) (i-fi ∷ []) in omega arith
-
-loop-size : (os : Tree options) → sizeIn (loop os) ≡ sizeIn os + 2
-loop-size os = let e = length-append (i-do ∷ code-tree os) (i-od ∷ []) in omega arith
 
 module _ (t : List ℕ) where
   -- ---- one option, and none
@@ -57,31 +45,11 @@ module _ (t : List ℕ) where
   ElseOf sequence q i = Starts q → (stop : ℕ) → elseAt t (enter q i 0) stop ≡ elseOf q i
   ElseOf options os i = (n stop : ℕ) → optionsIn os ≤ n → stop ≡ i + sizeIn os → eachOption t (elseAt t) n i stop ≡ elseOf os i
 
-  no-else : (i stop : ℕ) → (codeOf t i ≡ c-else → ⊥) → elseAt t i stop ≡ []
-  no-else i stop h = rw (ne-eqb (codeOf t i) c-else h)
-
   selection-else : (i stop c : ℕ) → codeOf t i ≡ c → (c ≡ c-else → ⊥) → elseAt t i stop ≡ []
-  selection-else i stop c e h = no-else i stop (λ z. h (let w : c ≡ c-else = omega arith in w))
-
-  else-is : (i stop : ℕ) → codeOf t i ≡ c-else → elseAt t i stop ≡ i ∷ []
-  else-is i stop e = rw e
+  selection-else i stop c e h = rw (e, ne-eqb c c-else h)
 
   walk-else : {k : Sort} (x : Tree k) (i : ℕ) → Told t x i → ElseOf k x i
-  walk-else (express e) i c = λ stop. no-else i stop (c .1)
-  walk-else (assign r e) i c = λ stop. no-else i stop (c .1)
-  walk-else (increment r) i c = λ stop. no-else i stop (c .1)
-  walk-else (decrement r) i c = λ stop. no-else i stop (c .1)
-  walk-else (send r es) i c = λ stop. no-else i stop (c .1)
-  walk-else (receive r xs) i c = λ stop. no-else i stop (c .1)
-  walk-else (assert e) i c = λ stop. no-else i stop (c .1)
-  walk-else (print w es) i c = λ stop. no-else i stop (c .1)
-  walk-else skip i c = λ stop. no-else i stop (c .1)
-  walk-else (goto w) i c = λ stop. no-else i stop (c .1)
-  walk-else break i c = λ stop. no-else i stop (c .1)
-  walk-else timeout i c = λ stop. no-else i stop (c .1)
-  walk-else else i c = λ stop. else-is i stop c
-  walk-else (run w es) i c = λ stop. no-else i stop (c .1)
-  walk-else (set-run r w es) i c = λ stop. no-else i stop (c .1)
+  walk-else (leaf l) i c = λ stop. ap (λ b. pick b (i ∷ []) []) (c .1)
   walk-else (select os) i c = λ stop. selection-else i stop c-if (c .0) (λ z. omega arith)
   walk-else (loop os) i c = λ stop. selection-else i stop c-do (c .0) (λ z. omega arith)
   walk-else (bare a) i c = λ stop. walk-else a i c stop
@@ -96,7 +64,6 @@ module _ (t : List ℕ) where
           → eachOption t (elseAt t) n i stop ≡ elseOf q (i + 1) ++ elseOf os (i + 2 + sizeIn q)
       go zero stop h e f g = absurd (omega arith)
       go (suc n) stop h e f g =
-          let z = option-size q os in
           each-option (elseAt t) n i (sizeIn q) stop (c .0) (c .1) (omega arith)
           ∙ ap₂ _++_ (ap (λ m. elseAt t m (i + 1 + sizeIn q)) (c .3) ∙ f (i + 1 + sizeIn q)) (g n stop (omega arith) (omega arith))
 
@@ -132,32 +99,15 @@ module _ (t : List ℕ) where
     is-do : (i : ℕ) → codeOf t i ≡ c-do → isSelection t i ≡ true
     is-do i e = rw e
 
-    is-else : (i : ℕ) → codeOf t i ≡ c-else → isSelection t i ≡ false
-    is-else i e = rw e
-
     walk : {k : Sort} (x : Tree k) (i : ℕ) → Told t x i → Offered k x i
     unfolding offers
-    walk (express e) i c = λ d stop h g. alone d i stop h (c .0)
-    walk (assign r e) i c = λ d stop h g. alone d i stop h (c .0)
-    walk (increment r) i c = λ d stop h g. alone d i stop h (c .0)
-    walk (decrement r) i c = λ d stop h g. alone d i stop h (c .0)
-    walk (send r es) i c = λ d stop h g. alone d i stop h (c .0)
-    walk (receive r xs) i c = λ d stop h g. alone d i stop h (c .0)
-    walk (assert e) i c = λ d stop h g. alone d i stop h (c .0)
-    walk (print w es) i c = λ d stop h g. alone d i stop h (c .0)
-    walk skip i c = λ d stop h g. alone d i stop h (c .0)
-    walk (goto w) i c = λ d stop h g. alone d i stop h (c .0)
-    walk break i c = λ d stop h g. alone d i stop h (c .0)
-    walk timeout i c = λ d stop h g. alone d i stop h (c .0)
-    walk else i c = λ d stop h g. alone d i stop h (is-else i c)
-    walk (run w es) i c = λ d stop h g. alone d i stop h (c .0)
-    walk (set-run r w es) i c = λ d stop h g. alone d i stop h (c .0)
-    walk (select os) i c = λ d stop h g. (let z = select-size os in selected os i (is-if i (c .0)) (c .1) (c .2) (c .3) (walk os (i + 1) (c .3)) d stop h (omega arith))
-    walk (loop os) i c = λ d stop h g. (let z = loop-size os in selected os i (is-do i (c .0)) (c .1) (c .2) (c .3) (walk os (i + 1) (c .3)) d stop h (omega arith))
+    walk (leaf l) i c = λ d stop h g. alone d i stop h (c .0)
+    walk (select os) i c = λ d stop h g. selected os i (is-if i (c .0)) (c .1) (c .2) (c .3) (walk os (i + 1) (c .3)) d stop h g
+    walk (loop os) i c = λ d stop h g. selected os i (is-do i (c .0)) (c .1) (c .2) (c .3) (walk os (i + 1) (c .3)) d stop h g
     walk (bare a) i c = λ d stop h g. walk a i c d stop h g
     walk (labelled w a) i c = λ d stop h g. walk a (i + 2) c d stop h (omega arith)
     walk end i c = λ h. absurd h
-    walk (then x q) i c = λ h d stop g k. (let z = length-append (code-tree x) (code-tree q) in walk x i (c .0) d stop (omega arith) (omega arith))
+    walk (then x q) i c = λ h d stop g k. walk x i (c .0) d stop (omega arith) (omega arith)
     walk over i c = λ d n stop h m e. each-over (λ f e. offersFrom t s p late d f e) n i stop (omega arith)
     walk (option q os) i c = λ d n stop h m e. go d n stop h m e (walk q (i + 1) (c .4) (c .2)) (walk os (i + 2 + sizeIn q) (c .5))
       where
@@ -166,7 +116,6 @@ module _ (t : List ℕ) where
             → eachOption t (λ f e. offersFrom t s p late d f e) n i stop ≡ offers able q (i + 1) ++ offers able os (i + 2 + sizeIn q)
         go d zero stop h m e f g = absurd (omega arith)
         go d (suc n) stop h m e f g =
-            let z = option-size q os in
             each-option (λ f e. offersFrom t s p late d f e) n i (sizeIn q) stop (c .0) (c .1) (omega arith)
             ∙ ap₂ _++_ (ap (λ j. offersFrom t s p late d j (i + 1 + sizeIn q)) (c .3) ∙ f d (i + 1 + sizeIn q) (omega arith) (omega arith))
             (g d n stop (omega arith) (omega arith) (omega arith))

@@ -3,25 +3,11 @@
 use Prim.Native.Nat.{ℕ, suc, max, _≤_}
 use mathlib.Core.List.{[], _∷_}
 use Rattle.base_ceilings.specs.Ceilings.{selectionsMost}
-use Rattle.spec_grammar.specs.Tree.{Sort, options, Tree, express, assign, increment, decrement, send, receive, assert, print, skip, goto, break, timeout, else, run, set-run, select, loop, bare, labelled, end, then, over, option, Body, body, Part, mtypes, global, process, init, Model}
+use Rattle.spec_grammar.specs.Tree.{Sort, options, Tree, leaf, select, loop, bare, labelled, end, then, over, option, Body, body, Part, mtypes, global, process, init, Model}
 
 -- how many `if` and `do` stand inside of each other
 abbrev pub depth : {k : Sort} → Tree k → ℕ
-depth (express e) = 0
-depth (assign r e) = 0
-depth (increment r) = 0
-depth (decrement r) = 0
-depth (send r es) = 0
-depth (receive r xs) = 0
-depth (assert e) = 0
-depth (print w es) = 0
-depth skip = 0
-depth (goto w) = 0
-depth break = 0
-depth timeout = 0
-depth else = 0
-depth (run w es) = 0
-depth (set-run r w es) = 0
+depth (leaf l) = 0
 depth (select os) = suc (depth os)
 depth (loop os) = suc (depth os)
 depth (bare a) = depth a

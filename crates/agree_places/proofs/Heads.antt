@@ -11,10 +11,13 @@ use Rattle.base_codes.specs.Items.{Item, i-body, i-end-body, i-init, i-local}
 use Rattle.parse_code.specs.Code.{each, code-tree, code-declaration, code-group, code-body, code-activity, code-part, code}
 use Rattle.read_accepts_proof.specs.Meaning.{Accepts}
 use Rattle.agree_eval.specs.Names.{codesAt}
+use Rattle.spec_machine.specs.Sizes.{sizePart}
+use Rattle.agree_sizes.proofs.Sizes.{size-activity, size-groups, size-part, size-declarations}
 use Rattle.spec_machine.specs.Program.{Holds, in-process, in-init, later, startIn}
 use Rattle.agree_stage.proofs.Stands.{Lying, lying-behind, lying-before, lying-whole, body-lies, lying-front, lying-back}
 use Rattle.agree_offers.proofs.Places.{at-there, known-there}
-use Rattle.agree_places.proofs.Labels.{Bare, bare-at, bare-declarations, bare-groups}
+use Rattle.agree_places.proofs.Labels.{NoLabel, Bare, bare-declarations, bare-groups}
+use Rattle.agree_places.proofs.Quiet.{every-at}
 
 -- the parameters of a unit stand between its first item and its body
 pub record Between (l : List Item) (i u k : ℕ) : Type 0 where
@@ -28,14 +31,14 @@ holds-between {i = i} {u = u} (in-process {x = x} {w = w} {gs = gs} {b = b} {m =
     let G = each code-group gs in
     record {
       groups = gs;
-      lies = lying-before (A ++ G ++ code-body b) (code m) G i (suc u) (lying-before (A ++ G) (code-body b) G i (suc u) (lying-behind A G G i (suc u) (suc u) e (lying-whole G (suc u))));
-      ends = f;
+      lies = lying-before (A ++ G ++ code-body b) (code m) G i (suc u) (lying-before (A ++ G) (code-body b) G i (suc u) (lying-behind A G G i (suc u) (suc u) (omega (arith, size-activity x w)) (lying-whole G (suc u))));
+      ends = omega (arith, size-groups gs);
     }
 holds-between {i = i} (in-init {b = b} {m = m} e) =
     record { groups = []; lies = record { front = i-init ∷ []; rest = code-body b ++ code m; split = refl; place = omega arith }; ends = omega arith }
 holds-between {i = i} {u = u} {k = k} (later {x = x} {m = m} p) =
     let r = holds-between p in
-    record { groups = r .groups; lies = lying-behind (code-part x) (code m) (each code-group (r .groups)) i (i + length (code-part x)) (suc u) refl (r .lies); ends = r .ends }
+    record { groups = r .groups; lies = lying-behind (code-part x) (code m) (each code-group (r .groups)) i (i + sizePart x) (suc u) (omega (arith, size-part x)) (r .lies); ends = r .ends }
 
 -- ---- in an accepted text
 module _ (t : List ℕ) (a : Accepts t) where
@@ -61,13 +64,13 @@ module _ (t : List ℕ) (a : Accepts t) where
       go : Dec (x < k) → Dec (x ≡ k) → Dec (x < startIn (body ds q) k) → startIn (body ds q) k ≤ x
       go (yes y) z w = absurd (f (r .groups) (r .lies) (let v = r .ends in omega arith))
       go (no y) (yes z) w = absurd (h (ap (λ n. getD (codesAt t a) n 0) z ∙ at-there t a (i-body ∷ D) k heads .0))
-      go (no y) (no z) (yes w) = absurd (d ds (lying-back X (i-body ∷ []) D 0 k (k + 1) refl heads) (omega arith) w)
+      go (no y) (no z) (yes w) = absurd (d ds (lying-back X (i-body ∷ []) D 0 k (k + 1) refl heads) (omega arith) (omega (arith, size-declarations ds)))
       go (no y) (no z) (no w) = omega arith
 
   -- a label item of a unit stands among its statements
   module _ (x : ℕ) (e : getD (codesAt t a) x 0 ≡ c-label) where
     free : (l : List Item) (j : ℕ) → Bare l → Lying X 0 l j → j ≤ x → x < j + length l → ⊥
-    free l j b p g h = bare-at (codesAt t a) l j x b (known-there t a l j p) (at-there t a l j p) g h e
+    free l j b p g h = every-at NoLabel (codesAt t a) l j x b (known-there t a l j p) (at-there t a l j p) g h e
 
     pub label-late : {u k : ℕ} (b : Body) → Holds (a .tree) 0 u b k → u < x → startIn b k ≤ x
     label-late {u} {k} b p g =

@@ -19,10 +19,10 @@ use Rattle.rule_search.specs.Search.{declares, find}
 use Rattle.rule_item.specs.Rules.{badTwice, badBy}
 use Rattle.table_layout.specs.Access.{linkOf}
 use Rattle.link_places.specs.Places.{isMark, placeFrom}
-use Rattle.spec_grammar.specs.Tree.{Name, sequence, Tree, goto, bare, Body, body}
-use Rattle.base_codes.specs.Items.{Item, i-body, i-end-body, i-goto, i-label, i-local, i-name, i-plain}
-use Rattle.base_codes.specs.Sets.{isPart, isAlone, ruleOf}
-use Rattle.parse_code.specs.Code.{each, code-declaration, code-tree, code-body, code}
+use Rattle.spec_grammar.specs.Tree.{Name, sequence, Tree, leaf, goto, bare, Body, body}
+use Rattle.base_codes.specs.Items.{Item, i-goto, i-label, i-name, i-plain}
+use Rattle.base_codes.specs.Sets.{isPart, isAlone, isLead, ruleOf}
+use Rattle.parse_code.specs.Code.{code-tree, code-body, code}
 use Rattle.read_passes.specs.Judging.{tablesText}
 use Rattle.read_accepts_proof.specs.Meaning.{Accepts}
 use Rattle.agree_eval.specs.Names.{codesAt, saidAt}
@@ -37,11 +37,13 @@ use Rattle.keep_tables.proofs.Links.{link-is}
 use Rattle.keep_tables.proofs.Firsts.{first-most}
 use Rattle.keep_tables.proofs.Variables.{unit-home}
 use Rattle.keep_tables.proofs.Jumps.{find-says, declared-says, label-code, body-in, goto-rule, goto-link}
-use Rattle.agree_control.proofs.Insides.{quiet}
-use Rattle.agree_control.proofs.Begins.{mark, none, dull-skip, statement-from}
+use Rattle.agree_nesting.proofs.Leaves.{quiet, none}
+use Rattle.agree_control.proofs.Begins.{Dull, one, dull-skip, statement-from}
 use Rattle.agree_control.proofs.Main.{text-unit}
 use Rattle.spec_machine.specs.Stage.{Ways}
-use Rattle.spec_machine.specs.Program.{sizeIn, Holds, labelIn, startIn, endIn, sequenceOf, Statement}
+use Rattle.spec_machine.specs.Sizes.{sizeIn}
+use Rattle.agree_sizes.proofs.Sizes.{size-tree, size-body}
+use Rattle.spec_machine.specs.Program.{Holds, labelIn, startIn, endIn, sequenceOf, Statement}
 use Rattle.agree_stage.proofs.Stands.{Lying, within-lies, body-lies, statements-lie, lying-in, lying-back}
 use Rattle.agree_stage.proofs.Labels.{Labelled, Search, label-found, marked, Behind, labelled-lies}
 use Rattle.agree_offers.proofs.Places.{at-there, known-there, ends-there}
@@ -94,9 +96,9 @@ once-only cs vs hs j e l = go (eqb (getD vs (j - 1) 0) 0) (ap (λ b. pick (eithe
     go true q = omega arith
     go false q = omega arith
 
-label-quiet : quiet c-label ≡ true
-unfolding quiet isPart isAlone
-label-quiet = refl
+label-dull : Dull (i-label ∷ [])
+unfolding quiet isPart isAlone isLead
+label-dull = one i-label (refl, refl) none
 
 label-marks : isMark c-label ≡ true
 unfolding isPart
@@ -110,11 +112,7 @@ start-late (body ds q) k = omega arith
 
 -- the end of a body stands behind its statements
 body-long : (b : Body) (k : ℕ) → endIn b k + 1 ≡ k + length (code-body b)
-body-long (body ds q) k =
-    let D = each (code-declaration i-local) ds in
-    let m = length-append (i-body ∷ D ++ code-tree q) (i-end-body ∷ []) in
-    let n = length-append (i-body ∷ D) (code-tree q) in
-    omega arith
+body-long (body ds q) k = omega (arith, size-body (body ds q))
 
 pub end-is : (b : Body) (k : ℕ) → endIn b k ≡ startIn b k + sizeIn (sequenceOf b)
 end-is (body ds q) k = refl
@@ -191,7 +189,7 @@ module _ (t : List ℕ) (a : Accepts t) where
           let g = length-append (r .lies .front) (marked w (r .act) ++ r .lies .rest) in
           let h = length-append (marked w (r .act)) (r .lies .rest) in
           let z = end-is b k in
-          omega arith
+          omega (arith, size-tree q, size-tree (r .act))
 
       inside-there : (u < r .at + 1) × (r .at + 1 < endIn b k)
       inside-there = let e = holds-between p .ends in let f = r .lies .place in let o = start-late b k in let n = act-ends in (omega arith, omega arith)
@@ -206,13 +204,13 @@ module _ (t : List ℕ) (a : Accepts t) where
           let long = body-long b k in
           let most = ends-there t a (code-body b) k (body-lies p) in
           let m = at-there t a (i-label ∷ code-tree (r .act)) l back in
-          dull-skip C (mark {x = i-label} label-quiet none) l (m .0, tt) (omega arith)
+          dull-skip C label-dull (known-there t a (i-label ∷ code-tree (r .act)) l back .0, tt) l (m .0, tt) (omega arith)
           ∙ statement-from C (bare (r .act)) (known-there t a (code-tree (r .act)) (l + 1) act) (l + 1) (at-there t a (code-tree (r .act)) (l + 1) act) (omega arith)
           (ap (λ i. isMark (getD C i 0)) (let z : l + 1 - 1 ≡ l = omega arith in z) ∙ ap isMark (m .0) ∙ label-marks) .0
           ∙ (let z = r .two in let y : l + 1 ≡ j = omega arith in y)
 
   -- ---- goto
-  module _ {u j : ℕ} {w : Name} {h : Ways} (s : Statement (a .tree) u (goto w) j h) where
+  module _ {u j : ℕ} {w : Name} {h : Ways} (s : Statement (a .tree) u (leaf (goto w)) j h) where
     abbrev b : Body
     b = s .own
 
@@ -222,8 +220,8 @@ module _ (t : List ℕ) (a : Accepts t) where
     n : Unit T u
     n = unit-of b (s .held)
 
-    lies-here : Lying X 0 (code-tree (goto w)) j
-    lies-here = lying-in X (code-tree (q b (s .held))) (code-tree (goto w)) 0 (from b (s .held)) j (all b (s .held)) (within-lies (s .inside))
+    lies-here : Lying X 0 (code-tree (leaf (goto w))) j
+    lies-here = lying-in X (code-tree (q b (s .held))) (code-tree (leaf (goto w))) 0 (from b (s .held)) j (all b (s .held)) (within-lies (s .inside))
 
     here : Inside T u (j + 1)
     here =
@@ -231,23 +229,23 @@ module _ (t : List ℕ) (a : Accepts t) where
         let f = within-lies (s .inside) in
         let g = f .place in
         let m = ap length (f .split) in
-        let v = length-append (f .front) (code-tree (goto w) ++ f .rest) in
+        let v = length-append (f .front) (code-tree (leaf (goto w)) ++ f .rest) in
         let z = end-is b k in
         let o = start-late b k in
         let l = ends b (s .held) in
-        (omega arith, omega arith)
+        (omega arith, omega (arith, size-tree (sequenceOf b)))
 
     name-here : getD X j i-plain ≡ i-name w
     name-here =
         let f = lies-here .front in
         let z : j ≡ length f = let e = lies-here .place in omega arith in
-        ap (λ (y : List Item). getD y j i-plain) (lies-here .split) ∙ ap (λ i. getD (f ++ (code-tree (goto w) ++ lies-here .rest)) i i-plain) z ∙ getD-append-seam f (i-name w) (i-goto ∷ lies-here .rest) i-plain
+        ap (λ (y : List Item). getD y j i-plain) (lies-here .split) ∙ ap (λ i. getD (f ++ (code-tree (leaf (goto w)) ++ lies-here .rest)) i i-plain) z ∙ getD-append-seam f (i-name w) (i-goto ∷ lies-here .rest) i-plain
 
     code-here : getD C (j + 1) 0 ≡ c-goto
-    code-here = ap (λ i. getD C i 0) (let z : j + 1 ≡ suc j = omega arith in z) ∙ at-there t a (code-tree (goto w)) j lies-here .1 .0
+    code-here = ap (λ i. getD C i 0) (let z : j + 1 ≡ suc j = omega arith in z) ∙ at-there t a (code-tree (leaf (goto w))) j lies-here .1 .0
 
     there : j + 1 < length C
-    there = let m = ends-there t a (code-tree (goto w)) j lies-here in omega arith
+    there = let m = ends-there t a (code-tree (leaf (goto w))) j lies-here in omega arith
 
     -- the label that is found
     abbrev l : ℕ

@@ -1,4 +1,3 @@
-pub mod Phrases
 pub mod Quiet
 pub mod Places
 pub mod Labels

@@ -5,18 +5,16 @@ use mathlib.Core.Path.{_≡_, refl, sym as inv, ap, _∙_, subst}
 use mathlib.Core.Bool.{Bool, true, false}
 use mathlib.Core.List.{List}
 use lib.ListN.{length, getD}
-use lib.Dec.{eqb}
-use Rattle.base_codes.specs.Codes.{c-body, c-end-body}
-use Rattle.base_bytes.specs.Choice.{pick, both, either}
+use Rattle.base_codes.specs.Codes.{c-body}
+use Rattle.base_bytes.specs.Choice.{pick, both}
 use Rattle.base_bytes.proofs.Tests.{true-false, both-true}
 use Rattle.spec_grammar.specs.Tree.{Name, Group, group, Body}
-use Rattle.base_codes.specs.Items.{Item, i-type}
+use Rattle.base_codes.specs.Items.{Item, i-group, i-name, i-parameter, i-type}
 use Rattle.base_codes.specs.Sets.{isPart, isAlone, isLead}
 use Rattle.parse_code.specs.Code.{code-tree, code-parameter, code-group, code-body, code}
 use Rattle.table_entries.specs.Items.{AllKnown}
 use Rattle.table_proof.proofs.Accepted.{accepted-known}
-use Rattle.link_phrases_proof.specs.Phrases.{At}
-use Rattle.link_places.specs.Places.{isMark, isPlace, isStop, markOf, placeFrom}
+use Rattle.link_places.specs.Places.{isMark, isPlace, markOf}
 use Rattle.table_layout.specs.Access.{codeOf, linkOf}
 use Rattle.read_passes.specs.Judging.{tablesText}
 use Rattle.read_accepts_proof.specs.Meaning.{Accepts}
@@ -28,18 +26,18 @@ use Rattle.keep_tables.specs.Held.{Held}
 use Rattle.keep_tables.specs.Facts.{linksIn, Facts}
 use Rattle.keep_tables.proofs.Tables.{text-held}
 use Rattle.keep_tables.proofs.Known.{text-facts}
-use Rattle.keep_tables.proofs.Firsts.{first-is, first-most}
 use Rattle.keep_tables.proofs.Units.{text-ends}
 use Rattle.keep_tables.proofs.Variables.{unit-there}
 use Rattle.keep_tables.proofs.Marks.{mark-is, mark-in, begun-class}
-use Rattle.agree_control.proofs.Insides.{quiet, type-quiet}
-use Rattle.agree_control.proofs.Begins.{Dull, none, mark, said, dull-each, dull-skip, dull-declarations}
+use Rattle.agree_nesting.proofs.Leaves.{quiet, none}
+use Rattle.agree_control.proofs.Insides.{type-still}
+use Rattle.agree_control.proofs.Begins.{Dull, dull-each, one, two, dull-declarations}
 use Rattle.agree_control.proofs.Main.{text-unit}
 use Rattle.spec_machine.specs.Program.{labelIn, Holds, startIn, endIn, sequenceOf}
-use Rattle.agree_stage.proofs.Stands.{Lying, body-lies, statements-lie, lying-in, lying-whole}
-use Rattle.agree_offers.proofs.Places.{at-there, known-there, ends-there}
+use Rattle.agree_stage.proofs.Stands.{body-lies, statements-lie, lying-in, lying-whole}
+use Rattle.agree_offers.proofs.Places.{at-there}
 use Rattle.agree_places.specs.Stated.{Stated, Head}
-use Rattle.agree_places.proofs.Phrases.{none-at}
+use Rattle.agree_places.proofs.Quiet.{quiet-none, dull-quiet}
 use Rattle.agree_places.proofs.Places.{places-in}
 use Rattle.agree_places.proofs.Heads.{stands-late}
 use Rattle.agree_places.proofs.Units.{head-in}
@@ -48,31 +46,15 @@ use Rattle.agree_places.proofs.Jumps.{end-is}
 -- ---- no place among parameters
 dull-parameter : (w : Name) → AllKnown (code-parameter w) → Dull (code-parameter w)
 unfolding quiet isPart isAlone isLead
-dull-parameter w k = said refl refl refl refl none
+dull-parameter w k = two (i-name w) i-parameter refl (refl, refl) none
 
 dull-group : (g : Group) → AllKnown (code-group g) → Dull (code-group g)
+unfolding quiet isPart isAlone isLead
+dull-group (group c ws) k = one (i-type c) (type-still (k .0)) (one i-group (refl, refl) (dull-each code-parameter dull-parameter ws (k .1 .1)))
+
+body-quiet : quiet c-body ≡ true
 unfolding quiet isPart isAlone
-dull-group (group c ws) k = mark (type-quiet (k .0)) (mark refl (dull-each code-parameter dull-parameter ws (k .1 .1)))
-
-stop-if : (cs : List ℕ) (x : ℕ) → isPlace cs x ≡ true → isStop cs x ≡ true
-unfolding isStop
-stop-if cs x e = go (eqb (getD cs x 0) c-end-body)
-  where
-    go : (b : Bool) → either b (isPlace cs x) ≡ true
-    go true = refl
-    go false = e
-
-dull-none : (cs : List ℕ) {l : List Item} → Dull l → (k x : ℕ) → At cs k l → k + length l ≤ length cs → k ≤ x → x < k + length l → isPlace cs x ≡ true → ⊥
-unfolding placeFrom
-dull-none cs {l} d k x h g a b e =
-    let s = dull-skip cs d k h g in
-    let m = first-most (isStop cs) k (length cs - k) x a (stop-if cs x e) in
-    let f = first-is (isStop cs) (length cs - (k + length l)) (k + length l) .from in
-    omega arith
-
-body-plain : (isAlone c-body ≡ false) × (isPart c-body ≡ false)
-unfolding isAlone isPart
-body-plain = (refl, refl)
+body-quiet = refl
 
 module _ (t : List ℕ) (a : Accepts t) where
   abbrev T : List ℕ
@@ -123,13 +105,10 @@ module _ (t : List ℕ) (a : Accepts t) where
 
   -- no place stands before the statements of a unit
   module _ (x : ℕ) (e : isPlace C x ≡ true) where
-    free : {l : List Item} (j : ℕ) → (AllKnown l → Dull l) → Lying X 0 l j → j ≤ x → x < j + length l → ⊥
-    free {l} j d p g h = dull-none C (d (known-there t a l j p)) j x (at-there t a l j p) (ends-there t a l j p) g h e
-
     place-late : {u k : ℕ} (b : Body) → Holds (a .tree) 0 u b k → u < x → startIn b k ≤ x
     place-late {u} {k} b p g =
-        stands-late t a b p x g (λ gs l h. free (suc u) (dull-each code-group dull-group gs) l (omega arith) h) (λ z. none-at C x c-body z (body-plain .0) (body-plain .1) e)
-        (λ ds l y h. free (k + 1) (dull-declarations ds) l y h)
+        stands-late t a b p x g (λ gs l h. dull-quiet t a (suc u) (dull-each code-group dull-group gs) l x (omega arith) h e) (λ z. quiet-none C x c-body z body-quiet e)
+        (λ ds l y h. dull-quiet t a (k + 1) (dull-declarations ds) l x y h e)
 
   -- each place of a unit is that of a statement
   pub text-stated : (u q : ℕ) → Unit T u → Inside T u q → placeAt T q ≡ true → Stated (a .tree) u q

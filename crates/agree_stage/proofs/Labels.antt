@@ -10,29 +10,17 @@ use Rattle.base_bytes.specs.Choice.{pick}
 use Rattle.base_bytes.specs.Lists.{same}
 use Rattle.base_bytes.proofs.Lists.{same-refl, same-eq}
 use Rattle.base_bytes.proofs.Tests.{true-false}
-use Rattle.spec_grammar.specs.Tree.{Name, Sort, action, Tree, express, assign, increment, decrement, send, receive, assert, print, skip, goto, break, timeout, else, run, set-run, select, loop, bare, labelled, end, then, over, option}
+use Rattle.spec_grammar.specs.Tree.{Name, Sort, action, Tree, leaf, select, loop, bare, labelled, end, then, over, option}
 use Rattle.base_codes.specs.Items.{Item, i-do, i-end-option, i-fi, i-if, i-label, i-name, i-od, i-option}
 use Rattle.parse_code.specs.Code.{code-tree}
-use Rattle.spec_machine.specs.Program.{sizeIn, labelIn}
+use Rattle.spec_machine.specs.Sizes.{sizeIn}
+use Rattle.spec_machine.specs.Program.{labelIn}
 use Rattle.agree_stage.proofs.Stands.{Lying, lying-behind, lying-before, lying-whole}
+use Rattle.agree_sizes.proofs.Sizes.{size-tree}
 
 -- in the tree, whose items begin at item i, a statement with the label w has the place j
 unfoldable pub Labelled : Name → {k : Sort} → Tree k → ℕ → ℕ → Type 0
-Labelled w (express e) i j = ⊥
-Labelled w (assign r e) i j = ⊥
-Labelled w (increment r) i j = ⊥
-Labelled w (decrement r) i j = ⊥
-Labelled w (send r es) i j = ⊥
-Labelled w (receive r xs) i j = ⊥
-Labelled w (assert e) i j = ⊥
-Labelled w (print v es) i j = ⊥
-Labelled w skip i j = ⊥
-Labelled w (goto v) i j = ⊥
-Labelled w break i j = ⊥
-Labelled w timeout i j = ⊥
-Labelled w else i j = ⊥
-Labelled w (run v es) i j = ⊥
-Labelled w (set-run r v es) i j = ⊥
+Labelled w (leaf l) i j = ⊥
 Labelled w (select os) i j = Labelled w os (i + 1) j
 Labelled w (loop os) i j = Labelled w os (i + 1) j
 Labelled w (bare a) i j = Labelled w a i j
@@ -72,21 +60,7 @@ own-label v w A i x d r = go (same v w) refl r
 
 pub label-found : (w : Name) {k : Sort} (b : Tree k) (i d : ℕ) → Search w b i d
 unfolding Labelled
-label-found w (express e) i d = inr (refl, λ j z. z)
-label-found w (assign r e) i d = inr (refl, λ j z. z)
-label-found w (increment r) i d = inr (refl, λ j z. z)
-label-found w (decrement r) i d = inr (refl, λ j z. z)
-label-found w (send r es) i d = inr (refl, λ j z. z)
-label-found w (receive r xs) i d = inr (refl, λ j z. z)
-label-found w (assert e) i d = inr (refl, λ j z. z)
-label-found w (print v es) i d = inr (refl, λ j z. z)
-label-found w skip i d = inr (refl, λ j z. z)
-label-found w (goto v) i d = inr (refl, λ j z. z)
-label-found w break i d = inr (refl, λ j z. z)
-label-found w timeout i d = inr (refl, λ j z. z)
-label-found w else i d = inr (refl, λ j z. z)
-label-found w (run v es) i d = inr (refl, λ j z. z)
-label-found w (set-run r v es) i d = inr (refl, λ j z. z)
+label-found w (leaf l) i d = inr (refl, λ j z. z)
 label-found w (select os) i d = label-found w os (i + 1) d
 label-found w (loop os) i d = label-found w os (i + 1) d
 label-found w (bare a) i d = label-found w a i d
@@ -127,7 +101,7 @@ labelled-lies {w} (labelled v a) i j (inr p) =
 labelled-lies (then s q) i j (inl p) = behind-more [] (code-tree s) (code-tree q) i i j (omega arith) (labelled-lies s i j p)
 labelled-lies {w} (then s q) i j (inr p) =
     let r = labelled-lies q (i + sizeIn s) j p in
-    record { act = r .act; at = r .at; two = r .two; lies = lying-behind (code-tree s) (code-tree q) (marked w (r .act)) i (i + sizeIn s) (r .at) refl (r .lies) }
+    record { act = r .act; at = r .at; two = r .two; lies = lying-behind (code-tree s) (code-tree q) (marked w (r .act)) i (i + sizeIn s) (r .at) (omega (arith, size-tree s)) (r .lies) }
 labelled-lies (option q os) i j (inl p) = behind-more (i-option ∷ []) (code-tree q) (i-end-option ∷ code-tree os) i (i + 1) j refl (labelled-lies q (i + 1) j p)
 labelled-lies {w} (option q os) i j (inr p) =
     let r = labelled-lies os (i + 2 + sizeIn q) j p in
@@ -136,6 +110,6 @@ labelled-lies {w} (option q os) i j (inr p) =
       at = r .at;
       two = r .two;
       lies =
-          lying-behind (i-option ∷ code-tree q) (i-end-option ∷ code-tree os) (marked w (r .act)) i (i + 1 + sizeIn q) (r .at) (omega arith)
+          lying-behind (i-option ∷ code-tree q) (i-end-option ∷ code-tree os) (marked w (r .act)) i (i + 1 + sizeIn q) (r .at) (omega (arith, size-tree q))
           (lying-behind (i-end-option ∷ []) (code-tree os) (marked w (r .act)) (i + 1 + sizeIn q) (i + 2 + sizeIn q) (r .at) (omega arith) (r .lies));
     }

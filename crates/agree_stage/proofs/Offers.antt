@@ -4,9 +4,10 @@ use mathlib.Core.Path.{_≡_, ap}
 use mathlib.Core.Bool.{Bool}
 use mathlib.Core.List.{List, [], _∷_, _++_}
 use Rattle.base_bytes.specs.Choice.{pick}
-use Rattle.spec_grammar.specs.Tree.{Sort, action, Tree, express, assign, increment, decrement, send, receive, assert, print, skip, goto, break, timeout, else, run, set-run, select, loop, bare, labelled, end, then, over, option}
+use Rattle.spec_grammar.specs.Tree.{Sort, action, Tree, leaf, select, loop, bare, labelled, end, then, over, option}
 use Rattle.base_bytes.specs.Lists.{orElse}
-use Rattle.spec_machine.specs.Program.{sizeIn, enter, Within, itself, in-if, in-do, unlabelled, behind-label, in-first, in-option, in-others}
+use Rattle.spec_machine.specs.Sizes.{sizeIn}
+use Rattle.spec_machine.specs.Program.{enter, Within, itself, in-if, in-do, unlabelled, behind-label, in-first, in-option, in-others}
 use Rattle.spec_machine.specs.Offers.{elseOf, offers}
 
 module _ (f g : Tree action → ℕ → Bool) where
@@ -19,21 +20,7 @@ module _ (f g : Tree action → ℕ → Bool) where
 
   pub offers-same : {k : Sort} (b : Tree k) (i n o : ℕ) → Agree b i n o → offers f b i ≡ offers g b i
   unfolding offers
-  offers-same (express e) i n o h = one (express e) i n o h
-  offers-same (assign r e) i n o h = one (assign r e) i n o h
-  offers-same (increment r) i n o h = one (increment r) i n o h
-  offers-same (decrement r) i n o h = one (decrement r) i n o h
-  offers-same (send r es) i n o h = one (send r es) i n o h
-  offers-same (receive r xs) i n o h = one (receive r xs) i n o h
-  offers-same (assert e) i n o h = one (assert e) i n o h
-  offers-same (print w es) i n o h = one (print w es) i n o h
-  offers-same skip i n o h = one skip i n o h
-  offers-same (goto w) i n o h = one (goto w) i n o h
-  offers-same break i n o h = one break i n o h
-  offers-same timeout i n o h = one timeout i n o h
-  offers-same else i n o h = one else i n o h
-  offers-same (run w es) i n o h = one (run w es) i n o h
-  offers-same (set-run r w es) i n o h = one (set-run r w es) i n o h
+  offers-same (leaf l) i n o h = one (leaf l) i n o h
   offers-same (select os) i n o h = ap (λ (x : List ℕ). orElse x (elseOf os (i + 1))) (offers-same os (i + 1) n o (λ a j m u w. h a j m u (in-if w)))
   offers-same (loop os) i n o h = ap (λ (x : List ℕ). orElse x (elseOf os (i + 1))) (offers-same os (i + 1) i n (λ a j m u w. h a j m u (in-do w)))
   offers-same (bare b) i n o h = offers-same b i n o (λ a j m u w. h a j m u (unlabelled w))

@@ -8,7 +8,9 @@ use Rattle.spec_grammar.specs.Tree.{Sort, action, Tree, Body, body, Model}
 use Rattle.base_codes.specs.Items.{Item, i-body, i-do, i-end-body, i-end-option, i-fi, i-if, i-init, i-label, i-local, i-name, i-od, i-option}
 use Rattle.parse_code.specs.Code.{each, code-tree, code-declaration, code-group, code-body, code-activity, code-part, code}
 use Rattle.spec_machine.specs.Stage.{Ways}
-use Rattle.spec_machine.specs.Program.{sizeIn, Within, itself, in-if, in-do, unlabelled, behind-label, in-first, in-rest, in-option, in-others, Holds, in-process, in-init, later, startIn, sequenceOf, Statement}
+use Rattle.spec_machine.specs.Sizes.{sizeIn, sizePart}
+use Rattle.spec_machine.specs.Program.{Within, itself, in-if, in-do, unlabelled, behind-label, in-first, in-rest, in-option, in-others, Holds, in-process, in-init, later, startIn, sequenceOf, Statement}
+use Rattle.agree_sizes.proofs.Sizes.{size-tree, size-activity, size-groups, size-part, size-declarations}
 
 -- the items x stand in the items l, which begin at item i, from item j on
 pub record Lying (l : List Item) (i : ℕ) (x : List Item) (j : ℕ) : Type 0 where
@@ -49,20 +51,20 @@ within-lies {i = i} {a = a} {j = j} (in-do {os = os} p) =
 within-lies (unlabelled p) = within-lies p
 within-lies {i = i} {a = a} {j = j} (behind-label {w = w} {b = b} p) = lying-behind (i-name w ∷ i-label ∷ []) (code-tree b) (code-tree a) i (i + 2) j refl (within-lies p)
 within-lies {i = i} {a = a} {j = j} (in-first {s = s} {q = q} p) = lying-before (code-tree s) (code-tree q) (code-tree a) i j (within-lies p)
-within-lies {i = i} {a = a} {j = j} (in-rest {s = s} {q = q} p) = lying-behind (code-tree s) (code-tree q) (code-tree a) i (i + sizeIn s) j refl (within-lies p)
+within-lies {i = i} {a = a} {j = j} (in-rest {s = s} {q = q} p) = lying-behind (code-tree s) (code-tree q) (code-tree a) i (i + sizeIn s) j (omega (arith, size-tree s)) (within-lies p)
 within-lies {i = i} {a = a} {j = j} (in-option {q = q} {os = os} p) =
     lying-before (i-option ∷ code-tree q) (i-end-option ∷ code-tree os) (code-tree a) i j (lying-behind (i-option ∷ []) (code-tree q) (code-tree a) i (i + 1) j refl (within-lies p))
 within-lies {i = i} {a = a} {j = j} (in-others {q = q} {os = os} p) =
-    lying-behind (i-option ∷ code-tree q) (i-end-option ∷ code-tree os) (code-tree a) i (i + 1 + sizeIn q) j (omega arith)
+    lying-behind (i-option ∷ code-tree q) (i-end-option ∷ code-tree os) (code-tree a) i (i + 1 + sizeIn q) j (omega (arith, size-tree q))
     (lying-behind (i-end-option ∷ []) (code-tree os) (code-tree a) (i + 1 + sizeIn q) (i + 2 + sizeIn q) j (omega arith) (within-lies p))
 
 -- ---- in a model
 pub body-lies : {m : Model} {i u k : ℕ} {b : Body} → Holds m i u b k → Lying (code m) i (code-body b) k
 body-lies {i = i} {u = u} {k = k} (in-process {x = x} {w = w} {gs = gs} {b = b} {m = m} e f) =
     lying-before (code-activity x w ++ each code-group gs ++ code-body b) (code m) (code-body b) i k
-    (lying-behind (code-activity x w ++ each code-group gs) (code-body b) (code-body b) i k k (let q = length-append (code-activity x w) (each code-group gs) in omega arith) (lying-whole (code-body b) k))
+    (lying-behind (code-activity x w ++ each code-group gs) (code-body b) (code-body b) i k k (omega (arith, size-activity x w, size-groups gs, length-append (code-activity x w) (each code-group gs))) (lying-whole (code-body b) k))
 body-lies {i = i} {k = k} (in-init {b = b} {m = m} e) = lying-before (i-init ∷ code-body b) (code m) (code-body b) i k (lying-behind (i-init ∷ []) (code-body b) (code-body b) i k k e (lying-whole (code-body b) k))
-body-lies {i = i} {k = k} (later {x = x} {m = m} {b = b} p) = lying-behind (code-part x) (code m) (code-body b) i (i + length (code-part x)) k refl (body-lies p)
+body-lies {i = i} {k = k} (later {x = x} {m = m} {b = b} p) = lying-behind (code-part x) (code m) (code-body b) i (i + sizePart x) k (omega (arith, size-part x)) (body-lies p)
 
 -- one inside of another
 pub lying-in : (l x y : List Item) (i j k : ℕ) → Lying l i x j → Lying x j y k → Lying l i y k
@@ -81,7 +83,7 @@ pub statements-lie : (b : Body) (k : ℕ) → Lying (code-body b) k (code-tree (
 statements-lie (body ds q) k =
     let D = each (code-declaration i-local) ds in
     lying-before (i-body ∷ D ++ code-tree q) (i-end-body ∷ []) (code-tree q) k (startIn (body ds q) k)
-    (lying-behind (i-body ∷ D) (code-tree q) (code-tree q) k (startIn (body ds q) k) (startIn (body ds q) k) (omega arith) (lying-whole (code-tree q) (startIn (body ds q) k)))
+    (lying-behind (i-body ∷ D) (code-tree q) (code-tree q) k (startIn (body ds q) k) (startIn (body ds q) k) (omega (arith, size-declarations ds)) (lying-whole (code-tree q) (startIn (body ds q) k)))
 
 pub statement-lies : {m : Model} {u j : ℕ} {a : Tree action} {h : Ways} → Statement m u a j h → Lying (code m) 0 (code-tree a) j
 statement-lies {m} {u} {j} {a} {h} s =

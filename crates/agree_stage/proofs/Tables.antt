@@ -22,7 +22,7 @@ use Rattle.base_bytes.specs.Numbers.{nat}
 use Rattle.base_values.specs.Operators.{isTrue, oneIf, truth}
 use Rattle.base_values.specs.declared.Answer.{Answer}
 use Rattle.base_values.specs.declared.Answer.the-variants.{Value, Fails}
-use Rattle.spec_grammar.specs.Tree.{Name, Shape, Exp, Ref, plain, indexed, num, tru, fls, get, len, unary, binary, choice}
+use Rattle.spec_grammar.specs.Tree.{Name, Shape, Exp, Ref, plain, indexed, num, tru, fls, get, query, unary, binary, choice}
 use Rattle.spec_grammar.specs.Grammar.{Is-unary, is-minus, is-not, is-flip}
 use Rattle.link_phrases_proof.specs.Phrases.{Proper}
 use Rattle.spec_rules.specs.Heights.{height}
@@ -34,7 +34,7 @@ use Rattle.step_eval.specs.Variables.{variableOf, sizeOf, slotOf, elementOf, lo
 use Rattle.step_eval.specs.Expressions.{nodeOf, unaryBy, bothBy, lazyBy, choiceBy, startOf, plainOf, byNode, evalT, evalOf, locateOf}
 use Rattle.spec_machine.specs.Eval.{Scene, elementBy, lengthBy, signBy, orBy, andBy, joinBy, operateBy, chooseBy, eval}
 use Rattle.agree_stage.specs.Scenes.{numberAt, sceneOf, sizeIn, Stands, Meant, Named, locate, Linked}
-use Rattle.base_codes.specs.Items.{i-binary, i-choice, i-index, i-len, i-otherwise, i-unary}
+use Rattle.base_codes.specs.Items.{i-binary, i-choice, i-index, i-query, i-otherwise, i-unary}
 use Rattle.parse_code.specs.Code.{code-exp}
 use Rattle.base_values.specs.declared.Fault.the-variants as fault
 use Rattle.base_codes.specs.Items as items
@@ -226,10 +226,10 @@ module _ (t : List ℕ) (s : List ℤ) (p : ℕ) (decl : Name → ℕ) where
   eval-tables tru i from h r z n f g = by-last h from (i + 1) i c-true (omega arith) (omega arith) f z node-true
   eval-tables fls i from h r z n f g = by-last h from (i + 1) i c-false (omega arith) (omega arith) f z node-false
   eval-tables (get v) i from h r z n f g = eval-tables v i from h r z n f g
-  eval-tables (len v) i from h r z n f g =
+  eval-tables (query mk v) i from h r z n f g =
       let m = sizeIn v in
-      let q : length (code-exp v ++ i-len ∷ []) ≡ m + 1 = length-append (code-exp v) (i-len ∷ []) in
-      by-last h from (i + sizeIn (len v)) (i + m) c-len (omega arith) (omega arith) (omega arith) (z .1) node-length
+      let q : length (code-exp v ++ i-query mk ∷ []) ≡ m + 1 = length-append (code-exp v) (i-query mk ∷ []) in
+      by-last h from (i + sizeIn (query mk v)) (i + m) c-len (omega arith) (omega arith) (omega arith) (z .1) node-length
       ∙ ap (λ x. lengthOf s (channelOf s x)) (eval-tables v i from (h - 1) r (z .0) n f (omega arith)) ∙ length-is (eval scene v)
   eval-tables (unary o e) i from h r z n f g =
       let m = sizeIn e in

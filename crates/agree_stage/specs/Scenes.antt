@@ -17,7 +17,7 @@ use mathlib.Core.Bool.{true}
 use Rattle.table_layout.specs.Access.{codeOf, linkOf, numberOf}
 use Rattle.state_layout.specs.Layout.{kept, cellOf, waitingOf}
 use Rattle.base_bytes.specs.Numbers.{nat}
-use Rattle.spec_grammar.specs.Tree.{Name, Shape, Exp, Ref, plain, indexed, num, tru, fls, get, len, unary, binary, choice}
+use Rattle.spec_grammar.specs.Tree.{Name, Shape, Exp, Ref, plain, indexed, num, tru, fls, get, query, unary, binary, choice}
 use Rattle.step_eval.specs.declared.Located.{Located}
 use Rattle.step_eval.specs.declared.Located.the-variants.{At}
 use Rattle.step_eval.specs.Variables.{sizeOf, slotOf, madeOf, elementOf}
@@ -52,7 +52,7 @@ Stands t (num n) i = (codeOf t i ≡ c-number) × (numberOf t i ≡ n) × (n ≤
 Stands t tru i = codeOf t i ≡ c-true
 Stands t fls i = codeOf t i ≡ c-false
 Stands t (get r) i = Stands t r i
-Stands t (len r) i = Stands t r i × (codeOf t (i + sizeIn r) ≡ c-len)
+Stands t (query mk r) i = Stands t r i × (codeOf t (i + sizeIn r) ≡ c-len)
 Stands t (unary o e) i = Stands t e i × (codeOf t (i + sizeIn e) ≡ items.codeOf (i-unary o))
 Stands t (binary o a b) i =
     Stands t a i × Stands t b (i + sizeIn a) × (codeOf t (i + sizeIn a + sizeIn b) ≡ items.codeOf (i-binary o)) × (linkOf t (i + sizeIn a + sizeIn b) ≡ i + sizeIn a)
@@ -72,7 +72,7 @@ Named t decl (num n) i = Unit {0}
 Named t decl tru i = Unit {0}
 Named t decl fls i = Unit {0}
 Named t decl (get r) i = Named t decl r i
-Named t decl (len r) i = Named t decl r i
+Named t decl (query mk r) i = Named t decl r i
 Named t decl (unary o e) i = Named t decl e i
 Named t decl (binary o a b) i = Named t decl a i × Named t decl b (i + sizeIn a)
 Named t decl (choice a b c) i = Named t decl a i × Named t decl b (i + sizeIn a) × Named t decl c (i + sizeIn a + sizeIn b + 1)

@@ -15,13 +15,13 @@ use Rattle.base_bytes.specs.Numbers.{nat}
 use Rattle.step_eval.specs.Variables.{typeOf, slotOf}
 use Rattle.step_ready.specs.Channels.{capacityOf, fieldsOf}
 use Rattle.step_ready.specs.Executing.{fitsOf}
-use Rattle.step_messages.specs.Messages.{appended, removed}
+use Rattle.step_messages.specs.Messages.{putIn, takenOut}
 use Rattle.step_statements.specs.Statements.{moved}
 use Rattle.step_take.specs.Effects.{called}
-use Rattle.spec_grammar.specs.Tree.{Name, action, Tree, express, assign, increment, decrement, send, receive, assert, print, skip, goto, break, timeout, else, run, set-run, select, loop}
+use Rattle.spec_grammar.specs.Tree.{Name, action, Tree, leaf, express, assign, increment, decrement, send, receive, assert, print, skip, goto, break, timeout, else, run, set-run, select, loop}
 use Rattle.agree_stage.specs.Scenes.{sceneOf}
 use Rattle.spec_machine.specs.Stage.{Stage, Ways}
-use Rattle.spec_machine.specs.Program.{sizeIn}
+use Rattle.spec_machine.specs.Sizes.{sizeIn}
 
 abbrev pub stageIn : List ℕ → List ℤ → ℕ → (Name → ℕ) → (Name → ℕ) → Stage (List ℤ)
 stageIn t s p decl unit =
@@ -30,12 +30,12 @@ stageIn t s p decl unit =
       constant = λ w. eqb (codeOf t (decl w)) c-message;
       capacity = λ v. capacityOf t (declaredOf s (nat v - 1));
       fields = λ v. fieldsOf t (declaredOf s (nat v - 1));
-      oldest = λ v f. fieldOf s (nat v - 1) 0 f;
+      message = λ v k f. fieldOf s (nat v - 1) k f;
       room = λ w. fitsOf t s (unit w);
       newest = kept (processesOf s);
       store = λ w k v x. set x (slotOf (linkOf t (decl w)) p k) (castOf (typeOf (linkOf t (decl w))) v);
-      put = λ v l x. appended t (nat v - 1) l x;
-      take = λ v x. removed (nat v - 1) x;
+      put = λ v k l x. putIn t (nat v - 1) k l x;
+      take = λ v k x. takenOut (nat v - 1) k x;
       begin = λ w l x. called t (unit w) l x;
       go = λ n x. moved p n x;
     }
@@ -46,20 +46,20 @@ LeadsOn t h a j = linkOf t (j + sizeIn a - 1) ≡ h .next
 
 -- from the statement at place j the tables lead where the ways do; `if` and `do` are no steps
 abbrev pub Leads : List ℕ → Ways → Tree action → ℕ → Type 0
-Leads t h (express e) j = LeadsOn t h (express e) j
-Leads t h (assign r e) j = LeadsOn t h (assign r e) j
-Leads t h (increment r) j = LeadsOn t h (increment r) j
-Leads t h (decrement r) j = LeadsOn t h (decrement r) j
-Leads t h (send r es) j = LeadsOn t h (send r es) j
-Leads t h (receive r xs) j = LeadsOn t h (receive r xs) j
-Leads t h (assert e) j = LeadsOn t h (assert e) j
-Leads t h (print w es) j = LeadsOn t h (print w es) j
-Leads t h skip j = LeadsOn t h skip j
-Leads t h (goto w) j = linkOf t (j + 1) ≡ h .label w
-Leads t h break j = linkOf t j ≡ h .out
-Leads t h timeout j = LeadsOn t h timeout j
-Leads t h else j = LeadsOn t h else j
-Leads t h (run w es) j = LeadsOn t h (run w es) j
-Leads t h (set-run r w es) j = LeadsOn t h (set-run r w es) j
+Leads t h (leaf (express e)) j = LeadsOn t h (leaf (express e)) j
+Leads t h (leaf (assign r e)) j = LeadsOn t h (leaf (assign r e)) j
+Leads t h (leaf (increment r)) j = LeadsOn t h (leaf (increment r)) j
+Leads t h (leaf (decrement r)) j = LeadsOn t h (leaf (decrement r)) j
+Leads t h (leaf (send mk r es)) j = LeadsOn t h (leaf (send mk r es)) j
+Leads t h (leaf (receive mk r xs)) j = LeadsOn t h (leaf (receive mk r xs)) j
+Leads t h (leaf (assert e)) j = LeadsOn t h (leaf (assert e)) j
+Leads t h (leaf (print w es)) j = LeadsOn t h (leaf (print w es)) j
+Leads t h (leaf skip) j = LeadsOn t h (leaf skip) j
+Leads t h (leaf (goto w)) j = linkOf t (j + 1) ≡ h .label w
+Leads t h (leaf break) j = linkOf t j ≡ h .out
+Leads t h (leaf timeout) j = LeadsOn t h (leaf timeout) j
+Leads t h (leaf else) j = LeadsOn t h (leaf else) j
+Leads t h (leaf (run w es)) j = LeadsOn t h (leaf (run w es)) j
+Leads t h (leaf (set-run r w es)) j = LeadsOn t h (leaf (set-run r w es)) j
 Leads t h (select os) j = Unit {0}
 Leads t h (loop os) j = Unit {0}

@@ -18,6 +18,7 @@ use Rattle.state_layout.specs.Layout.{kept, processAt, processesOf}
 use Rattle.state_layout.specs.Walks.{walk}
 use Rattle.state_start.specs.Starting.{declared, entered, processMade}
 use Rattle.spec_machine.specs.Program.{enter, Holds, startIn, endIn}
+use Rattle.agree_sizes.proofs.Sizes.{size-tree, size-declarations}
 use Rattle.agree_stage.proofs.Stands.{Lying, body-lies, lying-front, lying-back}
 use Rattle.agree_places.proofs.Heads.{holds-between}
 use Rattle.agree_control.proofs.Main.{text-unit, text-enter}
@@ -92,20 +93,21 @@ module _ (t : List ℕ) (a : Accepts t) where
     locals-lie = lying-back X (i-body ∷ []) D 0 k (k + 1) refl (lying-front X (i-body ∷ D) Q 0 k front)
 
     pub statements-lie : Lying X 0 Q (startIn (body ds q) k)
-    statements-lie = lying-back X (i-body ∷ D) Q 0 k (startIn (body ds q) k) (omega arith) front
+    statements-lie = lying-back X (i-body ∷ D) Q 0 k (startIn (body ds q) k) (omega (arith, size-declarations ds)) front
 
     pub body-code : codeOf (tablesText t) k ≡ c-body
     body-code = here t a (i-body ∷ D ++ Q ++ i-end-body ∷ []) k whole .0
 
     ended : Lying X 0 (Q ++ i-end-body ∷ []) (startIn (body ds q) k)
     ended =
-        lying-back X (i-body ∷ D) (Q ++ i-end-body ∷ []) 0 k (startIn (body ds q) k) (omega arith)
+        lying-back X (i-body ∷ D) (Q ++ i-end-body ∷ []) 0 k (startIn (body ds q) k) (omega (arith, size-declarations ds))
         (subst (λ (l : List Item). Lying X 0 l k) (append-assoc (i-body ∷ D) Q (i-end-body ∷ [])) whole)
 
     clear-locals : Clear (tablesText t) (k + 1 + length D)
     clear-locals =
-        clear-body T Q (startIn (body ds q) k) (below-tree q) (known-there t a Q (startIn (body ds q) k) statements-lie) (here t a (Q ++ i-end-body ∷ []) (startIn (body ds q) k) ended)
-        (clear-end t a h (endIn (body ds q) k) (body-ends t a (body ds q) k))
+        subst (Clear T) (let z : startIn (body ds q) k ≡ k + 1 + length D = omega (arith, size-declarations ds) in z)
+        (clear-body T Q (startIn (body ds q) k) (below-tree q) (known-there t a Q (startIn (body ds q) k) statements-lie) (here t a (Q ++ i-end-body ∷ []) (startIn (body ds q) k) ended)
+        (clear-end t a h (startIn (body ds q) k + length Q) (omega (arith, size-tree q, body-ends t a (body ds q) k))))
 
     -- the unit, as a process enters it
     unit-entered : (p : ℕ) (s : List ℤ)

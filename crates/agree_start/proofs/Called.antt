@@ -27,6 +27,8 @@ use Rattle.agree_eval.specs.Held.{Held}
 use Rattle.agree_eval.proofs.Items.{held-front, held-back}
 use Rattle.agree_eval.proofs.Operators.{known-back}
 use Rattle.keep_tables.proofs.Tables.{codesAt, text-held}
+use Rattle.spec_machine.specs.Sizes.{sizeGroup}
+use Rattle.agree_sizes.proofs.Sizes.{size-group}
 use Rattle.spec_machine.specs.Program.{Holds, startIn, endIn}
 use Rattle.agree_stage.proofs.Stands.{body-lies}
 use Rattle.agree_places.proofs.Heads.{Between}
@@ -136,9 +138,10 @@ module _ (t : List ℕ) (a : Accepts t) where
         let G = code-group (group c ws) in
         let len = length-append G L in
         let few = text-held t a .few in
-        let E = i + length G in
+        let sized = size-group (group c ws) in
+        let E = i + sizeGroup (group c ws) in
         let hG = held-front T i G L h in
-        let hL = held-back T G L i E refl h in
+        let hL = held-back T G L i E (omega arith) h in
         let tb = type-below c (k .0) in
         let i2 : suc (suc i) ≡ i + 2 = omega arith in
         let r : i + length (G ++ L) ≡ E + length L = omega arith in
@@ -148,7 +151,7 @@ module _ (t : List ℕ) (a : Accepts t) where
         let R = names-over ws n (suc (suc i)) s (omega arith) (omega arith) (omega arith) (hG .2 .2) (λ o. x (ap (codeOf T) (let q : E ≡ suc (suc i) + length N = omega arith in q) ∙ o)) (omega arith) in
         let b3 : before t a u U E ≡ n + length ws = ap (before t a u U) (let q : E ≡ suc (suc i) + length N = omega arith in q) ∙ R .1 in
         let room = enough ws in
-        over-both f G L i s
+        over-both f G L i E s (omega arith)
         ∙ ap (over f L E)
         (walk-one f i (suc (length N)) s ∙ ap (walk f (suc i) (suc (length N))) (sets-else T p l (items.codeOf (i-type c)) (λ o. omega arith) i s (h .0)) ∙ walk-one f (suc i) (length N) s
         ∙ ap (over f N (suc (suc i))) (sets-else T p l c-group (λ o. omega arith) (suc i) s (h .2 .0)) ∙ R .0 ∙ ap (λ j. namesIn T p l n ws j s) i2)

@@ -26,6 +26,8 @@ use Rattle.agree_eval.specs.Held.{Held}
 use Rattle.agree_eval.proofs.Main.{items-long}
 use Rattle.keep_tables.proofs.Tables.{codesAt, text-held}
 use Rattle.keep_tables.proofs.Whole.{text-well}
+use Rattle.spec_machine.specs.Sizes.{sum, sizeDeclaration, sizeGroup, sizeActivity, sizePart}
+use Rattle.agree_sizes.proofs.Sizes.{size-declaration, size-groups, size-body, size-activity, size-part}
 use Rattle.spec_machine.specs.Program.{Holds, in-process, in-init, later, endIn}
 use Rattle.agree_stage.proofs.Stands.{Lying, lying-whole, body-lies, lying-front, lying-back}
 use Rattle.agree_places.proofs.Heads.{holds-between}
@@ -85,10 +87,10 @@ muted-inner : (f : ℕ → List ℤ → List ℤ) (t : List ℕ) → ((c : ℕ) 
 muted-inner f t h [] n = tt
 muted-inner f t h (x ∷ l) n = (λ k. h (items.codeOf x) (n .0 k), muted-inner f t h l (n .1))
 
-head-is : (x : Activity) (w : Name) (i : ℕ) → suc (headIn x i) ≡ i + length (code-activity x w)
-head-is idle w i = omega arith
-head-is once w i = omega arith
-head-is (times n) w i = omega arith
+head-is : (x : Activity) (i : ℕ) → suc (headIn x i) ≡ i + sizeActivity x
+head-is idle i = omega arith
+head-is once i = omega arith
+head-is (times n) i = omega arith
 
 module _ (t : List ℕ) (a : Accepts t) where
   abbrev X : List Item
@@ -131,12 +133,12 @@ module _ (t : List ℕ) (a : Accepts t) where
 
   globals-part : (x : Part) (m : Model) (i : ℕ) (s : List ℤ) → Lying X 0 (code-part x ++ code m) i → i + length (code-part x ++ code m) ≡ length X
       → ((u k : ℕ) (b : Body) → Holds (x ∷ m) i u b k → Holds (a .tree) 0 u b k) → insideOf C i ≡ 0
-      → (over (globalMade T) (code-part x) i s ≡ globalIn T x i s) × (insideOf C (i + length (code-part x)) ≡ 0)
+      → (over (globalMade T) (code-part x) i s ≡ globalIn T x i s) × (insideOf C (i + sizePart x) ≡ 0)
   globals-part (mtypes ws) m i s p n g z =
       let P = code-part (mtypes ws) in
       let l = lying-front X P (code m) 0 i p in
       let k = known-there t a P i l in
-      (over-muted (globalMade T) T P i s (muted-mtypes ws) k (here t a P i l), inside-none C P i (i + length P) (inner-mtypes ws) k (at-there t a P i l) z (omega arith) (omega arith))
+      (over-muted (globalMade T) T P i s (muted-mtypes ws) k (here t a P i l), inside-none C P i (i + sizePart (mtypes ws)) (inner-mtypes ws) k (at-there t a P i l) z (omega arith) (omega (arith, size-part (mtypes ws))))
     where
       muted-message : (w : Name) → Muted (globalMade T) T (code-message w)
       muted-message w = (λ k. global-else T c-name (λ o. omega arith), (λ k. global-else T c-message (λ o. omega arith), tt))
@@ -149,8 +151,9 @@ module _ (t : List ℕ) (a : Accepts t) where
       let k = known-there t a P i l in
       let A = at-there t a P i l in
       let E = ends-there t a P i l in
-      let e = i + length P in
-      let R = lying-back X P (code m) 0 i e refl p in
+      let sd = size-declaration i-global d in
+      let e = i + sizeDeclaration d in
+      let R = lying-back X P (code m) 0 i e (omega arith) p in
       let len = length-append P (code m) in
       let M : Makes T (globalMade T) 0 i e = record {
         low = λ c h. global-else T c (λ o. omega arith);
@@ -166,21 +169,18 @@ module _ (t : List ℕ) (a : Accepts t) where
       let G = each code-group gs in
       let B = code-body b in
       let u = headIn x i in
-      let k = suc u + length G in
-      let q = head-is x w i in
+      let k = suc u + sum sizeGroup gs in
+      let q = head-is x i in
       let h = g u k b (in-process q refl) in
       let l = lying-front X (A ++ G ++ B) (code m) 0 i p in
       let lA = lying-front X A G 0 i (lying-front X (A ++ G) B 0 i l) in
       let v = body-ends t a b k in
-      let n1 = length-append (A ++ G) B in
-      let n2 = length-append A G in
+      let sB = size-body b in
       let n3 = length-append G B in
-      let n4 = length-append A (G ++ B) in
-      let j : i + length A ≡ suc u = omega arith in
-      let e : suc (endIn b k) ≡ i + length (A ++ G ++ B) = omega arith in (
-        ap (λ o. walk (globalMade T) i o s) (ap length (append-assoc A G B)) ∙ over-both (globalMade T) A (G ++ B) i s
-            ∙ ap (over (globalMade T) (G ++ B) (i + length A)) (over-muted (globalMade T) T A i s (activity x w) (known-there t a A i lA) (here t a A i lA))
-            ∙ ap (λ o. over (globalMade T) (G ++ B) o s) j ∙ unit-idle h (length (G ++ B)) s (omega arith),
+      let e : suc (endIn b k) ≡ i + sizePart (process x w gs b) = omega arith in (
+        ap (λ o. walk (globalMade T) i o s) (ap length (append-assoc A G B)) ∙ over-both (globalMade T) A (G ++ B) i (suc u) s (omega (arith, size-activity x w))
+            ∙ ap (over (globalMade T) (G ++ B) (suc u)) (over-muted (globalMade T) T A i s (activity x w) (known-there t a A i lA) (here t a A i lA))
+            ∙ unit-idle h (length (G ++ B)) s (omega (arith, size-groups gs)),
         ap (insideOf C) (inv e) ∙ unit-ended h,
       )
     where
@@ -194,7 +194,8 @@ module _ (t : List ℕ) (a : Accepts t) where
       let h = g i k b (in-init refl) in
       let l = lying-front X (i-init ∷ B) (code m) 0 i p in
       let v = body-ends t a b k in
-      let e : suc (endIn b k) ≡ i + length (i-init ∷ B) = omega arith in (
+      let sB = size-body b in
+      let e : suc (endIn b k) ≡ i + sizePart (init b) = omega arith in (
         walk-one (globalMade T) i (length B) s ∙ ap (walk (globalMade T) (suc i) (length B)) (global-else T c-init (λ o. omega arith) i s (here t a (i-init ∷ B) i l .0)) ∙ unit-idle h (length B) s (omega arith),
         ap (insideOf C) (inv e) ∙ unit-ended h,
       )
@@ -204,11 +205,12 @@ module _ (t : List ℕ) (a : Accepts t) where
   globals-over [] i s p n g z = walk-none (globalMade T) i s
   globals-over (x ∷ m) i s p n g z =
       let P = code-part x in
-      let e = i + length P in
+      let y = size-part x in
+      let e = i + sizePart x in
       let r = globals-part x m i s p n g z in
       let len = length-append P (code m) in
-      over-both (globalMade T) P (code m) i s ∙ ap (over (globalMade T) (code m) e) (r .0)
-      ∙ globals-over m e (globalIn T x i s) (lying-back X P (code m) 0 i e refl p) (omega arith) (λ u k b h. g u k b (later h)) (r .1)
+      over-both (globalMade T) P (code m) i e s (omega arith) ∙ ap (over (globalMade T) (code m) e) (r .0)
+      ∙ globals-over m e (globalIn T x i s) (lying-back X P (code m) 0 i e (omega arith) p) (omega arith) (λ u k b h. g u k b (later h)) (r .1)
 
   -- ---- processes
   inner-else : (c : ℕ) → c < c-proctype → Mute (unitStarted T) T c
@@ -265,12 +267,12 @@ module _ (t : List ℕ) (a : Accepts t) where
       let G = each code-group gs in
       let B = code-body b in
       let u = headIn x i in
-      let k = suc u + length G in
-      let h = g u k b (in-process (head-is x w i) refl) in
+      let k = suc u + sum sizeGroup gs in
+      let h = g u k b (in-process (head-is x i) refl) in
       let l = subst (λ (y : List Item). Lying X 0 y i) (append-assoc A G B) (lying-front X (A ++ G ++ B) (code m) 0 i p) in
       let lA = lying-front X A (G ++ B) 0 i l in
       let lB = lying-back X A (G ++ B) 0 i (i + length A) refl l in
-      ap (λ o. walk f i o s) (ap length (append-assoc A G B)) ∙ over-both f A (G ++ B) i s
+      ap (λ o. walk f i o s) (ap length (append-assoc A G B)) ∙ over-both f A (G ++ B) i (i + length A) s refl
       ∙ over-muted f T (G ++ B) (i + length A) (over f A i s) (muted-both f T G B (muted-inner f T inner-else G (inner-groups gs)) (body-muted b)) (known-there t a (G ++ B) (i + length A) lB)
       (here t a (G ++ B) (i + length A) lB)
       ∙ head-started x w i s (beginsIn T u b k) (here t a A i lA) (text-begins t a h)
@@ -287,9 +289,9 @@ module _ (t : List ℕ) (a : Accepts t) where
   started-over [] i s p g = walk-none (unitStarted T) i s
   started-over (x ∷ m) i s p g =
       let P = code-part x in
-      let e = i + length P in
-      over-both (unitStarted T) P (code m) i s ∙ ap (over (unitStarted T) (code m) e) (started-part x m i s p g)
-      ∙ started-over m e (startedIn T x i s) (lying-back X P (code m) 0 i e refl p) (λ u k b h. g u k b (later h))
+      let e = i + sizePart x in
+      over-both (unitStarted T) P (code m) i e s (omega (arith, size-part x)) ∙ ap (over (unitStarted T) (code m) e) (started-part x m i s p g)
+      ∙ started-over m e (startedIn T x i s) (lying-back X P (code m) 0 i e (omega (arith, size-part x)) p) (λ u k b h. g u k b (later h))
 
   -- ---- the whole
   all-items : scanned T ≡ length X

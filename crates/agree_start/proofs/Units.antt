@@ -8,7 +8,7 @@ use lib.IntN.{ℤ}
 use borrow.Author.Tests.{le-ltb}
 use Rattle.base_codes.specs.Codes.{c-channel, c-end-body, c-local, c-size}
 use Rattle.spec_grammar.specs.Tree.{Name, Declaration, declare, Body, body, Activity, idle, once, times, Part, mtypes, global, process, init, Model}
-use Rattle.base_codes.specs.Items.{Item, i-body, i-end-body, i-init, i-local}
+use Rattle.base_codes.specs.Items.{Item, i-end-body, i-init, i-local}
 use Rattle.parse_code.specs.Code.{each, code-tree, code-declaration, code-group, code-body, code-activity, code-part, code}
 use Rattle.base_codes.specs.Items as items
 use Rattle.table_entries.specs.Items.{AllKnown}
@@ -23,7 +23,9 @@ use Rattle.agree_eval.specs.Held.{Held}
 use Rattle.agree_eval.proofs.Items.{part-held}
 use Rattle.agree_eval.proofs.Main.{items-long}
 use Rattle.keep_tables.proofs.Tables.{text-held}
-use Rattle.spec_machine.specs.Program.{sizeIn, Holds, in-process, in-init, later, startIn, endIn}
+use Rattle.spec_machine.specs.Sizes.{sizePart}
+use Rattle.agree_sizes.proofs.Sizes.{size-tree, size-declarations, size-groups, size-body, size-activity, size-part}
+use Rattle.spec_machine.specs.Program.{Holds, in-process, in-init, later, startIn, endIn}
 use Rattle.agree_stage.proofs.Stands.{Lying, lying-behind, lying-whole, lying-front, lying-back}
 use Rattle.agree_places.proofs.Heads.{Between}
 use Rattle.agree_control.proofs.Main.{text-unit}
@@ -41,6 +43,8 @@ pub record Behind (m : Model) (i : ℕ) (b : Body) (k : ℕ) : Type 0 where
 pub holds-behind : {m : Model} {i u k : ℕ} {b : Body} → Holds m i u b k → Behind m i b k
 holds-behind {i = i} {k = k} (in-process {x = x} {w = w} {gs = gs} {b = b} {m = m} e f) =
     let A = code-activity x w ++ each code-group gs in
+    let y = size-activity x w in
+    let z = size-groups gs in
     let n = length-append (code-activity x w) (each code-group gs) in
     let o = length-append (A ++ code-body b) (code m) in
     let q = length-append A (code-body b) in
@@ -57,10 +61,11 @@ holds-behind {i = i} {k = k} (in-init {b = b} {m = m} e) =
 holds-behind {i = i} {k = k} (later {x = x} {m = m} {b = b} p) =
     let r = holds-behind p in
     let y = r .ends in
+    let z = size-part x in
     let o = length-append (code-part x) (code m) in
     record {
       units = r .units;
-      lies = lying-behind (code-part x) (code m) (code-body b ++ code (r .units)) i (i + length (code-part x)) k refl (r .lies);
+      lies = lying-behind (code-part x) (code m) (code-body b ++ code (r .units)) i (i + sizePart x) k (omega arith) (r .lies);
       ends = omega arith;
     }
 
@@ -132,23 +137,18 @@ module _ (t : List ℕ) (a : Accepts t) where
       let D = each (code-declaration i-local) ds in
       let Q = code-tree q in
       let e = r .ends in
+      let y = size-declarations ds in
+      let z = size-tree q in
       let n : endIn (body ds q) k - u ≡ suc (length G + suc (length D + length Q)) = omega arith in
       let v : suc u + length G ≡ k = omega arith in
       let w : suc k ≡ k + 1 = omega arith in
       let S = over f G (suc u) (f u s) in
       ap (λ i. walk f u i s) n ∙ walk-one f u (length G + suc (length D + length Q)) s ∙ walk-both f (length G) (suc (length D + length Q)) (suc u) (f u s)
       ∙ ap (λ j. walk f j (suc (length D + length Q)) S) v ∙ walk-one f k (length D + length Q) S ∙ ap (λ j. walk f j (length D + length Q) (f k S)) w
-      ∙ walk-both f (length D) (length Q) (k + 1) (f k S)
-
-  body-size : (ds : List Declaration) (q : _) → length (code-body (body ds q)) ≡ 1 + length (each (code-declaration i-local) ds) + sizeIn q + 1
-  body-size ds q =
-      let D = each (code-declaration i-local) ds in
-      let x = length-append (i-body ∷ D ++ code-tree q) (i-end-body ∷ []) in
-      let y = length-append (i-body ∷ D) (code-tree q) in
-      omega arith
+      ∙ walk-both f (length D) (length Q) (k + 1) (f k S) ∙ ap (λ j. over f Q j (over f D (k + 1) (f k S))) (let x : k + 1 + length D ≡ startIn (body ds q) k = omega arith in x)
 
   pub body-ends : (b : Body) (k : ℕ) → endIn b k + 1 ≡ k + length (code-body b)
-  body-ends (body ds q) k = let e = body-size ds q in omega arith
+  body-ends (body ds q) k = omega (arith, size-body (body ds q))
 
   pub unit-long : {u k : ℕ} {b : Body} → Holds (a .tree) 0 u b k → unitLength (tablesText t) u ≡ endIn b k - u
   unfolding unitLength

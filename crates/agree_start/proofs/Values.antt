@@ -18,6 +18,8 @@ use Rattle.table_layout.specs.Access.{codeOf, linkOf}
 use Rattle.state_start.specs.Values.{valueAt, literalOf, valueOf}
 use Rattle.state_start.specs.Starting.{variableMade, declared}
 use Rattle.state_layout.specs.Walks.{walk}
+use Rattle.spec_machine.specs.Sizes.{sizeSize, sizeVariable, sizeDeclaration}
+use Rattle.agree_sizes.proofs.Sizes.{size-size, size-variable, size-declaration}
 use Rattle.agree_eval.specs.Held.{Held}
 use Rattle.agree_eval.proofs.Items.{held-front, held-back}
 use Rattle.agree_eval.proofs.Operators.{known-front, known-back}
@@ -104,19 +106,19 @@ module _ (t : List ℕ) (f : ℕ → List ℤ → List ℤ) (p lo hi : ℕ) (M :
   muted-value (set-channel n ks) = (λ k. M .low c-number (omega arith), (λ k. muted-mark c-channel (omega arith) (omega arith), muted-each f t code-field muted-field ks))
 
   -- one variable
-  variable-over : (x : Variable) (i : ℕ) (s : List ℤ) → lo ≤ i → i + length (code-variable x) ≤ hi → AllKnown (code-variable x) → Held t i (code-variable x) → Clear t (i + length (code-variable x))
+  variable-over : (x : Variable) (i : ℕ) (s : List ℤ) → lo ≤ i → i + length (code-variable x) ≤ hi → AllKnown (code-variable x) → Held t i (code-variable x) → Clear t (i + sizeVariable x)
       → over f (code-variable x) i s ≡ variableIn t p x i s
   variable-over (variable w z v) i s a b k h c =
       let R = code-size z ++ code-value v in
       let n = length-append (code-size z) (code-value v) in
       let u : suc i ≡ i + 1 = omega arith in
-      let at : suc (suc i) + length (code-size z) ≡ i + 2 + length (code-size z) = omega arith in
-      let C = subst (Clear t) (let y : i + length (code-variable (variable w z v)) ≡ suc (suc i) + length (code-size z) + length (code-value v) = omega arith in y) c in
+      let at : suc (suc i) + length (code-size z) ≡ i + 2 + sizeSize z = omega (arith, size-size z) in
+      let C = subst (Clear t) (let y : i + sizeVariable (variable w z v) ≡ suc (suc i) + length (code-size z) + length (code-value v) = omega (arith, size-variable (variable w z v)) in y) c in
       walk-one f i (suc (length R)) s ∙ ap (walk f (suc i) (suc (length R))) (M .low c-name (omega arith) i s (h .0)) ∙ walk-one f (suc i) (length R) s
       ∙ over-muted f t R (suc (suc i)) (f (suc i) s) (muted-both f t (code-size z) (code-value v) (muted-size z) (muted-value v)) (k .1 .1) (h .2 .2)
       ∙ M .makes (suc i) s (omega arith) (omega arith) (h .2 .0) ∙ ap (λ y. variableMade t (linkOf t (suc i)) p y s) (value-at t z v (suc i) (h .2 .2) C)
       ∙ made t (linkOf t (suc i)) p v (suc (suc i) + length (code-size z)) s (held-back t (code-size z) (code-value v) (suc (suc i)) (suc (suc i) + length (code-size z)) refl (h .2 .2)) C
-      ∙ ap (λ y. valuedIn t (linkOf t (suc i)) p v y s) at ∙ ap (λ y. valuedIn t (linkOf t y) p v (i + 2 + length (code-size z)) s) u
+      ∙ ap (λ y. valuedIn t (linkOf t (suc i)) p v y s) at ∙ ap (λ y. valuedIn t (linkOf t y) p v (i + 2 + sizeSize z) s) u
 
   clear-variables : (xs : List Variable) (e : ℕ) → Held t e (each code-variable xs) → Clear t (e + length (each code-variable xs)) → Clear t e
   clear-variables [] e h c = clear-here t e 0 refl c
@@ -129,20 +131,21 @@ module _ (t : List ℕ) (f : ℕ → List ℤ → List ℤ) (p lo hi : ℕ) (M :
       let X = code-variable x in
       let L = each code-variable xs in
       let n = length-append X L in
-      let m = i + length X in
-      let g = held-back t X L i m refl h in
+      let z = size-variable x in
+      let m = i + sizeVariable x in
+      let g = held-back t X L i m (omega arith) h in
       let d = subst (Clear t) (let y : i + length (X ++ L) ≡ m + length L = omega arith in y) c in
-      over-both f X L i s
+      over-both f X L i m s (omega arith)
       ∙ ap (over f L m) (variable-over x i s a (omega arith) (known-front X L k) (held-front t i X L h) (clear-variables xs m g d))
       ∙ variables-over xs m (variableIn t p x i s) (omega arith) (omega arith) (known-back X L k) g d
 
   -- one declaration, with its mark `local` (210) or `global` (211)
   pub declaration-over : (y : Item) → c-local ≤ items.codeOf y → items.codeOf y ≤ c-global → (d : Declaration) (i : ℕ) (s : List ℤ) → lo ≤ i → i + length (code-declaration y d) ≤ hi → AllKnown (code-declaration y d)
-      → Held t i (code-declaration y d) → Clear t (i + length (code-declaration y d)) → over f (code-declaration y d) i s ≡ declarationIn t p d i s
+      → Held t i (code-declaration y d) → Clear t (i + sizeDeclaration d) → over f (code-declaration y d) i s ≡ declarationIn t p d i s
   declaration-over y e g (declare k xs) i s a b n h c =
       let L = each code-variable xs in
       let z : suc (suc i) ≡ i + 2 = omega arith in
-      let x : i + suc (suc (length L)) ≡ suc (suc i) + length L = omega arith in
+      let x : i + sizeDeclaration (declare k xs) ≡ suc (suc i) + length L = omega (arith, size-declaration y (declare k xs)) in
       walk-one f i (suc (length L)) s ∙ ap (walk f (suc i) (suc (length L))) (M .low (items.codeOf (i-type k)) (type-below k (n .0)) i s (h .0)) ∙ walk-one f (suc i) (length L) s
       ∙ ap (walk f (suc (suc i)) (length L)) (M .marks (items.codeOf y) e (omega arith) (λ q. omega arith) (suc i) s (h .2 .0))
       ∙ variables-over xs (suc (suc i)) s (omega arith) (omega arith) (n .1 .1) (h .2 .2) (subst (Clear t) x c) ∙ ap (λ j. variablesIn t p xs j s) z
@@ -159,9 +162,10 @@ module _ (t : List ℕ) (f : ℕ → List ℤ → List ℤ) (p lo hi : ℕ) (M :
       let X = code-declaration i-local x in
       let L = each (code-declaration i-local) xs in
       let n = length-append X L in
-      let m = i + length X in
-      let g = held-back t X L i m refl h in
+      let z = size-declaration i-local x in
+      let m = i + sizeDeclaration x in
+      let g = held-back t X L i m (omega arith) h in
       let d = subst (Clear t) (let y : i + length (X ++ L) ≡ m + length L = omega arith in y) c in
-      over-both f X L i s
+      over-both f X L i m s (omega arith)
       ∙ ap (over f L m) (declaration-over i-local (omega arith) (omega arith) x i s a (omega arith) (known-front X L k) (held-front t i X L h) (clear-locals xs m g d))
       ∙ locals-over xs m (declarationIn t p x i s) (omega arith) (omega arith) (known-back X L k) g d

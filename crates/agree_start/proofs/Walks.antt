@@ -39,8 +39,8 @@ module _ (f : ℕ → List ℤ → List ℤ) where
   abbrev pub over : List Item → ℕ → List ℤ → List ℤ
   over l j s = walk f j (length l) s
 
-  pub over-both : (x y : List Item) (j : ℕ) (s : List ℤ) → over (x ++ y) j s ≡ over y (j + length x) (over x j s)
-  over-both x y j s = ap (λ n. walk f j n s) (length-append x y) ∙ walk-both (length x) (length y) j s
+  pub over-both : (x y : List Item) (j k : ℕ) (s : List ℤ) → k ≡ j + length x → over (x ++ y) j s ≡ over y k (over x j s)
+  over-both x y j k s e = ap (λ n. walk f j n s) (length-append x y) ∙ walk-both (length x) (length y) j s ∙ ap (λ i. over y i (over x j s)) (sym e)
 
   -- ---- items at which nothing is done
   module _ (t : List ℕ) where

@@ -11,14 +11,13 @@ use lib.Dec.{ltb}
 use Rattle.base_ceilings.specs.Ceilings.{processesMost}
 use Rattle.base_bytes.specs.Choice.{pick}
 use Rattle.spec_grammar.specs.Tree.{Name, Value, unset, set-number, set-minus, set-true, set-false, set-name, set-channel, Variable, variable, Declaration, declare, Group, group, Body, body, Activity, idle, once, times, Part, mtypes, global, process, init, Model}
-use Rattle.base_codes.specs.Items.{i-local}
-use Rattle.parse_code.specs.Code.{each, code-size, code-variable, code-declaration, code-group, code-part}
 use Rattle.table_layout.specs.Access.{linkOf}
 use Rattle.base_values.specs.Types.{castOf}
 use Rattle.base_values.specs.Operators.{unaryOf}
 use Rattle.state_layout.specs.Layout.{kept, cleared, processAt, processesOf, channelsOf}
 use Rattle.step_eval.specs.Variables.{typeOf, slotOf}
 use Rattle.state_start.specs.Starting.{filled, stored, channelMade}
+use Rattle.spec_machine.specs.Sizes.{sum, sizeSize, sizeVariable, sizeDeclaration, sizeGroup, sizePart}
 use Rattle.spec_machine.specs.Program.{enter, startIn, endIn}
 
 -- n times
@@ -69,11 +68,11 @@ module _ (t : List ℕ) where
 
   -- a declared name, its `declared` and its size stand before its value
   abbrev pub variableIn : ℕ → Variable → ℕ → List ℤ → List ℤ
-  variableIn p (variable w z v) i s = valuedIn (linkOf t (i + 1)) p v (i + 2 + length (code-size z)) s
+  variableIn p (variable w z v) i s = valuedIn (linkOf t (i + 1)) p v (i + 2 + sizeSize z) s
 
   abbrev pub variablesIn : ℕ → List Variable → ℕ → List ℤ → List ℤ
   variablesIn p [] i s = s
-  variablesIn p (x ∷ xs) i s = variablesIn p xs (i + length (code-variable x)) (variableIn p x i s)
+  variablesIn p (x ∷ xs) i s = variablesIn p xs (i + sizeVariable x) (variableIn p x i s)
 
   -- a type and its mark stand before the names
   abbrev pub declarationIn : ℕ → Declaration → ℕ → List ℤ → List ℤ
@@ -81,7 +80,7 @@ module _ (t : List ℕ) where
 
   abbrev pub localsIn : ℕ → List Declaration → ℕ → List ℤ → List ℤ
   localsIn p [] i s = s
-  localsIn p (d ∷ ds) i s = localsIn p ds (i + length (code-declaration i-local d)) (declarationIn p d i s)
+  localsIn p (d ∷ ds) i s = localsIn p ds (i + sizeDeclaration d) (declarationIn p d i s)
 
   -- ## processes
   -- process p of the unit that item u begins, whose body's items begin at item k: at its first statement, with its variables
@@ -103,7 +102,7 @@ module _ (t : List ℕ) where
   -- a type and its mark stand before the names
   abbrev pub groupsIn : ℕ → List ℤ → ℕ → List Group → ℕ → List ℤ → List ℤ
   groupsIn p l n [] i s = s
-  groupsIn p l n (g ∷ gs) i s = groupsIn p l (n + length (namesOf g)) gs (i + length (code-group g)) (namesIn p l n (namesOf g) (i + 2) s)
+  groupsIn p l n (g ∷ gs) i s = groupsIn p l (n + length (namesOf g)) gs (i + sizeGroup g) (namesIn p l n (namesOf g) (i + 2) s)
 
   -- the next process of a unit with these groups of parameters, behind its first item
   abbrev pub calledIn : ℕ → List Group → Body → ℕ → List ℤ → List ℤ → List ℤ
@@ -118,17 +117,17 @@ module _ (t : List ℕ) where
 
   abbrev pub globalsIn : Model → ℕ → List ℤ → List ℤ
   globalsIn [] i s = s
-  globalsIn (x ∷ m) i s = globalsIn m (i + length (code-part x)) (globalIn x i s)
+  globalsIn (x ∷ m) i s = globalsIn m (i + sizePart x) (globalIn x i s)
 
   abbrev pub startedIn : Part → ℕ → List ℤ → List ℤ
   startedIn (mtypes ws) i s = s
   startedIn (global d) i s = s
-  startedIn (process x w gs b) i s = repeated (beginsIn (headIn x i) b (suc (headIn x i) + length (each code-group gs))) (startsIn x) s
+  startedIn (process x w gs b) i s = repeated (beginsIn (headIn x i) b (suc (headIn x i) + sum sizeGroup gs)) (startsIn x) s
   startedIn (init b) i s = beginsIn i b (i + 1) s
 
   abbrev pub allStarted : Model → ℕ → List ℤ → List ℤ
   allStarted [] i s = s
-  allStarted (x ∷ m) i s = allStarted m (i + length (code-part x)) (startedIn x i s)
+  allStarted (x ∷ m) i s = allStarted m (i + sizePart x) (startedIn x i s)
 
   -- all zeros, then the globals, then the processes, in text order
   abbrev pub initialIn : Model → List ℤ → List ℤ

@@ -18,10 +18,9 @@ use Rattle.state_layout.specs.Layout.{kept, localAt, processAt}
 use Rattle.step_eval.specs.Variables.{typeOf, slotOf}
 use Rattle.agree_start.specs.Beginnings.{valuedIn, variableIn, variablesIn, declarationIn, localsIn, setOut, beginsIn, namesIn, groupsIn, calledIn}
 use Rattle.spec_grammar.specs.Tree.{Name, Value, unset, set-number, set-minus, set-true, set-false, set-name, set-channel, Variable, variable, Declaration, declare, Group, group, Body, body, Part, process, init, Model}
-use Rattle.base_codes.specs.Items.{i-local}
-use Rattle.parse_code.specs.Code.{code-variable, code-declaration, code-group, code-activity}
 use Rattle.spec_rules.specs.Units.{tally}
 use Rattle.spec_rules.specs.Ceilings.{madeByVariable, madeByDeclaration, madeByBody}
+use Rattle.spec_machine.specs.Sizes.{sizeVariable, sizeDeclaration, sizeGroup, sizeActivity}
 use Rattle.spec_machine.specs.State.{Channel, Process, State, noProcess}
 use Rattle.spec_machine.specs.Names.{Var, ofParameter, ofGroups, parametersOf, localsOf, variablesOf, unitAt}
 use Rattle.spec_machine.specs.Begins.{Made, makes, makesAll, given, itemsBefore, bodyIn, bodyOf, firstIn, begins}
@@ -118,7 +117,7 @@ module _ (T : List ℕ) (p : ℕ) where
 
   variables-along : (k : ℕ) (xs : List Variable) (i : ℕ) (s : List ℤ) → variablesIn T p xs i s ≡ along T p (sitesOf k xs i) s
   variables-along k [] i s = refl
-  variables-along k (variable w z v ∷ xs) i s = variables-along k xs (i + length (code-variable (variable w z v))) (variableIn T p (variable w z v) i s)
+  variables-along k (variable w z v ∷ xs) i s = variables-along k xs (i + sizeVariable (variable w z v)) (variableIn T p (variable w z v) i s)
 
   pub declaration-along : (d : Declaration) (i : ℕ) (s : List ℤ) → declarationIn T p d i s ≡ along T p (sitesIn d i) s
   declaration-along (declare k xs) i s = variables-along k xs (i + 2) s
@@ -126,7 +125,7 @@ module _ (T : List ℕ) (p : ℕ) where
   locals-along : (ds : List Declaration) (i : ℕ) (s : List ℤ) → localsIn T p ds i s ≡ along T p (localSites ds i) s
   locals-along [] i s = refl
   locals-along (d ∷ ds) i s =
-      let j = i + length (code-declaration i-local d) in
+      let j = i + sizeDeclaration d in
       locals-along ds j (declarationIn T p d i s) ∙ ap (along T p (localSites ds j)) (declaration-along d i s) ∙ inv (along-both (sitesIn d i) (localSites ds j) s)
 
   module _ (l : List ℤ) where
@@ -153,7 +152,7 @@ module _ (T : List ℕ) (p : ℕ) where
     groups-giving : (n : ℕ) (gs : List Group) (i : ℕ) (s : List ℤ) → groupsIn T p l n gs i s ≡ giving n (groupSites gs i) s
     groups-giving n [] i s = refl
     groups-giving n (group k ws ∷ gs) i s =
-        let j = i + length (code-group (group k ws)) in
+        let j = i + sizeGroup (group k ws) in
         groups-giving (n + length ws) gs j (namesIn T p l n ws (i + 2) s)
         ∙ ap₂ (λ a s. giving a (groupSites gs j) s) (ap (λ a. n + a) (inv (names-long k ws (i + 2)))) (names-giving k n ws (i + 2) s)
         ∙ inv (giving-both n (nameSites k ws (i + 2)) (groupSites gs j) s)
@@ -234,7 +233,7 @@ module _ (m : Model) (T : List ℕ) (xs : List Var) (at : ℕ → ℕ → ℕ) (
 -- ---- a unit's sites: those of its parameters, then those of its body
 unit-sites : (u : Part) (i : ℕ) → Bodied u → unitSites u i ≡ groupSites (groupsOf u) (suc (headIn u i)) ++ bodySites (bodyOf u) (bodyIn u i)
 unit-sites (process a w gs b) i h =
-    ap (λ j. groupSites gs j ++ bodySites b (bodyIn (process a w gs b) i)) (let e = some-items a w in let z : i + length (code-activity a w) ≡ suc (i + length (code-activity a w) - 1) = omega arith in z)
+    ap (λ j. groupSites gs j ++ bodySites b (bodyIn (process a w gs b) i)) (let e = some-items a in let z : i + sizeActivity a ≡ suc (i + sizeActivity a - 1) = omega arith in z)
 unit-sites (init b) i h = refl
 
 unit-params : (u : Part) → Bodied u → ofGroups (groupsOf u) ≡ parametersOf u
@@ -281,7 +280,7 @@ one-channel k (variable w z (set-channel n ks)) i = refl
 
 variables-channels : (k : ℕ) (xs : List Variable) (i : ℕ) → channelsIn (sitesOf k xs i) ≡ tally madeByVariable xs
 variables-channels k [] i = refl
-variables-channels k (x ∷ xs) i = ap₂ _+_ (one-channel k x i) (variables-channels k xs (i + length (code-variable x)))
+variables-channels k (x ∷ xs) i = ap₂ _+_ (one-channel k x i) (variables-channels k xs (i + sizeVariable x))
 
 pub declaration-channels : (d : Declaration) (i : ℕ) → channelsIn (sitesIn d i) ≡ madeByDeclaration d
 declaration-channels (declare k xs) i = variables-channels k xs (i + 2)
@@ -289,7 +288,7 @@ declaration-channels (declare k xs) i = variables-channels k xs (i + 2)
 locals-channels : (ds : List Declaration) (i : ℕ) → channelsIn (localSites ds i) ≡ tally madeByDeclaration ds
 locals-channels [] i = refl
 locals-channels (d ∷ ds) i =
-    let j = i + length (code-declaration i-local d) in channels-both (sitesIn d i) (localSites ds j) ∙ ap₂ _+_ (declaration-channels d i) (locals-channels ds j)
+    let j = i + sizeDeclaration d in channels-both (sitesIn d i) (localSites ds j) ∙ ap₂ _+_ (declaration-channels d i) (locals-channels ds j)
 
 pub body-channels : (b : Body) (i : ℕ) → channelsIn (bodySites b i) ≡ madeByBody b
 body-channels (body ds q) i = locals-channels ds (i + 1)

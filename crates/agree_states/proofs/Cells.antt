@@ -1,17 +1,17 @@
 -- THE NUMBERS OF A PLAIN STATE, ONE BY ONE: which number stands where, and that nothing else does. Numbers that say the same in each place are the state's (`shown-same`).
-use Prim.Native.Nat.{ℕ, zero, suc, _+_, _-_, _*_, _/_, _%_, _<_, _≤_}
+use Prim.Native.Nat.{ℕ, suc, _+_, _-_, _/_, _%_, _<_, _≤_}
 use native.Mathlib.Omega.{arith}
 use native.Mathlib.Decide.{ℕ-discrete, decLt}
 use mathlib.Core.Path.{_≡_, refl, sym as inv, ap, ap₂, _∙_, subst}
 use mathlib.Core.List.{List, [], _∷_, _++_, map, append-assoc}
 use lib.ListN.{length, getD, drop, length-append, length-replicate, getD-replicate}
 use lib.IntN.{ℤ, pos}
-use Rattle.base_ceilings.specs.Ceilings.{channelsMost, fieldsMost, globalsMost, processesMost, stateRoom}
+use Rattle.base_ceilings.specs.Ceilings.{channelsMost, globalsMost, processesMost, stateRoom}
 use Rattle.state_layout.specs.Layout.{kept, cellOf, globalAt, processAt, channelAt, channelSize, processSize}
 use Rattle.spec_grammar.specs.Tree.{Model}
 use Rattle.spec_machine.specs.State.{State}
-use Rattle.state_encode.specs.Encode.{pad, rows, flat, processRow, channelRow, encode}
-use Rattle.state_encode.proofs.Rows.{get-left, get-right, length-pad, get-pad, off, get-process, get-channel, get-global}
+use Rattle.state_encode.specs.Encode.{flat, processRow, channelRow, encode}
+use Rattle.state_encode.proofs.Rows.{get-left, get-right, get-pad, off, row-any, get-process, get-channel, get-global}
 use Rattle.state_encode.proofs.Numbers.{at-process, at-channel, G, P, C, Z, lg, lp, lc}
 
 pub record Shown (m : Model) (σ : State) (s : List ℤ) : Type 0 where
@@ -22,29 +22,6 @@ pub record Shown (m : Model) (σ : State) (s : List ℤ) : Type 0 where
   pub processes : (p k : ℕ) → p < processesMost → k < processSize → cellOf s (processAt p + k) ≡ getD (getD (map (processRow m) (σ .processes)) p []) k (pos 0)
   pub channels : (c k : ℕ) → c < channelsMost → k < channelSize → cellOf s (channelAt c + k) ≡ getD (getD (map (channelRow m) (σ .channels)) c []) k (pos 0)
   pub rest : (i : ℕ) → channelAt channelsMost ≤ i → i < stateRoom → cellOf s i ≡ pos 0
-
-pub row-any : {A : Type 0} (f : A → List ℤ) (z n : ℕ) (l : List A) (p k : ℕ) → p < n → k < z → getD (rows f z n l) (off f z p + k) (pos 0) ≡ getD (getD (map f l) p []) k (pos 0)
-unfolding rows
-row-any f z zero l p k h g = absurd (omega arith)
-row-any f z (suc n) [] zero k h g =
-    ap (λ i. getD (pad z [] ++ rows f z n []) i (pos 0)) (let w : 0 + k ≡ k = omega arith in w)
-    ∙ get-left (pad z []) (rows f z n []) (pos 0) k (subst (k <_) (inv (length-pad z [])) g) ∙ get-pad z [] k g
-row-any f z (suc n) [] (suc p) k h g =
-    get-right (pad z []) (rows f z n []) (pos 0) z (off f z p + k) (z + off f z p + k) (length-pad z []) (omega arith) ∙ row-any f z n [] p k (omega arith) g ∙ none p
-  where
-    none : (p : ℕ) → getD (getD [] p []) k (pos 0) ≡ getD [] k (pos 0)
-    none zero = refl
-    none (suc p) = refl
-row-any f z (suc n) (x ∷ l) zero k h g =
-    ap (λ i. getD (pad z (f x) ++ rows f z n l) i (pos 0)) (let w : 0 + k ≡ k = omega arith in w)
-    ∙ get-left (pad z (f x)) (rows f z n l) (pos 0) k (subst (k <_) (inv (length-pad z (f x))) g) ∙ get-pad z (f x) k g
-row-any f z (suc n) (x ∷ l) (suc p) k h g =
-    get-right (pad z (f x)) (rows f z n l) (pos 0) z (off f z p + k) (z + off f z p + k) (length-pad z (f x)) (omega arith) ∙ row-any f z n l p k (omega arith) g
-
--- rows of four
-pub at-four : {A : Type 0} (f : A → List ℤ) (p : ℕ) → off f fieldsMost p ≡ fieldsMost * p
-at-four f zero = refl
-at-four f (suc p) = let e = at-four f p in omega arith
 
 module _ (m : Model) (σ : State) where
   pub encode-long : length (encode m σ) ≡ stateRoom

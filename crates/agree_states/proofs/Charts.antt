@@ -1,5 +1,5 @@
 -- WHAT THE TABLES OF AN ACCEPTED TEXT CHART OF ITS TREE: all that `Charted` has, of what `Surveyed` has (`text-charted`).
-use Prim.Native.Nat.{ℕ, zero, suc, _+_, _-_, _/_, _%_, _<_, _≤_, min}
+use Prim.Native.Nat.{ℕ, zero, suc, _+_, _/_, _%_, _<_, _≤_, min}
 use native.Mathlib.Omega.{arith}
 use borrow.Author.Tests.{eqb-true}
 use mathlib.Core.Path.{_≡_, refl, sym as inv, ap, _∙_, subst}
@@ -29,10 +29,11 @@ use Rattle.state_types.specs.Fits.{isGlobal, isLocal}
 use Rattle.keep_tables.proofs.Tables.{text-held}
 use Rattle.agree_stage.proofs.Stands.{lying-whole}
 use Rattle.agree_offers.proofs.Places.{known-there}
-use Rattle.agree_start.proofs.Units.{here, body-ends, unit-long}
+use Rattle.agree_start.proofs.Units.{here, unit-long}
 use Rattle.keep_tables.specs.Well as well
 use Rattle.keep_tables.proofs.Whole.{text-well}
 use Rattle.spec_rules.specs.Ceilings.{modest}
+use Rattle.spec_machine.specs.Sizes.{sizePart}
 use Rattle.spec_machine.specs.Program.{Within, Holds, in-process, in-init, later, startIn, endIn, sequenceOf}
 use Rattle.agree_control.proofs.Main.{text-unit}
 use Rattle.agree_places.proofs.Whole.{text-head, text-stated}
@@ -51,7 +52,7 @@ use Rattle.agree_states.specs.Sites.{chan, Site, noSite, unitSites, glob
 use Rattle.agree_states.specs.Charted.{globalItem, localItem, Placed, Made, Surveyed, Charted}
 use Rattle.agree_states.proofs.Held.{code-inside}
 use Rattle.agree_states.proofs.Sites.{some-items, unit-vars, sites-long, site-var, unit-item, made-site, made-item, sited-unit, unit-one, bodied-there, head-inside, head-one}
-use Rattle.agree_states.proofs.Seen.{body-span, Makes, Tells, Spotted, In-unit, model-seen, Stood, standing-at, unit-stands, part-stands, unit-held, declaring-at, globals-declare, among}
+use Rattle.agree_states.proofs.Seen.{body-end, Makes, Tells, Spotted, In-unit, model-seen, Stood, standing-at, unit-stands, part-stands, unit-held, declaring-at, globals-declare, among}
 use Rattle.agree_states.proofs.Slices.{offset-reach}
 use Rattle.agree_states.proofs.Initial.{global-vars}
 
@@ -131,11 +132,11 @@ pub record Unit-at (m : Model) (i u : ℕ) (b : Body) (at : ℕ) : Type 0 where
 
 holds-unit : {m : Model} {i u at : ℕ} {b : Body} → Holds m i u b at → Unit-at m i u b at
 unfolding itemsBefore
-holds-unit (in-process {x = x} {w = w} e f) = let l = some-items x w in record { unit = 0; bodied = tt; head = omega arith; own = refl; place = omega arith }
+holds-unit (in-process {x = x} e f) = let l = some-items x in record { unit = 0; bodied = tt; head = omega arith; own = refl; place = omega arith }
 holds-unit (in-init e) = record { unit = 0; bodied = tt; head = omega arith; own = refl; place = omega arith }
 holds-unit {i = i} (later {x = x} {m = m} h) =
     let r = holds-unit h in
-    let q : i + (length (code-part x) + itemsBefore m (r .unit)) ≡ i + length (code-part x) + itemsBefore m (r .unit) = omega arith in
+    let q : i + (sizePart x + itemsBefore m (r .unit)) ≡ i + sizePart x + itemsBefore m (r .unit) = omega arith in
     record { unit = suc (r .unit); bodied = r .bodied; head = ap (headIn (unitAt m (r .unit))) q ∙ r .head; own = r .own; place = ap (bodyIn (unitAt m (r .unit))) q ∙ r .place }
 
 chan-is : (v : Value) → chan v ≡ true → (n : ℕ) × ((ks : List ℕ) × (v ≡ set-channel n ks))
@@ -244,11 +245,10 @@ module _ (t : List ℕ) (a : Accepts t) (small : modest (a .tree) ≡ true) (S :
       }
 
   -- the items of a unit from its first on
-  inside-unit : (k : ℕ) → Bodied (unitAt m k) → (j : ℕ) → j < unitLength T (headOf m k) → headOf m k + j < itemsBefore m k + length (code-part (unitAt m k))
+  inside-unit : (k : ℕ) → Bodied (unitAt m k) → (j : ℕ) → j < unitLength T (headOf m k) → headOf m k + j < itemsBefore m k + sizePart (unitAt m k)
   inside-unit k b j h =
       let l = unit-long t a (held k b) in
-      let e = body-ends t a (bodyOf (unitAt m k)) (bodyAt m k) in
-      let s = body-span (unitAt m k) (itemsBefore m k) b in
+      let e = body-end (unitAt m k) (itemsBefore m k) b in
       omega arith
 
   locals-only : (k : ℕ) → Bodied (unitAt m k) → (j : ℕ) → j < unitLength T (headOf m k) → isLocal T (headOf m k + j) ≡ true
@@ -349,7 +349,7 @@ module _ (t : List ℕ) (a : Accepts t) (small : modest (a .tree) ≡ true) (S :
 
   value-held : (k i : ℕ) → i < length (sitesAt m k) → Held T (getD (sitesAt m k) i noSite .worth) (code-value (getD (sitesAt m k) i noSite .var .value))
   value-held k i h =
-      standing-at T (itemsBefore m k) (itemsBefore m k + length (code-part (unitAt m k))) (sitesAt m k) (part-stands T (unitAt m k) (itemsBefore m k) (held-unit k (sited-unit m k i h))) i h .value
+      standing-at T (itemsBefore m k) (itemsBefore m k + sizePart (unitAt m k)) (sitesAt m k) (part-stands T (unitAt m k) (itemsBefore m k) (held-unit k (sited-unit m k i h))) i h .value
 
   worths : (k i : ℕ) → i < length (sitesAt m k) → chan (getD (sitesAt m k) i noSite .var .value) ≡ false
       → valueIn T (getD (sitesAt m k) i noSite .var .value) (getD (sitesAt m k) i noSite .worth) ≡ valueOf m (getD (sitesAt m k) i noSite .var .value)

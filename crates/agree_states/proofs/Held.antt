@@ -32,11 +32,11 @@ use Rattle.state_encode.specs.Encode.{flat, headOf, channelItem, messageRow, pr
 use Rattle.spec_machine.specs.Places.{Bodied, Belongs, ends, stands}
 use Rattle.spec_machine.specs.Fits.{Filled, ChannelFits, Fits}
 use Rattle.state_encode.specs.Tabled.{offsetOf, totalOf, Linked}
-use Rattle.state_encode.proofs.Rows.{off, get-flat}
+use Rattle.state_encode.proofs.Rows.{off, row-any, at-four, get-flat}
 use Rattle.state_encode.proofs.Fitting.{ahead-is, flat-long}
 use Rattle.step_messages.specs.Messages.{fieldType}
 use Rattle.agree_states.specs.Charted.{globalItem, localItem, Placed, Channelled, Charted}
-use Rattle.agree_states.proofs.Cells.{Shown, row-any, at-four, encode-long, encode-shown}
+use Rattle.agree_states.proofs.Cells.{Shown, encode-long, encode-shown}
 use Rattle.agree_states.proofs.Slices.{get-past, get-map, map-long, find, offset-reach}
 
 -- an item with a code is one of the tables' items

@@ -12,11 +12,12 @@ use Rattle.table_layout.specs.Access.{linkOf}
 use Rattle.state_layout.specs.Layout.{cleared, cellOf, globalAt, processAt, channelAt}
 use Rattle.agree_start.specs.Beginnings as numeric
 use Rattle.agree_start.specs.Beginnings.{repeated, startsIn, beginsIn, globalsIn, startedIn, allStarted, initialIn}
-use Rattle.spec_grammar.specs.Tree.{Name, Body, Activity, idle, once, times, Part, mtypes, global, process, init, Model}
-use Rattle.parse_code.specs.Code.{each, code-group, code-activity, code-part}
+use Rattle.spec_grammar.specs.Tree.{Body, Activity, idle, once, times, Part, mtypes, global, process, init, Model}
+use Rattle.parse_code.specs.Code.{each}
 use Rattle.spec_rules.specs.Statements.{all}
 use Rattle.spec_rules.specs.Units.{tally}
 use Rattle.spec_rules.specs.Ceilings.{madeByDeclaration, madeByBody, startedBy, startCount, channelCount, modest}
+use Rattle.spec_machine.specs.Sizes.{sum, sizeGroup, sizeActivity, sizePart}
 use Rattle.spec_machine.specs.State.{Channel, State}
 use Rattle.spec_machine.specs.Names as names
 use Rattle.spec_machine.specs.Names.{Var, variablesOf, globalsOf, unitAt}
@@ -46,13 +47,13 @@ pub record Behind (m us : Model) (k i : ℕ) : Type 0 where
   pub at : (j : ℕ) → unitAt m (k + j) ≡ unitAt us j
   pub before : (j : ℕ) → itemsBefore m (k + j) ≡ i + itemsBefore us j
 
-behind-next : (m : Model) (u : Part) (us : Model) (k i : ℕ) → Behind m (u ∷ us) k i → Behind m us (suc k) (i + length (code-part u))
+behind-next : (m : Model) (u : Part) (us : Model) (k i : ℕ) → Behind m (u ∷ us) k i → Behind m us (suc k) (i + sizePart u)
 unfolding itemsBefore
 behind-next m u us k i b =
     record {
       at = λ j. ap (unitAt m) (let z : suc k + j ≡ k + suc j = omega arith in z) ∙ b .at (suc j);
       before = λ j. ap (itemsBefore m) (let z : suc k + j ≡ k + suc j = omega arith in z) ∙ b .before (suc j)
-          ∙ (let z : i + (length (code-part u) + itemsBefore us j) ≡ i + length (code-part u) + itemsBefore us j = omega arith in z);
+          ∙ (let z : i + (sizePart u + itemsBefore us j) ≡ i + sizePart u + itemsBefore us j = omega arith in z);
     }
 
 behind-all : (m : Model) → Behind m m 0 0
@@ -79,7 +80,7 @@ here-vars (init b) i = refl
 pub global-vars : (us : Model) (i : ℕ) → map varOf (globalSites us i) ≡ globalsOf us
 global-vars [] i = refl
 global-vars (u ∷ us) i =
-    map-both varOf (globalHere u i) (globalSites us (i + length (code-part u))) ∙ ap₂ (λ (x y : List Var). x ++ y) (here-vars u i) (global-vars us (i + length (code-part u)))
+    map-both varOf (globalHere u i) (globalSites us (i + sizePart u)) ∙ ap₂ (λ (x y : List Var). x ++ y) (here-vars u i) (global-vars us (i + sizePart u))
 
 here-along : (T : List ℕ) (u : Part) (i : ℕ) (s : List ℤ) → numeric.globalIn T u i s ≡ along T 0 (globalHere u i) s
 here-along T (mtypes ws) i s = refl
@@ -187,11 +188,11 @@ module _ (m : Model) where
         → n + length (globalSites (u ∷ us) i) ≡ length (globalSites m 0) → (j : ℕ) → j < length (globalHere u i) → Good m T xs at 0 E W k (getD (globalHere u i) j noSite) (n + j) (0 + j)
     good u us k i n b same long j h =
         let v = global-vars m 0 in
-        let len = length-append (globalHere u i) (globalSites us (i + length (code-part u))) in
+        let len = length-append (globalHere u i) (globalSites us (i + sizePart u)) in
         let lx = sites-long (globalSites m 0) xs v in
         let g : n + j < length (globalSites m 0) = omega arith in
         let gx : n + j < length (globalsOf m) = omega arith in
-        let e : getD (globalSites m 0) (n + j) noSite ≡ getD (globalHere u i) j noSite = same j ∙ get-left (globalHere u i) (globalSites us (i + length (code-part u))) noSite j h in
+        let e : getD (globalSites m 0) (n + j) noSite ≡ getD (globalHere u i) j noSite = same j ∙ get-left (globalHere u i) (globalSites us (i + sizePart u)) noSite j h in
         let ev : getD (globalsOf m) (n + j) noVar ≡ getD (globalHere u i) j noSite .var = inv (site-var (globalSites m 0) xs v (n + j) g) ∙ ap varOf e in
         let own : sitesAt m k ≡ globalHere u i = sites-here m u us k i b ∙ inv (here-own u i j h) in
         let ho : j < length (sitesAt m k) = subst (λ (l : List Site). j < length l) (inv own) h in
@@ -218,8 +219,8 @@ module _ (m : Model) where
     globals-made [] k i n A (x ∷ Z) C b same long S e z few = absurd (omega arith)
     globals-made (u ∷ us) k i n A Z C b same long S e z few =
         let H = globalHere u i in
-        let R = globalSites us (i + length (code-part u)) in
-        let len = length-append (globalHere u i) (globalSites us (i + length (code-part u))) in
+        let R = globalSites us (i + sizePart u) in
+        let len = length-append (globalHere u i) (globalSites us (i + sizePart u)) in
         let c = here-channels u i in
         let r = sites-made m T xs at 0 E W k H n 0 A Z C (good u us k i n b same long) S e (omega arith) (omega arith) in
         let v = here-vars u i in
@@ -230,8 +231,8 @@ module _ (m : Model) where
         let r1 = r .1 in
         let r3 = r .3 in
         let d = length-drop (length (globalHere u i)) Z in
-        ap (globalsIn T us (i + length (code-part u))) (here-along T u i (E (A ++ Z) C) ∙ r .0)
-        ∙ globals-made us (suc k) (i + length (code-part u)) (n + length H) (Y .values) (drop (length H) Z) (Y .channels) (behind-next m u us k i b)
+        ap (globalsIn T us (i + sizePart u)) (here-along T u i (E (A ++ Z) C) ∙ r .0)
+        ∙ globals-made us (suc k) (i + sizePart u) (n + length H) (Y .values) (drop (length H) Z) (Y .channels) (behind-next m u us k i b)
         (λ j. ap (λ a. getD (globalSites m 0) a noSite) (let y : n + length (globalHere u i) + j ≡ n + (length (globalHere u i) + j) = omega arith in y) ∙ same (length H + j)
         ∙ get-right H R noSite (length H) j (length H + j) refl refl)
         (omega arith) (r .2) r1 (omega arith) (omega arith)
@@ -253,7 +254,7 @@ module _ (m : Model) where
         (λ j g c. single j (subst (j <_) (inv hl) g) c) v s in
         let f2 = f .2 in
         let n : channelsAmong m (names.globalIn u) ≡ globalChannels u = ap (channelsAmong m) (inv hv) ∙ among-sites m H ∙ here-channels u i in
-        let r = globals-fit us (suc k) (i + length (code-part u)) (zs ++ G) (Y .values) (Y .channels) (behind-next m u us k i b) (f .0) (f .1) in
+        let r = globals-fit us (suc k) (i + sizePart u) (zs ++ G) (Y .values) (Y .channels) (behind-next m u us k i b) (f .0) (f .1) in
         let r2 = r .2 in (
           subst (λ (l : List Var). Filled l (globalsFrom m (suc k) us record { values = Y .values; channels = Y .channels } .values)) (append-assoc zs G (globalsOf us)) (r .0),
           r .1,
@@ -272,10 +273,10 @@ module _ (m : Model) where
         single j h c = let q = site j h in ap (λ (x : Var). x .size) (inv (q .1)) ∙ X .singles k j (q .2) (ap (λ (x : Var). chan (x .value)) (q .1) ∙ c)
 
 -- ---- the processes that start
-head-same : (a : Activity) (w : Name) (i : ℕ) → numeric.headIn a i ≡ i + length (code-activity a w) - 1
-head-same idle w i = omega arith
-head-same once w i = omega arith
-head-same (times n) w i = omega arith
+head-same : (a : Activity) (i : ℕ) → numeric.headIn a i ≡ i + sizeActivity a - 1
+head-same idle i = omega arith
+head-same once i = omega arith
+head-same (times n) i = omega arith
 
 starts-same : (a : Activity) → startedBy a ≤ processesMost → startsIn a ≡ startedBy a
 starts-same idle h = refl
@@ -318,13 +319,13 @@ module _ (m : Model) (T : List ℕ) (X : Charted m T) (t : List ℤ) where
       let B : bodyOf (unitAt m k) ≡ b = ap bodyOf e in
       let M : madeByBody (bodyOf (unitAt m k)) ≡ madeByBody b = ap madeByBody B in
       let r = times-begun k h (startedBy a) σ F few (subst (λ n. length (σ .channels) + startedBy a * n ≤ channelsMost) (inv M) room) in
-      let hd : numeric.headIn a i ≡ headOf m k = head-same a w i ∙ ap₂ headIn (inv e) (inv f) in
-      let s = some-items a w in
-      let n = head-same a w i in
-      let at : suc (numeric.headIn a i) + length (each code-group gs) ≡ bodyAt m k =
-      (let z : suc (numeric.headIn a i) + length (each code-group gs) ≡ i + length (code-activity a w) + length (each code-group gs) = omega arith in z) ∙ ap₂ bodyIn (inv e) (inv f) in
+      let hd : numeric.headIn a i ≡ headOf m k = head-same a i ∙ ap₂ headIn (inv e) (inv f) in
+      let s = some-items a in
+      let n = head-same a i in
+      let at : suc (numeric.headIn a i) + sum sizeGroup gs ≡ bodyAt m k =
+      (let z : suc (numeric.headIn a i) + sum sizeGroup gs ≡ i + sizeActivity a + sum sizeGroup gs = omega arith in z) ∙ ap₂ bodyIn (inv e) (inv f) in
       let st : startsIn a ≡ startedBy a = starts-same a (omega arith) in (
-        ap (λ n. repeated (beginsIn T (numeric.headIn a i) b (suc (numeric.headIn a i) + length (each code-group gs))) n (encode m σ ++ t)) st
+        ap (λ n. repeated (beginsIn T (numeric.headIn a i) b (suc (numeric.headIn a i) + sum sizeGroup gs)) n (encode m σ ++ t)) st
             ∙ ap₂ (λ x y. repeated (beginsIn T x b y) (startedBy a) (encode m σ ++ t)) hd at
             ∙ ap (λ (x : Body). repeated (beginsIn T (headOf m k) x (bodyAt m k)) (startedBy a) (encode m σ ++ t)) (inv B) ∙ r .0,
         r .1,
@@ -353,8 +354,8 @@ module _ (m : Model) (T : List ℕ) (X : Charted m T) (t : List ℤ) where
       let s = unit-started u k i σ (unit-here m u us k i b) (items-here m u us k i b) F (omega arith) (omega arith) in
       let s2 = s .2 in
       let s3 = s .3 in
-      let r = all-started us (suc k) (i + length (code-part u)) (beginsTimes m k (plain.startsOf m u) σ) (behind-next m u us k i b) (s .1) (omega arith) (omega arith) in
-      (ap (allStarted T us (i + length (code-part u))) (s .0) ∙ r .0, r .1)
+      let r = all-started us (suc k) (i + sizePart u) (beginsTimes m k (plain.startsOf m u) σ) (behind-next m u us k i b) (s .1) (omega arith) (omega arith) in
+      (ap (allStarted T us (i + sizePart u)) (s .0) ∙ r .0, r .1)
 
   -- ---- the whole
   module _ (few : tally startCount m ≤ processesMost) (room : tally channelCount m ≤ channelsMost) where

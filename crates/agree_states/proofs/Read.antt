@@ -26,9 +26,9 @@ use Rattle.state_encode.specs.Encode.{rows, flat, headOf, channelItem, messageR
 use Rattle.spec_machine.specs.Places.{Bodied, Belongs}
 use Rattle.spec_machine.specs.Fits.{Filled, Fielded, ChannelFits, ProcessFits, Fits}
 use Rattle.state_encode.specs.Tabled.{offsetOf, totalOf, Linked}
-use Rattle.state_encode.proofs.Rows.{off}
+use Rattle.state_encode.proofs.Rows.{off, row-any, at-four}
 use Rattle.agree_states.specs.Charted.{globalItem, localItem, Placed, Channelled, Charted}
-use Rattle.agree_states.proofs.Cells.{Shown, row-any, at-four, shown-same}
+use Rattle.agree_states.proofs.Cells.{Shown, shown-same}
 use Rattle.agree_states.proofs.Slices.{get-past, get-map, map-long, Chosen, choose, cells, cells-get, cells-past, cells-long, valuesAt, values-flat, values-typed, offset-reach, messagesAt, messages-long, messages-get}
 
 -- what a variable's link says of a place, said of its item

@@ -20,6 +20,8 @@ use Rattle.agree_eval.proofs.Items.{held-front, held-back}
 use Rattle.agree_eval.proofs.Operators.{known-front, known-back}
 use Rattle.agree_start.proofs.Items.{type-below, Below, below-tree}
 use Rattle.spec_machine.specs.Names.{unitAt}
+use Rattle.spec_machine.specs.Sizes.{sum, sizeOne, sizeSize, sizeVariable, sizeDeclaration, sizeGroup, sizeActivity, sizePart}
+use Rattle.agree_sizes.proofs.Sizes.{size-size, size-variable, size-declaration, size-group, size-groups, size-activity, size-part}
 use Rattle.spec_machine.specs.Program.{endIn}
 use Rattle.spec_machine.specs.Begins.{itemsBefore, bodyIn, bodyOf}
 use Rattle.state_encode.specs.Encode.{headIn}
@@ -66,17 +68,9 @@ tells-right L K j h =
     record { site = length L + h .site; here = omega arith; is = ap (λ (x : Site). x .item) e ∙ h .is }
 
 -- a unit ends with its body
-pub body-span : (u : Part) (i : ℕ) → Bodied u → bodyIn u i + length (code-body (bodyOf u)) ≡ i + length (code-part u)
-body-span (process a w gs b) i h =
-    let e = length-append (code-activity a w ++ each code-group gs) (code-body b) in let f = length-append (code-activity a w) (each code-group gs) in omega arith
-body-span (init b) i h = omega arith
-
-body-end : (u : Part) (i : ℕ) → Bodied u → endIn (bodyOf u) (bodyIn u i) < i + length (code-part u)
-body-end u i h = let e = body-span u i h in let f = last (bodyOf u) (bodyIn u i) in omega arith
-  where
-    last : (b : Body) (k : ℕ) → endIn b k < k + length (code-body b)
-    last (body ds q) k =
-        let e = length-append (i-body ∷ each (code-declaration i-local) ds ++ code-tree q) (i-end-body ∷ []) in let f = length-append (i-body ∷ each (code-declaration i-local) ds) (code-tree q) in omega arith
+pub body-end : (u : Part) (i : ℕ) → Bodied u → endIn (bodyOf u) (bodyIn u i) < i + sizePart u
+body-end (process a w gs (body ds q)) i h = omega arith
+body-end (init (body ds q)) i h = omega arith
 
 module _ (T : List ℕ) where
   -- item j, if it declares, does so for one of these sites
@@ -94,16 +88,16 @@ module _ (T : List ℕ) where
   spotted-right : (L K : List Site) (j : ℕ) → Spotted K j → Spotted (L ++ K) j
   spotted-right L K j s = record { channel = λ e. makes-right L K j (s .channel e); declared = λ e. tells-right L K j (s .declared e); parameter = λ e. tells-right L K j (s .parameter e) }
 
-  seen-both : (L K : List Site) (x y : List Item) (i : ℕ) → Seen L x i → Seen K y (i + length x) → Seen (L ++ K) (x ++ y) i
-  seen-both L K x y i a b j h g = go (decLt j (i + length x))
+  seen-both : (L K : List Site) (x y : List Item) (i k : ℕ) → k ≡ i + length x → Seen L x i → Seen K y k → Seen (L ++ K) (x ++ y) i
+  seen-both L K x y i k e a b j h g = go (decLt j (i + length x))
     where
       go : Dec (j < i + length x) → Spotted (L ++ K) j
       go (yes z) = spotted-left L K j (a j h z)
       go (no z) = let n = length-append x y in spotted-right L K j (b j (omega arith) (omega arith))
 
   -- of the same sites
-  seen-more : (L : List Site) (x y : List Item) (i : ℕ) → Seen L x i → Seen L y (i + length x) → Seen L (x ++ y) i
-  seen-more L x y i a b j h g = go (decLt j (i + length x))
+  seen-more : (L : List Site) (x y : List Item) (i k : ℕ) → k ≡ i + length x → Seen L x i → Seen L y k → Seen L (x ++ y) i
+  seen-more L x y i k e a b j h g = go (decLt j (i + length x))
     where
       go : Dec (j < i + length x) → Spotted L j
       go (yes z) = a j h z
@@ -162,6 +156,7 @@ module _ (T : List ℕ) where
       let L = siteOf c (variable w z v) i ∷ [] in
       let Z = code-size z in
       let d = h .2 .0 in
+      let n = size-size z in
       let e = suc (suc i) + length (code-size z) in
       seen-first L (i-name w) (i-declared ∷ (Z ++ code-value v)) i (low L i c-name (h .0) (omega arith))
       (seen-first L i-declared (Z ++ code-value v) (suc i)
@@ -170,7 +165,7 @@ module _ (T : List ℕ) where
         declared = λ q. record { site = 0; here = omega arith; is = omega arith };
         parameter = λ q. absurd (omega arith);
       }
-      (seen-more L Z (code-value v) (suc (suc i)) (size-seen L z (suc (suc i)) (held-front T (suc (suc i)) Z (code-value v) (h .2 .2)))
+      (seen-more L Z (code-value v) (suc (suc i)) e refl (size-seen L z (suc (suc i)) (held-front T (suc (suc i)) Z (code-value v) (h .2 .2)))
       (value-seen L v e (λ m. record { site = 0; here = omega arith; makes = m; is = omega arith }) (known-back Z (code-value v) (k .1 .1)) (held-back T Z (code-value v) (suc (suc i)) e refl (h .2 .2)))))
 
   variables-seen : (k : ℕ) (xs : List Variable) (i : ℕ) → AllKnown (each code-variable xs) → Held T i (each code-variable xs) → Seen (sitesOf k xs i) (each code-variable xs) i
@@ -178,8 +173,9 @@ module _ (T : List ℕ) where
   variables-seen c (x ∷ xs) i k h =
       let Y = code-variable x in
       let R = each code-variable xs in
-      seen-both (siteOf c x i ∷ []) (sitesOf c xs (i + length Y)) Y R i (one-seen c x i (known-front Y R k) (held-front T i Y R h))
-      (variables-seen c xs (i + length Y) (known-back Y R k) (held-back T Y R i (i + length Y) refl h))
+      let n = i + sizeVariable x in
+      let e : i + sizeVariable x ≡ i + length (code-variable x) = omega (arith, size-variable x) in
+      seen-both (siteOf c x i ∷ []) (sitesOf c xs n) Y R i n e (one-seen c x i (known-front Y R k) (held-front T i Y R h)) (variables-seen c xs n (known-back Y R k) (held-back T Y R i n e h))
 
   -- a mark is 210 or 211
   declaration-seen : (mark : Item) (d : Declaration) (i : ℕ) → c-local ≤ items.codeOf mark → items.codeOf mark ≤ c-global → AllKnown (code-declaration mark d) → Held T i (code-declaration mark d)
@@ -197,8 +193,10 @@ module _ (T : List ℕ) where
   locals-seen (d ∷ ds) i k h =
       let D = code-declaration i-local d in
       let R = each (code-declaration i-local) ds in
-      seen-both (sitesIn d i) (localSites ds (i + length D)) D R i (declaration-seen i-local d i (omega arith) (omega arith) (known-front D R k) (held-front T i D R h))
-      (locals-seen ds (i + length D) (known-back D R k) (held-back T D R i (i + length D) refl h))
+      let n = i + sizeDeclaration d in
+      let e : i + sizeDeclaration d ≡ i + length (code-declaration i-local d) = omega (arith, size-declaration i-local d) in
+      seen-both (sitesIn d i) (localSites ds n) D R i n e (declaration-seen i-local d i (omega arith) (omega arith) (known-front D R k) (held-front T i D R h))
+      (locals-seen ds n (known-back D R k) (held-back T D R i n e h))
 
   -- ---- parameters
   names-seen : (k : ℕ) (ws : List Name) (i : ℕ) → Held T i (each code-parameter ws) → Seen (nameSites k ws i) (each code-parameter ws) i
@@ -208,7 +206,7 @@ module _ (T : List ℕ) where
       let R = each code-parameter ws in
       let d = h .2 .0 in
       let q : suc (suc i) ≡ i + 2 = omega arith in
-      seen-both L (nameSites c ws (i + 2)) (code-parameter w) R i
+      seen-both L (nameSites c ws (i + 2)) (code-parameter w) R i (i + 2) refl
       (seen-first L (i-name w) (i-parameter ∷ []) i (low L i c-name (h .0) (omega arith))
       (seen-first L i-parameter [] (suc i)
       record {
@@ -232,8 +230,9 @@ module _ (T : List ℕ) where
   groups-seen (g ∷ gs) i k h =
       let G = code-group g in
       let R = each code-group gs in
-      seen-both (groupIn g i) (groupSites gs (i + length G)) G R i (group-seen g i (known-front G R k) (held-front T i G R h))
-      (groups-seen gs (i + length G) (known-back G R k) (held-back T G R i (i + length G) refl h))
+      let n = i + sizeGroup g in
+      let e : i + sizeGroup g ≡ i + length (code-group g) = omega (arith, size-group g) in
+      seen-both (groupIn g i) (groupSites gs n) G R i n e (group-seen g i (known-front G R k) (held-front T i G R h)) (groups-seen gs n (known-back G R k) (held-back T G R i n e h))
 
   -- ---- units
   body-seen : (b : Body) (i : ℕ) → AllKnown (code-body b) → Held T i (code-body b) → Seen (bodySites b i) (code-body b) i
@@ -249,8 +248,8 @@ module _ (T : List ℕ) where
       let hA = held-front T i A Q h1 in
       let s : suc i ≡ i + 1 = omega arith in
       let hE = held-back T (A ++ Q) E i (i + length (A ++ Q)) refl h in
-      seen-more L (A ++ Q) E i
-      (seen-more L A Q i
+      seen-more L (A ++ Q) E i (i + length (A ++ Q)) refl
+      (seen-more L A Q i (i + length A) refl
       (seen-first L i-body D i (plain L i c-body (hA .0) (λ z. omega arith) (λ z. omega arith) (λ z. omega arith))
       (subst (Seen L D) (inv s) (locals-seen ds (i + 1) (kA .1) (subst (λ n. Held T n D) s (hA .2)))))
       (seen-below L Q (i + length A) (below-tree q) (known-back A Q k1) (held-back T A Q i (i + length A) refl h1)))
@@ -268,6 +267,10 @@ module _ (T : List ℕ) where
       seen-first L (i-name w) (i-message ∷ each code-message ws) i (low L i c-name (h .0) (omega arith))
       (seen-first L i-message (each code-message ws) (suc i) (plain L (suc i) c-message (h .2 .0) (λ z. omega arith) (λ z. omega arith) (λ z. omega arith)) (messages-seen L ws (suc (suc i)) (h .2 .2)))
 
+  -- where a body begins
+  heads-end : (a : Activity) (w : Name) (gs : List Group) (i : ℕ) → i + sizeActivity a + sum sizeGroup gs ≡ i + length (code-activity a w ++ each code-group gs)
+  heads-end a w gs i = omega (arith, size-activity a w, size-groups gs, length-append (code-activity a w) (each code-group gs))
+
   pub unit-seen : (u : Part) (i : ℕ) → AllKnown (code-part u) → Held T i (code-part u) → Seen (unitSites u i) (code-part u) i
   unit-seen (mtypes ws) i k h = seen-first [] i-mtypes (each code-message ws) i (plain [] i c-mtypes (h .0) (λ z. omega arith) (λ z. omega arith) (λ z. omega arith)) (messages-seen [] ws (suc i) (h .2))
   unit-seen (global d) i k h = declaration-seen i-global d i (omega arith) (omega arith) k h
@@ -275,14 +278,16 @@ module _ (T : List ℕ) where
       let A = code-activity a w in
       let G = each code-group gs in
       let B = code-body b in
-      let e = length-append A G in
-      let q : i + length (code-activity a w ++ each code-group gs) ≡ i + length (code-activity a w) + length (each code-group gs) = omega arith in
+      let n = i + sizeActivity a in
+      let o = bodyIn (process a w gs b) i in
+      let e : i + sizeActivity a ≡ i + length (code-activity a w) = omega (arith, size-activity a w) in
+      let q = heads-end a w gs i in
       let k1 = known-front (A ++ G) B k in
       let h1 = held-front T i (A ++ G) B h in
-      let L = groupSites gs (i + length A) in
-      seen-both L (bodySites b (bodyIn (process a w gs b) i)) (A ++ G) B i
-      (seen-more L A G i (activity-seen L a w i (held-front T i A G h1)) (groups-seen gs (i + length A) (known-back A G k1) (held-back T A G i (i + length A) refl h1)))
-      (subst (Seen (bodySites b (bodyIn (process a w gs b) i)) B) (inv q) (body-seen b (i + length A + length G) (known-back (A ++ G) B k) (held-back T (A ++ G) B i (i + length A + length G) (inv q) h)))
+      let L = groupSites gs n in
+      seen-both L (bodySites b o) (A ++ G) B i o q
+      (seen-more L A G i n e (activity-seen L a w i (held-front T i A G h1)) (groups-seen gs n (known-back A G k1) (held-back T A G i n e h1)))
+      (body-seen b o (known-back (A ++ G) B k) (held-back T (A ++ G) B i o q h))
   unit-seen (init b) i k h =
       let q : suc i ≡ i + 1 = omega arith in
       let L = bodySites b (i + 1) in
@@ -294,7 +299,7 @@ module _ (T : List ℕ) where
     pub unit : ℕ
     pub here : unit < length us
     pub from : i + itemsBefore us unit ≤ j
-    pub to : j < i + itemsBefore us unit + length (code-part (unitAt us unit))
+    pub to : j < i + itemsBefore us unit + sizePart (unitAt us unit)
     pub spotted : Spotted (unitSites (unitAt us unit) (i + itemsBefore us unit)) j
 
   pub model-seen : (us : Model) (i : ℕ) → AllKnown (code us) → Held T i (code us) → (j : ℕ) → i ≤ j → j < i + length (code us) → In-unit us i j
@@ -303,26 +308,27 @@ module _ (T : List ℕ) where
   model-seen (u ∷ us) i k h j a b =
       let P = code-part u in
       let n = length-append (code-part u) (code us) in
-      go (decLt j (i + length P)) (λ z. model-seen us (i + length P) (known-back P (code us) k) (held-back T P (code us) i (i + length P) refl h) j z (omega arith))
+      let e = i + sizePart u in
+      go (decLt j e) (λ z. model-seen us e (known-back P (code us) k) (held-back T P (code us) i e (omega (arith, size-part u)) h) j z (omega (arith, size-part u)))
     where
       s0 : i + 0 ≡ i
       s0 = omega arith
 
-      go : Dec (j < i + length (code-part u)) → (i + length (code-part u) ≤ j → In-unit us (i + length (code-part u)) j) → In-unit (u ∷ us) i j
+      go : Dec (j < i + sizePart u) → (i + sizePart u ≤ j → In-unit us (i + sizePart u) j) → In-unit (u ∷ us) i j
       go (yes z) r =
           record {
             unit = 0;
             here = omega arith;
             from = omega arith;
             to = omega arith;
-            spotted = subst (λ n. Spotted (unitSites u n) j) (inv s0) (unit-seen u i (known-front (code-part u) (code us) k) (held-front T i (code-part u) (code us) h) j a z);
+            spotted = subst (λ n. Spotted (unitSites u n) j) (inv s0) (unit-seen u i (known-front (code-part u) (code us) k) (held-front T i (code-part u) (code us) h) j a (omega (arith, size-part u)));
           }
       go (no z) r =
           let w = r (omega arith) in
           let f = w .from in
           let g = w .to in
           let o = w .here in
-          let q : i + length (code-part u) + itemsBefore us (w .unit) ≡ i + (length (code-part u) + itemsBefore us (w .unit)) = omega arith in
+          let q : i + sizePart u + itemsBefore us (w .unit) ≡ i + (sizePart u + itemsBefore us (w .unit)) = omega arith in
           record { unit = suc (w .unit); here = omega arith; from = omega arith; to = omega arith; spotted = subst (λ n. Spotted (unitSites (unitAt us (w .unit)) n) j) q (w .spotted) }
 
   -- ---- and each site stands there: its declaring item from lo on and before hi
@@ -351,72 +357,69 @@ module _ (T : List ℕ) where
   standing-at lo hi (x ∷ l) s zero h = s .0
   standing-at lo hi (x ∷ l) s (suc n) h = standing-at lo hi l (s .1) n (omega arith)
 
-  one-stands : (k : ℕ) (x : Variable) (i : ℕ) → Held T i (code-variable x) → Stood i (i + length (code-variable x)) (siteOf k x i)
+  one-stands : (k : ℕ) (x : Variable) (i : ℕ) → Held T i (code-variable x) → Stood i (i + sizeVariable x) (siteOf k x i)
   one-stands c (variable w z v) i h =
-      let Z = code-size z in
-      let e = length-append (code-size z) (code-value v) in
       let q : suc i ≡ i + 1 = omega arith in
-      let d = i + 2 + length (code-size z) in
       record {
         from = omega arith;
         to = omega arith;
         tells = inl (ap (codeOf T) (inv q) ∙ h .2 .0);
-        value = held-back T Z (code-value v) (suc (suc i)) d (omega arith) (h .2 .2);
+        value = held-back T (code-size z) (code-value v) (suc (suc i)) (i + 2 + sizeSize z) (omega (arith, size-size z)) (h .2 .2);
       }
 
-  variables-stand : (k : ℕ) (xs : List Variable) (i : ℕ) → Held T i (each code-variable xs) → Standing i (i + length (each code-variable xs)) (sitesOf k xs i)
+  variables-stand : (k : ℕ) (xs : List Variable) (i : ℕ) → Held T i (each code-variable xs) → Standing i (i + sum sizeVariable xs) (sitesOf k xs i)
   variables-stand c [] i h = tt
   variables-stand c (x ∷ xs) i h =
       let Y = code-variable x in
       let R = each code-variable xs in
-      let e = length-append (code-variable x) (each code-variable xs) in (
-        standing-wide i (i + length Y) i (i + length (Y ++ R)) (omega arith) (omega arith) (siteOf c x i ∷ []) (one-stands c x i (held-front T i Y R h), tt) .0,
-        standing-wide (i + length Y) (i + length Y + length R) i (i + length (Y ++ R)) (omega arith) (omega arith) (sitesOf c xs (i + length Y)) (variables-stand c xs (i + length Y) (held-back T Y R i (i + length Y) refl h)),
+      let n = i + sizeVariable x in
+      let e = i + sum sizeVariable (x ∷ xs) in (
+        standing-wide i n i e (omega arith) (omega arith) (siteOf c x i ∷ []) (one-stands c x i (held-front T i Y R h), tt) .0,
+        standing-wide n (n + sum sizeVariable xs) i e (omega arith) (omega arith) (sitesOf c xs n) (variables-stand c xs n (held-back T Y R i n (omega (arith, size-variable x)) h)),
       )
 
-  declaration-stands : (mark : Item) (d : Declaration) (i : ℕ) → Held T i (code-declaration mark d) → Standing i (i + length (code-declaration mark d)) (sitesIn d i)
+  declaration-stands : (mark : Item) (d : Declaration) (i : ℕ) → Held T i (code-declaration mark d) → Standing i (i + sizeDeclaration d) (sitesIn d i)
   declaration-stands mark (declare c xs) i h =
       let R = each code-variable xs in
       let q : suc (suc i) ≡ i + 2 = omega arith in
-      standing-wide (i + 2) (i + 2 + length R) i (i + length (code-declaration mark (declare c xs))) (omega arith) (omega arith) (sitesOf c xs (i + 2))
+      standing-wide (i + 2) (i + 2 + sum sizeVariable xs) i (i + sizeDeclaration (declare c xs)) (omega arith) (omega arith) (sitesOf c xs (i + 2))
       (variables-stand c xs (i + 2) (subst (λ n. Held T n R) q (h .2 .2)))
 
-  locals-stand : (ds : List Declaration) (i : ℕ) → Held T i (each (code-declaration i-local) ds) → Standing i (i + length (each (code-declaration i-local) ds)) (localSites ds i)
+  locals-stand : (ds : List Declaration) (i : ℕ) → Held T i (each (code-declaration i-local) ds) → Standing i (i + sum sizeDeclaration ds) (localSites ds i)
   locals-stand [] i h = tt
   locals-stand (d ∷ ds) i h =
       let D = code-declaration i-local d in
       let R = each (code-declaration i-local) ds in
-      let e = length-append (code-declaration i-local d) (each (code-declaration i-local) ds) in
-      standing-both i (i + length (D ++ R)) (sitesIn d i) (localSites ds (i + length D))
-      (standing-wide i (i + length D) i (i + length (D ++ R)) (omega arith) (omega arith) (sitesIn d i) (declaration-stands i-local d i (held-front T i D R h)))
-      (standing-wide (i + length D) (i + length D + length R) i (i + length (D ++ R)) (omega arith) (omega arith) (localSites ds (i + length D))
-      (locals-stand ds (i + length D) (held-back T D R i (i + length D) refl h)))
+      let n = i + sizeDeclaration d in
+      let e = i + sum sizeDeclaration (d ∷ ds) in
+      standing-both i e (sitesIn d i) (localSites ds n) (standing-wide i n i e (omega arith) (omega arith) (sitesIn d i) (declaration-stands i-local d i (held-front T i D R h)))
+      (standing-wide n (n + sum sizeDeclaration ds) i e (omega arith) (omega arith) (localSites ds n) (locals-stand ds n (held-back T D R i n (omega (arith, size-declaration i-local d)) h)))
 
-  names-stand : (k : ℕ) (ws : List Name) (i : ℕ) → Held T i (each code-parameter ws) → Standing i (i + length (each code-parameter ws)) (nameSites k ws i)
+  names-stand : (k : ℕ) (ws : List Name) (i : ℕ) → Held T i (each code-parameter ws) → Standing i (i + sum sizeOne ws) (nameSites k ws i)
   names-stand c [] i h = tt
   names-stand c (w ∷ ws) i h =
       let R = each code-parameter ws in
       let s : suc i ≡ i + 1 = omega arith in
       let q : suc (suc i) ≡ i + 2 = omega arith in (
         record { from = omega arith; to = omega arith; tells = inr (ap (codeOf T) (inv s) ∙ h .2 .0); value = tt },
-        standing-wide (i + 2) (i + 2 + length R) i (i + length (each code-parameter (w ∷ ws))) (omega arith) (omega arith) (nameSites c ws (i + 2)) (names-stand c ws (i + 2) (subst (λ n. Held T n R) q (h .2 .2))),
+        standing-wide (i + 2) (i + 2 + sum sizeOne ws) i (i + sum sizeOne (w ∷ ws)) (omega arith) (omega arith) (nameSites c ws (i + 2)) (names-stand c ws (i + 2) (subst (λ n. Held T n R) q (h .2 .2))),
       )
 
-  group-stands : (g : Group) (i : ℕ) → Held T i (code-group g) → Standing i (i + length (code-group g)) (groupIn g i)
+  group-stands : (g : Group) (i : ℕ) → Held T i (code-group g) → Standing i (i + sizeGroup g) (groupIn g i)
   group-stands (group c ws) i h =
       let R = each code-parameter ws in
       let q : suc (suc i) ≡ i + 2 = omega arith in
-      standing-wide (i + 2) (i + 2 + length R) i (i + length (code-group (group c ws))) (omega arith) (omega arith) (nameSites c ws (i + 2)) (names-stand c ws (i + 2) (subst (λ n. Held T n R) q (h .2 .2)))
+      standing-wide (i + 2) (i + 2 + sum sizeOne ws) i (i + sizeGroup (group c ws)) (omega arith) (omega arith) (nameSites c ws (i + 2)) (names-stand c ws (i + 2) (subst (λ n. Held T n R) q (h .2 .2)))
 
-  groups-stand : (gs : List Group) (i : ℕ) → Held T i (each code-group gs) → Standing i (i + length (each code-group gs)) (groupSites gs i)
+  groups-stand : (gs : List Group) (i : ℕ) → Held T i (each code-group gs) → Standing i (i + sum sizeGroup gs) (groupSites gs i)
   groups-stand [] i h = tt
   groups-stand (g ∷ gs) i h =
       let G = code-group g in
       let R = each code-group gs in
-      let e = length-append (code-group g) (each code-group gs) in
-      standing-both i (i + length (G ++ R)) (groupIn g i) (groupSites gs (i + length G))
-      (standing-wide i (i + length G) i (i + length (G ++ R)) (omega arith) (omega arith) (groupIn g i) (group-stands g i (held-front T i G R h)))
-      (standing-wide (i + length G) (i + length G + length R) i (i + length (G ++ R)) (omega arith) (omega arith) (groupSites gs (i + length G)) (groups-stand gs (i + length G) (held-back T G R i (i + length G) refl h)))
+      let n = i + sizeGroup g in
+      let e = i + sum sizeGroup (g ∷ gs) in
+      standing-both i e (groupIn g i) (groupSites gs n) (standing-wide i n i e (omega arith) (omega arith) (groupIn g i) (group-stands g i (held-front T i G R h)))
+      (standing-wide n (n + sum sizeGroup gs) i e (omega arith) (omega arith) (groupSites gs n) (groups-stand gs n (held-back T G R i n (omega (arith, size-group g)) h)))
 
   body-stands : (b : Body) (i : ℕ) → Held T i (code-body b) → Standing i (endIn b i) (bodySites b i)
   body-stands (body ds q) i h =
@@ -424,7 +427,7 @@ module _ (T : List ℕ) where
       let Q = code-tree q in
       let s : suc i ≡ i + 1 = omega arith in
       let hA = held-front T i (i-body ∷ D) Q (held-front T i (i-body ∷ D ++ Q) (i-end-body ∷ []) h) in
-      standing-wide (i + 1) (i + 1 + length D) i (endIn (body ds q) i) (omega arith) (omega arith) (localSites ds (i + 1)) (locals-stand ds (i + 1) (subst (λ n. Held T n D) s (hA .2)))
+      standing-wide (i + 1) (i + 1 + sum sizeDeclaration ds) i (endIn (body ds q) i) (omega arith) (omega arith) (localSites ds (i + 1)) (locals-stand ds (i + 1) (subst (λ n. Held T n D) s (hA .2)))
 
   -- behind the first item of the unit, before the end of its body
   pub unit-stands : (u : Part) (i : ℕ) → Bodied u → Held T i (code-part u) → Standing (headIn u i) (endIn (bodyOf u) (bodyIn u i)) (unitSites u i)
@@ -432,15 +435,13 @@ module _ (T : List ℕ) where
       let A = code-activity a w in
       let G = each code-group gs in
       let B = code-body b in
-      let e = length-append A G in
-      let k = i + length A + length G in
-      let q : i + length (code-activity a w ++ each code-group gs) ≡ i + length (code-activity a w) + length (each code-group gs) = omega arith in
-      let h1 = held-front T i (A ++ G) B h in
-      let z = end-most b (i + length (code-activity a w) + length (each code-group gs)) in
+      let n = i + sizeActivity a in
+      let k = bodyIn (process a w gs b) i in
+      let z = end-most b (i + sizeActivity a + sum sizeGroup gs) in
       let hd = headIn (process a w gs b) i in
-      standing-both hd (endIn b k) (groupSites gs (i + length A)) (bodySites b k)
-      (standing-wide (i + length A) k hd (endIn b k) (omega arith) (omega arith) (groupSites gs (i + length A)) (groups-stand gs (i + length A) (held-back T A G i (i + length A) refl h1)))
-      (standing-wide k (endIn b k) hd (endIn b k) (omega arith) (omega arith) (bodySites b k) (body-stands b k (held-back T (A ++ G) B i k (inv q) h)))
+      standing-both hd (endIn b k) (groupSites gs n) (bodySites b k)
+      (standing-wide n k hd (endIn b k) (omega arith) (omega arith) (groupSites gs n) (groups-stand gs n (held-back T A G i n (omega (arith, size-activity a w)) (held-front T i (A ++ G) B h))))
+      (standing-wide k (endIn b k) hd (endIn b k) (omega arith) (omega arith) (bodySites b k) (body-stands b k (held-back T (A ++ G) B i k (heads-end a w gs i) h)))
     where
       end-most : (b : Body) (k : ℕ) → k ≤ endIn b k
       end-most (body ds q) k = omega arith
@@ -449,26 +450,26 @@ module _ (T : List ℕ) where
       standing-wide (i + 1) (endIn b (i + 1)) i (endIn b (i + 1)) (omega arith) (omega arith) (bodySites b (i + 1)) (body-stands b (i + 1) (subst (λ n. Held T n (code-body b)) s (h .2)))
 
   -- of any unit, in its items
-  pub part-stands : (u : Part) (i : ℕ) → Held T i (code-part u) → Standing i (i + length (code-part u)) (unitSites u i)
+  pub part-stands : (u : Part) (i : ℕ) → Held T i (code-part u) → Standing i (i + sizePart u) (unitSites u i)
   part-stands (mtypes ws) i h = tt
   part-stands (global d) i h = declaration-stands i-global d i h
   part-stands (process a w gs b) i h =
       let r = head-inside (process a w gs b) i tt in
       let e = body-end (process a w gs b) i tt in
       let r0 = r .0 in
-      standing-wide (headIn (process a w gs b) i) (endIn b (bodyIn (process a w gs b) i)) i (i + length (code-part (process a w gs b))) r0 (omega arith) (unitSites (process a w gs b) i)
+      standing-wide (headIn (process a w gs b) i) (endIn b (bodyIn (process a w gs b) i)) i (i + sizePart (process a w gs b)) r0 (omega arith) (unitSites (process a w gs b) i)
       (unit-stands (process a w gs b) i tt h)
   part-stands (init b) i h =
       let e = body-end (init b) i tt in
-      standing-wide i (endIn b (i + 1)) i (i + length (code-part (init b))) (omega arith) (omega arith) (unitSites (init b) i) (unit-stands (init b) i tt h)
+      standing-wide i (endIn b (i + 1)) i (i + sizePart (init b)) (omega arith) (omega arith) (unitSites (init b) i) (unit-stands (init b) i tt h)
 
   pub unit-held : (us : Model) (i : ℕ) → Held T i (code us) → (k : ℕ) → k < length us → Held T (i + itemsBefore us k) (code-part (unitAt us k))
   unfolding itemsBefore
   unit-held [] i h k g = absurd (omega arith)
   unit-held (u ∷ us) i h zero g = subst (λ n. Held T n (code-part u)) (let z : i ≡ i + 0 = omega arith in z) (held-front T i (code-part u) (code us) h)
   unit-held (u ∷ us) i h (suc k) g =
-      subst (λ n. Held T n (code-part (unitAt us k))) (let z : i + length (code-part u) + itemsBefore us k ≡ i + (length (code-part u) + itemsBefore us k) = omega arith in z)
-      (unit-held us (i + length (code-part u)) (held-back T (code-part u) (code us) i (i + length (code-part u)) refl h) k (omega arith))
+      subst (λ n. Held T n (code-part (unitAt us k))) (let z : i + sizePart u + itemsBefore us k ≡ i + (sizePart u + itemsBefore us k) = omega arith in z)
+      (unit-held us (i + sizePart u) (held-back T (code-part u) (code us) i (i + sizePart u) (omega (arith, size-part u)) h) k (omega arith))
 
   -- ---- globals are declared by `declared` items
   abbrev pub Declaring : ℕ → List Site → Type 0
@@ -484,16 +485,16 @@ module _ (T : List ℕ) where
   declaring-at hi (x ∷ l) s zero h = s .0
   declaring-at hi (x ∷ l) s (suc n) h = declaring-at hi l (s .1) n (omega arith)
 
-  variables-declare : (k : ℕ) (xs : List Variable) (i hi : ℕ) → i + length (each code-variable xs) ≤ hi → Held T i (each code-variable xs) → Declaring hi (sitesOf k xs i)
+  variables-declare : (k : ℕ) (xs : List Variable) (i hi : ℕ) → i + sum sizeVariable xs ≤ hi → Held T i (each code-variable xs) → Declaring hi (sitesOf k xs i)
   variables-declare c [] i hi g h = tt
   variables-declare c (variable w z v ∷ xs) i hi g h =
       let Y = code-variable (variable w z v) in
       let R = each code-variable xs in
-      let e = length-append (code-variable (variable w z v)) (each code-variable xs) in
+      let n = i + sizeVariable (variable w z v) in
       let q : i + 1 ≡ suc i = omega arith in
-      ((ap (codeOf T) q ∙ h .2 .0, omega arith), variables-declare c xs (i + length Y) hi (omega arith) (held-back T Y R i (i + length Y) refl h))
+      ((ap (codeOf T) q ∙ h .2 .0, omega arith), variables-declare c xs n hi (omega arith) (held-back T Y R i n (omega (arith, size-variable (variable w z v))) h))
 
-  here-declares : (u : Part) (i hi : ℕ) → i + length (code-part u) ≤ hi → Held T i (code-part u) → Declaring hi (globalHere u i)
+  here-declares : (u : Part) (i hi : ℕ) → i + sizePart u ≤ hi → Held T i (code-part u) → Declaring hi (globalHere u i)
   here-declares (mtypes ws) i hi g h = tt
   here-declares (global (declare c xs)) i hi g h =
       let q : suc (suc i) ≡ i + 2 = omega arith in variables-declare c xs (i + 2) hi (omega arith) (subst (λ n. Held T n (each code-variable xs)) q (h .2 .2))
@@ -505,8 +506,10 @@ module _ (T : List ℕ) where
   globals-declare (u ∷ us) i hi g h =
       let P = code-part u in
       let e = length-append (code-part u) (code us) in
-      declaring-both hi (globalHere u i) (globalSites us (i + length P)) (here-declares u i hi (omega arith) (held-front T i P (code us) h))
-      (globals-declare us (i + length P) hi (omega arith) (held-back T P (code us) i (i + length P) refl h))
+      let z = size-part u in
+      let n = i + sizePart u in
+      declaring-both hi (globalHere u i) (globalSites us n) (here-declares u i hi (omega arith) (held-front T i P (code us) h))
+      (globals-declare us n hi (omega arith) (held-back T P (code us) i n (omega arith) h))
 
 -- the globals of unit k among all
 pub record Among (us : Model) (i k n : ℕ) : Type 0 where
@@ -520,17 +523,17 @@ among [] i zero n h = absurd (omega arith)
 among [] i (suc k) n h = absurd (omega arith)
 among (u ∷ us) i zero n h =
     let H = globalHere u i in
-    let R = globalSites us (i + length (code-part u)) in
+    let R = globalSites us (i + sizePart u) in
     let q : i + 0 ≡ i = omega arith in
     let g : n < length (globalHere u i) = subst (λ a. n < length (globalHere u a)) q h in
-    let e = length-append (globalHere u i) (globalSites us (i + length (code-part u))) in
+    let e = length-append (globalHere u i) (globalSites us (i + sizePart u)) in
     record { place = n; here = omega arith; is = get-left H R noSite n g ∙ ap (λ a. getD (globalHere u a) n noSite) (inv q) }
 among (u ∷ us) i (suc k) n h =
     let H = globalHere u i in
-    let R = globalSites us (i + length (code-part u)) in
-    let q : i + (length (code-part u) + itemsBefore us k) ≡ i + length (code-part u) + itemsBefore us k = omega arith in
-    let r = among us (i + length (code-part u)) k n (subst (λ a. n < length (globalHere (unitAt us k) a)) q h) in
-    let e = length-append (globalHere u i) (globalSites us (i + length (code-part u))) in
+    let R = globalSites us (i + sizePart u) in
+    let q : i + (sizePart u + itemsBefore us k) ≡ i + sizePart u + itemsBefore us k = omega arith in
+    let r = among us (i + sizePart u) k n (subst (λ a. n < length (globalHere (unitAt us k) a)) q h) in
+    let e = length-append (globalHere u i) (globalSites us (i + sizePart u)) in
     let f = r .here in
     record {
       place = length H + r .place;

@@ -11,8 +11,7 @@ use lib.Dec.{ltb}
 use Rattle.base_bytes.specs.Choice.{pick}
 use Rattle.base_bytes.proofs.Tests.{true-false}
 use Rattle.spec_grammar.specs.Tree.{Name, Value, unset, set-number, set-minus, set-true, set-false, set-name, set-channel, Variable, variable, Declaration, declare, Group, group, Body, body, Activity, idle, once, times, Part, mtypes, global, process, init, Model}
-use Rattle.base_codes.specs.Items.{Item, i-end-body, i-global, i-local}
-use Rattle.parse_code.specs.Code.{each, code-tree, code-size, code-value, code-variable, code-declaration, code-group, code-body, code-activity, code-part}
+use Rattle.spec_machine.specs.Sizes.{sum, sizeSize, sizeVariable, sizeDeclaration, sizeGroup, sizeBody, sizeActivity, sizePart}
 use Rattle.spec_machine.specs.State.{Channel}
 use Rattle.spec_machine.specs.Names.{Var, ofVariable, ofDeclaration, ofDeclarations, ofParameter, ofGroup, ofGroups, localsOf, variablesOf, unitAt}
 use Rattle.spec_machine.specs.Begins.{itemsBefore, bodyIn}
@@ -36,7 +35,7 @@ one-var k (variable w z v) i = refl
 
 vars-of : (k : ℕ) (xs : List Variable) (i : ℕ) → map varOf (sitesOf k xs i) ≡ map (ofVariable k) xs
 vars-of k [] i = refl
-vars-of k (x ∷ xs) i = ap₂ (λ (a : Var) (l : List Var). a ∷ l) (one-var k x i) (vars-of k xs (i + length (code-variable x)))
+vars-of k (x ∷ xs) i = ap₂ (λ (a : Var) (l : List Var). a ∷ l) (one-var k x i) (vars-of k xs (i + sizeVariable x))
 
 pub declaration-vars : (d : Declaration) (i : ℕ) → map varOf (sitesIn d i) ≡ ofDeclaration d
 declaration-vars (declare k xs) i = vars-of k xs (i + 2)
@@ -44,8 +43,8 @@ declaration-vars (declare k xs) i = vars-of k xs (i + 2)
 pub local-vars : (ds : List Declaration) (i : ℕ) → map varOf (localSites ds i) ≡ ofDeclarations ds
 local-vars [] i = refl
 local-vars (d ∷ ds) i =
-    map-both varOf (sitesIn d i) (localSites ds (i + length (code-declaration i-local d)))
-    ∙ ap₂ (λ (x y : List Var). x ++ y) (declaration-vars d i) (local-vars ds (i + length (code-declaration i-local d)))
+    map-both varOf (sitesIn d i) (localSites ds (i + sizeDeclaration d))
+    ∙ ap₂ (λ (x y : List Var). x ++ y) (declaration-vars d i) (local-vars ds (i + sizeDeclaration d))
 
 name-vars : (k : ℕ) (ws : List Name) (i : ℕ) → map varOf (nameSites k ws i) ≡ map (ofParameter k) ws
 name-vars k [] i = refl
@@ -57,7 +56,7 @@ group-var (group k ws) i = name-vars k ws (i + 2)
 pub group-vars : (gs : List Group) (i : ℕ) → map varOf (groupSites gs i) ≡ ofGroups gs
 group-vars [] i = refl
 group-vars (g ∷ gs) i =
-    map-both varOf (groupIn g i) (groupSites gs (i + length (code-group g))) ∙ ap₂ (λ (x y : List Var). x ++ y) (group-var g i) (group-vars gs (i + length (code-group g)))
+    map-both varOf (groupIn g i) (groupSites gs (i + sizeGroup g)) ∙ ap₂ (λ (x y : List Var). x ++ y) (group-var g i) (group-vars gs (i + sizeGroup g))
 
 pub body-vars : (b : Body) (i : ℕ) → map varOf (bodySites b i) ≡ localsOf b
 body-vars (body ds q) i = local-vars ds (i + 1)
@@ -66,8 +65,8 @@ pub unit-vars : (u : Part) (i : ℕ) → map varOf (unitSites u i) ≡ variables
 unit-vars (mtypes ws) i = refl
 unit-vars (global d) i = declaration-vars d i
 unit-vars (process a w gs b) i =
-    map-both varOf (groupSites gs (i + length (code-activity a w))) (bodySites b (bodyIn (process a w gs b) i))
-    ∙ ap₂ (λ (x y : List Var). x ++ y) (group-vars gs (i + length (code-activity a w))) (body-vars b (bodyIn (process a w gs b) i))
+    map-both varOf (groupSites gs (i + sizeActivity a)) (bodySites b (bodyIn (process a w gs b) i))
+    ∙ ap₂ (λ (x y : List Var). x ++ y) (group-vars gs (i + sizeActivity a)) (body-vars b (bodyIn (process a w gs b) i))
 unit-vars (init b) i = body-vars b (bodyIn (init b) i)
 
 pub sites-long : (l : List Site) (xs : List Var) → map varOf l ≡ xs → length l ≡ length xs
@@ -81,7 +80,7 @@ variable-item : (k : ℕ) (xs : List Variable) (n i : ℕ) → n < length (sites
 unfolding variableAt
 variable-item k [] n i h = absurd (omega arith)
 variable-item k (variable w z v ∷ xs) zero i h = refl
-variable-item k (x ∷ xs) (suc n) i h = variable-item k xs n (i + length (code-variable x)) (omega arith)
+variable-item k (x ∷ xs) (suc n) i h = variable-item k xs n (i + sizeVariable x) (omega arith)
 
 declaration-item : (d : Declaration) (n i : ℕ) → n < length (sitesIn d i) → variableAt (variablesIn d) n (i + 2) ≡ getD (sitesIn d i) n noSite .worth + 1
 declaration-item (declare k xs) n i h = variable-item k xs n (i + 2) h
@@ -91,36 +90,36 @@ declaration-long (declare k xs) i = go xs (i + 2)
   where
     go : (xs : List Variable) (i : ℕ) → length (sitesOf k xs i) ≡ length xs
     go [] i = refl
-    go (x ∷ xs) i = ap suc (go xs (i + length (code-variable x)))
+    go (x ∷ xs) i = ap suc (go xs (i + sizeVariable x))
 
 local-item : (ds : List Declaration) (n i : ℕ) → n < length (localSites ds i) → declaredAt ds n i ≡ getD (localSites ds i) n noSite .worth + 1
 unfolding declaredAt
 local-item [] n i h = absurd (omega arith)
-local-item (d ∷ ds) n i h = go (decLt n (length (variablesIn d))) (local-item ds (n - length (variablesIn d)) (i + length (code-declaration i-local d)))
+local-item (d ∷ ds) n i h = go (decLt n (length (variablesIn d))) (local-item ds (n - length (variablesIn d)) (i + sizeDeclaration d))
   where
     L : List Site
     L = sitesIn d i
 
     K : List Site
-    K = localSites ds (i + length (code-declaration i-local d))
+    K = localSites ds (i + sizeDeclaration d)
 
     go : Dec (n < length (variablesIn d))
-        → (n - length (variablesIn d) < length (localSites ds (i + length (code-declaration i-local d)))
-        → declaredAt ds (n - length (variablesIn d)) (i + length (code-declaration i-local d)) ≡ getD (localSites ds (i + length (code-declaration i-local d))) (n - length (variablesIn d)) noSite .worth + 1)
-        → pick (ltb n (length (variablesIn d))) (variableAt (variablesIn d) n (i + 2)) (declaredAt ds (n - length (variablesIn d)) (i + length (code-declaration i-local d)))
-        ≡ getD (sitesIn d i ++ localSites ds (i + length (code-declaration i-local d))) n noSite .worth + 1
+        → (n - length (variablesIn d) < length (localSites ds (i + sizeDeclaration d))
+        → declaredAt ds (n - length (variablesIn d)) (i + sizeDeclaration d) ≡ getD (localSites ds (i + sizeDeclaration d)) (n - length (variablesIn d)) noSite .worth + 1)
+        → pick (ltb n (length (variablesIn d))) (variableAt (variablesIn d) n (i + 2)) (declaredAt ds (n - length (variablesIn d)) (i + sizeDeclaration d))
+        ≡ getD (sitesIn d i ++ localSites ds (i + sizeDeclaration d)) n noSite .worth + 1
     go (yes a) r =
         let e = declaration-long d i in
         rw (lt-ltb n (length (variablesIn d)) a)
         (declaration-item d n i (omega arith)
-        ∙ ap (λ (x : Site). x .worth + 1) (inv (get-left (sitesIn d i) (localSites ds (i + length (code-declaration i-local d))) noSite n (omega arith))))
+        ∙ ap (λ (x : Site). x .worth + 1) (inv (get-left (sitesIn d i) (localSites ds (i + sizeDeclaration d)) noSite n (omega arith))))
     go (no a) r =
         let e = declaration-long d i in
-        let f = length-append (sitesIn d i) (localSites ds (i + length (code-declaration i-local d))) in
+        let f = length-append (sitesIn d i) (localSites ds (i + sizeDeclaration d)) in
         rw (le-ltb n (length (variablesIn d)) (omega arith))
         (r (omega arith)
         ∙ ap (λ (x : Site). x .worth + 1)
-        (inv (get-right (sitesIn d i) (localSites ds (i + length (code-declaration i-local d))) noSite (length (variablesIn d)) (n - length (variablesIn d)) n e (omega arith))))
+        (inv (get-right (sitesIn d i) (localSites ds (i + sizeDeclaration d)) noSite (length (variablesIn d)) (n - length (variablesIn d)) n e (omega arith))))
 
 names-long : (k : ℕ) (ws : List Name) (i : ℕ) → length (nameSites k ws i) ≡ length ws
 names-long k [] i = refl
@@ -129,7 +128,7 @@ names-long k (w ∷ ws) i = ap suc (names-long k ws (i + 2))
 pub groups-long : (gs : List Group) (i : ℕ) → length (groupSites gs i) ≡ countGroups gs
 groups-long [] i = refl
 groups-long (group k ws ∷ gs) i =
-    length-append (nameSites k ws (i + 2)) (groupSites gs (i + length (code-group (group k ws)))) ∙ ap₂ _+_ (names-long k ws (i + 2)) (groups-long gs (i + length (code-group (group k ws))))
+    length-append (nameSites k ws (i + 2)) (groupSites gs (i + sizeGroup (group k ws))) ∙ ap₂ _+_ (names-long k ws (i + 2)) (groups-long gs (i + sizeGroup (group k ws)))
 
 names-plain : (k : ℕ) (ws : List Name) (i n : ℕ) → chan (getD (nameSites k ws i) n noSite .var .value) ≡ false
 names-plain k [] i zero = refl
@@ -141,15 +140,15 @@ names-plain k (w ∷ ws) i (suc n) = names-plain k ws (i + 2) n
 groups-plain : (gs : List Group) (i n : ℕ) → chan (getD (groupSites gs i) n noSite .var .value) ≡ false
 groups-plain [] i zero = refl
 groups-plain [] i (suc n) = refl
-groups-plain (group k ws ∷ gs) i n = go (decLt n (length (nameSites k ws (i + 2)))) (groups-plain gs (i + length (code-group (group k ws))) (n - length (nameSites k ws (i + 2))))
+groups-plain (group k ws ∷ gs) i n = go (decLt n (length (nameSites k ws (i + 2)))) (groups-plain gs (i + sizeGroup (group k ws)) (n - length (nameSites k ws (i + 2))))
   where
-    go : Dec (n < length (nameSites k ws (i + 2))) → chan (getD (groupSites gs (i + length (code-group (group k ws)))) (n - length (nameSites k ws (i + 2))) noSite .var .value) ≡ false
-        → chan (getD (nameSites k ws (i + 2) ++ groupSites gs (i + length (code-group (group k ws)))) n noSite .var .value) ≡ false
+    go : Dec (n < length (nameSites k ws (i + 2))) → chan (getD (groupSites gs (i + sizeGroup (group k ws))) (n - length (nameSites k ws (i + 2))) noSite .var .value) ≡ false
+        → chan (getD (nameSites k ws (i + 2) ++ groupSites gs (i + sizeGroup (group k ws))) n noSite .var .value) ≡ false
     go (yes a) r =
-        ap (λ (x : Site). chan (x .var .value)) (get-left (nameSites k ws (i + 2)) (groupSites gs (i + length (code-group (group k ws)))) noSite n a) ∙ names-plain k ws (i + 2) n
+        ap (λ (x : Site). chan (x .var .value)) (get-left (nameSites k ws (i + 2)) (groupSites gs (i + sizeGroup (group k ws))) noSite n a) ∙ names-plain k ws (i + 2) n
     go (no a) r =
         ap (λ (x : Site). chan (x .var .value))
-        (get-right (nameSites k ws (i + 2)) (groupSites gs (i + length (code-group (group k ws)))) noSite (length (nameSites k ws (i + 2))) (n - length (nameSites k ws (i + 2))) n refl (omega arith)) ∙ r
+        (get-right (nameSites k ws (i + 2)) (groupSites gs (i + sizeGroup (group k ws))) noSite (length (nameSites k ws (i + 2))) (n - length (nameSites k ws (i + 2))) n refl (omega arith)) ∙ r
 
 body-item : (b : Body) (n i : ℕ) → n < length (bodySites b i) → bodyAt b n i ≡ getD (bodySites b i) n noSite .worth + 1
 body-item (body ds q) n i h = local-item ds n (i + 1) h
@@ -159,18 +158,18 @@ pub unit-item : (u : Part) (n i : ℕ) → n < length (unitSites u i) → chan (
 unit-item (mtypes ws) n i h c = absurd (omega arith)
 unit-item (global d) n i h c = declaration-item d n i h
 unit-item (init b) n i h c = body-item b n (bodyIn (init b) i) h
-unit-item (process a w gs b) n i h c = go (decLt n (length (groupSites gs (i + length (code-activity a w)))))
+unit-item (process a w gs b) n i h c = go (decLt n (length (groupSites gs (i + sizeActivity a))))
   where
-    go : Dec (n < length (groupSites gs (i + length (code-activity a w)))) → channelItemIn (process a w gs b) n i ≡ getD (unitSites (process a w gs b) i) n noSite .worth + 1
+    go : Dec (n < length (groupSites gs (i + sizeActivity a))) → channelItemIn (process a w gs b) n i ≡ getD (unitSites (process a w gs b) i) n noSite .worth + 1
     go (yes e) =
-        absurd (true-false (inv c ∙ ap (λ (x : Site). chan (x .var .value)) (get-left (groupSites gs (i + length (code-activity a w))) (bodySites b (bodyIn (process a w gs b) i)) noSite n e)
-        ∙ groups-plain gs (i + length (code-activity a w)) n))
+        absurd (true-false (inv c ∙ ap (λ (x : Site). chan (x .var .value)) (get-left (groupSites gs (i + sizeActivity a)) (bodySites b (bodyIn (process a w gs b) i)) noSite n e)
+        ∙ groups-plain gs (i + sizeActivity a) n))
     go (no e) =
-        let f = length-append (groupSites gs (i + length (code-activity a w))) (bodySites b (bodyIn (process a w gs b) i)) in
-        let g = groups-long gs (i + length (code-activity a w)) in
+        let f = length-append (groupSites gs (i + sizeActivity a)) (bodySites b (bodyIn (process a w gs b) i)) in
+        let g = groups-long gs (i + sizeActivity a) in
         body-item b (n - countGroups gs) (bodyIn (process a w gs b) i) (omega arith)
         ∙ ap (λ (x : Site). x .worth + 1)
-        (inv (get-right (groupSites gs (i + length (code-activity a w))) (bodySites b (bodyIn (process a w gs b) i)) noSite (countGroups gs) (n - countGroups gs) n g (omega arith)))
+        (inv (get-right (groupSites gs (i + sizeActivity a)) (bodySites b (bodyIn (process a w gs b) i)) noSite (countGroups gs) (n - countGroups gs) n g (omega arith)))
 
 -- ---- the channels of a unit stand one behind another, from item lo on and before item hi
 abbrev Spread : List Site → ℕ → ℕ → Type 0
@@ -202,11 +201,11 @@ spread-one (x ∷ l) lo hi s zero (suc k) h g c d e = let a = s .1 .1 c .1 in le
 spread-one (x ∷ l) lo hi s (suc n) zero h g c d e = let a = s .1 .1 d .1 in let b = spread-in l (s .0) hi (s .1 .2) n (omega arith) c .0 in absurd (omega arith)
 spread-one (x ∷ l) lo hi s (suc n) (suc k) h g c d e = ap suc (spread-one l (s .0) hi (s .1 .2) n k (omega arith) (omega arith) c d e)
 
-one-spread : (k : ℕ) (x : Variable) (i : ℕ) → chan (siteOf k x i .var .value) ≡ true → (i ≤ siteOf k x i .worth) × (siteOf k x i .worth + 1 < i + length (code-variable x))
+one-spread : (k : ℕ) (x : Variable) (i : ℕ) → chan (siteOf k x i .var .value) ≡ true → (i ≤ siteOf k x i .worth) × (siteOf k x i .worth + 1 < i + sizeVariable x)
 one-spread k (variable w z v) i c = (omega arith, go v c)
   where
-    go : (v : Value) → chan v ≡ true → i + 2 + length (code-size z) + 1 < i + length (code-variable (variable w z v))
-    go (set-channel n ks) c = let e = length-append (code-size z) (code-value (set-channel n ks)) in omega arith
+    go : (v : Value) → chan v ≡ true → i + 2 + sizeSize z + 1 < i + sizeVariable (variable w z v)
+    go (set-channel n ks) c = omega arith
     go unset c = absurd (true-false (inv c))
     go (set-number n) c = absurd (true-false (inv c))
     go (set-minus n) c = absurd (true-false (inv c))
@@ -214,63 +213,35 @@ one-spread k (variable w z v) i c = (omega arith, go v c)
     go set-false c = absurd (true-false (inv c))
     go (set-name w) c = absurd (true-false (inv c))
 
-variables-spread : (k : ℕ) (xs : List Variable) (i : ℕ) → Spread (sitesOf k xs i) i (i + length (each code-variable xs))
-variables-spread k [] i = omega arith
-variables-spread k (x ∷ xs) i =
-    let e = length-append (code-variable x) (each code-variable xs) in (
-      i + length (code-variable x),
-      (
-        omega arith,
-        one-spread k x i,
-        subst (Spread (sitesOf k xs (i + length (code-variable x))) (i + length (code-variable x))) (let z : i + length (code-variable x) + length (each code-variable xs) ≡ i + length (code-variable x ++ each code-variable xs) = omega arith in z)
-            (variables-spread k xs (i + length (code-variable x))),
-      ),
-    )
+variables-spread : (k : ℕ) (xs : List Variable) (i e : ℕ) → i + sum sizeVariable xs ≤ e → Spread (sitesOf k xs i) i e
+variables-spread k [] i e h = omega arith
+variables-spread k (x ∷ xs) i e h = (i + sizeVariable x, (omega arith, one-spread k x i, variables-spread k xs (i + sizeVariable x) e (omega arith)))
 
-declaration-spread : (mark : Item) (d : Declaration) (i : ℕ) → Spread (sitesIn d i) i (i + length (code-declaration mark d))
-declaration-spread mark (declare k xs) i =
-    spread-from (sitesOf k xs (i + 2)) (i + 2) i (i + length (code-declaration mark (declare k xs))) (omega arith)
-    (subst (Spread (sitesOf k xs (i + 2)) (i + 2)) (let z : i + 2 + length (each code-variable xs) ≡ i + suc (suc (length (each code-variable xs))) = omega arith in z) (variables-spread k xs (i + 2)))
+declaration-spread : (d : Declaration) (i e : ℕ) → i + sizeDeclaration d ≤ e → Spread (sitesIn d i) i e
+declaration-spread (declare k xs) i e h = spread-from (sitesOf k xs (i + 2)) (i + 2) i e (omega arith) (variables-spread k xs (i + 2) e (omega arith))
 
-locals-spread : (ds : List Declaration) (i : ℕ) → Spread (localSites ds i) i (i + length (each (code-declaration i-local) ds))
-locals-spread [] i = omega arith
-locals-spread (d ∷ ds) i =
-    let D = code-declaration i-local d in
-    let e = length-append (code-declaration i-local d) (each (code-declaration i-local) ds) in
-    spread-both (sitesIn d i) (localSites ds (i + length D)) i (i + length D) (i + length (D ++ each (code-declaration i-local) ds)) (declaration-spread i-local d i)
-    (subst (Spread (localSites ds (i + length D)) (i + length D)) (let z : i + length (code-declaration i-local d) + length (each (code-declaration i-local) ds) ≡ i + length (code-declaration i-local d ++ each (code-declaration i-local) ds) = omega arith in z)
-    (locals-spread ds (i + length D)))
+locals-spread : (ds : List Declaration) (i e : ℕ) → i + sum sizeDeclaration ds ≤ e → Spread (localSites ds i) i e
+locals-spread [] i e h = omega arith
+locals-spread (d ∷ ds) i e h =
+    let j = i + sizeDeclaration d in spread-both (sitesIn d i) (localSites ds j) i j e (declaration-spread d i j (omega arith)) (locals-spread ds j e (omega arith))
 
 -- no parameter is among them
 plain-spread : (l : List Site) (lo hi : ℕ) → lo ≤ hi → ((n : ℕ) → chan (getD l n noSite .var .value) ≡ false) → Spread l lo hi
 plain-spread [] lo hi h c = h
 plain-spread (x ∷ l) lo hi h c = (lo, (omega arith, (λ e. absurd (true-false (inv e ∙ c 0))), plain-spread l lo hi h (λ n. c (suc n))))
 
-body-spread : (b : Body) (i : ℕ) → Spread (bodySites b i) i (i + length (code-body b))
-body-spread (body ds q) i =
-    let D = each (code-declaration i-local) ds in
-    let e = length-append (each (code-declaration i-local) ds ++ code-tree q) (i-end-body ∷ []) in
-    let f = length-append (each (code-declaration i-local) ds) (code-tree q) in
-    spread-from (localSites ds (i + 1)) (i + 1) i (i + length (code-body (body ds q))) (omega arith) (spread-to (localSites ds (i + 1)) (i + 1) (i + 1 + length D) (i + length (code-body (body ds q))) (omega arith) (locals-spread ds (i + 1)))
-  where
-    spread-to : (l : List Site) (lo hi high : ℕ) → hi ≤ high → Spread l lo hi → Spread l lo high
-    spread-to [] lo hi high h s = omega arith
-    spread-to (x ∷ l) lo hi high h s = (s .0, (s .1 .0, s .1 .1, spread-to l (s .0) hi high h (s .1 .2)))
+body-spread : (b : Body) (i e : ℕ) → i + sizeBody b ≤ e → Spread (bodySites b i) i e
+body-spread (body ds q) i e h = spread-from (localSites ds (i + 1)) (i + 1) i e (omega arith) (locals-spread ds (i + 1) e (omega arith))
 
-unit-spread : (u : Part) (i : ℕ) → Spread (unitSites u i) i (i + length (code-part u))
+unit-spread : (u : Part) (i : ℕ) → Spread (unitSites u i) i (i + sizePart u)
 unit-spread (mtypes ws) i = omega arith
-unit-spread (global d) i = declaration-spread i-global d i
+unit-spread (global d) i = declaration-spread d i (i + sizeDeclaration d) (omega arith)
 unit-spread (process a w gs b) i =
-    let A = code-activity a w in
-    let G = each code-group gs in
+    let g = i + sizeActivity a in
     let k = bodyIn (process a w gs b) i in
-    let e = length-append (code-activity a w ++ each code-group gs) (code-body b) in
-    let f = length-append (code-activity a w) (each code-group gs) in
-    spread-both (groupSites gs (i + length A)) (bodySites b k) i k (i + length (code-part (process a w gs b))) (plain-spread (groupSites gs (i + length A)) i k (omega arith) (groups-plain gs (i + length A)))
-    (subst (Spread (bodySites b k) k) (let z : i + length (code-activity a w) + length (each code-group gs) + length (code-body b) ≡ i + length (code-activity a w ++ each code-group gs ++ code-body b) = omega arith in z) (body-spread b k))
-unit-spread (init b) i =
-    spread-from (bodySites b (i + 1)) (i + 1) i (i + length (code-part (init b))) (omega arith)
-    (subst (Spread (bodySites b (i + 1)) (i + 1)) (let z : i + 1 + length (code-body b) ≡ i + suc (length (code-body b)) = omega arith in z) (body-spread b (i + 1)))
+    let e = i + sizePart (process a w gs b) in
+    spread-both (groupSites gs g) (bodySites b k) i k e (plain-spread (groupSites gs g) i k (omega arith) (groups-plain gs g)) (body-spread b k e (omega arith))
+unit-spread (init b) i = let e = i + sizePart (init b) in spread-from (bodySites b (i + 1)) (i + 1) i e (omega arith) (body-spread b (i + 1) e (omega arith))
 
 -- ---- units stand one behind another
 past-last : (m : Model) (k : ℕ) → length m ≤ k → unitAt m k ≡ mtypes []
@@ -279,7 +250,7 @@ past-last [] (suc k) h = refl
 past-last (u ∷ m) zero h = absurd (omega arith)
 past-last (u ∷ m) (suc k) h = past-last m k (omega arith)
 
-before-next : (m : Model) (k j : ℕ) → k < j → k < length m → itemsBefore m k + length (code-part (unitAt m k)) ≤ itemsBefore m j
+before-next : (m : Model) (k j : ℕ) → k < j → k < length m → itemsBefore m k + sizePart (unitAt m k) ≤ itemsBefore m j
 unfolding itemsBefore
 before-next [] k j h g = absurd (omega arith)
 before-next (u ∷ m) k zero h g = absurd (omega arith)
@@ -287,8 +258,8 @@ before-next (u ∷ m) zero (suc j) h g = omega arith
 before-next (u ∷ m) (suc k) (suc j) h g = let r = before-next m k j (omega arith) (omega arith) in omega arith
 
 -- two things of units that lie within their units' items are in the same unit, if they are the same
-pub unit-one : (m : Model) (k j a b : ℕ) → k < length m → j < length m → itemsBefore m k ≤ a → a < itemsBefore m k + length (code-part (unitAt m k)) → itemsBefore m j ≤ b
-    → b < itemsBefore m j + length (code-part (unitAt m j)) → a ≡ b → k ≡ j
+pub unit-one : (m : Model) (k j a b : ℕ) → k < length m → j < length m → itemsBefore m k ≤ a → a < itemsBefore m k + sizePart (unitAt m k) → itemsBefore m j ≤ b
+    → b < itemsBefore m j + sizePart (unitAt m j) → a ≡ b → k ≡ j
 unit-one m k j a b h g p q r s e = go (ℕ-discrete k j) (decLt k j)
   where
     go : Dec (k ≡ j) → Dec (k < j) → k ≡ j
@@ -303,17 +274,13 @@ bodied-there m k b = go (decLt k (length m))
     go (yes h) = h
     go (no h) = absurd (subst Bodied (past-last m k (omega arith)) b)
 
-pub some-items : (a : Activity) (w : Name) → 2 ≤ length (code-activity a w)
-some-items idle w = omega arith
-some-items once w = omega arith
-some-items (times n) w = omega arith
+pub some-items : (a : Activity) → 2 ≤ sizeActivity a
+some-items idle = omega arith
+some-items once = omega arith
+some-items (times n) = omega arith
 
-pub head-inside : (u : Part) (i : ℕ) → Bodied u → (i ≤ headIn u i) × (headIn u i < i + length (code-part u))
-head-inside (process a w gs b) i h =
-    let e = length-append (code-activity a w ++ each code-group gs) (code-body b) in
-    let f = length-append (code-activity a w) (each code-group gs) in
-    let g = some-items a w in
-    (omega arith, omega arith)
+pub head-inside : (u : Part) (i : ℕ) → Bodied u → (i ≤ headIn u i) × (headIn u i < i + sizePart u)
+head-inside (process a w gs (body ds q)) i h = let g = some-items a in (omega arith, omega arith)
 head-inside (init b) i h = (omega arith, omega arith)
 
 -- NO TWO UNITS begin with one item
@@ -366,9 +333,9 @@ module _ (m : Model) (c : Channel) (n : ℕ) (ks : List ℕ) (made : declaredBy 
       go (yes h) = h
       go (no h) = let e : length (variablesOf (unitAt m (c .unit))) ≡ 0 = ap (λ u. length (variablesOf u)) (past-last m (c .unit) (omega arith)) in let g = made-here in absurd (omega arith)
 
-  made-inside : (itemsBefore m (c .unit) ≤ channelItem m c) × (channelItem m c < itemsBefore m (c .unit) + length (code-part (unitAt m (c .unit))))
+  made-inside : (itemsBefore m (c .unit) ≤ channelItem m c) × (channelItem m c < itemsBefore m (c .unit) + sizePart (unitAt m (c .unit)))
   made-inside =
-      let r = spread-in L (itemsBefore m (c .unit)) (itemsBefore m (c .unit) + length (code-part (unitAt m (c .unit)))) (unit-spread (unitAt m (c .unit)) (itemsBefore m (c .unit))) (c .variable) made-site made-chan in
+      let r = spread-in L (itemsBefore m (c .unit)) (itemsBefore m (c .unit) + sizePart (unitAt m (c .unit))) (unit-spread (unitAt m (c .unit)) (itemsBefore m (c .unit))) (c .variable) made-site made-chan in
       let r0 = r .0 in
       let r1 = r .1 in
       let e = made-item in
@@ -384,7 +351,7 @@ channel-one m c d n k ks js a b e =
     let j = made-item m d k js b in
     let w : getD (sitesAt m (c .unit)) (c .variable) noSite .worth ≡ getD (sitesAt m (d .unit)) (d .variable) noSite .worth = omega arith in (
       u,
-      spread-one (sitesAt m (d .unit)) (itemsBefore m (d .unit)) (itemsBefore m (d .unit) + length (code-part (unitAt m (d .unit)))) (unit-spread (unitAt m (d .unit)) (itemsBefore m (d .unit)))
+      spread-one (sitesAt m (d .unit)) (itemsBefore m (d .unit)) (itemsBefore m (d .unit) + sizePart (unitAt m (d .unit))) (unit-spread (unitAt m (d .unit)) (itemsBefore m (d .unit)))
           (c .variable) (d .variable) (subst (λ z. c .variable < length (sitesAt m z)) u (made-site m c n ks a)) (made-site m d k js b)
           (subst (λ z. chan (getD (sitesAt m z) (c .variable) noSite .var .value) ≡ true) u (made-chan m c n ks a)) (made-chan m d k js b)
           (subst (λ z. getD (sitesAt m z) (c .variable) noSite .worth ≡ getD (sitesAt m (d .unit)) (d .variable) noSite .worth) u w),

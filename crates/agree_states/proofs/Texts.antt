@@ -21,6 +21,8 @@ use Rattle.agree_places.proofs.Heads.{Between}
 use Rattle.agree_start.specs.Beginnings.{calledIn}
 use Rattle.agree_start.proofs.Called.{text-called}
 use Rattle.agree_start.proofs.Initial.{text-initial}
+use Rattle.spec_machine.specs.Sizes.{sizeActivity, sizePart}
+use Rattle.agree_sizes.proofs.Sizes.{size-groups, size-activity, size-part}
 use Rattle.spec_machine.specs.State.{State}
 use Rattle.spec_machine.specs.Names.{unitAt}
 use Rattle.spec_machine.specs.Begins.{itemsBefore, bodyIn, bodyOf, begins, initial}
@@ -50,9 +52,11 @@ unit-between (global d ∷ m) zero i j e b = absurd b
 unit-between (process a w gs x ∷ m) zero i j e b =
     let A = code-activity a w in
     let G = each code-group gs in
-    let l = some-items a w in
-    let u = j + length (code-activity a w) - 1 in
-    let q : suc (j + length (code-activity a w) - 1) ≡ i + length (code-activity a w) = omega arith in
+    let l = some-items a in
+    let y = size-activity a w in
+    let z = size-groups gs in
+    let u = j + sizeActivity a - 1 in
+    let q : suc (j + sizeActivity a - 1) ≡ i + length (code-activity a w) = omega arith in
     record {
       between = record {
         groups = gs;
@@ -67,11 +71,11 @@ unit-between (init x ∷ m) zero i j e b =
       groups = refl;
     }
 unit-between (u ∷ m) (suc k) i j e b =
-    let r = unit-between m k (i + length (code-part u)) j (omega arith) b in
+    let r = unit-between m k (i + sizePart u) j (omega arith) b in
     record {
       between = record {
         groups = r .between .groups;
-        lies = lying-behind (code-part u) (code m) (each code-group (r .between .groups)) i (i + length (code-part u)) (suc (headIn (unitAt m k) j)) refl (r .between .lies);
+        lies = lying-behind (code-part u) (code m) (each code-group (r .between .groups)) i (i + sizePart u) (suc (headIn (unitAt m k) j)) (omega (arith, size-part u)) (r .between .lies);
         ends = r .between .ends;
       };
       groups = r .groups;

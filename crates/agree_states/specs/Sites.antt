@@ -4,10 +4,8 @@
 use Prim.Native.Nat.{ℕ, _+_}
 use mathlib.Core.Bool.{Bool, true, false}
 use mathlib.Core.List.{List, [], _∷_, _++_}
-use lib.ListN.{length}
 use Rattle.spec_grammar.specs.Tree.{Name, Value, unset, set-number, set-minus, set-true, set-false, set-name, set-channel, Variable, variable, Declaration, declare, Group, group, Body, body, Part, mtypes, global, process, init, Model}
-use Rattle.base_codes.specs.Items.{i-local}
-use Rattle.parse_code.specs.Code.{code-size, code-variable, code-declaration, code-group, code-activity, code-part}
+use Rattle.spec_machine.specs.Sizes.{sizeSize, sizeVariable, sizeDeclaration, sizeGroup, sizeActivity, sizePart}
 use Rattle.spec_machine.specs.Names.{Var, ofVariable, ofParameter, unitAt}
 use Rattle.spec_machine.specs.Begins.{itemsBefore, bodyIn}
 use Rattle.spec_machine.specs.Plain.{noVar}
@@ -34,11 +32,11 @@ noSite = record { var = noVar; item = 0; worth = 0 }
 
 -- a declared name, its `declared` and its size stand before its value
 abbrev pub siteOf : ℕ → Variable → ℕ → Site
-siteOf k (variable w z v) i = record { var = ofVariable k (variable w z v); item = i + 1; worth = i + 2 + length (code-size z) }
+siteOf k (variable w z v) i = record { var = ofVariable k (variable w z v); item = i + 1; worth = i + 2 + sizeSize z }
 
 abbrev pub sitesOf : ℕ → List Variable → ℕ → List Site
 sitesOf k [] i = []
-sitesOf k (x ∷ xs) i = siteOf k x i ∷ sitesOf k xs (i + length (code-variable x))
+sitesOf k (x ∷ xs) i = siteOf k x i ∷ sitesOf k xs (i + sizeVariable x)
 
 -- a type and its mark stand before the names
 abbrev pub sitesIn : Declaration → ℕ → List Site
@@ -46,7 +44,7 @@ sitesIn (declare k xs) i = sitesOf k xs (i + 2)
 
 abbrev pub localSites : List Declaration → ℕ → List Site
 localSites [] i = []
-localSites (d ∷ ds) i = sitesIn d i ++ localSites ds (i + length (code-declaration i-local d))
+localSites (d ∷ ds) i = sitesIn d i ++ localSites ds (i + sizeDeclaration d)
 
 abbrev pub nameSites : ℕ → List Name → ℕ → List Site
 nameSites k [] i = []
@@ -57,7 +55,7 @@ groupIn (group k ws) i = nameSites k ws (i + 2)
 
 abbrev pub groupSites : List Group → ℕ → List Site
 groupSites [] i = []
-groupSites (g ∷ gs) i = groupIn g i ++ groupSites gs (i + length (code-group g))
+groupSites (g ∷ gs) i = groupIn g i ++ groupSites gs (i + sizeGroup g)
 
 abbrev pub bodySites : Body → ℕ → List Site
 bodySites (body ds q) i = localSites ds (i + 1)
@@ -66,7 +64,7 @@ bodySites (body ds q) i = localSites ds (i + 1)
 abbrev pub unitSites : Part → ℕ → List Site
 unitSites (mtypes ws) i = []
 unitSites (global d) i = sitesIn d i
-unitSites (process a w gs b) i = groupSites gs (i + length (code-activity a w)) ++ bodySites b (bodyIn (process a w gs b) i)
+unitSites (process a w gs b) i = groupSites gs (i + sizeActivity a) ++ bodySites b (bodyIn (process a w gs b) i)
 unitSites (init b) i = bodySites b (bodyIn (init b) i)
 
 abbrev pub globalHere : Part → ℕ → List Site
@@ -77,7 +75,7 @@ globalHere (init b) i = []
 
 abbrev pub globalSites : Model → ℕ → List Site
 globalSites [] i = []
-globalSites (u ∷ m) i = globalHere u i ++ globalSites m (i + length (code-part u))
+globalSites (u ∷ m) i = globalHere u i ++ globalSites m (i + sizePart u)
 
 abbrev pub sitesAt : Model → ℕ → List Site
 sitesAt m k = unitSites (unitAt m k) (itemsBefore m k)

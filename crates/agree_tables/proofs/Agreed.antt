@@ -1,14 +1,14 @@
 -- THE STAGE OF TABLES AND NUMBERS AGREES WITH THE PLAIN ONE, for tables that say of the model what specs/Tabled.antt of `state_encode` names.
-use Prim.Native.Nat.{ℕ, suc, _+_, _-_, _<_, _≤_, min}
+use Prim.Native.Nat.{ℕ, suc, _+_, _-_, _*_, _<_, _≤_, min}
 use native.Mathlib.Omega.{arith}
-use borrow.Author.Tests.{lt-ltb, ltb-true, leb-true, eqb-false}
+use borrow.Author.Tests.{lt-ltb, ltb-true, leb-true}
 use mathlib.Core.Path.{_≡_, refl, sym as inv, ap, ap₂, _∙_, subst}
 use mathlib.Core.Bool.{Bool, true, false}
 use mathlib.Core.List.{List, [], _∷_, _++_}
-use lib.ListN.{length, getD, set, drop, length-append, length-set}
+use lib.ListN.{length, getD, set, length-append, length-set}
 use lib.Seq.{getD-set-same}
 use lib.IntN.{ℤ, pos}
-use lib.Dec.{eqb, ltb, leb}
+use lib.Dec.{ltb, leb}
 use Rattle.base_ceilings.specs.Ceilings.{capacityMost, channelsMost, fieldsMost, globalsMost, itemsMost, numbersMost, processesMost}
 use Rattle.base_bytes.specs.Choice.{pick, both}
 use Rattle.base_bytes.specs.Lists.{same}
@@ -21,7 +21,7 @@ use Rattle.base_bytes.specs.Numbers.{nat}
 use Rattle.step_eval.specs.Variables.{typeOf, sizeOf, slotOf, madeOf}
 use Rattle.step_ready.specs.Channels.{capacityOf, fieldsOf}
 use Rattle.step_ready.specs.Executing.{fitsOf}
-use Rattle.step_messages.specs.Messages.{fieldType, appended, removed}
+use Rattle.step_messages.specs.Messages.{fieldType, putIn, takenOut}
 use Rattle.step_statements.specs.Statements.{moved}
 use Rattle.step_take.specs.Effects.{called}
 use Rattle.spec_grammar.specs.Tree.{Name, Model}
@@ -31,18 +31,20 @@ use Rattle.spec_rules.specs.Statements.{Place, sense, runs}
 use Rattle.agree_stage.specs.Scenes.{numberAt}
 use Rattle.agree_stage.specs.Tables.{stageIn}
 use Rattle.agree_transfer.specs.Agrees.{Agrees}
+use Rattle.spec_machine.specs.Messages.{putAt, takeAt}
+use Rattle.spec_machine.proofs.Messages.{put-length, take-length-less, put-each, take-each}
 use Rattle.spec_machine.specs.State.{Channel, Process, State, noChannel, noProcess}
 use Rattle.spec_machine.specs.Names.{Var, Meaning, local, global, self, variablesOf, parametersOf, localsOf, globalsOf, unitAt, proctypeOf, meant}
 use Rattle.spec_machine.specs.Begins.{itemsBefore, bodyIn, bodyOf, firstIn, makesAll, given, begins}
 use Rattle.spec_machine.specs.Plain as plain
 use Rattle.spec_machine.specs.Plain.{noVar, declaredBy, capacityIn, typesIn, castAll, withChannel, numbersOf, isVariable, stored, goes, plainStage}
-use Rattle.state_encode.specs.Encode.{rows, flat, channelItem, messageRow, channelRow, encode}
+use Rattle.state_encode.specs.Encode.{flat, channelItem, messageRow, channelRow, encode}
 use Rattle.spec_machine.specs.Fits.{Filled, Fielded, ChannelFits, Fits}
 use Rattle.state_encode.specs.Tabled.{offsetOf, Item, of-local, of-global, of-message, Tabled}
-use Rattle.state_encode.proofs.Rows.{get-left, ahead, get-rows}
+use Rattle.state_encode.proofs.Rows.{get-left, ahead, off, get-rows, at-four}
 use Rattle.state_encode.proofs.Numbers.{processes-are, channels-are, local-is, local-stored, global-is, global-stored, go-is, channel-cell, declared-is, waiting-is}
 use Rattle.state_encode.proofs.Queues.{take-is, put-is}
-use Rattle.state_encode.proofs.Fitting.{at-more, ahead-is, flat-long, values-stored, cast-message, globals-fit, process-fits, channel-fits, go-fits}
+use Rattle.state_encode.proofs.Fitting.{ahead-is, flat-long, values-stored, cast-message, globals-fit, process-fits, channel-fits, go-fits}
 
 module _ (P : ℕ → ℕ → Type 0) (m : Model) (u : ℕ) (at : Place) (T : List ℕ) (decl head : Name → ℕ) (X : Tabled P m u at T decl head) (p : ℕ) (t : List ℤ) where
   -- the numbers s hold the state σ of the model, and process p is of unit u
@@ -192,63 +194,58 @@ module _ (P : ℕ → ℕ → Type 0) (m : Model) (u : ℕ) (at : Place) (T : Li
       fields-are : length (typesIn (declaredBy m ch)) ≡ fieldsOf T (declaredOf S (nat v - 1))
       fields-are = ap (λ w. length (typesIn w)) (H .declared) ∙ inv (told .2) ∙ ap (fieldsOf T) (inv item-is)
 
-      oldest-is : (f : ℕ) → eqb (length (ch .held)) 0 ≡ false → ltb f (length (typesIn (declaredBy m ch))) ≡ true → getD (getD (ch .held) 0 []) f (pos 0) ≡ fieldOf S (nat v - 1) 0 f
-      oldest-is f w l =
-          let a = eqb-false (length (ch .held)) 0 w in
+      message-is : (w f : ℕ) → ltb w (length (ch .held)) ≡ true → ltb f (length (typesIn (declaredBy m ch))) ≡ true → getD (getD (ch .held) w []) f (pos 0) ≡ fieldOf S (nat v - 1) w f
+      message-is w f h l =
+          let a = ltb-true w (length (ch .held)) h in
           let b : f < length (H .types) = subst (f <_) (ap (λ w. length (typesIn w)) (H .declared)) (ltb-true f (length (typesIn (declaredBy m ch))) l) in
           let c = told .4 in
-          inv (get-rows messageRow fieldsMost capacityMost (ch .held) [] 0 f (omega arith) (omega arith) (omega arith))
-          ∙ ap (λ j. getD (rows messageRow fieldsMost capacityMost (ch .held)) j (pos 0)) (let z : 0 + f ≡ f = omega arith in z)
-          ∙ ap (λ j. getD (channelRow m ch) j (pos 0)) (let z : suc (suc f) ≡ 2 + f = omega arith in z)
-          ∙ inv (channel-cell m t σ (nat v - 1) there (k .fits .channels) (2 + f) (omega arith))
-          ∙ ap (cellOf S) (let z : channelAt (nat v - 1) + (2 + f) ≡ fieldAt (nat v - 1) 0 f = omega arith in z)
+          let few = held-few in
+          inv (get-rows messageRow fieldsMost capacityMost (ch .held) [] w f a (omega arith) (omega arith))
+          ∙ ap (λ j. getD (channelRow m ch) j (pos 0)) (let e = at-four messageRow w in let z : suc (suc (off messageRow fieldsMost w + f)) ≡ 2 + (fieldsMost * w + f) = omega arith in z)
+          ∙ inv (channel-cell m t σ (nat v - 1) there (k .fits .channels) (2 + (fieldsMost * w + f)) (omega arith))
+          ∙ ap (cellOf S) (let z : channelAt (nat v - 1) + (2 + (fieldsMost * w + f)) ≡ fieldAt (nat v - 1) w f = omega arith in z)
 
-      put-kept : (vs : List ℤ) → ltb (length (ch .held)) (capacityIn (declaredBy m ch)) ≡ true → length vs ≡ length (typesIn (declaredBy m ch))
-          → Kept (withChannel (nat v - 1) (ch .held ++ castAll (typesIn (declaredBy m ch)) vs ∷ []) σ) (appended T (nat v - 1) vs S)
-      put-kept vs r l =
+      put-kept : (w : ℕ) (vs : List ℤ) → ltb (length (ch .held)) (capacityIn (declaredBy m ch)) ≡ true → w ≡ length (ch .held) → length vs ≡ length (typesIn (declaredBy m ch))
+          → Kept (withChannel (nat v - 1) (putAt w (castAll (typesIn (declaredBy m ch)) vs) (ch .held)) σ) (putIn T (nat v - 1) w vs S)
+      put-kept w vs r q l =
           let room : length (ch .held) < H .capacity = subst (length (ch .held) <_) (ap capacityIn (H .declared)) (ltb-true (length (ch .held)) (capacityIn (declaredBy m ch)) r) in
           let same : typesIn (declaredBy m ch) ≡ H .types = ap typesIn (H .declared) in
           let long : length vs ≡ length (H .types) = l ∙ ap length same in
-          let e : Kept (withChannel (nat v - 1) (ch .held ++ castAll (H .types) vs ∷ []) σ) (appended T (nat v - 1) vs S) =
+          let n = length (ch .held) in
+          let e : Kept (withChannel (nat v - 1) (putAt n (castAll (H .types) vs) (ch .held)) σ) (putIn T (nat v - 1) n vs S) =
           record {
-            fits = channel-fits P m σ (k .fits) (nat v - 1) (ch .held ++ castAll (H .types) vs ∷ [])
+            fits = channel-fits P m σ (k .fits) (nat v - 1) (putAt n (castAll (H .types) vs) (ch .held))
                 record {
                   capacity = H .capacity;
                   types = H .types;
                   declared = H .declared;
-                  room = subst (_≤ H .capacity) (inv (length-append (ch .held) (castAll (H .types) vs ∷ []))) (omega arith);
-                  messages = at-more (Fielded (H .types)) (ch .held) (castAll (H .types) vs) [] (H .messages) (cast-message (H .types) vs long);
+                  room = subst (_≤ H .capacity) (inv (put-length n (castAll (H .types) vs) (ch .held))) (omega arith);
+                  messages = put-each (Fielded (H .types)) n (ch .held) [] (H .messages) (castAll (H .types) vs) (omega arith) (cast-message (H .types) vs long);
                 };
             is = put-is m t σ (nat v - 1) there (k .fits .channels) T (H .types) vs long (told .4) (let b = told .3 in omega arith)
                 (ap (fieldsOf T) item-is ∙ told .2) (λ i g. ap (λ d. fieldType T d i) item-is ∙ X .fields ch (H .capacity) (H .types) (H .declared) i g);
             here = k .here;
             unit = k .unit;
           } in
-          subst (λ (ks : List ℕ). Kept (withChannel (nat v - 1) (ch .held ++ castAll ks vs ∷ []) σ) (appended T (nat v - 1) vs S)) (inv same) e
+          subst (λ w. Kept (withChannel (nat v - 1) (putAt w (castAll (typesIn (declaredBy m ch)) vs) (ch .held)) σ) (putIn T (nat v - 1) w vs S)) (inv q)
+          (subst (λ (ks : List ℕ). Kept (withChannel (nat v - 1) (putAt n (castAll ks vs) (ch .held)) σ) (putIn T (nat v - 1) n vs S)) (inv same) e)
 
-      take-kept : eqb (length (ch .held)) 0 ≡ false → Kept (withChannel (nat v - 1) (drop 1 (ch .held)) σ) (removed (nat v - 1) S)
-      take-kept w = go (ch .held) refl
-        where
-          go : (l : List (List ℤ)) → ch .held ≡ l → Kept (withChannel (nat v - 1) (drop 1 (ch .held)) σ) (removed (nat v - 1) S)
-          go [] e = absurd (true-false (inv (ap (λ (l : List (List ℤ)). eqb (length l) 0) e) ∙ w))
-          go (msg ∷ rest) e =
-              let few = held-few in
-              let n = ap length e in
-              let r : drop 1 (ch .held) ≡ rest = ap (drop 1) e in
-              subst (λ (l : List (List ℤ)). Kept (withChannel (nat v - 1) l σ) (removed (nat v - 1) S)) (inv r)
-              record {
-                fits = channel-fits P m σ (k .fits) (nat v - 1) rest
-                    record {
-                      capacity = H .capacity;
-                      types = H .types;
-                      declared = H .declared;
-                      room = let a = H .room in omega arith;
-                      messages = λ i g. subst (λ (l : List (List ℤ)). Fielded (H .types) (getD l (suc i) [])) e (H .messages (suc i) (omega arith));
-                    };
-                is = take-is m t σ (nat v - 1) there (k .fits .channels) msg rest e (omega arith);
-                here = k .here;
-                unit = k .unit;
-              }
+      take-kept : (w : ℕ) → ltb w (length (ch .held)) ≡ true → Kept (withChannel (nat v - 1) (takeAt w (ch .held)) σ) (takenOut (nat v - 1) w S)
+      take-kept w h =
+          let a = ltb-true w (length (ch .held)) h in
+          record {
+            fits = channel-fits P m σ (k .fits) (nat v - 1) (takeAt w (ch .held))
+                record {
+                  capacity = H .capacity;
+                  types = H .types;
+                  declared = H .declared;
+                  room = let b = H .room in let e = take-length-less w (ch .held) a in omega arith;
+                  messages = take-each (Fielded (H .types)) w (ch .held) [] (H .messages) a;
+                };
+            is = take-is m t σ (nat v - 1) there (k .fits .channels) w a held-few;
+            here = k .here;
+            unit = k .unit;
+          }
 
     -- ---- room for a process
     room-is : (w : Name) (n : ℕ) → runs at w n ≡ true
@@ -308,7 +305,7 @@ module _ (P : ℕ → ℕ → Type 0) (m : Model) (u : ℕ) (at : Place) (T : Li
         constant = λ w i h. X .constants w i h;
         capacity = λ v h. capacity-is σ k v h;
         fields = λ v h. fields-are σ k v h;
-        oldest = λ v f h w l. oldest-is σ k v h f w l;
+        message = λ v w f h g l. message-is σ k v h w f g l;
         room = λ w n h. room-is σ k w n h;
         newest = ap pos (let z : length (σ .processes) ≡ min keptMost (length (σ .processes)) = (let h = k .fits .processes in omega arith) in z)
             ∙ ap kept (inv (processes-are m t σ (k .fits .processes)));
@@ -318,8 +315,8 @@ module _ (P : ℕ → ℕ → Type 0) (m : Model) (u : ℕ) (at : Place) (T : Li
             kept-same (stored m p (mean w) n v a) (set b (slotOf (linkOf T (decl w)) p n) (castOf (typeOf (linkOf T (decl w))) v))
             (set (encode m a ++ t) (slotOf (linkOf T (decl w)) p n) (castOf (typeOf (linkOf T (decl w))) v))
             (ap (λ (x : List ℤ). set x (slotOf (linkOf T (decl w)) p n) (castOf (typeOf (linkOf T (decl w))) v)) (r .is)) e;
-        put = λ v vs h r l. put-kept σ k v h vs r l;
-        take = λ v h w. take-kept σ k v h w;
+        put = λ v w vs h r q l. put-kept σ k v h w vs r q l;
+        take = λ v w h g. take-kept σ k v h w g;
         begin = λ w vs h r. begin-kept σ k w vs h r;
         go = λ {a} {b} r n g.
             let e = go-kept a (kept-same a (encode m a ++ t) b (inv (r .is)) r) n g in

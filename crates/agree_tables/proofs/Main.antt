@@ -23,7 +23,8 @@ use Rattle.spec_rules.specs.Statements.{has, allowed}
 use Rattle.spec_rules.specs.Units.{ofModel, partsLawful, mtypesIn, initsIn, tally, modelLawful}
 use Rattle.spec_machine.specs.Stage.{Ways}
 use Rattle.spec_machine.specs.Effect.{effect}
-use Rattle.spec_machine.specs.Program.{sizeIn, startIn, endIn, labelIn, sequenceOf, Statement}
+use Rattle.spec_machine.specs.Sizes.{sizeIn}
+use Rattle.spec_machine.specs.Program.{startIn, endIn, labelIn, sequenceOf, Statement}
 use Rattle.agree_stage.specs.Tables.{stageIn}
 use Rattle.agree_eval.specs.Names.{declAt}
 use Rattle.agree_offers.proofs.Main.{text-ended, text-ends}
@@ -35,6 +36,7 @@ use Rattle.spec_machine.specs.Names.{unitAt}
 use Rattle.spec_machine.specs.Begins.{itemsBefore, bodyOf}
 use Rattle.spec_machine.specs.Plain.{plainStage}
 use Rattle.agree_transfer.specs.Alike.{In, first, behind, Alike}
+use Rattle.spec_machine.specs.Machine.{Move, alone}
 use Rattle.agree_effects.specs.Few.{Few}
 use Rattle.step_all.specs.Moving.{machineIn}
 use Rattle.spec_machine.specs.Steps.{stepsBy, takeBy, stepsOf, endedOf, takeOf, machineOf}
@@ -49,12 +51,18 @@ use Rattle.agree_transfer.proofs.Statements.{within-range, within-found, end-no
 use Rattle.agree_transfer.proofs.Ways.{Lawful, leads, within-lawful, label}
 use Rattle.state_encode.proofs.Units.{unit-holds, unit-allowed, setting-labels}
 
-pub none-in : {A : Type 0} {q : ℕ} → In q [] → A
-none-in {q = q} h = absurd (go h refl)
+pub none-in : {A B : Type 0} {q : B} → In q [] → A
+none-in {B = B} {q = q} h = absurd (go h refl)
   where
-    go : {l : List ℕ} → In q l → l ≡ [] → ⊥
+    go : {l : List B} → In q l → l ≡ [] → ⊥
     go {l = z ∷ l} first e = let n : suc (length l) ≡ 0 = ap length e in omega arith
     go {l = z ∷ l} (behind h) e = let n : suc (length l) ≡ 0 = ap length e in omega arith
+
+-- a move of these places is at one of them
+pub in-alone : {y : Move} (l : List ℕ) → In y (alone l) → In (y .place) l
+in-alone [] h = none-in h
+in-alone (q ∷ l) first = first
+in-alone (q ∷ l) (behind h) = behind (in-alone l h)
 
 module _ (t : List ℕ) (a : Accepts t) (legal : modelLawful (a .tree) ≡ true) where
   abbrev m : Model
@@ -188,7 +196,8 @@ module _ (t : List ℕ) (a : Accepts t) (legal : modelLawful (a .tree) ≡ true)
           processes = λ {x} {y} r.
               let n = r .fits .processes in
               inv (ap (λ s. min processesMost (processesOf s)) (r .is) ∙ ap (min processesMost) (processes-are m rest x n) ∙ (let z : min processesMost (length (x .processes)) ≡ length (x .processes) = omega arith in z));
-          steps = λ {x} {y} r late p h. steps-same x (r .fits) p h late ∙ ap (λ s. offersOf T s p late (placeOf s p)) (inv (r .is));
+          steps = λ {x} {y} r late p h. ap alone (steps-same x (r .fits) p h late ∙ ap (λ s. offersOf T s p late (placeOf s p)) (inv (r .is)));
           ended = λ {x} {y} r p h. ended-same x (r .fits) p h ∙ ap (λ s. eqb (codeOf T (placeOf s p)) c-end-body) (inv (r .is));
-          take = λ {x} {y} r late p q h i. subst (λ s. Related Holding (takeOf m x p q) (takenOf T p q s)) (inv (r .is)) (take-same x (r .fits) p h late q i);
+          take = λ {x} {y} r late z h i.
+              subst (λ s. Related Holding (takeOf m x (z .process) (z .place)) (takenOf T (z .process) (z .place) s)) (inv (r .is)) (take-same x (r .fits) (z .process) h late (z .place) (in-alone (stepsOf m x (z .process) late) i));
         }

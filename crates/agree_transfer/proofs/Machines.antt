@@ -10,7 +10,7 @@ use Rattle.base_bytes.specs.Choice.{pick}
 use Rattle.base_outcome.specs.declared.Taken.{Taken}
 use Rattle.base_outcome.specs.declared.Taken.the-variants.{Done, Refuted, Faulted, Idle}
 use Rattle.agree_transfer.specs.Agrees.{Related}
-use Rattle.spec_machine.specs.Machine.{Machine, Step, numbered, isSome, anyFrom, late, listFrom, offered, endedFrom, verdictBy, verdict, asked}
+use Rattle.spec_machine.specs.Machine.{Move, Machine, Step, moveOf, numbered, isSome, anyFrom, late, listFrom, offered, advance, endedFrom, verdictBy, verdict, asked}
 use Rattle.agree_transfer.specs.Alike.{In, first, behind, Alike}
 use Rattle.spec_trails.specs.Replays.{Claim, assertion, fault, standing, Replayed, judged, followed, recorded, replayFrom}
 use Rattle.spec_trails.specs.Trails.{Recorded}
@@ -54,7 +54,7 @@ module _ {S T : Type 0} (R : S → T → Type 0) (M : Machine S) (N : Machine T)
 
   -- ---- each listed step is one of its process
   abbrev Listed : S → Bool → Step → Type 0
-  Listed x l z = (z .process < M .processes x) × In (z .place) (M .steps x l (z .process))
+  Listed x l z = (z .process < M .processes x) × In (moveOf z) (M .steps x l (z .process))
 
   abbrev AllListed : S → Bool → List Step → Type 0
   AllListed x l [] = Unit {0}
@@ -64,7 +64,7 @@ module _ {S T : Type 0} (R : S → T → Type 0) (M : Machine S) (N : Machine T)
   join x l [] b h g = g
   join x l (z ∷ a) b h g = (h .0, join x l a b (h .1) g)
 
-  numbered-listed : (x : S) (l : Bool) (p : ℕ) → p < M .processes x → (n : ℕ) (qs : List ℕ) → ((q : ℕ) → In q qs → In q (M .steps x l p)) → AllListed x l (numbered p n qs)
+  numbered-listed : (x : S) (l : Bool) (p : ℕ) → p < M .processes x → (n : ℕ) (qs : List Move) → ((q : Move) → In q qs → In q (M .steps x l p)) → AllListed x l (numbered p n qs)
   numbered-listed x l p h n [] g = tt
   numbered-listed x l p h n (q ∷ qs) g = ((h, g q first), numbered-listed x l p h (n + 1) qs (λ z i. g z (behind i)))
 
@@ -78,6 +78,11 @@ module _ {S T : Type 0} (R : S → T → Type 0) (M : Machine S) (N : Machine T)
   unfolding offered
   offered-listed x = list-listed x (late M x) 0 (M .processes x) (omega arith)
 
+  -- ---- a listed step
+  pub advance-same : {x : S} {y : T} → R x y → (l : Bool) (z : Step) → z .process < M .processes x → In (moveOf z) (M .steps x l (z .process)) → Related R (advance M x z) (advance N y z)
+  unfolding advance
+  advance-same r l z h i = k .take r l z h i
+
   -- ---- the run
   abbrev Ended : Ran S → Ran T → Type 0
   Ended a b = (a .ending ≡ b .ending) × (a .count ≡ b .count) × R (a .state) (b .state)
@@ -87,7 +92,7 @@ module _ {S T : Type 0} (R : S → T → Type 0) (M : Machine S) (N : Machine T)
 
   first-same : {x : S} {y : T} → R x y → (l : List Step) → AllListed x (late M x) l → Related R (firstTaken M x l) (firstTaken N y l)
   first-same r [] h = (refl, r)
-  first-same {x} r (z ∷ l) h = k .take r (late M x) (z .process) (z .place) (h .0 .0) (h .0 .1)
+  first-same {x} r (z ∷ l) h = advance-same r (late M x) z (h .0 .0) (h .0 .1)
 
   run-by : (t : Taken) {x : S} {y : T} → R x y → (f : S → Ran S) (g : T → Ran T) → ((a : S) (b : T) → R a b → Ended (f a) (g b)) → Ended (runBy M t x f) (runBy N t y g)
   run-by Done {x} {y} r f g h = let z = h x y r in (z .0, ap suc (z .1), z .2)
@@ -139,9 +144,9 @@ module _ {S T : Type 0} (R : S → T → Type 0) (M : Machine S) (N : Machine T)
       → ((e : Option Claim) (u : S) (v : T) → R u v → Told (f e u) (g e v)) → Told (recorded M line x o f) (recorded N line y o g)
   recorded-same line r none m f g h = (refl, r)
   recorded-same line {x} {y} r (some z) m f g h =
-      let w = k .take r (late M x) (z .process) (z .place) (m .0) (m .1) in
-      subst (λ t. Told (followed M line x (M .take x (z .process) (z .place) .0) (M .take x (z .process) (z .place) .1) f) (followed N line y t (N .take y (z .process) (z .place) .1) g)) (w .0)
-      (followed-same line r (M .take x (z .process) (z .place) .0) (M .take x (z .process) (z .place) .1) (N .take y (z .process) (z .place) .1) (w .1) f g h)
+      let w = advance-same r (late M x) z (m .0) (m .1) in
+      subst (λ t. Told (followed M line x (advance M x z .0) (advance M x z .1) f) (followed N line y t (advance N y z .1) g)) (w .0)
+      (followed-same line r (advance M x z .0) (advance M x z .1) (advance N y z .1) (w .1) f g h)
 
   pub replay-same : (claim : Claim) (l : List Recorded) (line : ℕ) (e : Option Claim) {x : S} {y : T} → R x y → Told (replayFrom M claim l line e x) (replayFrom N claim l line e y)
   unfolding replayFrom

@@ -1,5 +1,5 @@
 -- WHERE TWO STAGES AGREE, every lawful statement is executable in both or in neither, offers the same steps, prints the same, and what comes of it is the same, in states that belong together.
-use Prim.Native.Nat.{ℕ, suc, _+_}
+use Prim.Native.Nat.{ℕ, suc, _+_, min}
 use native.Mathlib.Omega.{arith}
 use mathlib.Core.Path.{_≡_, refl, sym as inv, ap, ap₂, _∙_, subst}
 use mathlib.Core.Bool.{Bool, true, false, not}
@@ -20,19 +20,21 @@ use Rattle.base_values.specs.declared.Answer.the-variants.{Value, Fails}
 use Rattle.spec_rules.specs.Heights.{height}
 use lib.Dec.{leb}
 use borrow.Author.Tests.{lt-ltb, eqb-true}
-use Rattle.spec_grammar.specs.Tree.{Received, into, equal, exactly, exactly-true, exactly-false, Sort, action, Tree, express, assign, increment, decrement, send, receive, assert, print, skip, goto, break, timeout, else, run, set-run, select, loop, bare, labelled, end, then, over, option}
-use Rattle.spec_grammar.specs.Tree.{Name, Shape, Exp, Expr, Ref, plain, indexed, num, tru, fls, get, len, unary, binary, choice}
+use Rattle.spec_grammar.specs.Tree.{Received, into, equal, exactly, exactly-true, exactly-false, Sort, action, Tree, leaf, express, assign, increment, decrement, send, receive, assert, print, skip, goto, break, timeout, else, run, set-run, select, loop, bare, labelled, end, then, over, option}
+use Rattle.spec_grammar.specs.Tree.{Name, Shape, Exp, Expr, Ref, plain, indexed, num, tru, fls, get, query, unary, binary, choice}
 use Rattle.spec_rules.specs.Senses.{Sense, variable, constant, procedure, unknown, isConstant}
 use Rattle.spec_rules.specs.Expressions.{Role, operand, channel, target, received, forConstant, forPid, forChan, alike, suits, usable, named, lawful, whole}
 use Rattle.spec_rules.specs.Statements.{Place, all, isElse, sense, runs, receives, formats, allowed}
 use Rattle.spec_machine.specs.Eval.{elementBy, lengthBy, signBy, operateBy, chooseBy, eval}
-use Rattle.spec_machine.specs.Stage.{Stage, Ways}
-use Rattle.spec_machine.specs.Arguments.{nameOf, Aim, hit, miss, aimBy, aim, Reach, astray, reachBy, reachAt, reach, WorkedOut, stopped, valuesBy, values, agree, agreeBy, agrees, Aims, hits, missed, aimsBy, targets}
+use Rattle.spec_machine.specs.Stage.{Message, Stage, Ways}
+use Rattle.spec_machine.specs.Messages.{Finding, found, none, spoilt, findFrom}
+use Rattle.spec_machine.proofs.Messages.{found-first, find-same}
+use Rattle.spec_machine.specs.Arguments.{nameOf, Aim, hit, miss, aimBy, aim, Reach, astray, reachBy, reachAt, reach, WorkedOut, stopped, valuesBy, values, agree, agreeBy, agrees, finding, Aims, hits, missed, aimsBy, targets}
 use Rattle.spec_machine.specs.Arguments as args
-use Rattle.spec_machine.specs.Ready.{passes, sendable, receivable, ready}
+use Rattle.spec_machine.specs.Ready.{passes, sendable, finds, receivable, ready}
 use Rattle.spec_machine.specs.Effect.{fault, delivery, deliveries, goOn, expressedBy, assertedBy, assignedBy, steppedBy, sentBy, receivedAt, receivedIf, receivedBy, printedBy, ranBy, setBy, setRunBy, effect, textBy, prints}
 use Rattle.spec_machine.specs.Offers.{elseOf, offers}
-use Rattle.spec_machine.specs.Program.{sizeIn}
+use Rattle.spec_machine.specs.Sizes.{sizeIn}
 use Rattle.base_values.specs.Bits.{wrap32}
 use Rattle.base_outcome.specs.declared.Taken.the-variants.{Refuted}
 use Rattle.agree_transfer.specs.Agrees.{isVariable, storable, Agrees, Leading, Related, takable}
@@ -142,7 +144,7 @@ module _ {S T : Type 0} (R : S → T → Type 0) (P : ℕ → Type 0) (at : Plac
   eval-same tru r h = refl
   eval-same fls r h = refl
   eval-same (get e) r h = eval-same e operand h
-  eval-same (len e) r h = length-same (eval (c .scene) e) ∙ ap (lengthBy (d .scene)) (eval-same e channel h)
+  eval-same (query mk e) r h = length-same (eval (c .scene) e) ∙ ap (lengthBy (d .scene)) (eval-same e channel h)
   eval-same (unary o e) r h = ap (signBy o) (eval-same e operand h)
   eval-same (binary o e f) r h =
       let p = both-true (named (sense at) operand e) (named (sense at) operand f) h in
@@ -329,56 +331,64 @@ module _ {S T : Type 0} (R : S → T → Type 0) (P : ℕ → Type 0) (at : Plac
       go (hit k) (missed f) o os = tt
       go (miss f) z o os = tt
 
-  -- ---- received arguments, against a message of channel v that waits
-  module _ (v : ℤ) (m : c .scene .made v ≡ true) (w : eqb (c .scene .waiting v) 0 ≡ false) where
-    equal-same : (q : Answer) (f : ℕ) → ltb f (c .fields v) ≡ true → equalBy q (c .oldest v f) ≡ equalBy q (d .oldest v f)
-    equal-same q f l = ap (equalBy q) (a .oldest v f m w l)
+  -- ---- received arguments, against two messages that have the same values in their n fields, wherever they lie
+  module _ (n : ℕ) (u w : Message) (same : (f : ℕ) → ltb f n ≡ true → u f ≡ w f) where
+    equal-same : (q : Answer) (f : ℕ) → ltb f n ≡ true → equalBy q (u f) ≡ equalBy q (w f)
+    equal-same q f l = ap (equalBy q) (same f l)
 
-    agree-same : (r : Received) (f : ℕ) → receives at r ≡ true → ltb f (c .fields v) ≡ true → agree c v f r ≡ agree d v f r
+    agree-same : (r : Received) (f : ℕ) → receives at r ≡ true → ltb f n ≡ true → agree c u f r ≡ agree d w f r
     agree-same (into r) f h l =
         let k = into-usable r h in
-        ap₂ (λ b q. pick b q (Value (pos 1))) (k .0 ∙ inv (k .1)) (ap₂ equalBy (lawful-same r received h) (a .oldest v f m w l))
-    agree-same (equal e) f h l = ap₂ equalBy (lawful-same e operand h) (a .oldest v f m w l)
+        ap₂ (λ b q. pick b q (Value (pos 1))) (k .0 ∙ inv (k .1)) (ap₂ equalBy (lawful-same r received h) (same f l))
+    agree-same (equal e) f h l = ap₂ equalBy (lawful-same e operand h) (same f l)
     agree-same (exactly n) f h l = equal-same (Value (pos n)) f l
     agree-same exactly-true f h l = equal-same (Value (pos 1)) f l
     agree-same exactly-false f h l = equal-same (Value (pos 0)) f l
 
-    agrees-same : (rs : List Received) (f : ℕ) → all (receives at) rs ≡ true → c .fields v ≡ f + length rs → agrees c v f rs ≡ agrees d v f rs
+    agrees-same : (rs : List Received) (f : ℕ) → all (receives at) rs ≡ true → n ≡ f + length rs → agrees c u f rs ≡ agrees d w f rs
     unfolding agrees
     agrees-same [] f h l = refl
     agrees-same (r ∷ rs) f h l =
         let p = both-true (receives at r) (all (receives at) rs) h in
-        ap₂ agreeBy (agree-same r f (p .0) (lt-ltb f (c .fields v) (omega (arith, l)))) (agrees-same rs (f + 1) (p .1) (omega (arith, l)))
+        ap₂ agreeBy (agree-same r f (p .0) (lt-ltb f n (omega (arith, l)))) (agrees-same rs (f + 1) (p .1) (omega (arith, l)))
 
     -- the stores of its fields
-    delivery-same : (r : Received) (f k : ℕ) → receives at r ≡ true → ltb f (c .fields v) ≡ true → Ok r k → {p : S} {q : T} → R p q → R (delivery c v f r k p) (delivery d v f r k q)
+    delivery-same : (r : Received) (f k : ℕ) → receives at r ≡ true → ltb f n ≡ true → Ok r k → {p : S} {q : T} → R p q → R (delivery c u f r k p) (delivery d w f r k q)
     delivery-same (into r) f k h l o {p} {q} g = go (isConstant (sense at (nameOf r))) refl
       where
-        n : Name
-        n = nameOf r
-
         b : (c .constant (nameOf r) ≡ isConstant (sense at (nameOf r))) × (d .constant (nameOf r) ≡ isConstant (sense at (nameOf r)))
         b = into-usable r h
 
         go : (t : Bool) → isConstant (sense at (nameOf r)) ≡ t
-            → R (pick (c .constant (nameOf r)) p (c .store (nameOf r) k (c .oldest v f) p)) (pick (d .constant (nameOf r)) q (d .store (nameOf r) k (d .oldest v f) q))
+            → R (pick (c .constant (nameOf r)) p (c .store (nameOf r) k (u f) p)) (pick (d .constant (nameOf r)) q (d .store (nameOf r) k (w f) q))
         go true e = rw (b .0 ∙ e, b .1 ∙ e) g
         go false e =
             rw (b .0 ∙ e, b .1 ∙ e)
-            (subst (λ z. R (c .store (nameOf r) k (c .oldest v f) p) (d .store (nameOf r) k z q)) (a .oldest v f m w l) (a .store g (nameOf r) k (c .oldest v f) (received-named r h e) (o e)))
+            (subst (λ z. R (c .store (nameOf r) k (u f) p) (d .store (nameOf r) k z q)) (same f l) (a .store g (nameOf r) k (u f) (received-named r h e) (o e)))
     delivery-same (equal e) f k h l o g = g
     delivery-same (exactly n) f k h l o g = g
     delivery-same exactly-true f k h l o g = g
     delivery-same exactly-false f k h l o g = g
 
-    deliveries-same : (rs : List Received) (f : ℕ) (ks : List ℕ) → all (receives at) rs ≡ true → c .fields v ≡ f + length rs → AllOk rs ks → {p : S} {q : T} → R p q
-        → R (deliveries c v f rs ks p) (deliveries d v f rs ks q)
+    deliveries-same : (rs : List Received) (f : ℕ) (ks : List ℕ) → all (receives at) rs ≡ true → n ≡ f + length rs → AllOk rs ks → {p : S} {q : T} → R p q
+        → R (deliveries c u f rs ks p) (deliveries d w f rs ks q)
     unfolding deliveries
     deliveries-same [] f ks h l o g = g
     deliveries-same (r ∷ rs) f [] h l o g = g
     deliveries-same (r ∷ rs) f (k ∷ ks) h l o g =
         let p = both-true (receives at r) (all (receives at) rs) h in
-        deliveries-same rs (f + 1) ks (p .1) (omega (arith, l)) (o .1) (delivery-same r f k (p .0) (lt-ltb f (c .fields v) (omega (arith, l))) (o .0) g)
+        deliveries-same rs (f + 1) ks (p .1) (omega (arith, l)) (o .1) (delivery-same r f k (p .0) (lt-ltb f n (omega (arith, l))) (o .0) g)
+
+  -- ---- what a receive finds in a channel
+  -- a message that is found waits
+  found-waits : (v : ℤ) (rs : List Received) (k : ℕ) → finding c v rs ≡ found k → ltb k (c .scene .waiting v) ≡ true
+  found-waits v rs k e = let b = found-first (λ k. agrees c (c .message v k) 0 rs) (min 1 (c .scene .waiting v)) 0 k e .below in lt-ltb k (c .scene .waiting v) (omega arith)
+
+  finding-same : (v : ℤ) (rs : List Received) → c .scene .made v ≡ true → c .fields v ≡ length rs → all (receives at) rs ≡ true → finding c v rs ≡ finding d v rs
+  finding-same v rs m l h =
+      find-same (λ k. agrees c (c .message v k) 0 rs) (λ k. agrees d (d .message v k) 0 rs) (min 1 (c .scene .waiting v)) 0
+      (λ k p q. agrees-same (c .fields v) (c .message v k) (d .message v k) (λ f g. a .message v k f m (lt-ltb k (c .scene .waiting v) (omega arith)) g) rs 0 h (from-0 l))
+      ∙ ap (λ n. findFrom (λ k. agrees d (d .message v k) 0 rs) 0 (min 1 n)) (a .waiting v m)
 
   -- ---- WHAT IS EXECUTABLE
   sendable-same : (n : ℕ) (q : Reach) → Made n q → sendable c q ≡ sendable d q
@@ -386,57 +396,53 @@ module _ {S T : Type 0} (R : S → T → Type 0) (P : ℕ → Type 0) (at : Plac
   sendable-same n (astray f) m = refl
 
   receivable-same : (rs : List Received) (q : Reach) → Made (length rs) q → all (receives at) rs ≡ true → receivable c rs q ≡ receivable d rs q
-  receivable-same rs (args.channel v) m h = go (eqb (c .scene .waiting v) 0) refl
-    where
-      go : (b : Bool) → eqb (c .scene .waiting v) 0 ≡ b → pick b false (passes (agrees c v 0 rs)) ≡ pick (eqb (d .scene .waiting v) 0) false (passes (agrees d v 0 rs))
-      go true e = rw (inv (ap (λ k. eqb k 0) (a .waiting v (m .0))) ∙ e)
-      go false e = rw (inv (ap (λ k. eqb k 0) (a .waiting v (m .0))) ∙ e) (ap passes (agrees-same v (m .0) e rs 0 h (from-0 (m .1))))
+  receivable-same rs (args.channel v) m h = ap finds (finding-same v rs (m .0) (m .1) h)
   receivable-same rs (astray f) m h = refl
 
   pub ready-same : (late loops fst : Bool) (t : Tree action) → allowed at loops fst t ≡ true → ready c late t ≡ ready d late t
   unfolding ready allowed
-  ready-same late loops fst (express e) h = ap passes (lawful-same e operand h)
-  ready-same late loops fst (assign r e) h = refl
-  ready-same late loops fst (increment r) h = refl
-  ready-same late loops fst (decrement r) h = refl
-  ready-same late loops fst (send r es) h =
+  ready-same late loops fst (leaf (express e)) h = ap passes (lawful-same e operand h)
+  ready-same late loops fst (leaf (assign r e)) h = refl
+  ready-same late loops fst (leaf (increment r)) h = refl
+  ready-same late loops fst (leaf (decrement r)) h = refl
+  ready-same late loops fst (leaf (send mk r es)) h =
       let p = both-true (lawful (sense at) channel r) (both (leb (length es) 4) (all (whole (sense at)) es)) h in
       let q = reach-same r (length es) (p .0) in
       sendable-same (length es) (reach c r (length es)) (q .1) ∙ ap (sendable d) (q .0)
-  ready-same late loops fst (receive r rs) h =
+  ready-same late loops fst (leaf (receive mk r rs)) h =
       let p = both-true (lawful (sense at) channel r) (both (leb (length rs) 4) (all (receives at) rs)) h in
       let q = reach-same r (length rs) (p .0) in
       receivable-same rs (reach c r (length rs)) (q .1) (both-true (leb (length rs) 4) (all (receives at) rs) (p .1) .1) ∙ ap (receivable d rs) (q .0)
-  ready-same late loops fst (assert e) h = refl
-  ready-same late loops fst (print w es) h = refl
-  ready-same late loops fst skip h = refl
-  ready-same late loops fst (goto w) h = refl
-  ready-same late loops fst break h = refl
-  ready-same late loops fst timeout h = refl
-  ready-same late loops fst else h = refl
-  ready-same late loops fst (run w es) h = a .room w (length es) (both-true (runs at w (length es)) (all (whole (sense at)) es) h .0)
-  ready-same late loops fst (set-run r w es) h = refl
+  ready-same late loops fst (leaf (assert e)) h = refl
+  ready-same late loops fst (leaf (print w es)) h = refl
+  ready-same late loops fst (leaf skip) h = refl
+  ready-same late loops fst (leaf (goto w)) h = refl
+  ready-same late loops fst (leaf break) h = refl
+  ready-same late loops fst (leaf timeout) h = refl
+  ready-same late loops fst (leaf else) h = refl
+  ready-same late loops fst (leaf (run w es)) h = a .room w (length es) (both-true (runs at w (length es)) (all (whole (sense at)) es) h .0)
+  ready-same late loops fst (leaf (set-run r w es)) h = refl
   ready-same late loops fst (select os) h = refl
   ready-same late loops fst (loop os) h = refl
 
   -- ---- WHAT IS PRINTED
   pub prints-same : (loops fst : Bool) (t : Tree action) → allowed at loops fst t ≡ true → prints c t ≡ prints d t
   unfolding allowed
-  prints-same loops fst (express e) h = refl
-  prints-same loops fst (assign r e) h = refl
-  prints-same loops fst (increment r) h = refl
-  prints-same loops fst (decrement r) h = refl
-  prints-same loops fst (send r es) h = refl
-  prints-same loops fst (receive r rs) h = refl
-  prints-same loops fst (assert e) h = refl
-  prints-same loops fst (print w es) h = ap (textBy w) (values-same es (both-true (formats at w (length es)) (all (whole (sense at)) es) h .1))
-  prints-same loops fst skip h = refl
-  prints-same loops fst (goto w) h = refl
-  prints-same loops fst break h = refl
-  prints-same loops fst timeout h = refl
-  prints-same loops fst else h = refl
-  prints-same loops fst (run w es) h = refl
-  prints-same loops fst (set-run r w es) h = refl
+  prints-same loops fst (leaf (express e)) h = refl
+  prints-same loops fst (leaf (assign r e)) h = refl
+  prints-same loops fst (leaf (increment r)) h = refl
+  prints-same loops fst (leaf (decrement r)) h = refl
+  prints-same loops fst (leaf (send mk r es)) h = refl
+  prints-same loops fst (leaf (receive mk r rs)) h = refl
+  prints-same loops fst (leaf (assert e)) h = refl
+  prints-same loops fst (leaf (print w es)) h = ap (textBy w) (values-same es (both-true (formats at w (length es)) (all (whole (sense at)) es) h .1))
+  prints-same loops fst (leaf skip) h = refl
+  prints-same loops fst (leaf (goto w)) h = refl
+  prints-same loops fst (leaf break) h = refl
+  prints-same loops fst (leaf timeout) h = refl
+  prints-same loops fst (leaf else) h = refl
+  prints-same loops fst (leaf (run w es)) h = refl
+  prints-same loops fst (leaf (set-run r w es)) h = refl
   prints-same loops fst (select os) h = refl
   prints-same loops fst (loop os) h = refl
 
@@ -452,21 +458,7 @@ module _ {S T : Type 0} (R : S → T → Type 0) (P : ℕ → Type 0) (at : Plac
 
   pub offers-same : (late loops fst : Bool) {k : Sort} (t : Tree k) (i : ℕ) → allowed at loops fst t ≡ true → offers (can late) t i ≡ offers (could late) t i
   unfolding offers allowed
-  offers-same late loops fst (express e) i h = one-same late loops fst (express e) i h
-  offers-same late loops fst (assign r e) i h = one-same late loops fst (assign r e) i h
-  offers-same late loops fst (increment r) i h = one-same late loops fst (increment r) i h
-  offers-same late loops fst (decrement r) i h = one-same late loops fst (decrement r) i h
-  offers-same late loops fst (send r es) i h = one-same late loops fst (send r es) i h
-  offers-same late loops fst (receive r rs) i h = one-same late loops fst (receive r rs) i h
-  offers-same late loops fst (assert e) i h = one-same late loops fst (assert e) i h
-  offers-same late loops fst (print w es) i h = one-same late loops fst (print w es) i h
-  offers-same late loops fst skip i h = one-same late loops fst skip i h
-  offers-same late loops fst (goto w) i h = one-same late loops fst (goto w) i h
-  offers-same late loops fst break i h = one-same late loops fst break i h
-  offers-same late loops fst timeout i h = one-same late loops fst timeout i h
-  offers-same late loops fst else i h = one-same late loops fst else i h
-  offers-same late loops fst (run w es) i h = one-same late loops fst (run w es) i h
-  offers-same late loops fst (set-run r w es) i h = one-same late loops fst (set-run r w es) i h
+  offers-same late loops fst (leaf l) i h = one-same late loops fst (leaf l) i h
   offers-same late loops fst (select os) i h = ap (λ (z : List ℕ). orElse z (elseOf os (i + 1))) (offers-same late loops false os (i + 1) (both-true (leb (isElse os) 1) (allowed at loops false os) h .1))
   offers-same late loops fst (loop os) i h = ap (λ (z : List ℕ). orElse z (elseOf os (i + 1))) (offers-same late true false os (i + 1) (both-true (leb (isElse os) 1) (allowed at true false os) h .1))
   offers-same late loops fst (bare t) i h = offers-same late loops fst t i h
@@ -510,29 +502,27 @@ module _ {S T : Type 0} (R : S → T → Type 0) (P : ℕ → Type 0) (at : Plac
     stepped-same w s e (miss f) t = failed f
 
     sent-same : (n : ℕ) (vs : WorkedOut) → Counted n vs → (q : Reach) → Made n q → sendable c q ≡ true → Related R (sentBy c (h .next) x vs q) (sentBy d (h .next) y vs q)
-    sent-same n (args.all vs) k (args.channel v) m e = on (a .put v vs (m .0) e (k ∙ inv (m .1)))
+    sent-same n (args.all vs) k (args.channel v) m e =
+        on (subst (λ n. R (c .put v (c .scene .waiting v) vs x) (d .put v n vs y)) (a .waiting v (m .0)) (a .put v (c .scene .waiting v) vs (m .0) e refl (k ∙ inv (m .1))))
     sent-same n (stopped f) k (args.channel v) m e = failed f
     sent-same n vs k (astray f) m e = failed f
 
     received-same : (rs : List Received) → all (receives at) rs ≡ true → (q : Reach) → Made (length rs) q → receivable c rs q ≡ true
         → Related R (receivedBy c (h .next) x rs q) (receivedBy d (h .next) y rs q)
-    received-same rs g (args.channel v) m e = waits (eqb (c .scene .waiting v) 0) refl e
+    received-same rs g (args.channel v) m e =
+        subst (λ l. Related R (receivedIf c (h .next) x v rs (finding c v rs)) (receivedIf d (h .next) y v rs l)) (finding-same v rs (m .0) (m .1) g) (taken (finding c v rs) refl)
       where
-        aims : (w : eqb (c .scene .waiting v) 0 ≡ false) (z : Aims) → AimsOk rs z → Related R (receivedAt c (h .next) x v rs z) (receivedAt d (h .next) y v rs z)
-        aims w (hits ks) o = on (deliveries-same v (m .0) w rs 0 ks g (from-0 (m .1)) o (a .take v (m .0) w))
-        aims w (missed f) o = failed f
+        aims : (k : ℕ) → ltb k (c .scene .waiting v) ≡ true → (z : Aims) → AimsOk rs z → Related R (receivedAt c (h .next) x v k rs z) (receivedAt d (h .next) y v k rs z)
+        aims k w (hits ks) o =
+            on (deliveries-same (c .fields v) (c .message v k) (d .message v k) (λ f. a .message v k f (m .0) w) rs 0 ks g (from-0 (m .1)) o (a .take v k (m .0) w))
+        aims k w (missed f) o = failed f
 
-        tested : (w : eqb (c .scene .waiting v) 0 ≡ false) (z : Answer) → Related R (receivedIf c (h .next) x v rs z) (receivedIf d (h .next) y v rs z)
-        tested w (Value z) =
-            let k = targets-same rs g in
-            subst (λ l. Related R (receivedAt c (h .next) x v rs (targets c rs)) (receivedAt d (h .next) y v rs l)) (k .0) (aims w (targets c rs) (k .1))
-        tested w (Fails f) = failed f
-
-        waits : (b : Bool) → eqb (c .scene .waiting v) 0 ≡ b → pick b false (passes (agrees c v 0 rs)) ≡ true
-            → Related R (receivedIf c (h .next) x v rs (agrees c v 0 rs)) (receivedIf d (h .next) y v rs (agrees d v 0 rs))
-        waits true w e = absurd (true-false (inv e))
-        waits false w e =
-            subst (λ l. Related R (receivedIf c (h .next) x v rs (agrees c v 0 rs)) (receivedIf d (h .next) y v rs l)) (agrees-same v (m .0) w rs 0 g (from-0 (m .1))) (tested w (agrees c v 0 rs))
+        taken : (z : Finding) → finding c v rs ≡ z → Related R (receivedIf c (h .next) x v rs z) (receivedIf d (h .next) y v rs z)
+        taken (found k) w =
+            let q = targets-same rs g in
+            subst (λ l. Related R (receivedAt c (h .next) x v k rs (targets c rs)) (receivedAt d (h .next) y v k rs l)) (q .0) (aims k (found-waits v rs k w) (targets c rs) (q .1))
+        taken none w = (refl, a .together)
+        taken (spoilt f) w = failed f
     received-same rs g (astray f) m e = failed f
 
     printed-same : (vs : WorkedOut) → Related R (printedBy c (h .next) x vs) (printedBy d (h .next) y vs)
@@ -561,53 +551,53 @@ module _ {S T : Type 0} (R : S → T → Type 0) (P : ℕ → Type 0) (at : Plac
 
     pub effect-same : (t : Tree action) → allowed at loops fst t ≡ true → takable c t ≡ true → Related R (effect c h x t) (effect d h y t)
     unfolding effect allowed ready
-    effect-same (express e) g k =
+    effect-same (leaf (express e)) g k =
         subst (λ z. Related R (expressedBy c (h .next) x (eval (c .scene) e)) (expressedBy d (h .next) y z)) (lawful-same e operand g) (expressed-same (eval (c .scene) e))
-    effect-same (assign r e) g k =
+    effect-same (leaf (assign r e)) g k =
         let p = both-true (lawful (sense at) target r) (whole (sense at) e) g in
         let s = target-named r (p .0) in
         let q = aim-same r target (p .0) s in
         subst (λ z. Related R (assignedBy c (h .next) x (nameOf r) (eval (c .scene) e) (aim (c .scene) r)) (assignedBy d (h .next) y (nameOf r) (eval (d .scene) e) z)) (q .0)
         (subst (λ z. Related R (assignedBy c (h .next) x (nameOf r) (eval (c .scene) e) (aim (c .scene) r)) (assignedBy d (h .next) y (nameOf r) z (aim (c .scene) r))) (lawful-same e operand (p .1))
         (assigned-same (nameOf r) s (eval (c .scene) e) (aim (c .scene) r) (q .1)))
-    effect-same (increment r) g k =
+    effect-same (leaf (increment r)) g k =
         let s = target-named r g in
         let q = aim-same r target g s in
         subst (λ z. Related R (steppedBy c (h .next) x (nameOf r) (pos 1) (aim (c .scene) r)) (steppedBy d (h .next) y (nameOf r) (pos 1) z)) (q .0)
         (stepped-same (nameOf r) s (pos 1) (aim (c .scene) r) (q .1))
-    effect-same (decrement r) g k =
+    effect-same (leaf (decrement r)) g k =
         let s = target-named r g in
         let q = aim-same r target g s in
         subst (λ z. Related R (steppedBy c (h .next) x (nameOf r) (negsuc 0) (aim (c .scene) r)) (steppedBy d (h .next) y (nameOf r) (negsuc 0) z)) (q .0)
         (stepped-same (nameOf r) s (negsuc 0) (aim (c .scene) r) (q .1))
-    effect-same (send r es) g k =
+    effect-same (leaf (send mk r es)) g k =
         let p = both-true (lawful (sense at) channel r) (both (leb (length es) 4) (all (whole (sense at)) es)) g in
         let q = reach-same r (length es) (p .0) in
         subst (λ z. Related R (sentBy c (h .next) x (values (c .scene) es) (reach c r (length es))) (sentBy d (h .next) y (values (d .scene) es) z)) (q .0)
         (subst (λ z. Related R (sentBy c (h .next) x (values (c .scene) es) (reach c r (length es))) (sentBy d (h .next) y z (reach c r (length es))))
         (values-same es (both-true (leb (length es) 4) (all (whole (sense at)) es) (p .1) .1))
         (sent-same (length es) (values (c .scene) es) (values-counted es) (reach c r (length es)) (q .1) k))
-    effect-same (receive r rs) g k =
+    effect-same (leaf (receive mk r rs)) g k =
         let p = both-true (lawful (sense at) channel r) (both (leb (length rs) 4) (all (receives at) rs)) g in
         let q = reach-same r (length rs) (p .0) in
         subst (λ z. Related R (receivedBy c (h .next) x rs (reach c r (length rs))) (receivedBy d (h .next) y rs z)) (q .0)
         (received-same rs (both-true (leb (length rs) 4) (all (receives at) rs) (p .1) .1) (reach c r (length rs)) (q .1) k)
-    effect-same (assert e) g k =
+    effect-same (leaf (assert e)) g k =
         subst (λ z. Related R (assertedBy c (h .next) x (eval (c .scene) e)) (assertedBy d (h .next) y z)) (lawful-same e operand g) (asserted-same (eval (c .scene) e))
-    effect-same (print w es) g k =
+    effect-same (leaf (print w es)) g k =
         subst (λ z. Related R (printedBy c (h .next) x (values (c .scene) es)) (printedBy d (h .next) y z))
         (values-same es (both-true (formats at w (length es)) (all (whole (sense at)) es) g .1)) (printed-same (values (c .scene) es))
-    effect-same skip g k = on (a .together)
-    effect-same (goto w) g k = (refl, a .go (a .together) (h .label w) (way .label w g))
-    effect-same break g k = (refl, a .go (a .together) (h .out) (way .out g))
-    effect-same timeout g k = on (a .together)
-    effect-same else g k = on (a .together)
-    effect-same (run w es) g k =
+    effect-same (leaf skip) g k = on (a .together)
+    effect-same (leaf (goto w)) g k = (refl, a .go (a .together) (h .label w) (way .label w g))
+    effect-same (leaf break) g k = (refl, a .go (a .together) (h .out) (way .out g))
+    effect-same (leaf timeout) g k = on (a .together)
+    effect-same (leaf else) g k = on (a .together)
+    effect-same (leaf (run w es)) g k =
         let p = both-true (runs at w (length es)) (all (whole (sense at)) es) g in
         let z = ran-same w (length es) (p .0) k (values (c .scene) es) (values-counted es) in
         rw (k, inv (a .room w (length es) (p .0)) ∙ k)
         (subst (λ z. Related R (ranBy c (h .next) x w (values (c .scene) es)) (ranBy d (h .next) y w z)) (values-same es (p .1)) z)
-    effect-same (set-run r w es) g k =
+    effect-same (leaf (set-run r w es)) g k =
         let p = both-true (lawful (sense at) target r) (both (runs at w (length es)) (all (whole (sense at)) es)) g in
         let u = both-true (runs at w (length es)) (all (whole (sense at)) es) (p .1) in
         let s = target-named r (p .0) in

@@ -7,9 +7,10 @@ use lib.Dec.{leb}
 use Rattle.base_bytes.specs.Choice.{pick, either}
 use Rattle.base_bytes.specs.Lists.{same}
 use Rattle.base_bytes.proofs.Tests.{true-false, both-true}
-use Rattle.spec_grammar.specs.Tree.{Name, Sort, action, sequence, Tree, express, assign, increment, decrement, send, receive, assert, print, skip, goto, break, timeout, else, run, set-run, select, loop, bare, labelled, end, then, over, option}
+use Rattle.spec_grammar.specs.Tree.{Name, Sort, action, sequence, Tree, leaf, select, loop, bare, labelled, end, then, over, option}
 use Rattle.spec_rules.specs.Statements.{Place, has, labelsOf, isElse, allowed}
-use Rattle.spec_machine.specs.Program.{sizeIn, enter, labelIn, Within, itself, in-if, in-do, unlabelled, behind-label, in-first, in-rest, in-option, in-others}
+use Rattle.spec_machine.specs.Sizes.{sizeIn}
+use Rattle.spec_machine.specs.Program.{enter, labelIn, Within, itself, in-if, in-do, unlabelled, behind-label, in-first, in-rest, in-option, in-others}
 
 module _ (P : ℕ → Type 0) where
   -- each statement of the tree has such a place
@@ -68,21 +69,7 @@ module _ (P : ℕ → Type 0) where
       go false e r = r e
 
   pub label : (w : Name) {k : Sort} (t : Tree k) (i n o d : ℕ) → Inside t i n o → (has (labelsOf t) w ≡ false → P d) → P (labelIn w t i d)
-  label w (express x) i n o d e h = h refl
-  label w (assign r x) i n o d e h = h refl
-  label w (increment r) i n o d e h = h refl
-  label w (decrement r) i n o d e h = h refl
-  label w (send r es) i n o d e h = h refl
-  label w (receive r xs) i n o d e h = h refl
-  label w (assert x) i n o d e h = h refl
-  label w (print v es) i n o d e h = h refl
-  label w skip i n o d e h = h refl
-  label w (goto v) i n o d e h = h refl
-  label w break i n o d e h = h refl
-  label w timeout i n o d e h = h refl
-  label w else i n o d e h = h refl
-  label w (run v es) i n o d e h = h refl
-  label w (set-run r v es) i n o d e h = h refl
+  label w (leaf l) i n o d e h = h refl
   label w (select os) i n o d e h = label w os (i + 1) n o d (λ b x y z v. e b x y z (in-if v)) h
   label w (loop os) i n o d e h = label w os (i + 1) i n d (λ b x y z v. e b x y z (in-do v)) h
   label w (bare a) i n o d e h = label w a i n o d (λ b x y z v. e b x y z (unlabelled v)) h

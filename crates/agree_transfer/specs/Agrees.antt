@@ -8,11 +8,11 @@ use mathlib.Core.Bool.{Bool, true, false}
 use mathlib.Core.List.{List}
 use lib.ListN.{length}
 use lib.IntN.{ℤ}
-use lib.Dec.{eqb, ltb}
+use lib.Dec.{ltb}
 use Rattle.base_bytes.specs.Choice.{pick}
 use Rattle.base_bytes.specs.Lists.{same}
 use Rattle.spec_text.specs.Names.{pid}
-use Rattle.spec_grammar.specs.Tree.{Name, action, Tree, express, assign, increment, decrement, send, receive, assert, print, skip, goto, break, timeout, else, run, set-run, select, loop}
+use Rattle.spec_grammar.specs.Tree.{Name, action, Tree, leaf, express, assign, increment, decrement, send, receive, assert, print, skip, goto, break, timeout, else, run, set-run, select, loop}
 use Rattle.spec_rules.specs.Senses.{Sense, variable, constant, procedure, unknown, isConstant}
 use Rattle.spec_rules.specs.Expressions.{operand, received, usable}
 use Rattle.spec_rules.specs.Statements.{Place, has, sense, runs}
@@ -42,13 +42,15 @@ pub record Agrees {S T : Type 0} (R : S → T → Type 0) (P : ℕ → Type 0) (
   pub constant : (w : Name) (i : Bool) → usable (sense at) received i w ≡ true → (c .constant w ≡ isConstant (sense at w)) × (d .constant w ≡ isConstant (sense at w))
   pub capacity : (v : ℤ) → c .scene .made v ≡ true → c .capacity v ≡ d .capacity v
   pub fields : (v : ℤ) → c .scene .made v ≡ true → c .fields v ≡ d .fields v
-  pub oldest : (v : ℤ) (f : ℕ) → c .scene .made v ≡ true → eqb (c .scene .waiting v) 0 ≡ false → ltb f (c .fields v) ≡ true → c .oldest v f ≡ d .oldest v f
+  pub message : (v : ℤ) (k f : ℕ) → c .scene .made v ≡ true → ltb k (c .scene .waiting v) ≡ true → ltb f (c .fields v) ≡ true → c .message v k f ≡ d .message v k f
   pub room : (w : Name) (n : ℕ) → runs at w n ≡ true → c .room w ≡ d .room w
   pub newest : c .newest ≡ d .newest
   -- ## what is changed
   pub store : {a : S} {b : T} → R a b → (w : Name) (k : ℕ) (v : ℤ) → storable (sense at) w ≡ true → ltb k (c .scene .size w) ≡ true → R (c .store w k v a) (d .store w k v b)
-  pub put : (v : ℤ) (vs : List ℤ) → c .scene .made v ≡ true → ltb (c .scene .waiting v) (c .capacity v) ≡ true → length vs ≡ c .fields v → R (c .put v vs x) (d .put v vs y)
-  pub take : (v : ℤ) → c .scene .made v ≡ true → eqb (c .scene .waiting v) 0 ≡ false → R (c .take v x) (d .take v y)
+  -- behind the others; any that waits
+  pub put : (v : ℤ) (k : ℕ) (vs : List ℤ) → c .scene .made v ≡ true → ltb (c .scene .waiting v) (c .capacity v) ≡ true → k ≡ c .scene .waiting v → length vs ≡ c .fields v
+      → R (c .put v k vs x) (d .put v k vs y)
+  pub take : (v : ℤ) (k : ℕ) → c .scene .made v ≡ true → ltb k (c .scene .waiting v) ≡ true → R (c .take v k x) (d .take v k y)
   pub begin : (w : Name) (vs : List ℤ) → runs at w (length vs) ≡ true → c .room w ≡ true → R (c .begin w vs x) (d .begin w vs y)
   pub go : {a : S} {b : T} → R a b → (n : ℕ) → P n → R (c .go n a) (d .go n b)
 
@@ -65,20 +67,20 @@ Related R a b = (a .0 ≡ b .0) × R (a .1) (b .1)
 
 -- a statement that may be taken: it is executable, or an `else`; `if` and `do` are none
 abbrev pub takable : {S : Type 0} → Stage S → Tree action → Bool
-takable c (express e) = ready c true (express e)
-takable c (assign r e) = true
-takable c (increment r) = true
-takable c (decrement r) = true
-takable c (send r es) = ready c true (send r es)
-takable c (receive r xs) = ready c true (receive r xs)
-takable c (assert e) = true
-takable c (print w es) = true
-takable c skip = true
-takable c (goto w) = true
-takable c break = true
-takable c timeout = true
-takable c else = true
-takable c (run w es) = ready c true (run w es)
-takable c (set-run r w es) = true
+takable c (leaf (express e)) = ready c true (leaf (express e))
+takable c (leaf (assign r e)) = true
+takable c (leaf (increment r)) = true
+takable c (leaf (decrement r)) = true
+takable c (leaf (send mk r es)) = ready c true (leaf (send mk r es))
+takable c (leaf (receive mk r xs)) = ready c true (leaf (receive mk r xs))
+takable c (leaf (assert e)) = true
+takable c (leaf (print w es)) = true
+takable c (leaf skip) = true
+takable c (leaf (goto w)) = true
+takable c (leaf break) = true
+takable c (leaf timeout) = true
+takable c (leaf else) = true
+takable c (leaf (run w es)) = ready c true (leaf (run w es))
+takable c (leaf (set-run r w es)) = true
 takable c (select os) = false
 takable c (loop os) = false

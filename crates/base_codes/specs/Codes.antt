@@ -1,4 +1,4 @@
--- Mechanism, held to the specification by `code-injective` (crate `parse_code`).
+-- Mechanism, held to the specification by `demand2` (crate `demands`), but for the operators' codes from `c-bit-xor` to `c-divide`, to which `codeOf` (specs/Items.antt) counts.
 -- The codes of a tree's items: the one place where they are numbered.
 use Prim.Native.Nat.{ℕ}
 

@@ -1,4 +1,4 @@
--- Mechanism, held to the specification by `code-injective` (crate `parse_code`).
+-- Mechanism, held to the specification by `parse-sound`, `parse-complete` (crate `parse_proof`), `codeOf` by `text-tables` (crate `read_accepts_proof`).
 -- The items of a tree's code (specs/Code.antt of `parse_code`), each with its code; whatever sorts items asks for that.
 use Prim.Native.Nat.{ℕ, _+_}
 use mathlib.Core.List.{List}
@@ -6,10 +6,11 @@ use lib.Dec.{eqb}
 use Rattle.base_bytes.specs.Choice.{pick}
 use Rattle.base_codes.specs.Codes.{c-active, c-active-many, c-argument, c-assert, c-assign, c-body, c-break, c-channel, c-choice, c-constant, c-declared, c-decrement, c-do, c-else, c-end, c-end-body, c-end-option, c-equal, c-express, c-false, c-fi, c-field, c-global, c-goto, c-group, c-if, c-increment, c-index, c-init, c-into, c-label, c-len, c-local, c-message, c-minus, c-mtypes, c-name, c-named, c-negate, c-number, c-od, c-option, c-or-else, c-otherwise, c-parameter, c-plain, c-proctype, c-receive, c-run, c-send, c-set-run, c-size, c-skip, c-target, c-text, c-timeout, c-true, c-value}
 
--- names, strings and numbers hold what their tokens hold, types and operators their kinds; any other item is a mark, which holds its code
+-- names, strings and numbers hold what their tokens hold, types and operators their kinds; any other item is a mark, which holds its code, and the kind of its token too where there may be several
 pub data Item : Type 0 where
   i-name i-text : List ℕ → Item
   i-number i-type i-unary i-binary i-mark : ℕ → Item
+  i-operator : ℕ → ℕ → Item
 
 abbrev pub codeOf : Item → ℕ
 codeOf (i-name w) = c-name
@@ -19,6 +20,7 @@ codeOf (i-type k) = 130 + k
 codeOf (i-unary o) = pick (eqb o 15) c-negate (c-or-else + o)
 codeOf (i-binary o) = 146 + o
 codeOf (i-mark c) = c
+codeOf (i-operator c o) = c
 
 -- ---- the marks
 abbrev pub i-plain : Item
@@ -33,8 +35,8 @@ i-true = i-mark c-true
 abbrev pub i-false : Item
 i-false = i-mark c-false
 
-abbrev pub i-len : Item
-i-len = i-mark c-len
+abbrev pub i-query : ℕ → Item
+i-query o = i-operator c-len o
 
 abbrev pub i-otherwise : Item
 i-otherwise = i-mark c-otherwise
@@ -75,11 +77,11 @@ i-increment = i-mark c-increment
 abbrev pub i-decrement : Item
 i-decrement = i-mark c-decrement
 
-abbrev pub i-send : Item
-i-send = i-mark c-send
+abbrev pub i-send : ℕ → Item
+i-send o = i-operator c-send o
 
-abbrev pub i-receive : Item
-i-receive = i-mark c-receive
+abbrev pub i-receive : ℕ → Item
+i-receive o = i-operator c-receive o
 
 abbrev pub i-assert : Item
 i-assert = i-mark c-assert

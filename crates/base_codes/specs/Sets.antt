@@ -1,4 +1,4 @@
--- Mechanism, held to the specification by `code-injective` (crate `parse_code`).
+-- Mechanism, held to the specification by `demand2` (crate `demands`), but for `rows`, to which proofs/Sets.antt holds the tests.
 -- The sets that items are in: one row for each item (the operators and the types share theirs), and a test for each set. proofs/Sets.antt holds the tests to the rows.
 use Prim.Native.Nat.{ℕ}
 use mathlib.Core.Bool.{Bool, false}

@@ -22,11 +22,11 @@ use Rattle.trail_replay.specs.Replay.{replayedAs}
 use Rattle.trail_replay.specs.Entries.{replayedOf}
 use Rattle.spec_machine.specs.State.{State}
 use Rattle.spec_machine.specs.Begins.{initial}
-use Rattle.spec_machine.specs.Machine.{Machine, Step, offered, verdict, asked}
+use Rattle.spec_machine.specs.Machine.{Machine, Step, offered, advance, verdict, asked}
 use Rattle.spec_trails.specs.Replays.{claimBy, replayFrom}
 use Rattle.spec_trails.specs.Runs.{runFrom}
 use Rattle.spec_machine.specs.Steps.{machineOf}
-use Rattle.agree_machine.proofs.Step.{step-still, step-none, step-some, take-silent}
+use Rattle.agree_machine.proofs.Step.{step-still, step-none, step-some, advance-silent}
 use Rattle.demands.specs.Lent.{Rooms, Tables, of-text, Numbers, Lent, no-room, no-model, no-state, a-state}
 use Rattle.demands.specs.Answers.{standingBy, listedBy, doneBy}
 use Rattle.demands.specs.Entries.{leaves, takenBy, ranBy, formedBy, startBy, offeredBy, verdictBy, steppedBy, stepBy, runBy, replayBy}
@@ -107,11 +107,11 @@ module _ (ts : List ℕ) (s : List ℤ) where
       go (some x) q =
           let N = machineOf (a .tree) in
           let real = tables-genuine ts (a .tree) (of-text t a e) in
-          let after = N .take σ (x .process) (x .place) in
+          let after = advance N σ x in
           ap (λ y. outcomeOf ts y p k out) (h .are) ∙ step-some ts (r .tables) real t a e σ (drop stateRoom s) (h .fits) p k out long x q
-          ∙ as-done (leaves s (a .tree)) σ out (after .0) (after .1) (N .printed σ (x .process) (x .place))
-          (step-still ts (r .tables) real t a e σ (drop stateRoom s) (h .fits) p k x q) (take-silent (a .tree) σ (x .process) (x .place))
-          ∙ ap (λ y. doneBy y out (after .0) (leaves s (a .tree) (after .1)) (N .printed σ (x .process) (x .place))) (inv (h .are))
+          ∙ as-done (leaves s (a .tree)) σ out (after .0) (after .1) (N .printed σ x)
+          (step-still ts (r .tables) real t a e σ (drop stateRoom s) (h .fits) p k x q) (advance-silent (a .tree) σ x)
+          ∙ ap (λ y. doneBy y out (after .0) (leaves s (a .tree) (after .1)) (N .printed σ x)) (inv (h .are))
 
   runs-so : (m : Model) (σ : State) → Rooms ts s → Tables ts m → Numbers m s σ → (n : ℕ) → ranOf ts s n ≡ ranBy s m (runFrom (machineOf m) n σ)
   unfolding leaves

@@ -8,13 +8,14 @@ use lib.ListN.{getD}
 use lib.IntN.{ℤ}
 use borrow.Author.Tests.{eqb-true, eq-eqb}
 use Rattle.spec_grammar.specs.Tree.{Body, body, Model}
-use Rattle.spec_machine.specs.Program.{sizeIn, startIn, endIn, sequenceOf}
+use Rattle.spec_machine.specs.Sizes.{sizeIn}
+use Rattle.spec_machine.specs.Program.{startIn, endIn, sequenceOf}
 use Rattle.spec_machine.specs.State.{State, noProcess}
 use Rattle.spec_machine.specs.Names.{unitAt}
 use Rattle.spec_machine.specs.Begins.{bodyOf}
 use Rattle.spec_machine.specs.Places.{bodyAt, endOf, Belongs, ends, stands}
 use Rattle.spec_machine.specs.Fits.{Fits}
-use Rattle.spec_machine.specs.Machine.{Step, late}
+use Rattle.spec_machine.specs.Machine.{Move, Step, late, advance}
 use Rattle.agree_transfer.specs.Alike.{In, first, behind}
 use Rattle.spec_machine.specs.Steps.{stageOf, stepsBy, stepsOf, endedOf, machineOf}
 use Rattle.spec_machine.specs.Ready.{ready}
@@ -31,24 +32,27 @@ use Rattle.agree_machine.proofs.Entries as entries
 use Rattle.agree_machine.proofs.Step.{step-still}
 use Rattle.demands.specs.Lent.{Rooms, Tables, of-text}
 use Rattle.demands.specs.Walks as walks
-use Rattle.demands.specs.Walks.{Nth, here, later, Offers, asserted, faulty, Walks, fails, goes-on}
+use Rattle.demands.specs.Walks.{Nth, here, later, chosen, Offers, asserted, faulty, Walks, fails, goes-on}
 use Rattle.demands.proofs.Lent.{tables-genuine}
 use Rattle.demands.proofs.Offers.{offers-asked}
-use Rattle.demands.proofs.TextOrder.{Ascends, offers-ascend}
+use Rattle.demands.proofs.TextOrder.{Ascends, offers-ascend, nth-alone}
 use Rattle.demands.proofs.Walks.{Good}
 
-nth-in : {q k : ℕ} {l : List ℕ} → Nth q k l → In q l
+nth-in : {A : Type 0} {y : A} {k : ℕ} {l : List A} → Nth y k l → In y l
 nth-in here = first
 nth-in (later h) = behind (nth-in h)
 
-pub good-step : (ts : List ℕ) (s : List ℤ) (m : Model) → Rooms ts s → Tables ts m → (σ : State) → Fits (Belongs m) m σ → (p k q : ℕ) → Offers (machineOf m) σ p k q
-    → Good (machineOf m) (Fits (Belongs m) m) σ p q
-good-step ts s m r (of-text t a e) σ f p k q h =
-    let x : Step = record { process = p; number = k; place = q } in
+pub good-step : (ts : List ℕ) (s : List ℤ) (m : Model) → Rooms ts s → Tables ts m → (σ : State) → Fits (Belongs m) m σ → (x : Step) → Offers (machineOf m) σ x
+    → Good (machineOf m) (Fits (Belongs m) m) σ x
+unfolding advance
+good-step ts s m r (of-text t a e) σ f x h =
+    let p = x .process in
+    let k = x .number in
+    let l = late (machineOf (a .tree)) σ in
     let real = tables-genuine ts (a .tree) (of-text t a e) in
-    let z = offers-asked (machineOf (a .tree)) σ p k q h in
+    let z = offers-asked (machineOf (a .tree)) σ x h in
     record {
-      busy = text-busy t a [] σ f p (h .there) (late (machineOf (a .tree)) σ) q (nth-in (h .listed));
+      busy = text-busy t a [] σ f p (h .there) l (x .place) (nth-in (nth-alone (stepsOf (a .tree) σ p l) (h .listed)));
       still = step-still ts (r .tables) real t a e σ [] f p k x z;
       kept = entries.keeps ts (r .tables) real t a e σ [] f p k x z;
     }
@@ -72,10 +76,19 @@ nth-number here i e a = omega (arith, a .0)
 nth-number (later n) i e a = omega (arith, a .0, nth-number n _ e (a .1))
 
 module _ (m : Model) (few : (u j : ℕ) → Belongs m u j → j ≤ 8192) (σ : State) (f : Fits (Belongs m) m σ) where
-  step-few : (p k q : ℕ) → Offers (machineOf m) σ p k q → k ≤ 8193
+  step-few : (x : Step) → Offers (machineOf m) σ x → x .number ≤ 8193
   unfolding stepsOf endedOf
-  step-few p k q h = go (f .each p (h .there) .place) (h .listed)
+  step-few x h = go (f .each p (h .there) .place) (nth-alone (stepsOf m σ p l) (h .listed))
     where
+      p : ℕ
+      p = x .process
+
+      k : ℕ
+      k = x .number
+
+      q : ℕ
+      q = x .place
+
       u : ℕ
       u = getD (σ .processes) p noProcess .unit
 
@@ -96,12 +109,12 @@ few-places : (ts : List ℕ) (m : Model) → Tables ts m → (u j : ℕ) → Bel
 few-places ts m (of-text t a e) u j b = text-belongs t a (text-lawful t a) u j b
 
 module _ (ts : List ℕ) (s : List ℤ) (m : Model) (r : Rooms ts s) (h : Tables ts m) where
-  one-small : (σ : State) (x : Recorded) (more : List Recorded) (q : ℕ) → Fits (Belongs m) m σ → Offers (machineOf m) σ (x .process) (x .choice) q → Small more → Small (x ∷ more)
-  one-small σ x more q f o z = one-more x more (omega (arith, f .processes, o .there)) (omega (arith, step-few m (few-places ts m h) σ f (x .process) (x .choice) q o)) z
+  one-small : (σ : State) (x : Recorded) (more : List Recorded) (q : Move) → Fits (Belongs m) m σ → Offers (machineOf m) σ (chosen x q) → Small more → Small (x ∷ more)
+  one-small σ x more q f o z = one-more x more (omega (arith, f .processes, o .there)) (omega (arith, step-few m (few-places ts m h) σ f (chosen x q) o)) z
 
   pub walk-small : {l : List Recorded} {σ : State} {c : Claim} {τ : State} → Fits (Belongs m) m σ → Walks (machineOf m) l σ c τ → Small l
   walk-small f (walks.stands σ) = none
   walk-small f (fails x σ c (asserted q o e)) = one-small σ x [] q f o none
   walk-small f (fails x σ c (faulty q g o e)) = one-small σ x [] q f o none
   walk-small f (goes-on x more σ τ q c u o e w) =
-      one-small σ x more q f o (walk-small (subst (Fits (Belongs m) m) (ap (λ z. z .1) e) (good-step ts s m r h σ f (x .process) (x .choice) q o .kept)) w)
+      one-small σ x more q f o (walk-small (subst (Fits (Belongs m) m) (ap (λ z. z .1) e) (good-step ts s m r h σ f (chosen x q) o .kept)) w)

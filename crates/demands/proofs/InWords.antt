@@ -19,7 +19,7 @@ use Rattle.step_entry.specs.declared.Stepped.the-variants as stepped
 use Rattle.spec_machine.specs.State.{State}
 use Rattle.spec_machine.specs.Places.{Belongs}
 use Rattle.spec_machine.specs.Fits.{Fits}
-use Rattle.spec_machine.specs.Machine.{Step, late, offered, asked}
+use Rattle.spec_machine.specs.Machine.{Move, alone, Step, stepOf, moveOf, late, offered, advance, asked}
 use Rattle.spec_trails.specs.Runs.{runFrom}
 use Rattle.spec_machine.specs.Steps.{machineOf}
 use Rattle.agree_machine.proofs.Busy.{Busy}
@@ -72,12 +72,12 @@ module _ (ts : List ℕ) (s : List ℤ) (m : Model) (σ : State) (h : Holds ts s
       let l = offered (machineOf m) σ in
       let off = demand2 ts s .offered (a-state m σ h) in
       record {
-        exactly = λ p k q. (
-          (λ r. listed-exactly (machineOf m) σ (length l) p k q .0 (r .0, inv (off (r .0)) ∙ r .1)),
-          (λ g. let r = listed-exactly (machineOf m) σ (length l) p k q .1 g in (r .0, off (r .0) ∙ r .1)),
+        exactly = λ x. (
+          (λ r. listed-exactly (machineOf m) σ (length l) x .0 (r .0, inv (off (r .0)) ∙ r .1)),
+          (λ g. let r = listed-exactly (machineOf m) σ (length l) x .1 g in (r .0, off (r .0) ∙ r .1)),
         );
-        in-text = λ p k k′ q q′ a b i. text-order m σ p a b i;
-        in-order = λ n n′ p p′ k k′ q q′ i e f. listed-in-order (machineOf m) σ (length l) n n′ p p′ k k′ q q′ i (inv (off n) ∙ e) (inv (off n′) ∙ f);
+        in-text = text-order m σ;
+        in-order = λ n n′ x y i e f. listed-in-order (machineOf m) σ (length l) n n′ x y i (inv (off n) ∙ e) (inv (off n′) ∙ f);
       }
 
   -- a step with room for its text
@@ -85,17 +85,17 @@ module _ (ts : List ℕ) (s : List ℤ) (m : Model) (σ : State) (h : Holds ts s
     roomy : outcomeOf ts s p k out ≡ takenBy s m σ out (asked (machineOf m) p k (offered (machineOf m) σ))
     roomy = demand2 ts s .step (a-state m σ h) p k out ∙ ap (λ b. pick b (refusedBy 7 s out) (steppedBy (a-state m σ h) p k out)) (le-ltb (length out) printRoom long)
 
-    offered-so : (q : ℕ) (t : Taken) (τ : State) → Offers (machineOf m) σ p k q → machineOf m .take σ p q ≡ (t, τ) → outcomeOf ts s p k out ≡ doneBy s out t (leaves s m τ) (machineOf m .printed σ p q)
-    offered-so q t τ o e =
-        roomy ∙ ap (takenBy s m σ out) (offers-asked (machineOf m) σ p k q o) ∙ ap (λ (r : Taken × State). doneBy s out (r .0) (leaves s m (r .1)) (machineOf m .printed σ p q)) e
+    offered-so : (y : Move) (t : Taken) (τ : State) → Offers (machineOf m) σ (stepOf p k y) → advance (machineOf m) σ (stepOf p k y) ≡ (t, τ)
+        → outcomeOf ts s p k out ≡ doneBy s out t (leaves s m τ) (machineOf m .printed σ (stepOf p k y))
+    offered-so y t τ o e =
+        roomy ∙ ap (takenBy s m σ out) (offers-asked (machineOf m) σ (stepOf p k y) o) ∙ ap (λ (r : Taken × State). doneBy s out (r .0) (leaves s m (r .1)) (machineOf m .printed σ (stepOf p k y))) e
 
-    refused-none : (x : Option Step) → asked (machineOf m) p k (offered (machineOf m) σ) ≡ x → takenBy s m σ out x .answer ≡ stepped.Refused 11 → (q : ℕ) → Offers (machineOf m) σ p k q → ⊥
-    refused-none none e f q o = missing (inv e ∙ offers-asked (machineOf m) σ p k q o)
-    refused-none (some x) e f q o =
+    refused-none : (x : Option Step) → asked (machineOf m) p k (offered (machineOf m) σ) ≡ x → takenBy s m σ out x .answer ≡ stepped.Refused 11 → (y : Move) → Offers (machineOf m) σ (stepOf p k y) → ⊥
+    refused-none none e f y o = missing (inv e ∙ offers-asked (machineOf m) σ (stepOf p k y) o)
+    refused-none (some x) e f y o =
         let r = asked-offers (machineOf m) σ p k x e in
-        let g = good-step ts s m (h .rooms) (h .tables) σ (h .numbers .fits) p k (x .place) (r .2) in
-        go (machineOf m .take σ p (x .place) .0) (leaves s m (machineOf m .take σ p (x .place) .1)) (machineOf m .printed σ p (x .place)) (g .busy)
-        (subst (λ i. doneBy s out (machineOf m .take σ i (x .place) .0) (leaves s m (machineOf m .take σ i (x .place) .1)) (machineOf m .printed σ i (x .place)) .answer ≡ stepped.Refused 11) (r .0) f)
+        let g = good-step ts s m (h .rooms) (h .tables) σ (h .numbers .fits) x (subst (Offers (machineOf m) σ) (inv (r .0)) (r .1)) in
+        go (advance (machineOf m) σ x .0) (leaves s m (advance (machineOf m) σ x .1)) (machineOf m .printed σ x) (g .busy) f
       where
         go : (t : Taken) (l : List ℤ) (text : List ℕ) → Busy t → doneBy s out t l text .answer ≡ stepped.Refused 11 → ⊥
         go Done l text b e = let z : _≡_ {A = ℕ} 0 1 = ap isRefused e in omega arith
@@ -103,9 +103,9 @@ module _ (ts : List ℕ) (s : List ℤ) (m : Model) (σ : State) (h : Holds ts s
         go (Faulted f) l text b e = let z : _≡_ {A = ℕ} 0 1 = ap isRefused e in omega arith
         go Idle l text b e = b
 
-    none-refused : ((q : ℕ) → Offers (machineOf m) σ p k q → ⊥) → (x : Option Step) → asked (machineOf m) p k (offered (machineOf m) σ) ≡ x → takenBy s m σ out x .answer ≡ stepped.Refused 11
+    none-refused : ((y : Move) → Offers (machineOf m) σ (stepOf p k y) → ⊥) → (x : Option Step) → asked (machineOf m) p k (offered (machineOf m) σ) ≡ x → takenBy s m σ out x .answer ≡ stepped.Refused 11
     none-refused n none e = refl
-    none-refused n (some x) e = absurd (n (x .place) (asked-offers (machineOf m) σ p k x e .2))
+    none-refused n (some x) e = absurd (n (moveOf x) (asked-offers (machineOf m) σ p k x e .1))
 
     pub taking : Taking ts s m σ p k out
     taking =
@@ -121,7 +121,7 @@ module _ (ts : List ℕ) (s : List ℤ) (m : Model) (σ : State) (h : Holds ts s
   verdicts =
       let M = machineOf m in
       let v = demand2 ts s .verdict (a-state m σ h) in
-      let R : (p : ℕ) → M .ended σ p ≡ true → M .steps σ (late M σ) p ≡ [] = λ p e. rests m σ (late M σ) p e in
+      let R : (p : ℕ) → M .ended σ p ≡ true → M .steps σ (late M σ) p ≡ [] = λ p e. ap alone (rests m σ (late M σ) p e) in
       record {
         finished = ((λ e. finished-exactly M σ R .0 (inv v ∙ e)), (λ g. v ∙ finished-exactly M σ R .1 g));
         blocked = ((λ e. blocked-exactly M σ R .0 (inv v ∙ e)), (λ g. v ∙ blocked-exactly M σ R .1 g));

@@ -24,7 +24,7 @@ use Rattle.spec_machine.specs.State.{State}
 use Rattle.spec_machine.specs.Begins.{initial}
 use Rattle.spec_machine.specs.Places.{Belongs}
 use Rattle.spec_machine.specs.Fits.{Fits}
-use Rattle.spec_machine.specs.Machine.{Step, offered, asked}
+use Rattle.spec_machine.specs.Machine.{Step, offered, advance, asked}
 use Rattle.spec_trails.specs.Replays.{Claim, claimBy, replayFrom}
 use Rattle.spec_trails.specs.Trails.{Recorded}
 use Rattle.spec_trails.specs.Runs.{runFrom}
@@ -51,8 +51,8 @@ module _ (s : List ℤ) (out : List ℕ) where
   taken-keeps : (m : Model) (σ : State) (o : Option Step) → Keeps s out (takenBy s m σ out o)
   taken-keeps m σ none h = (refl, refl)
   taken-keeps m σ (some x) h =
-      let T = machineOf m .take σ (x .process) (x .place) in
-      done-keeps (T .0) (leaves s m (T .1)) (machineOf m .printed σ (x .process) (x .place)) h
+      let T = advance (machineOf m) σ x in
+      done-keeps (T .0) (leaves s m (T .1)) (machineOf m .printed σ x) h
 
   stepped-keeps : {ts : List ℕ} (x : Lent ts s) (p k : ℕ) → Keeps s out (steppedBy x p k out)
   stepped-keeps (no-room h) p k g = (refl, refl)
@@ -83,7 +83,7 @@ module _ (ts : List ℕ) (s : List ℤ) where
   initial-fits m r (of-text t a e) = entries.initially ts (r .tables) (tables-genuine ts (a .tree) (of-text t a e)) t a e
 
   step-fits : (m : Model) (σ : State) → Rooms ts s → Tables ts m → Fits (Belongs m) m σ → (p k : ℕ) (x : Step) → asked (machineOf m) p k (offered (machineOf m) σ) ≡ some x
-      → Fits (Belongs m) m (machineOf m .take σ (x .process) (x .place) .1)
+      → Fits (Belongs m) m (advance (machineOf m) σ x .1)
   step-fits m σ r (of-text t a e) f p k x q = entries.keeps ts (r .tables) (tables-genuine ts (a .tree) (of-text t a e)) t a e σ [] f p k x q
 
   run-fits : (m : Model) (σ : State) → Rooms ts s → Tables ts m → Fits (Belongs m) m σ → (n : ℕ) → Fits (Belongs m) m (runFrom (machineOf m) n σ .state)
@@ -105,8 +105,8 @@ module _ (ts : List ℕ) (s : List ℤ) where
     taken : (p k : ℕ) (out : List ℕ) (o : Option Step) → asked (machineOf m) p k (offered (machineOf m) σ) ≡ o → LetThrough (takenBy s m σ out o .state)
     taken p k out none e = same
     taken p k out (some x) e =
-        let T = machineOf m .take σ (x .process) (x .place) in
-        done out (T .0) (T .1) (machineOf m .printed σ (x .process) (x .place)) (step-fits m σ (h .rooms) (h .tables) (h .numbers .fits) p k x e)
+        let T = advance (machineOf m) σ x in
+        done out (T .0) (T .1) (machineOf m .printed σ x) (step-fits m σ (h .rooms) (h .tables) (h .numbers .fits) p k x e)
 
     roomy : (out : List ℕ) (b : Bool) (o : Outcome) → LetThrough (o .state) → LetThrough (pick b (refusedBy 7 s out) o .state)
     roomy out true o g = same

@@ -9,3 +9,5 @@ pub mod Good
 pub mod Leaves
 pub mod InWords
 pub mod Trails
+pub mod Alike
+pub mod Demand3

@@ -1,57 +1,38 @@
 -- THE STEPS OF A PROCESS ARE IN TEXT ORDER: of what a statement offers, each place lies behind the one before.
 use Prim.Native.Nat.{ℕ, suc, _+_, _≤_, _<_}
 use native.Mathlib.Omega.{arith}
-use mathlib.Core.Path.{_≡_, refl, ap}
+use mathlib.Core.Path.{_≡_, refl, sym as inv, ap, subst}
 use mathlib.Core.Bool.{Bool, true, false}
 use mathlib.Core.List.{List, [], _∷_, _++_}
-use lib.ListN.{length, getD, length-append}
+use lib.ListN.{length, getD}
 use Rattle.base_bytes.specs.Choice.{pick}
 use Rattle.base_bytes.specs.Lists.{orElse}
-use Rattle.spec_grammar.specs.Tree.{Model, Sort, action, sequence, options, Tree, express, assign, increment, decrement, send, receive, assert, print, skip, goto, break, timeout, else, run, set-run, select, loop, bare, labelled, end, then, over, option}
-use Rattle.base_codes.specs.Items.{Item, i-assert, i-assign, i-decrement, i-end, i-end-option, i-express, i-fi, i-increment, i-name, i-od, i-receive, i-send, i-set-run, i-target}
-use Rattle.parse_code.specs.Code.{each, code-exp, code-argument, code-received, code-tree}
-use Rattle.spec_machine.specs.Program.{sizeIn}
-use Rattle.spec_machine.specs.Offers.{elseOf, itself, offers}
+use Rattle.spec_grammar.specs.Tree.{Model, Sort, action, options, Tree, leaf, select, loop, bare, labelled, end, then, over, option, is-else}
+use Rattle.spec_machine.specs.Sizes.{sizeIn}
+use Rattle.agree_sizes.proofs.Sizes.{some-place}
+use Rattle.spec_machine.specs.Offers.{elseOf, offers}
 use Rattle.spec_machine.specs.Ready.{ready}
 use Rattle.spec_machine.specs.State.{State, noProcess}
-use Rattle.spec_machine.specs.Machine.{late}
+use Rattle.spec_machine.specs.Machine.{Move, alone as moves, Step, moveOf, late}
 use Rattle.spec_machine.specs.Steps.{Found, nothing, found, stageOf, standing, stepsBy, stepsOf, machineOf}
-use Rattle.demands.specs.Walks.{Nth, here, later as further, Offers}
-use Rattle.agree_transfer.proofs.Statements.{long-then}
+use Rattle.demands.specs.Walks.{Nth, here, later, Offers}
 
 -- all places lie from i on and before e, each behind the one before
 abbrev pub Ascends : ℕ → List ℕ → ℕ → Type 0
 Ascends i [] e = i ≤ e
 Ascends i (q ∷ l) e = (i ≤ q) × Ascends (suc q) l e
 
-later : (i j : ℕ) (l : List ℕ) (e : ℕ) → i ≤ j → Ascends j l e → Ascends i l e
-later i j [] e h a = omega arith
-later i j (q ∷ l) e h a = (omega (arith, a .0), a .1)
-
-wider : (i : ℕ) (l : List ℕ) (e f : ℕ) → e ≤ f → Ascends i l e → Ascends i l f
-wider i [] e f h a = omega arith
-wider i (q ∷ l) e f h a = (a .0, wider (suc q) l e f h (a .1))
+spans : (i j : ℕ) (l : List ℕ) (e f : ℕ) → i ≤ j → e ≤ f → Ascends j l e → Ascends i l f
+spans i j [] e f h g a = omega arith
+spans i j (q ∷ l) e f h g a = (omega (arith, a .0), spans (suc q) (suc q) l e f (omega arith) g (a .1))
 
 joined : (i : ℕ) (l : List ℕ) (e : ℕ) (k : List ℕ) (f : ℕ) → Ascends i l e → Ascends e k f → Ascends i (l ++ k) f
-joined i [] e k f a b = later i e k f a b
+joined i [] e k f a b = spans i e k f f a (omega arith) b
 joined i (q ∷ l) e k f a b = (a .0, joined (suc q) l e k f (a .1) b)
 
 either : (i : ℕ) (l k : List ℕ) (e : ℕ) → Ascends i l e → Ascends i k e → Ascends i (orElse l k) e
 either i [] k e a b = b
 either i (q ∷ l) k e a b = a
-
--- ---- sizes
-behind : (l : List Item) (x : Item) (k : List Item) → 1 ≤ length (l ++ x ∷ k)
-behind l x k = omega (arith, length-append l (x ∷ k))
-
-size-option : (q : Tree sequence) (os : Tree options) → sizeIn (option q os) ≡ 2 + sizeIn q + sizeIn os
-size-option q os = omega (arith, length-append (code-tree q) (i-end-option ∷ code-tree os))
-
-size-select : (os : Tree options) → sizeIn (select os) ≡ 2 + sizeIn os
-size-select os = omega (arith, length-append (code-tree os) (i-fi ∷ []))
-
-size-loop : (os : Tree options) → sizeIn (loop os) ≡ 2 + sizeIn os
-size-loop os = omega (arith, length-append (code-tree os) (i-od ∷ []))
 
 -- ---- a statement of its own
 one : (b : Bool) (i n : ℕ) → 1 ≤ n → Ascends i (pick b (i ∷ []) []) (i + n)
@@ -63,93 +44,66 @@ none-there : (i n : ℕ) → Ascends i [] (i + n)
 none-there i n = omega arith
 
 elses-ascend : {k : Sort} (t : Tree k) (i : ℕ) → Ascends i (elseOf t i) (i + sizeIn t)
-elses-ascend (express e) i = none-there i (sizeIn (express e))
-elses-ascend (assign r e) i = none-there i (sizeIn (assign r e))
-elses-ascend (increment r) i = none-there i (sizeIn (increment r))
-elses-ascend (decrement r) i = none-there i (sizeIn (decrement r))
-elses-ascend (send r es) i = none-there i (sizeIn (send r es))
-elses-ascend (receive r xs) i = none-there i (sizeIn (receive r xs))
-elses-ascend (assert e) i = none-there i (sizeIn (assert e))
-elses-ascend (print w es) i = none-there i (sizeIn (print w es))
-elses-ascend skip i = none-there i 1
-elses-ascend (goto w) i = none-there i 2
-elses-ascend break i = none-there i 1
-elses-ascend timeout i = none-there i 1
-elses-ascend else i = one true i 1 (omega arith)
-elses-ascend (run w es) i = none-there i (sizeIn (run w es))
-elses-ascend (set-run r w es) i = none-there i (sizeIn (set-run r w es))
+elses-ascend (leaf l) i = one (is-else l) i (sizeIn (leaf l)) (some-place (leaf l))
 elses-ascend (select os) i = none-there i (sizeIn (select os))
 elses-ascend (loop os) i = none-there i (sizeIn (loop os))
 elses-ascend (bare a) i = elses-ascend a i
-elses-ascend (labelled w a) i = wider i (elseOf a (i + 2)) (i + 2 + sizeIn a) (i + sizeIn (labelled w a)) (omega arith) (later i (i + 2) (elseOf a (i + 2)) (i + 2 + sizeIn a) (omega arith) (elses-ascend a (i + 2)))
+elses-ascend (labelled w a) i = spans i (i + 2) (elseOf a (i + 2)) (i + 2 + sizeIn a) (i + sizeIn (labelled w a)) (omega arith) (omega arith) (elses-ascend a (i + 2))
 elses-ascend end i = none-there i 0
-elses-ascend (then s q) i = wider i (elseOf s i) (i + sizeIn s) (i + sizeIn (then s q)) (omega (arith, long-then s q)) (elses-ascend s i)
+elses-ascend (then s q) i = spans i i (elseOf s i) (i + sizeIn s) (i + sizeIn (then s q)) (omega arith) (omega arith) (elses-ascend s i)
 elses-ascend over i = none-there i 0
 elses-ascend (option q os) i =
-    joined i (elseOf q (i + 1)) (i + 2 + sizeIn q) (elseOf os (i + 2 + sizeIn q)) (i + sizeIn (option q os))
-    (wider i (elseOf q (i + 1)) (i + 1 + sizeIn q) (i + 2 + sizeIn q) (omega arith) (later i (i + 1) (elseOf q (i + 1)) (i + 1 + sizeIn q) (omega arith) (elses-ascend q (i + 1))))
-    (wider (i + 2 + sizeIn q) (elseOf os (i + 2 + sizeIn q)) (i + 2 + sizeIn q + sizeIn os) (i + sizeIn (option q os)) (omega (arith, size-option q os)) (elses-ascend os (i + 2 + sizeIn q)))
+    let j = i + 2 + sizeIn q in
+    joined i (elseOf q (i + 1)) j (elseOf os j) (i + sizeIn (option q os)) (spans i (i + 1) (elseOf q (i + 1)) (i + 1 + sizeIn q) j (omega arith) (omega arith) (elses-ascend q (i + 1)))
+    (spans j j (elseOf os j) (j + sizeIn os) (i + sizeIn (option q os)) (omega arith) (omega arith) (elses-ascend os j))
 
 module _ (can : Tree action → ℕ → Bool) where
-  alone : (a : Tree action) (i : ℕ) → 1 ≤ sizeIn a → Ascends i (itself can a i) (i + sizeIn a)
-  alone a i h = one (can a i) i (sizeIn a) h
-
-  -- what stands inside a selection, whose items begin one behind its own and end one before
-  inside : (l : List ℕ) (i n m : ℕ) → m ≡ 2 + n → Ascends (i + 1) l (i + 1 + n) → Ascends i l (i + m)
-  inside l i n m e a = wider i l (i + 1 + n) (i + m) (omega (arith, e)) (later i (i + 1) l (i + 1 + n) (omega arith) a)
+  -- what stands inside a selection, whose numbers begin one behind its own and end one before
+  inside : (os : Tree options) (i : ℕ) → Ascends (i + 1) (offers can os (i + 1)) (i + 1 + sizeIn os) → Ascends i (orElse (offers can os (i + 1)) (elseOf os (i + 1))) (i + (sizeIn os + 2))
+  inside os i a =
+      let l = offers can os (i + 1) in
+      let k = elseOf os (i + 1) in
+      spans i (i + 1) (orElse l k) (i + 1 + sizeIn os) (i + (sizeIn os + 2)) (omega arith) (omega arith) (either (i + 1) l k (i + 1 + sizeIn os) a (elses-ascend os (i + 1)))
 
   pub offers-ascend : {k : Sort} (t : Tree k) (i : ℕ) → Ascends i (offers can t i) (i + sizeIn t)
   unfolding offers
-  offers-ascend (express e) i = alone (express e) i (behind (code-exp e) i-express [])
-  offers-ascend (assign r e) i = alone (assign r e) i (behind (code-exp r ++ i-target ∷ code-exp e) i-assign [])
-  offers-ascend (increment r) i = alone (increment r) i (behind (code-exp r) i-increment [])
-  offers-ascend (decrement r) i = alone (decrement r) i (behind (code-exp r) i-decrement [])
-  offers-ascend (send r es) i = alone (send r es) i (behind (code-exp r ++ i-send ∷ each code-argument es) i-end [])
-  offers-ascend (receive r xs) i = alone (receive r xs) i (behind (code-exp r ++ i-receive ∷ each code-received xs) i-end [])
-  offers-ascend (assert e) i = alone (assert e) i (behind (code-exp e) i-assert [])
-  offers-ascend (print w es) i = alone (print w es) i (omega arith)
-  offers-ascend skip i = alone skip i (omega arith)
-  offers-ascend (goto w) i = alone (goto w) i (omega arith)
-  offers-ascend break i = alone break i (omega arith)
-  offers-ascend timeout i = alone timeout i (omega arith)
-  offers-ascend else i = alone else i (omega arith)
-  offers-ascend (run w es) i = alone (run w es) i (omega arith)
-  offers-ascend (set-run r w es) i = alone (set-run r w es) i (behind (code-exp r ++ i-target ∷ i-name w ∷ i-set-run ∷ each code-argument es) i-end [])
-  offers-ascend (select os) i =
-      inside (orElse (offers can os (i + 1)) (elseOf os (i + 1))) i (sizeIn os) (sizeIn (select os)) (size-select os)
-      (either (i + 1) (offers can os (i + 1)) (elseOf os (i + 1)) (i + 1 + sizeIn os) (offers-ascend os (i + 1)) (elses-ascend os (i + 1)))
-  offers-ascend (loop os) i =
-      inside (orElse (offers can os (i + 1)) (elseOf os (i + 1))) i (sizeIn os) (sizeIn (loop os)) (size-loop os)
-      (either (i + 1) (offers can os (i + 1)) (elseOf os (i + 1)) (i + 1 + sizeIn os) (offers-ascend os (i + 1)) (elses-ascend os (i + 1)))
+  offers-ascend (leaf l) i = one (can (leaf l) i) i (sizeIn (leaf l)) (some-place (leaf l))
+  offers-ascend (select os) i = inside os i (offers-ascend os (i + 1))
+  offers-ascend (loop os) i = inside os i (offers-ascend os (i + 1))
   offers-ascend (bare a) i = offers-ascend a i
-  offers-ascend (labelled w a) i =
-      wider i (offers can a (i + 2)) (i + 2 + sizeIn a) (i + sizeIn (labelled w a)) (omega arith) (later i (i + 2) (offers can a (i + 2)) (i + 2 + sizeIn a) (omega arith) (offers-ascend a (i + 2)))
+  offers-ascend (labelled w a) i = spans i (i + 2) (offers can a (i + 2)) (i + 2 + sizeIn a) (i + sizeIn (labelled w a)) (omega arith) (omega arith) (offers-ascend a (i + 2))
   offers-ascend end i = none-there i 0
-  offers-ascend (then s q) i = wider i (offers can s i) (i + sizeIn s) (i + sizeIn (then s q)) (omega (arith, long-then s q)) (offers-ascend s i)
+  offers-ascend (then s q) i = spans i i (offers can s i) (i + sizeIn s) (i + sizeIn (then s q)) (omega arith) (omega arith) (offers-ascend s i)
   offers-ascend over i = none-there i 0
   offers-ascend (option q os) i =
-      joined i (offers can q (i + 1)) (i + 2 + sizeIn q) (offers can os (i + 2 + sizeIn q)) (i + sizeIn (option q os))
-      (wider i (offers can q (i + 1)) (i + 1 + sizeIn q) (i + 2 + sizeIn q) (omega arith) (later i (i + 1) (offers can q (i + 1)) (i + 1 + sizeIn q) (omega arith) (offers-ascend q (i + 1))))
-      (wider (i + 2 + sizeIn q) (offers can os (i + 2 + sizeIn q)) (i + 2 + sizeIn q + sizeIn os) (i + sizeIn (option q os)) (omega (arith, size-option q os)) (offers-ascend os (i + 2 + sizeIn q)))
+      let j = i + 2 + sizeIn q in
+      joined i (offers can q (i + 1)) j (offers can os j) (i + sizeIn (option q os)) (spans i (i + 1) (offers can q (i + 1)) (i + 1 + sizeIn q) j (omega arith) (omega arith) (offers-ascend q (i + 1)))
+      (spans j j (offers can os j) (j + sizeIn os) (i + sizeIn (option q os)) (omega arith) (omega arith) (offers-ascend os j))
 
 -- ---- the steps of a process
 nth-from : {q k : ℕ} {l : List ℕ} → Nth q k l → (i e : ℕ) → Ascends i l e → i ≤ q
 nth-from here i e a = a .0
-nth-from (further n) i e a = omega (arith, a .0, nth-from n _ e (a .1))
+nth-from (later n) i e a = omega (arith, a .0, nth-from n _ e (a .1))
 
 one-at-least : {q k : ℕ} {l : List ℕ} → Nth q k l → 1 ≤ k
 one-at-least here = omega arith
-one-at-least (further n) = omega arith
+one-at-least (later n) = omega arith
 
 nth-ascends : {q q′ k k′ : ℕ} {l : List ℕ} → Nth q k l → Nth q′ k′ l → (i e : ℕ) → Ascends i l e → k < k′ → q < q′
 nth-ascends here here i e a h = absurd (omega arith)
-nth-ascends here (further n) i e a h = nth-from n _ e (a .1)
-nth-ascends (further m) here i e a h = absurd (omega (arith, one-at-least m))
-nth-ascends (further m) (further n) i e a h = nth-ascends m n _ e (a .1) (omega arith)
+nth-ascends here (later n) i e a h = nth-from n _ e (a .1)
+nth-ascends (later m) here i e a h = absurd (omega (arith, one-at-least m))
+nth-ascends (later m) (later n) i e a h = nth-ascends m n _ e (a .1) (omega arith)
 
-nth-none : {q k : ℕ} {l : List ℕ} → Nth q k l → l ≡ [] → ⊥
+nth-none : {A : Type 0} {y : A} {k : ℕ} {l : List A} → Nth y k l → l ≡ [] → ⊥
 nth-none {l = z ∷ l} here e = let n : suc (length l) ≡ 0 = ap length e in omega arith
-nth-none {l = z ∷ l} (further h) e = let n : suc (length l) ≡ 0 = ap length e in omega arith
+nth-none {l = z ∷ l} (later h) e = let n : suc (length l) ≡ 0 = ap length e in omega arith
+
+-- the k-th of moves at places is at the k-th place
+pub nth-alone : {y : Move} {k : ℕ} (l : List ℕ) → Nth y k (moves l) → Nth (y .place) k l
+nth-alone [] n = absurd (nth-none n refl)
+nth-alone (q ∷ l) here = here
+nth-alone (q ∷ l) (later n) = later (nth-alone l n)
 
 module _ (m : Model) (σ : State) (p : ℕ) where
   by-found : (l : Bool) (j : ℕ) (f : Found) {q q′ k k′ : ℕ} → Nth q k (stepsBy m σ p l j f) → Nth q′ k′ (stepsBy m σ p l j f) → k < k′ → q < q′
@@ -157,6 +111,12 @@ module _ (m : Model) (σ : State) (p : ℕ) where
   by-found l j (found a x o) n n′ h = nth-ascends n n′ j (j + sizeIn a) (offers-ascend (λ y i. ready (stageOf m σ p) l y) a j) h
 
   -- "then text order": of two steps of a process, the one with the higher number stands behind the other
-  pub text-order : {q q′ k k′ : ℕ} → Offers (machineOf m) σ p k q → Offers (machineOf m) σ p k′ q′ → k < k′ → q < q′
+  text-order-of : {y z : Move} {k k′ : ℕ} → Nth y k (moves (stepsOf m σ p (late (machineOf m) σ))) → Nth z k′ (moves (stepsOf m σ p (late (machineOf m) σ))) → k < k′ → y .place < z .place
   unfolding stepsOf
-  text-order a b h = by-found (late (machineOf m) σ) (getD (σ .processes) p noProcess .place) (standing m σ p (getD (σ .processes) p noProcess .place)) (a .listed) (b .listed) h
+  text-order-of a b h =
+      let l = stepsOf m σ p (late (machineOf m) σ) in
+      by-found (late (machineOf m) σ) (getD (σ .processes) p noProcess .place) (standing m σ p (getD (σ .processes) p noProcess .place)) (nth-alone l a) (nth-alone l b) h
+
+pub text-order : (m : Model) (σ : State) (x y : Step) → Offers (machineOf m) σ x → Offers (machineOf m) σ y → x .process ≡ y .process → x .number < y .number → x .place < y .place
+text-order m σ x y a b e h =
+    text-order-of m σ (x .process) (a .listed) (subst (λ p. Nth (moveOf y) (y .number) (moves (stepsOf m σ p (late (machineOf m) σ)))) (inv e) (b .listed)) h

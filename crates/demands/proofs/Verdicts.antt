@@ -23,7 +23,7 @@ rank standing.Blocked = 2
 rank standing.Open = 3
 rank (standing.Refused x) = 4
 
-none-nth : {q k : ℕ} {l : List ℕ} → Nth q k l → l ≡ [] → ⊥
+none-nth : {A : Type 0} {y : A} {k : ℕ} {l : List A} → Nth y k l → l ≡ [] → ⊥
 none-nth (here {l = l}) e = let n : suc (length l) ≡ 0 = ap length e in omega arith
 none-nth (later {l = l} h) e = let n : suc (length l) ≡ 0 = ap length e in omega arith
 
@@ -66,8 +66,8 @@ module _ {S : Type 0} (M : Machine S) (s : S) (rests : (p : ℕ) → M .ended s 
   unfolding verdict
   judged b l e f = ap (λ c. standingBy (verdictBy M c (offered M s))) e ∙ ap (λ k. standingBy (verdictBy M b k)) f
 
-  none-offered : allEnded ≡ true → (p k q : ℕ) → Offers M s p k q → ⊥
-  none-offered e p k q h = let l = h .there in none-nth (h .listed) (rests p (ended-all 0 (M .processes s) e p (omega arith) (omega arith)))
+  none-offered : allEnded ≡ true → (x : Step) → Offers M s x → ⊥
+  none-offered e x h = let l = h .there in none-nth (h .listed) (rests (x .process) (ended-all 0 (M .processes s) e (x .process) (omega arith) (omega arith)))
 
   -- a case of the verdict, and what it means
   pub finished-exactly : standingBy (verdict M s) ≡ standing.Finished ↔ ((p : ℕ) → p < M .processes s → M .ended s p ≡ true)
@@ -82,32 +82,32 @@ module _ {S : Type 0} (M : Machine S) (s : S) (rests : (p : ℕ) → M .ended s 
       go false (x ∷ l) u v e p h = absurd (let z : _≡_ {A = ℕ} 3 1 = ap rank (inv (judged false (x ∷ l) u v) ∙ e) in omega arith)
 
   abbrev pub Blocked : Type 0
-  Blocked = ((p k q : ℕ) → Offers M s p k q → ⊥) × ((p : ℕ) × (p < M .processes s) × (M .ended s p ≡ false))
+  Blocked = ((x : Step) → Offers M s x → ⊥) × ((p : ℕ) × (p < M .processes s) × (M .ended s p ≡ false))
 
   pub blocked-exactly : standingBy (verdict M s) ≡ standing.Blocked ↔ Blocked
   blocked-exactly = ((λ e. go allEnded (offered M s) refl refl e), (λ h. back h allEnded (offered M s) refl refl))
     where
       go : (b : Bool) (l : List Step) → endedFrom M s 0 (M .processes s) ≡ b → offered M s ≡ l → standingBy (verdict M s) ≡ standing.Blocked
-          → ((p k q : ℕ) → Offers M s p k q → ⊥) × ((p : ℕ) × (p < M .processes s) × (M .ended s p ≡ false))
+          → ((x : Step) → Offers M s x → ⊥) × ((p : ℕ) × (p < M .processes s) × (M .ended s p ≡ false))
       go true l u v e = absurd (let z : _≡_ {A = ℕ} 1 2 = ap rank (inv (judged true l u v) ∙ e) in omega arith)
       go false [] u v e = let r = some-unended 0 (M .processes s) u in let h = r .most in (none-listed M s v, (r .process, omega arith, r .not))
       go false (x ∷ l) u v e = absurd (let z : _≡_ {A = ℕ} 3 2 = ap rank (inv (judged false (x ∷ l) u v) ∙ e) in omega arith)
 
-      back : ((p k q : ℕ) → Offers M s p k q → ⊥) × ((p : ℕ) × (p < M .processes s) × (M .ended s p ≡ false)) → (b : Bool) (l : List Step) → endedFrom M s 0 (M .processes s) ≡ b → offered M s ≡ l
+      back : ((x : Step) → Offers M s x → ⊥) × ((p : ℕ) × (p < M .processes s) × (M .ended s p ≡ false)) → (b : Bool) (l : List Step) → endedFrom M s 0 (M .processes s) ≡ b → offered M s ≡ l
           → standingBy (verdict M s) ≡ standing.Blocked
       back h true l u v = let i = h .1 .1 in absurd (true-false (inv (ended-all 0 (M .processes s) u (h .1 .0) (omega arith) (omega arith)) ∙ h .1 .2))
       back h false [] u v = judged false [] u v
-      back h false (x ∷ l) u v = absurd (h .0 (x .process) (x .number) (x .place) (first-offers M s x l v))
+      back h false (x ∷ l) u v = absurd (h .0 x (first-offers M s x l v))
 
-  pub opened-exactly : standingBy (verdict M s) ≡ standing.Open ↔ (p : ℕ) × (k : ℕ) × (q : ℕ) × Offers M s p k q
+  pub opened-exactly : standingBy (verdict M s) ≡ standing.Open ↔ (x : Step) × Offers M s x
   opened-exactly = ((λ e. go allEnded (offered M s) refl refl e), (λ h. back h allEnded (offered M s) refl refl))
     where
-      go : (b : Bool) (l : List Step) → endedFrom M s 0 (M .processes s) ≡ b → offered M s ≡ l → standingBy (verdict M s) ≡ standing.Open → (p : ℕ) × (k : ℕ) × (q : ℕ) × Offers M s p k q
+      go : (b : Bool) (l : List Step) → endedFrom M s 0 (M .processes s) ≡ b → offered M s ≡ l → standingBy (verdict M s) ≡ standing.Open → (x : Step) × Offers M s x
       go true l u v e = absurd (let z : _≡_ {A = ℕ} 1 3 = ap rank (inv (judged true l u v) ∙ e) in omega arith)
       go false [] u v e = absurd (let z : _≡_ {A = ℕ} 2 3 = ap rank (inv (judged false [] u v) ∙ e) in omega arith)
-      go false (x ∷ l) u v e = (x .process, x .number, x .place, first-offers M s x l v)
+      go false (x ∷ l) u v e = (x, first-offers M s x l v)
 
-      back : (p : ℕ) × (k : ℕ) × (q : ℕ) × Offers M s p k q → (b : Bool) (l : List Step) → endedFrom M s 0 (M .processes s) ≡ b → offered M s ≡ l → standingBy (verdict M s) ≡ standing.Open
-      back h true l u v = absurd (none-offered u (h .0) (h .1) (h .2) (h .3))
-      back h false [] u v = absurd (none-listed M s v (h .0) (h .1) (h .2) (h .3))
+      back : (x : Step) × Offers M s x → (b : Bool) (l : List Step) → endedFrom M s 0 (M .processes s) ≡ b → offered M s ≡ l → standingBy (verdict M s) ≡ standing.Open
+      back h true l u v = absurd (none-offered u (h .0) (h .1))
+      back h false [] u v = absurd (none-listed M s v (h .0) (h .1))
       back h false (x ∷ l) u v = judged false (x ∷ l) u v

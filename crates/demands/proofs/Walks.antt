@@ -13,20 +13,20 @@ use Rattle.base_bytes.proofs.Tests.{true-false}
 use Rattle.base_outcome.specs.declared.Taken.{Taken}
 use Rattle.base_outcome.specs.declared.Taken.the-variants.{Done, Refuted, Faulted, Idle}
 use Rattle.spec_machine.specs.Effect.{Outcome}
-use Rattle.spec_machine.specs.Machine.{Machine, Step, offered, verdict, asked}
+use Rattle.spec_machine.specs.Machine.{Move, Machine, Step, moveOf, offered, advance, verdict, asked}
 use Rattle.spec_trails.specs.Runs.{Ending, refuted, faulted, Ran, oneMore, still, firstTaken, runBy, runFrom}
 use Rattle.spec_trails.specs.Replays.{Claim, assertion, fault, standing, claimed, claimBy, Replayed, accepted, refused, judged, followed, recorded, replayFrom}
 use Rattle.spec_trails.specs.Trails.{Recorded}
 use Rattle.step_take.proofs.Still.{Still}
 use Rattle.agree_machine.proofs.Busy.{Busy}
 use Rattle.trail_form.proofs.Exact.{claim-back}
-use Rattle.demands.specs.Walks.{Offers, Runs, limit-met, none-offered, assertion-failed, at-fault, one-more, Fails, asserted, faulty, Walks, stands, fails, goes-on, Stops, not-offered, after-failure, other-verdict, later}
+use Rattle.demands.specs.Walks.{chosen, Offers, Runs, limit-met, none-offered, assertion-failed, at-fault, one-more, Fails, asserted, faulty, Walks, stands, fails, goes-on, Stops, not-offered, after-failure, other-verdict, later}
 use Rattle.demands.proofs.Offers.{asked-offers, offers-asked, first-offers}
 
-pub record Good {S : Type 0} (M : Machine S) (I : S → Type 0) (s : S) (p q : ℕ) : Type 0 where
-  pub busy : Busy (M .take s p q .0)
-  pub still : Still s (M .take s p q .0) (M .take s p q .1)
-  pub kept : I (M .take s p q .1)
+pub record Good {S : Type 0} (M : Machine S) (I : S → Type 0) (s : S) (x : Step) : Type 0 where
+  pub busy : Busy (advance M s x .0)
+  pub still : Still s (advance M s x .0) (advance M s x .1)
+  pub kept : I (advance M s x .1)
 
 -- ---- claims
 one-claim : (c d : Claim) → eqb (claimed c) (claimed d) ≡ true → c ≡ d
@@ -59,10 +59,10 @@ module _ {S : Type 0} (M : Machine S) where
   same-claim : (c : Claim) (line : ℕ) → judged M c c line ≡ accepted
   same-claim c line = ap (λ b. pick b accepted (refused 12 line)) (eq-eqb (claimed c) (claimed c) refl)
 
-  taken-so : (a : Recorded) (s : S) (q line : ℕ) (k : Taken) (t : S) (rest : Option Claim → S → Replayed × S) → Offers M s (a .process) (a .choice) q → M .take s (a .process) q ≡ (k, t)
+  taken-so : (a : Recorded) (s : S) (q : Move) (line : ℕ) (k : Taken) (t : S) (rest : Option Claim → S → Replayed × S) → Offers M s (chosen a q) → advance M s (chosen a q) ≡ (k, t)
       → recorded M line s (asked M (a .process) (a .choice) (offered M s)) rest ≡ followed M line s k t rest
   taken-so a s q line k t rest h e =
-      ap (λ o. recorded M line s o rest) (offers-asked M s (a .process) (a .choice) q h) ∙ ap (λ (r : Outcome S). followed M line s (r .0) (r .1) rest) e
+      ap (λ o. recorded M line s o rest) (offers-asked M s (chosen a q) h) ∙ ap (λ (r : Outcome S). followed M line s (r .0) (r .1) rest) e
 
   failed-so : (a : Recorded) (s : S) (c d : Claim) (more : List Recorded) (line : ℕ) → Fails M a s c
       → recorded M line s (asked M (a .process) (a .choice) (offered M s)) (λ f x. replayFrom M d more (line + 1) f x) ≡ replayFrom M d more (line + 1) (some c) s
@@ -92,9 +92,9 @@ module _ {S : Type 0} (M : Machine S) where
       taken-so a s q line Done t (λ f x. replayFrom M claim more (line + 1) f x) o e ∙ walk-refused claim w h (line + 1)
       ∙ ap (λ (n : ℕ). (refused 12 n, u)) (let z : line + 1 + length more ≡ line + suc (length more) = omega arith in z)
 
-  none-asked : (a : Recorded) (s : S) → ((q : ℕ) → Offers M s (a .process) (a .choice) q → ⊥) → (o : Option Step) → asked M (a .process) (a .choice) (offered M s) ≡ o → o ≡ none
+  none-asked : (a : Recorded) (s : S) → ((q : Move) → Offers M s (chosen a q) → ⊥) → (o : Option Step) → asked M (a .process) (a .choice) (offered M s) ≡ o → o ≡ none
   none-asked a s h none e = refl
-  none-asked a s h (some x) e = absurd (h (x .place) (asked-offers M s (a .process) (a .choice) x e .2))
+  none-asked a s h (some x) e = absurd (h (moveOf x) (asked-offers M s (a .process) (a .choice) x e .1))
 
   pub stop-refused : {claim : Claim} {l : List Recorded} {line : ℕ} {s : S} {x n : ℕ} {t : S} → Stops M claim l line s x n t → replayFrom M claim l line none s ≡ (refused x n, t)
   unfolding replayFrom
@@ -105,12 +105,12 @@ module _ {S : Type 0} (M : Machine S) where
   stop-refused {claim = claim} (later a more line s t q x n u o e w) = taken-so a s q line Done t (λ f y. replayFrom M claim more (line + 1) f y) o e ∙ stop-refused w
 
 -- ---- where steps are good
-module _ {S : Type 0} (M : Machine S) (I : S → Type 0) (good : (s : S) → I s → (p k q : ℕ) → Offers M s p k q → Good M I s p q) where
+module _ {S : Type 0} (M : Machine S) (I : S → Type 0) (good : (s : S) → I s → (x : Step) → Offers M s x → Good M I s x) where
   pub record Run (n : ℕ) (s : S) (r : Ran S) : Type 0 where
     pub steps : List Step
     pub runs : Runs M n s steps (r .ending) (r .state)
 
-  turn : (n : ℕ) (s : S) (rest : S → Ran S) → ((t : S) → I t → Run n t (rest t)) → (x : Step) (l : List Step) → offered M s ≡ x ∷ l → (k : Taken) (t : S) → M .take s (x .process) (x .place) ≡ (k, t)
+  turn : (n : ℕ) (s : S) (rest : S → Ran S) → ((t : S) → I t → Run n t (rest t)) → (x : Step) (l : List Step) → offered M s ≡ x ∷ l → (k : Taken) (t : S) → advance M s x ≡ (k, t)
       → Busy k → Still s k t → I t → Run (suc n) s (runBy M k t rest)
   turn n s rest f x l e Done t q b i j = let r = f t j in record { steps = x ∷ r .steps; runs = one-more n s t x l (r .steps) (rest t .ending) (rest t .state) e q (r .runs) }
   turn n s rest f x l e Refuted t q b i j =
@@ -123,8 +123,8 @@ module _ {S : Type 0} (M : Machine S) (I : S → Type 0) (good : (s : S) → I s
       → Run (suc n) s (runBy M (firstTaken M s l .0) (firstTaken M s l .1) rest)
   first-turn n s i rest f [] e = record { steps = []; runs = none-offered n s e }
   first-turn n s i rest f (x ∷ l) e =
-      let g = good s i (x .process) (x .number) (x .place) (first-offers M s x l e) in
-      turn n s rest f x l e (M .take s (x .process) (x .place) .0) (M .take s (x .process) (x .place) .1) refl (g .busy) (g .still) (g .kept)
+      let g = good s i x (first-offers M s x l e) in
+      turn n s rest f x l e (advance M s x .0) (advance M s x .1) refl (g .busy) (g .still) (g .kept)
 
   pub some-run : (n : ℕ) (s : S) → I s → Run n s (runFrom M n s)
   unfolding runFrom
@@ -151,7 +151,7 @@ module _ {S : Type 0} (M : Machine S) (I : S → Type 0) (good : (s : S) → I s
     failed-means a [] line s d h = judged-means (a ∷ []) line (line + 1) s s d refl (fails a s d h)
     failed-means a (b ∷ more) line s d h = after-failure a b more line s d h
 
-    later-means : (a : Recorded) (more : List Recorded) (line : ℕ) (s t : S) (q : ℕ) → Offers M s (a .process) (a .choice) q → M .take s (a .process) q ≡ (Done, t) → (r : Replayed) (u : S)
+    later-means : (a : Recorded) (more : List Recorded) (line : ℕ) (s t : S) (q : Move) → Offers M s (chosen a q) → advance M s (chosen a q) ≡ (Done, t) → (r : Replayed) (u : S)
         → Means c more (line + 1) t r u → Means c (a ∷ more) line s r u
     later-means a more line s t q o e accepted u w = goes-on a more s t q c u o e w
     later-means a more line s t q o e (refused x n) u w = later a more line s t q x n u o e w
@@ -160,7 +160,7 @@ module _ {S : Type 0} (M : Machine S) (I : S → Type 0) (good : (s : S) → I s
     abbrev Told : List Recorded → ℕ → S → Replayed × S → Type 0
     Told l line s r = Means c l line s (r .0) (r .1)
 
-    follow : (a : Recorded) (more : List Recorded) (line : ℕ) (s : S) (q : ℕ) → Offers M s (a .process) (a .choice) q → (k : Taken) (t : S) → M .take s (a .process) q ≡ (k, t) → Busy k → Still s k t
+    follow : (a : Recorded) (more : List Recorded) (line : ℕ) (s : S) (q : Move) → Offers M s (chosen a q) → (k : Taken) (t : S) → advance M s (chosen a q) ≡ (k, t) → Busy k → Still s k t
         → Told more (line + 1) t (replayFrom M c more (line + 1) none t) → Told (a ∷ more) line s (followed M line s k t (λ f x. replayFrom M c more (line + 1) f x))
     follow a more line s q o Done t e b i w = later-means a more line s t q o e (replayFrom M c more (line + 1) none t .0) (replayFrom M c more (line + 1) none t .1) w
     follow a more line s q o Refuted t e b i w =
@@ -176,13 +176,13 @@ module _ {S : Type 0} (M : Machine S) (I : S → Type 0) (good : (s : S) → I s
       where
         go : (o : Option Step) → asked M (a .process) (a .choice) (offered M s) ≡ o → ((t : S) → I t → Told more (line + 1) t (replayFrom M c more (line + 1) none t))
             → Told (a ∷ more) line s (recorded M line s o (λ f x. replayFrom M c more (line + 1) f x))
-        go none q f = not-offered a more line s (λ z h. missing (inv q ∙ offers-asked M s (a .process) (a .choice) z h))
+        go none q f = not-offered a more line s (λ z h. missing (inv q ∙ offers-asked M s (chosen a z) h))
         go (some x) q f =
             let r = asked-offers M s (a .process) (a .choice) x q in
-            let g = good s i (a .process) (a .choice) (x .place) (r .2) in
-            let T = M .take s (a .process) (x .place) in
-            subst (λ p. Told (a ∷ more) line s (followed M line s (M .take s p (x .place) .0) (M .take s p (x .place) .1) (λ f y. replayFrom M c more (line + 1) f y))) (inv (r .0))
-            (follow a more line s (x .place) (r .2) (T .0) (T .1) refl (g .busy) (g .still) (f (T .1) (g .kept)))
+            let g = good s i (chosen a (moveOf x)) (r .1) in
+            let T = advance M s (chosen a (moveOf x)) in
+            subst (λ z. Told (a ∷ more) line s (followed M line s (advance M s z .0) (advance M s z .1) (λ f y. replayFrom M c more (line + 1) f y))) (inv (r .0))
+            (follow a more line s (moveOf x) (r .1) (T .0) (T .1) refl (g .busy) (g .still) (f (T .1) (g .kept)))
 
     pub accepted-walk : (l : List Recorded) (line : ℕ) (s u : S) → I s → replayFrom M c l line none s ≡ (accepted, u) → Walks M l s c u
     accepted-walk l line s u i e = subst (Told l line s) e (replay-means l line s i)

@@ -24,7 +24,7 @@ standingBy «open» = standing.Open
 -- the n-th of the steps, from 0, or how many there are
 abbrev pub listedBy : ℕ → ℕ → List Step → Listed
 listedBy all n [] = listed.Only all
-listedBy all zero (x ∷ l) = listed.Step (x .process) (x .number) (x .place)
+listedBy all zero (x ∷ l) = listed.Step x
 listedBy all (suc n) (x ∷ l) = listedBy all n l
 
 -- a step, by what came of it, the numbers after it and the text that it prints; `s` are the numbers before it, `out` the bytes that are lent

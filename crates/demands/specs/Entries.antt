@@ -18,7 +18,7 @@ use Rattle.trail_replay.specs.Replay.{replayedAs}
 use Rattle.spec_machine.specs.State.{State}
 use Rattle.spec_machine.specs.Begins.{initial}
 use Rattle.state_encode.specs.Encode.{encode}
-use Rattle.spec_machine.specs.Machine.{Step, offered, verdict, asked}
+use Rattle.spec_machine.specs.Machine.{Step, offered, advance, verdict, asked}
 use Rattle.spec_trails.specs.Runs.{Ran as Run, runFrom}
 use Rattle.spec_trails.specs.Replays.{claimBy, Replayed, replayFrom}
 use Rattle.spec_machine.specs.Steps.{machineOf}
@@ -41,7 +41,7 @@ module _ (s : List ℤ) where
   abbrev pub takenBy : Model → State → List ℕ → Option Step → Outcome
   takenBy m σ out none = refusedBy 11 s out
   takenBy m σ out (some x) =
-      let M = machineOf m in doneBy s out (M .take σ (x .process) (x .place) .0) (leaves m (M .take σ (x .process) (x .place) .1)) (M .printed σ (x .process) (x .place))
+      let M = machineOf m in doneBy s out (advance M σ x .0) (leaves m (advance M σ x .1)) (M .printed σ x)
 
   -- `run`: the machine's run with its count
   abbrev pub ranBy : Model → Run State → Ran × List ℤ

@@ -23,7 +23,7 @@ use Rattle.run_entry.specs.declared.Ran.the-variants as ran
 use Rattle.trail_form.specs.Forms.{form, formOf}
 use Rattle.trail_replay.specs.Entries.{replayedOf}
 use Rattle.spec_machine.specs.State.{State}
-use Rattle.spec_machine.specs.Machine.{Step}
+use Rattle.spec_machine.specs.Machine.{Move, Step, stepOf, advance}
 use Rattle.spec_trails.specs.Runs.{Ending}
 use Rattle.spec_machine.specs.Steps.{machineOf}
 use Rattle.demands.specs.Lent.{Rooms, Tables, Numbers, Holds}
@@ -42,27 +42,27 @@ pub record Refusals (ts : List ℕ) (s : List ℤ) : Type 0 where
 module _ (ts : List ℕ) (s : List ℤ) (m : Model) (σ : State) where
   pub record Offering : Type 0 where
     -- a step is listed exactly when the machine offers it
-    pub exactly : (p k q : ℕ) → ((n : ℕ) × (offeredOf ts s n ≡ listed.Step p k q)) ↔ Offers (machineOf m) σ p k q
+    pub exactly : (x : Step) → ((n : ℕ) × (offeredOf ts s n ≡ listed.Step x)) ↔ Offers (machineOf m) σ x
     -- "Offered steps are listed by process number, then text order": a place lies behind another where it stands behind it in the text
-    pub in-text : (p k k′ q q′ : ℕ) → Offers (machineOf m) σ p k q → Offers (machineOf m) σ p k′ q′ → k < k′ → q < q′
-    pub in-order : (n n′ p p′ k k′ q q′ : ℕ) → n < n′ → offeredOf ts s n ≡ listed.Step p k q → offeredOf ts s n′ ≡ listed.Step p′ k′ q′ → (p < p′) ⊎ ((p ≡ p′) × (k < k′))
+    pub in-text : (x y : Step) → Offers (machineOf m) σ x → Offers (machineOf m) σ y → x .process ≡ y .process → x .number < y .number → x .place < y .place
+    pub in-order : (n n′ : ℕ) (x y : Step) → n < n′ → offeredOf ts s n ≡ listed.Step x → offeredOf ts s n′ ≡ listed.Step y → (x .process < y .process) ⊎ ((x .process ≡ y .process) × (x .number < y .number))
 
   -- `step`, with room for what it prints: the state that the machine gives, and the text whole
   pub record Taking (p k : ℕ) (out : List ℕ) : Type 0 where
     -- "11: .. asked step not offered"
-    pub not-offered : (outcomeOf ts s p k out .answer ≡ stepped.Refused 11) ↔ ((q : ℕ) → Offers (machineOf m) σ p k q → ⊥)
-    pub done : (q : ℕ) (τ : State) → Offers (machineOf m) σ p k q → machineOf m .take σ p q ≡ (Done, τ) → let text = machineOf m .printed σ p q in outcomeOf ts s p k out
+    pub not-offered : (outcomeOf ts s p k out .answer ≡ stepped.Refused 11) ↔ ((y : Move) → Offers (machineOf m) σ (stepOf p k y) → ⊥)
+    pub done : (y : Move) (τ : State) → Offers (machineOf m) σ (stepOf p k y) → advance (machineOf m) σ (stepOf p k y) ≡ (Done, τ) → let text = machineOf m .printed σ (stepOf p k y) in outcomeOf ts s p k out
         ≡ record { answer = stepped.Took (length text); state = leaves s m τ; printed = text ++ drop (length text) out }
     -- "A failed assertion or fault changes no state and prints nothing"
-    pub asserted : (q : ℕ) (τ : State) → Offers (machineOf m) σ p k q → machineOf m .take σ p q ≡ (Refuted, τ) → outcomeOf ts s p k out ≡ record { answer = stepped.Assert; state = s; printed = out }
-    pub faulty : (q : ℕ) (τ : State) (f : Fault) → Offers (machineOf m) σ p k q → machineOf m .take σ p q ≡ (Faulted f, τ)
+    pub asserted : (y : Move) (τ : State) → Offers (machineOf m) σ (stepOf p k y) → advance (machineOf m) σ (stepOf p k y) ≡ (Refuted, τ) → outcomeOf ts s p k out ≡ record { answer = stepped.Assert; state = s; printed = out }
+    pub faulty : (y : Move) (τ : State) (f : Fault) → Offers (machineOf m) σ (stepOf p k y) → advance (machineOf m) σ (stepOf p k y) ≡ (Faulted f, τ)
         → outcomeOf ts s p k out ≡ record { answer = stepped.Fault f; state = s; printed = out }
 
   -- "Verdicts: .. `finished` (all ended), `blocked`, `open` (some step offered)"
   pub record Verdicts : Type 0 where
     pub finished : verdictFor ts s ≡ standing.Finished ↔ ((p : ℕ) → p < length (σ .processes) → machineOf m .ended σ p ≡ true)
-    pub blocked : verdictFor ts s ≡ standing.Blocked ↔ ((p k q : ℕ) → Offers (machineOf m) σ p k q → ⊥) × ((p : ℕ) × (p < length (σ .processes)) × (machineOf m .ended σ p ≡ false))
-    pub opened : verdictFor ts s ≡ standing.Open ↔ (p : ℕ) × (k : ℕ) × (q : ℕ) × Offers (machineOf m) σ p k q
+    pub blocked : verdictFor ts s ≡ standing.Blocked ↔ ((x : Step) → Offers (machineOf m) σ x → ⊥) × ((p : ℕ) × (p < length (σ .processes)) × (machineOf m .ended σ p ≡ false))
+    pub opened : verdictFor ts s ≡ standing.Open ↔ (x : Step) × Offers (machineOf m) σ x
 
   -- "the count it reports is the number of steps taken, a failing one included": there is a run of the machine, and any is what is answered
   pub record Running (limit : ℕ) : Type 0 where

@@ -5,3 +5,4 @@ pub mod Demand2
 pub mod Walks
 pub mod InWords
 pub mod Trails
+pub mod Demand3

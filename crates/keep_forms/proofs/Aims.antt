@@ -14,7 +14,7 @@ use Rattle.base_bytes.specs.Choice.{either}
 use Rattle.base_bytes.proofs.Tests.{both-true, either-true, true-false}
 use Rattle.base_kinds.specs.Kinds.{Token}
 use Rattle.spec_grammar.specs.Tree.{Ref, Shape, Exp, Expr, Received, Sort, sequence, Tree, Name, Value, Variable, Declaration, Group, Body, body, Activity, idle, once, times, Part, Model}
-use Rattle.spec_grammar.specs.Grammar.{Is-type, is-bit, is-bool, is-byte, is-mtype, is-pid, is-chan, is-short, is-int, An-expression, A-received, r-into, r-eval, r-number, r-true, r-false, D, s-express, s-assign, s-increment, s-decrement, s-send, s-receive, s-assert, s-print-alone, s-print, s-skip, s-goto, s-break, s-timeout, s-else, s-run, s-set-run, s-if, s-do, s-bare, s-label, q-last, q-then, o-last, o-also, A-name, A-type, a-type, A-value, v-number, v-minus, v-true, v-false, v-name, A-variable, x-bare, x-set, x-array, x-array-set, x-channel, A-declaration, declaration, A-group, a-group, Items, statements, declared, A-body, a-body, A-unit, u-mtypes, u-global, u-process, u-init, Gram, g-last, g-more}
+use Rattle.spec_grammar.specs.Grammar.{Is-type, is-bit, is-bool, is-byte, is-mtype, is-pid, is-chan, is-short, is-int, An-expression, A-received, r-into, r-eval, r-number, r-true, r-false, D, s-leaf, s-express, s-assign, s-increment, s-decrement, s-send, s-receive, s-assert, s-print-alone, s-print, s-skip, s-goto, s-break, s-timeout, s-else, s-run, s-set-run, s-if, s-do, s-bare, s-label, q-last, q-then, o-last, o-also, A-name, A-type, a-type, A-value, v-number, v-minus, v-true, v-false, v-name, A-variable, x-bare, x-set, x-array, x-array-set, x-channel, A-declaration, declaration, A-group, a-group, Items, statements, declared, A-body, a-body, A-unit, u-mtypes, u-global, u-process, u-init, Gram, g-last, g-more}
 use Rattle.base_codes.specs.Items.{Item, codeOf, i-active, i-active-many, i-argument, i-assert, i-assign, i-body, i-break, i-channel, i-constant, i-declared, i-decrement, i-do, i-else, i-end, i-end-body, i-end-option, i-equal, i-express, i-false, i-fi, i-field, i-global, i-goto, i-group, i-if, i-increment, i-init, i-into, i-label, i-local, i-message, i-minus, i-mtypes, i-name, i-named, i-number, i-od, i-option, i-parameter, i-proctype, i-receive, i-run, i-send, i-set-run, i-size, i-skip, i-target, i-text, i-timeout, i-true, i-type}
 use Rattle.parse_code.specs.Code.{each, code-exp, code-argument, code-received, code-tree, code-field, code-value, code-variable, code-declaration, code-parameter, code-group, code-body, code-activity, code-message, code-part, code}
 use Rattle.base_codes.specs.Items as items
@@ -87,26 +87,26 @@ asked : (es : List Expr) → All (λ e. Aimed (code-argument e)) es → Aimed (e
 asked es h = join (each code-argument es) (i-end ∷ []) (each-aimed code-argument es h) (mark i-end refl)
 
 aimed : {k : Sort} {ts : List Token} {t : Tree k} → D k ts t → Aimed (code-tree t)
-aimed (s-express {e = e} x) = join (code-exp e) (i-express ∷ []) (phrase e (grammar-proper x)) (mark i-express refl)
-aimed (s-assign {r = r} {e = e} x y) = join (code-exp r ++ i-target ∷ code-exp e) (i-assign ∷ []) (stored r i-target (code-exp e) (grammar-proper x) (phrase e (grammar-proper y))) (mark i-assign refl)
-aimed (s-increment {r = r} x) = stored r i-increment [] (grammar-proper x) none
-aimed (s-decrement {r = r} x) = stored r i-decrement [] (grammar-proper x) none
-aimed (s-send {r = r} {es = es} x y) =
-    join (code-exp r ++ i-send ∷ each code-argument es) (i-end ∷ [])
-    (stored r i-send (each code-argument es) (grammar-proper x) (each-aimed code-argument es (message-all _ An-expression argument _ es y))) (mark i-end refl)
-aimed (s-receive {r = r} {xs = xs} x y) =
-    join (code-exp r ++ i-receive ∷ each code-received xs) (i-end ∷ [])
-    (stored r i-receive (each code-received xs) (grammar-proper x) (each-aimed code-received xs (message-all _ A-received received _ xs y))) (mark i-end refl)
-aimed (s-assert {e = e} x) = join (code-exp e) (i-assert ∷ []) (phrase e (grammar-proper x)) (mark i-assert refl)
-aimed (s-print-alone {w = w}) = other (i-text w) _ refl (mark i-end refl)
-aimed (s-print {w = w} {es = es} x) = other (i-text w) _ refl (asked es (listed-all _ _ An-expression argument _ es x))
-aimed s-skip = mark i-skip refl
-aimed (s-goto {w = w}) = other (i-name w) _ refl (mark i-goto refl)
-aimed s-break = mark i-break refl
-aimed s-timeout = mark i-timeout refl
-aimed s-else = mark i-else refl
-aimed (s-run {w = w} {es = es} x) = other (i-name w) _ refl (other i-run _ refl (asked es (maybe-all _ _ An-expression argument _ es x)))
-aimed (s-set-run {r = r} {w = w} {es = es} x y) =
+aimed (s-leaf (s-express {e = e} x)) = join (code-exp e) (i-express ∷ []) (phrase e (grammar-proper x)) (mark i-express refl)
+aimed (s-leaf (s-assign {r = r} {e = e} x y)) = join (code-exp r ++ i-target ∷ code-exp e) (i-assign ∷ []) (stored r i-target (code-exp e) (grammar-proper x) (phrase e (grammar-proper y))) (mark i-assign refl)
+aimed (s-leaf (s-increment {r = r} x)) = stored r i-increment [] (grammar-proper x) none
+aimed (s-leaf (s-decrement {r = r} x)) = stored r i-decrement [] (grammar-proper x) none
+aimed (s-leaf (s-send {o = mk} {r = r} {es = es} kind x y)) =
+    join (code-exp r ++ i-send mk ∷ each code-argument es) (i-end ∷ [])
+    (stored r (i-send mk) (each code-argument es) (grammar-proper x) (each-aimed code-argument es (message-all _ An-expression argument _ es y))) (mark i-end refl)
+aimed (s-leaf (s-receive {o = mk} {r = r} {xs = xs} kind x y)) =
+    join (code-exp r ++ i-receive mk ∷ each code-received xs) (i-end ∷ [])
+    (stored r (i-receive mk) (each code-received xs) (grammar-proper x) (each-aimed code-received xs (message-all _ A-received received _ xs y))) (mark i-end refl)
+aimed (s-leaf (s-assert {e = e} x)) = join (code-exp e) (i-assert ∷ []) (phrase e (grammar-proper x)) (mark i-assert refl)
+aimed (s-leaf (s-print-alone {w = w})) = other (i-text w) _ refl (mark i-end refl)
+aimed (s-leaf (s-print {w = w} {es = es} x)) = other (i-text w) _ refl (asked es (listed-all _ _ An-expression argument _ es x))
+aimed (s-leaf s-skip) = mark i-skip refl
+aimed (s-leaf (s-goto {w = w})) = other (i-name w) _ refl (mark i-goto refl)
+aimed (s-leaf s-break) = mark i-break refl
+aimed (s-leaf s-timeout) = mark i-timeout refl
+aimed (s-leaf s-else) = mark i-else refl
+aimed (s-leaf (s-run {w = w} {es = es} x)) = other (i-name w) _ refl (other i-run _ refl (asked es (maybe-all _ _ An-expression argument _ es x)))
+aimed (s-leaf (s-set-run {r = r} {w = w} {es = es} x y)) =
     join (code-exp r ++ i-target ∷ i-name w ∷ i-set-run ∷ each code-argument es) (i-end ∷ [])
     (stored r i-target (i-name w ∷ i-set-run ∷ each code-argument es) (grammar-proper x) (other (i-name w) _ refl (other i-set-run _ refl (each-aimed code-argument es (maybe-all _ _ An-expression argument _ es y)))))
     (mark i-end refl)

@@ -4,9 +4,9 @@ use mathlib.Core.Path.{_≡_, refl, sym, subst}
 use mathlib.Core.Bool.{Bool, true, false}
 use mathlib.Core.List.{[], _∷_, _++_}
 use native.Mathlib.Omega.{arith}
-use Rattle.spec_grammar.specs.Tree.{Shape, expression, reference, Exp, plain, indexed, num, tru, fls, get, len, unary, binary, choice}
+use Rattle.spec_grammar.specs.Tree.{Shape, expression, reference, Exp, plain, indexed, num, tru, fls, get, query, unary, binary, choice}
 use Rattle.spec_grammar.specs.Grammar.{Is-unary, is-minus, is-not, is-flip}
-use Rattle.base_codes.specs.Items.{Item, codeOf, i-binary, i-choice, i-index, i-len, i-otherwise, i-unary}
+use Rattle.base_codes.specs.Items.{Item, codeOf, i-binary, i-choice, i-index, i-query, i-otherwise, i-unary}
 use Rattle.base_codes.specs.Sets.{isPart, isAlone, isLead}
 use Rattle.parse_code.specs.Code.{code-exp}
 use Rattle.link_phrases_proof.specs.Phrases.{Proper}
@@ -76,7 +76,7 @@ module _ (o l : ℕ) (m a : Bool) where
   phrase tru h p r g n K k = (refl, k _ _ _ tt)
   phrase fls h p r g n K k = (refl, k _ _ _ tt)
   phrase (get e) h p r g n K k = phrase e h p r g n K (λ r g n z. k r g n tt)
-  phrase (len e) h p r g n K k = join (code-exp e) (i-len ∷ []) _ K (phrase e h p r g n _ (λ r g n z. subst (λ r. Passes (i-len ∷ []) (after r g n) K) (sym z) (refl, k _ _ _ tt)))
+  phrase (query mk e) h p r g n K k = join (code-exp e) (i-query mk ∷ []) _ K (phrase e h p r g n _ (λ r g n z. subst (λ r. Passes (i-query mk ∷ []) (after r g n) K) (sym z) (refl, k _ _ _ tt)))
   phrase (unary u e) h p r g n K k = join (code-exp e) (i-unary u ∷ []) _ K (phrase e (h .1) p r g n _ (λ r g n z. one (i-unary u) r g n K (joined-unary (h .0)) (λ r g n. k r g n tt)))
   phrase (binary u x y) h p r g n K k =
       join (code-exp x ++ code-exp y) (i-binary u ∷ []) _ K

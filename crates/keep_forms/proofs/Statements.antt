@@ -9,7 +9,7 @@ use Rattle.base_codes.specs.Codes.{c-end-option, c-fi, c-od}
 use Rattle.base_bytes.specs.Choice.{pick}
 use Rattle.base_kinds.specs.Kinds.{Token}
 use Rattle.spec_grammar.specs.Tree.{Expr, Ref, Received, into, equal, exactly, exactly-true, exactly-false, Sort, action, statement, sequence, options, Tree}
-use Rattle.spec_grammar.specs.Grammar.{Listed, one, more, Maybe-listed, no-list, a-list, Message, commas, call, An-expression, A-received, r-into, r-eval, r-number, r-true, r-false, D, s-express, s-assign, s-increment, s-decrement, s-send, s-receive, s-assert, s-print-alone, s-print, s-skip, s-goto, s-break, s-timeout, s-else, s-run, s-set-run, s-if, s-do, s-bare, s-label, q-last, q-then, o-last, o-also}
+use Rattle.spec_grammar.specs.Grammar.{Listed, one, more, Maybe-listed, no-list, a-list, Message, commas, call, An-expression, A-received, r-into, r-eval, r-number, r-true, r-false, D, s-leaf, s-express, s-assign, s-increment, s-decrement, s-send, s-receive, s-assert, s-print-alone, s-print, s-skip, s-goto, s-break, s-timeout, s-else, s-run, s-set-run, s-if, s-do, s-bare, s-label, q-last, q-then, o-last, o-also}
 use Rattle.base_codes.specs.Items.{Item, i-argument, i-assert, i-assign, i-decrement, i-end, i-end-option, i-equal, i-express, i-fi, i-increment, i-into, i-label, i-name, i-od, i-receive, i-send, i-set-run, i-target}
 use Rattle.base_codes.specs.Sets.{isPart, isAlone, isLead}
 use Rattle.parse_code.specs.Code.{each, code-exp, code-argument, code-received, code-tree}
@@ -132,28 +132,28 @@ label-passes o l false n w i K k = (refl, (refl, k))
 
 pub fine : {k : Sort} {ts : List Token} {t : Tree k} → D k ts t → Fine k t
 unfolding fits step isPart isAlone isLead
-fine (s-express {e = e} x) = λ o l g n K k. join (code-exp e) (i-express ∷ []) _ K (phrase o l false false e (grammar-proper x) false false g n _ (λ r g n z. (refl, k)))
-fine (s-assign {r = r} {e = e} x y) = λ o l g n K k.
+fine (s-leaf (s-express {e = e} x)) = λ o l g n K k. join (code-exp e) (i-express ∷ []) _ K (phrase o l false false e (grammar-proper x) false false g n _ (λ r g n z. (refl, k)))
+fine (s-leaf (s-assign {r = r} {e = e} x y)) = λ o l g n K k.
     join (code-exp r ++ i-target ∷ code-exp e) (i-assign ∷ []) _ K
     (referred o l r (grammar-proper x) g n (i-target ∷ code-exp e) _ (λ g n. (refl, phrase o l true false e (grammar-proper y) false false 0 0 _ (λ r g n z. (refl, k)))))
-fine (s-increment {r = r} x) = λ o l g n K k. referred o l r (grammar-proper x) g n (i-increment ∷ []) K (λ g n. (refl, k))
-fine (s-decrement {r = r} x) = λ o l g n K k. referred o l r (grammar-proper x) g n (i-decrement ∷ []) K (λ g n. (refl, k))
-fine (s-send {r = r} {es = es} x y) = λ o l g n K k.
-    join (code-exp r ++ i-send ∷ each code-argument es) (i-end ∷ []) _ K
-    (referred o l r (grammar-proper x) g n (i-send ∷ each code-argument es) _ (λ g n. (refl, arguments o l es (message-all Proper An-expression proper-expression _ es y) _ (refl, k))))
-fine (s-receive {r = r} {xs = xs} x y) = λ o l g n K k.
-    join (code-exp r ++ i-receive ∷ each code-received xs) (i-end ∷ []) _ K
-    (referred o l r (grammar-proper x) g n (i-receive ∷ each code-received xs) _ (λ g n. (refl, receivings o l xs (message-all (ProperIn o l) A-received (received-proper o l) _ xs y) _ (refl, k))))
-fine (s-assert {e = e} x) = λ o l g n K k. join (code-exp e) (i-assert ∷ []) _ K (phrase o l false false e (grammar-proper x) false false g n _ (λ r g n z. (refl, k)))
-fine s-print-alone = λ o l g n K k. (refl, (refl, k))
-fine (s-print {es = es} x) = λ o l g n K k. (refl, asked o l es (listed-all Proper _ An-expression proper-expression _ es x) K k)
-fine s-skip = λ o l g n K k. (refl, k)
-fine s-goto = λ o l g n K k. (refl, (refl, k))
-fine s-break = λ o l g n K k. (refl, k)
-fine s-timeout = λ o l g n K k. (refl, k)
-fine s-else = λ o l g n K k. (refl, k)
-fine (s-run {es = es} x) = λ o l g n K k. (refl, (refl, asked o l es (maybe-all Proper _ An-expression proper-expression _ es x) K k))
-fine (s-set-run {r = r} {w = w} {es = es} x y) = λ o l g n K k.
+fine (s-leaf (s-increment {r = r} x)) = λ o l g n K k. referred o l r (grammar-proper x) g n (i-increment ∷ []) K (λ g n. (refl, k))
+fine (s-leaf (s-decrement {r = r} x)) = λ o l g n K k. referred o l r (grammar-proper x) g n (i-decrement ∷ []) K (λ g n. (refl, k))
+fine (s-leaf (s-send {o = mk} {r = r} {es = es} kind x y)) = λ o l g n K k.
+    join (code-exp r ++ i-send mk ∷ each code-argument es) (i-end ∷ []) _ K
+    (referred o l r (grammar-proper x) g n (i-send mk ∷ each code-argument es) _ (λ g n. (refl, arguments o l es (message-all Proper An-expression proper-expression _ es y) _ (refl, k))))
+fine (s-leaf (s-receive {o = mk} {r = r} {xs = xs} kind x y)) = λ o l g n K k.
+    join (code-exp r ++ i-receive mk ∷ each code-received xs) (i-end ∷ []) _ K
+    (referred o l r (grammar-proper x) g n (i-receive mk ∷ each code-received xs) _ (λ g n. (refl, receivings o l xs (message-all (ProperIn o l) A-received (received-proper o l) _ xs y) _ (refl, k))))
+fine (s-leaf (s-assert {e = e} x)) = λ o l g n K k. join (code-exp e) (i-assert ∷ []) _ K (phrase o l false false e (grammar-proper x) false false g n _ (λ r g n z. (refl, k)))
+fine (s-leaf s-print-alone) = λ o l g n K k. (refl, (refl, k))
+fine (s-leaf (s-print {es = es} x)) = λ o l g n K k. (refl, asked o l es (listed-all Proper _ An-expression proper-expression _ es x) K k)
+fine (s-leaf s-skip) = λ o l g n K k. (refl, k)
+fine (s-leaf s-goto) = λ o l g n K k. (refl, (refl, k))
+fine (s-leaf s-break) = λ o l g n K k. (refl, k)
+fine (s-leaf s-timeout) = λ o l g n K k. (refl, k)
+fine (s-leaf s-else) = λ o l g n K k. (refl, k)
+fine (s-leaf (s-run {es = es} x)) = λ o l g n K k. (refl, (refl, asked o l es (maybe-all Proper _ An-expression proper-expression _ es x) K k))
+fine (s-leaf (s-set-run {r = r} {w = w} {es = es} x y)) = λ o l g n K k.
     join (code-exp r ++ i-target ∷ i-name w ∷ i-set-run ∷ each code-argument es) (i-end ∷ []) _ K
     (referred o l r (grammar-proper x) g n (i-target ∷ i-name w ∷ i-set-run ∷ each code-argument es) _
     (λ g n. (refl, (refl, (refl, arguments o l es (maybe-all Proper _ An-expression proper-expression _ es y) _ (refl, k))))))

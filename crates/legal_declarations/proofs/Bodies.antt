@@ -27,7 +27,6 @@ use Rattle.spec_rules.specs.Statements.{Place, labelsOf, apart, allowed}
 use Rattle.spec_rules.specs.Units.{senseOfParameter, scopeOfGroup, scopeOfGroups, scopeOfDeclarations, declarations, bodyLawful}
 use Rattle.legal_terms.specs.Says.{itemAt, Says}
 use Rattle.legal_terms.specs.Setting.{Runs, Setting}
-use Rattle.spec_machine.specs.Program.{sizeIn}
 use Rattle.agree_stage.proofs.Stands.{Lying}
 use Rattle.keep_tables.proofs.Sums.{sum-split, sum-nones}
 use Rattle.legal_declarations.proofs.Items.{spoken, settled, declaring, Calm, all-tree, all-declarations, all-groups}
@@ -300,13 +299,13 @@ module _ (m : Model) (cs vs : List ℕ) (S : Says m cs vs) where
   -- what is known of the statements of a body: crate `legal_statements`
   abbrev pub Statements : Type 0
   Statements =
-      (q : Tree sequence) (from to h : ℕ) (at : Place) → Lying xs 0 (code-tree q) from → to ≡ from + sizeIn q → Setting xs cs vs H h from to at → at .labels ≡ labelsOf q →
+      (q : Tree sequence) (from to h : ℕ) (at : Place) → Lying xs 0 (code-tree q) from → to ≡ from + length (code-tree q) → Setting xs cs vs H h from to at → at .labels ≡ labelsOf q →
       (getD cs (from - 1) 0 ≡ c-option → ⊥)
       → (Clean m cs vs S from to → both (apart (labelsOf q)) (allowed at false false q) ≡ true) × (both (apart (labelsOf q)) (allowed at false false q) ≡ true → Clean m cs vs S from to)
 
   -- the frame of a unit, by its items
   pub frame-made : (gs : List Group) (ds : List Declaration) (q : Tree sequence) (u b f t : ℕ) → isUnit (getD cs u 0) ≡ true → b ≡ suc u + length (each code-group gs)
-      → f ≡ suc b + length (each (code-declaration i-local) ds) → t ≡ f + sizeIn q → Lies xs (suc u) (each code-group gs) → Lies xs b (code-body (body ds q)) → u < length xs → Frame u b f t
+      → f ≡ suc b + length (each (code-declaration i-local) ds) → t ≡ f + length (code-tree q) → Lies xs (suc u) (each code-group gs) → Lies xs b (code-body (body ds q)) → u < length xs → Frame u b f t
   frame-made gs ds q u b f t h eb ef et yg yb bu =
       let D = each (code-declaration i-local) ds in
       let T = code-tree q in
@@ -330,7 +329,7 @@ module _ (m : Model) (cs vs : List ℕ) (S : Says m cs vs) where
       }
 
   module _ (ruled : Statements) (u b f t : ℕ) (F : Frame u b f t) where
-    pub body-judged : (ds : List Declaration) (q : Tree sequence) (l g M : Scope) → Lying xs 0 (code-tree q) f → t ≡ f + sizeIn q → f ≡ suc b + length (each (code-declaration i-local) ds)
+    pub body-judged : (ds : List Declaration) (q : Tree sequence) (l g M : Scope) → Lying xs 0 (code-tree q) f → t ≡ f + length (code-tree q) → f ≡ suc b + length (each (code-declaration i-local) ds)
         → Lies xs (suc b) (each (code-declaration i-local) ds) → (getD cs (suc t) 0 ≡ c-size → ⊥) → Sc l (suc u) b → Sc g 0 (suc u) → Sc M 0 (length cs) → Pidless l → Pidless g → Pidless M
         → J b (suc t) (bodyLawful M g l (body ds q))
     unfolding bodyLawful

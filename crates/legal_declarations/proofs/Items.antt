@@ -2,21 +2,23 @@
 use Prim.Native.Nat.{ℕ, _+_, _-_, _≤_}
 use native.Mathlib.Omega.{arith}
 use mathlib.Core.Path.{_≡_, refl, sym, ap, _∙_}
-use mathlib.Core.Bool.{Bool, true}
+use mathlib.Core.Bool.{Bool, true, false}
 use mathlib.Core.Option.{Option, none, some}
 use mathlib.Core.Logic.{_⊎_, inl, inr}
 use mathlib.Core.List.{List, [], _∷_, _++_}
 use lib.Dec.{eqb, ltb, leb}
-use borrow.Author.Tests.{ltb-true, leb-true}
+use borrow.Author.Tests.{ltb-true, leb-true, lt-ltb, lt-leb}
 use Rattle.base_codes.specs.Codes.{c-bit, c-end-option, c-false, c-field, c-group, c-int, c-len, c-local, c-message, c-mtypes, c-parameter, c-size, c-text, c-true}
 use Rattle.base_bytes.specs.Choice.{pick, both, either}
 use Rattle.base_bytes.proofs.Tests.{both-true, either-true}
-use Rattle.spec_grammar.specs.Tree.{Name, Shape, Exp, plain, indexed, num, tru, fls, get, len, unary, binary, choice, Expr, Received, into, equal, exactly, exactly-true, exactly-false, Sort, Tree, express, assign, increment, decrement, send, receive, assert, print, skip, goto, break, timeout, else, run, set-run, select, loop, bare, labelled, end, then, over, option, Value, unset, set-number, set-minus, set-true, set-false, set-name, set-channel, Variable, variable, Declaration, declare, Group, group}
-use Rattle.base_codes.specs.Items.{Item, codeOf, i-argument, i-assert, i-assign, i-binary, i-choice, i-decrement, i-end, i-end-option, i-equal, i-express, i-fi, i-global, i-increment, i-index, i-into, i-len, i-local, i-name, i-number, i-od, i-otherwise, i-receive, i-send, i-set-run, i-target, i-text, i-type, i-unary, i-mark}
+use Rattle.spec_grammar.specs.Tree.{Name, Shape, Exp, plain, indexed, num, tru, fls, get, query, unary, binary, choice, Sort, Tree, Value, unset, set-number, set-minus, set-true, set-false, set-name, set-channel, Variable, variable, Declaration, declare, Group, group}
+use Rattle.base_codes.specs.Items.{Item, codeOf, i-binary, i-choice, i-global, i-index, i-query, i-local, i-name, i-number, i-otherwise, i-text, i-type, i-unary, i-mark, i-operator}
 use Rattle.base_codes.specs.Sets.{within}
-use Rattle.parse_code.specs.Code.{each, code-exp, code-argument, code-received, code-tree, code-field, code-size, code-value, code-variable, code-declaration, code-parameter, code-group}
+use Rattle.parse_code.specs.Code.{each, code-exp, code-tree, code-field, code-size, code-value, code-variable, code-declaration, code-parameter, code-group}
 use Rattle.table_entries.specs.Items.{Known}
 use Rattle.table_entries.proofs.Items.{known-passes}
+use Rattle.parse_parts_proof.specs.Parts.{Spoken, of-name, of-text, of-number, of-mark, of-operator, Framing, of-label, of-frame}
+use Rattle.parse_parts_proof.proofs.Closed.{closed-tree}
 
 -- ---- classes: 0 what stands in values of declarations, and 5 types there; 1 in statements alone; 2 in both; 3 other marks of declarations, and 6 of parameters; 4 the others
 unfoldable pub class : Item → ℕ
@@ -26,6 +28,7 @@ class (i-text w) = 1
 class (i-binary o) = 1
 class (i-unary o) = 1
 class (i-type k) = 5
+class (i-operator c o) = 1
 class (i-mark c) =
     pick (ltb c c-local) (pick (within c-true c-false c) 2 1)
     (pick (ltb c c-size) 3
@@ -165,57 +168,33 @@ all-exp (num n) = (refl, tt)
 all-exp tru = (refl, tt)
 all-exp fls = (refl, tt)
 all-exp (get r) = all-exp r
-all-exp (len r) = all-append spoken (code-exp r) (i-len ∷ []) (all-exp r) (refl, tt)
+all-exp (query mk r) = all-append spoken (code-exp r) (i-query mk ∷ []) (all-exp r) (refl, tt)
 all-exp (unary o e) = all-append spoken (code-exp e) (i-unary o ∷ []) (all-exp e) (refl, tt)
 all-exp (binary o a b) = all-append spoken (code-exp a ++ code-exp b) (i-binary o ∷ []) (all-append spoken (code-exp a) (code-exp b) (all-exp a) (all-exp b)) (refl, tt)
 all-exp (choice a b c) =
     all-append spoken (code-exp a ++ code-exp b ++ i-otherwise ∷ code-exp c) (i-choice ∷ [])
     (all-append spoken (code-exp a ++ code-exp b) (i-otherwise ∷ code-exp c) (all-append spoken (code-exp a) (code-exp b) (all-exp a) (all-exp b)) (refl, all-exp c)) (refl, tt)
 
-all-argument : (e : Expr) → All spoken (code-argument e)
+one-spoken : (i : Item) → Spoken i ⊎ Framing i → All spoken (i ∷ [])
 unfolding spoken class
-all-argument e = all-append spoken (code-exp e) (i-argument ∷ []) (all-exp e) (refl, tt)
-
-all-received : (r : Received) → All spoken (code-received r)
-unfolding spoken class
-all-received (into r) = all-append spoken (code-exp r) (i-into ∷ []) (all-exp r) (refl, tt)
-all-received (equal e) = all-append spoken (code-exp e) (i-equal ∷ []) (all-exp e) (refl, tt)
-all-received (exactly n) = (refl, (refl, tt))
-all-received exactly-true = (refl, (refl, tt))
-all-received exactly-false = (refl, (refl, tt))
+one-spoken i (inl of-name) = (refl, tt)
+one-spoken i (inl of-text) = (refl, tt)
+one-spoken i (inl of-number) = (refl, tt)
+one-spoken i (inl (of-mark {c} a b n)) = (rw (lt-ltb c c-local (omega arith)) (known (within c-true c-false c)), tt)
+  where
+    known : (x : Bool) → within 1 2 (pick x 2 1) ≡ true
+    known true = refl
+    known false = refl
+one-spoken i (inl (of-operator a b)) = (refl, tt)
+one-spoken i (inr of-label) = (refl, tt)
+one-spoken i (inr (of-frame {c} a b)) = (rw (lt-ltb c c-local (omega arith), lt-leb c c-false (omega arith)) (known (leb c-true c)), tt)
+  where
+    known : (x : Bool) → within 1 2 (pick (both x false) 2 1) ≡ true
+    known true = refl
+    known false = refl
 
 pub all-tree : {k : Sort} (x : Tree k) → All spoken (code-tree x)
-unfolding spoken class
-all-tree (express e) = all-append spoken (code-exp e) (i-express ∷ []) (all-exp e) (refl, tt)
-all-tree (assign r e) = all-append spoken (code-exp r ++ i-target ∷ code-exp e) (i-assign ∷ []) (all-append spoken (code-exp r) (i-target ∷ code-exp e) (all-exp r)
-    (refl, all-exp e)) (refl, tt)
-all-tree (increment r) = all-append spoken (code-exp r) (i-increment ∷ []) (all-exp r) (refl, tt)
-all-tree (decrement r) = all-append spoken (code-exp r) (i-decrement ∷ []) (all-exp r) (refl, tt)
-all-tree (send r es) =
-    all-append spoken (code-exp r ++ i-send ∷ each code-argument es) (i-end ∷ [])
-    (all-append spoken (code-exp r) (i-send ∷ each code-argument es) (all-exp r) (refl, all-each spoken code-argument all-argument es)) (refl, tt)
-all-tree (receive r xs) =
-    all-append spoken (code-exp r ++ i-receive ∷ each code-received xs) (i-end ∷ [])
-    (all-append spoken (code-exp r) (i-receive ∷ each code-received xs) (all-exp r) (refl, all-each spoken code-received all-received xs)) (refl, tt)
-all-tree (assert e) = all-append spoken (code-exp e) (i-assert ∷ []) (all-exp e) (refl, tt)
-all-tree (print w es) = (refl, all-append spoken (each code-argument es) (i-end ∷ []) (all-each spoken code-argument all-argument es) (refl, tt))
-all-tree skip = (refl, tt)
-all-tree (goto w) = (refl, (refl, tt))
-all-tree break = (refl, tt)
-all-tree timeout = (refl, tt)
-all-tree else = (refl, tt)
-all-tree (run w es) = (refl, (refl, all-append spoken (each code-argument es) (i-end ∷ []) (all-each spoken code-argument all-argument es) (refl, tt)))
-all-tree (set-run r w es) =
-    all-append spoken (code-exp r ++ i-target ∷ i-name w ∷ i-set-run ∷ each code-argument es) (i-end ∷ [])
-    (all-append spoken (code-exp r) (i-target ∷ i-name w ∷ i-set-run ∷ each code-argument es) (all-exp r) (refl, (refl, (refl, all-each spoken code-argument all-argument es)))) (refl, tt)
-all-tree (select os) = (refl, all-append spoken (code-tree os) (i-fi ∷ []) (all-tree os) (refl, tt))
-all-tree (loop os) = (refl, all-append spoken (code-tree os) (i-od ∷ []) (all-tree os) (refl, tt))
-all-tree (bare a) = all-tree a
-all-tree (labelled w a) = (refl, (refl, all-tree a))
-all-tree end = tt
-all-tree (then s q) = all-append spoken (code-tree s) (code-tree q) (all-tree s) (all-tree q)
-all-tree over = tt
-all-tree (option q os) = (refl, all-append spoken (code-tree q) (i-end-option ∷ code-tree os) (all-tree q) (refl, all-tree os))
+all-tree x = closed-tree (All spoken) tt (all-append spoken) (λ s e. all-exp e) one-spoken x
 
 -- ---- declarations and parameters
 all-field : (k : ℕ) → All valued (code-field k)

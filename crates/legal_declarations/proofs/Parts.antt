@@ -20,7 +20,8 @@ use Rattle.table_entries.specs.Items.{Known}
 use Rattle.spec_rules.specs.Senses.{Scope}
 use Rattle.spec_rules.specs.Units.{ofPart, ofModel, partLawful, partsLawful, mtypesIn, initsIn, tally}
 use Rattle.legal_terms.specs.Says.{itemAt, Says}
-use Rattle.spec_machine.specs.Program.{sizeIn, startIn}
+use Rattle.spec_machine.specs.Program.{startIn}
+use Rattle.agree_sizes.proofs.Sizes.{size-declarations}
 use Rattle.agree_stage.proofs.Stands.{Lying, lying-behind, lying-before, lying-whole, lying-in, statements-lie}
 use Rattle.table_entries.proofs.Items.{type-code}
 use Rattle.legal_declarations.proofs.Standing.{Lies, lies-front, lies-back, lies-whole, long, known-at, code-is}
@@ -122,7 +123,7 @@ module _ (m : Model) (cs vs : List ℕ) (S : Says m cs vs) where
       (λ z. omega arith, λ z. omega arith)
 
   -- how many items a body has
-  body-long : (ds : List Declaration) (q : Tree sequence) → length (code-body (body ds q)) ≡ suc (suc (length (each (code-declaration i-local) ds) + sizeIn q))
+  body-long : (ds : List Declaration) (q : Tree sequence) → length (code-body (body ds q)) ≡ suc (suc (length (each (code-declaration i-local) ds) + length (code-tree q)))
   body-long ds q =
       let a = length-append (i-body ∷ each (code-declaration i-local) ds) (code-tree q) in
       let b = length-append (i-body ∷ each (code-declaration i-local) ds ++ code-tree q) (i-end-body ∷ []) in
@@ -138,7 +139,7 @@ module _ (m : Model) (cs vs : List ℕ) (S : Says m cs vs) where
         let X = code-body B in
         let l1 : Lying (code-part x ++ rest) j X b = subst (λ i. Lying (i ++ rest) j X b) (sym e) (lying-before (y ++ X) rest X j b (lying-behind y X X j b b eb (lying-whole X b))) in
         let l2 : Lying xs 0 X b = subst (λ i. Lying i 0 X b) (sym split) (lying-behind front (code-part x ++ rest) X 0 j b (omega arith) l1) in
-        subst (Lying xs 0 (code-tree q)) (let z : b + 1 + length (each (code-declaration i-local) ds) ≡ f = omega arith in z)
+        subst (Lying xs 0 (code-tree q)) (let z : startIn B b ≡ f = omega (arith, size-declarations ds) in z)
         (lying-in xs X (code-tree q) 0 b (startIn B b) l2 (statements-lie B b))
 
     process-done : (a : Activity) (w : Name) (gs : List Group) (ds : List Declaration) (q : Tree sequence) (n k e : ℕ)
@@ -157,7 +158,7 @@ module _ (m : Model) (cs vs : List ℕ) (S : Says m cs vs) where
         let s3 = body-long ds q in
         let b = suc (suc n) + length G in
         let f = suc b + length D in
-        let t = f + sizeIn q in
+        let t = f + length (code-tree q) in
         let yg = lies-back xs A G j (suc (suc n)) en (lies-front xs j (A ++ G) X y) in
         let yb = lies-back xs (A ++ G) X j b (omega arith) y in
         let z : suc t ≡ e = omega arith in
@@ -189,7 +190,7 @@ module _ (m : Model) (cs vs : List ℕ) (S : Says m cs vs) where
     part-done (init (body ds q)) e split eq after sc ins c9 c10 y top =
         let b = suc j in
         let f = suc b + length (each (code-declaration i-local) ds) in
-        let t = f + sizeIn q in
+        let t = f + length (code-tree q) in
         let s3 = body-long ds q in
         let z : suc t ≡ e = omega arith in
         subst (Done m cs vs S g c d (init (body ds q)) j) z

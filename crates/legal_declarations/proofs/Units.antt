@@ -23,7 +23,6 @@ use Rattle.parse_code.specs.Code.{each, code-tree, code-declaration, code-group
 use Rattle.spec_rules.specs.Senses.{Sense, constant, procedure, Scope, declared, senseIn, fresh}
 use Rattle.spec_rules.specs.Units.{ofMessage, scopeOfGroups, ofPart, joins, bodyLawful, partLawful, mtypesIn, initsIn}
 use Rattle.legal_terms.specs.Says.{itemAt, Says}
-use Rattle.spec_machine.specs.Program.{sizeIn}
 use Rattle.agree_stage.proofs.Stands.{Lying}
 use Rattle.keep_tables.proofs.Sums.{sum-next}
 use Rattle.legal_declarations.proofs.Items.{settled, all-declaration, global-settled, All, all-each}
@@ -253,7 +252,7 @@ module _ (m : Model) (cs vs : List ℕ) (S : Says m cs vs) where
     pub done-process : (a : Activity) (w : Name) (gs : List Group) (ds : List Declaration) (q : Tree sequence) (j n b f t k : ℕ) → Begins k → j ≤ n → n < length xs
         → itemAt xs n ≡ i-name w → suc n < length xs → getD cs (suc n) 0 ≡ k
         → Clean m cs vs S j n → ((i : ℕ) → j ≤ i → i ≤ n → getD cs i 0 ≤ c-number)
-        → b ≡ suc (suc n) + length (each code-group gs) → f ≡ suc b + length (each (code-declaration i-local) ds) → t ≡ f + sizeIn q → Lies xs (suc (suc n)) (each code-group gs)
+        → b ≡ suc (suc n) + length (each code-group gs) → f ≡ suc b + length (each (code-declaration i-local) ds) → t ≡ f + length (code-tree q) → Lies xs (suc (suc n)) (each code-group gs)
         → Lies xs b (code-body (body ds q))
         → Lying xs 0 (code-tree q) f → (getD cs (suc t) 0 ≡ c-size → ⊥) → Sc g 0 j → insideOf cs j ≡ 0 → count cs H 9 0 0 j ≡ c → count cs H 10 0 0 j ≡ d
         → Done g c d (process a w gs (body ds q)) j (suc t)
@@ -310,7 +309,7 @@ module _ (m : Model) (cs vs : List ℕ) (S : Says m cs vs) where
         heading i x y (no z) ck p q low = let e = low i x (omega arith) in (λ r. omega arith, λ r. omega arith)
 
     pub done-init : (ds : List Declaration) (q : Tree sequence) (j b f t : ℕ) → j < length xs → itemAt xs j ≡ i-init → b ≡ suc j
-        → f ≡ suc b + length (each (code-declaration i-local) ds) → t ≡ f + sizeIn q
+        → f ≡ suc b + length (each (code-declaration i-local) ds) → t ≡ f + length (code-tree q)
         → Lies xs b (code-body (body ds q)) → Lying xs 0 (code-tree q) f → (getD cs (suc t) 0 ≡ c-size → ⊥) → Sc g 0 j → insideOf cs j ≡ 0 → count cs H 9 0 0 j ≡ c → count cs H 10 0 0 j ≡ d
         → Done g c d (init (body ds q)) j (suc t)
     done-init ds q j b f t bj qj eb ef et yb lying after sc ins c9 c10 =

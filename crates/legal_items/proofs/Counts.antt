@@ -10,7 +10,7 @@ use borrow.Author.Tests.{ne-eqb, lt-leb}
 use Rattle.base_codes.specs.Codes.{c-argument, c-assign, c-body, c-constant, c-do, c-end-body, c-express, c-if, c-local, c-message, c-od, c-parameter, c-proctype, c-text}
 use Rattle.base_bytes.proofs.Tests.{both-no}
 use Rattle.parse_machine_proof.proofs.Never.{lt-or-ge}
-use Rattle.spec_grammar.specs.Tree.{Name, Shape, Exp, Expr, Received, Sort, sequence, Tree, express, assign, increment, decrement, send, receive, assert, print, skip, goto, break, timeout, else, run, set-run, select, loop, bare, labelled, end, then, over, option, Declaration, Group, Body, body, Activity, idle, once, times, Part, mtypes, global, process, init, Model}
+use Rattle.spec_grammar.specs.Tree.{Name, Shape, Exp, Expr, Received, Sort, sequence, Tree, leaf, express, assign, increment, decrement, send, receive, assert, print, skip, goto, break, timeout, else, run, set-run, select, loop, bare, labelled, end, then, over, option, Declaration, Group, Body, body, Activity, idle, once, times, Part, mtypes, global, process, init, Model}
 use Rattle.base_codes.specs.Items.{Item, codeOf, i-assert, i-assign, i-body, i-decrement, i-end, i-end-body, i-end-option, i-express, i-fi, i-global, i-increment, i-local, i-name, i-od, i-receive, i-send, i-set-run, i-target}
 use Rattle.parse_code.specs.Code.{each, code-exp, code-argument, code-received, code-tree, code-declaration, code-group, code-body, code-activity, code-message, code-part, code}
 use Rattle.table_entries.specs.Items.{AllKnown}
@@ -98,49 +98,49 @@ marked e x k = let a = mass-append (one 11) (code-exp e) (x ∷ []) in let b = e
 
 statements-tree : {k : Sort} (t : Tree k) → AllKnown (code-tree t) → S (code-tree t) ≡ statementsIn t
 unfolding one among
-statements-tree (express e) k = marked e i-express k
-statements-tree (assign r e) k =
+statements-tree (leaf (express e)) k = marked e i-express k
+statements-tree (leaf (assign r e)) k =
     let k1 = known-front (code-exp r ++ i-target ∷ code-exp e) (i-assign ∷ []) k in
     let a = mass-append (one 11) (code-exp r ++ i-target ∷ code-exp e) (i-assign ∷ []) in
     let b = mass-append (one 11) (code-exp r) (i-target ∷ code-exp e) in
     let c = exp-none r (known-front (code-exp r) (i-target ∷ code-exp e) k1) in
     let d = exp-none e (known-back (code-exp r) (i-target ∷ code-exp e) k1 .1) in
     omega arith
-statements-tree (increment r) k = marked r i-increment k
-statements-tree (decrement r) k = marked r i-decrement k
-statements-tree (send r es) k =
+statements-tree (leaf (increment r)) k = marked r i-increment k
+statements-tree (leaf (decrement r)) k = marked r i-decrement k
+statements-tree (leaf (send mk r es)) k =
     let A = each code-argument es in
-    let k1 = known-front (code-exp r ++ i-send ∷ A) (i-end ∷ []) k in
-    let a = mass-append (one 11) (code-exp r ++ i-send ∷ A) (i-end ∷ []) in
-    let b = mass-append (one 11) (code-exp r) (i-send ∷ A) in
-    let c = exp-none r (known-front (code-exp r) (i-send ∷ A) k1) in
-    let d = args-none es (known-back (code-exp r) (i-send ∷ A) k1 .1) in
+    let k1 = known-front (code-exp r ++ i-send mk ∷ A) (i-end ∷ []) k in
+    let a = mass-append (one 11) (code-exp r ++ i-send mk ∷ A) (i-end ∷ []) in
+    let b = mass-append (one 11) (code-exp r) (i-send mk ∷ A) in
+    let c = exp-none r (known-front (code-exp r) (i-send mk ∷ A) k1) in
+    let d = args-none es (known-back (code-exp r) (i-send mk ∷ A) k1 .1) in
     omega arith
-statements-tree (receive r xs) k =
+statements-tree (leaf (receive mk r xs)) k =
     let A = each code-received xs in
-    let k1 = known-front (code-exp r ++ i-receive ∷ A) (i-end ∷ []) k in
-    let a = mass-append (one 11) (code-exp r ++ i-receive ∷ A) (i-end ∷ []) in
-    let b = mass-append (one 11) (code-exp r) (i-receive ∷ A) in
-    let c = exp-none r (known-front (code-exp r) (i-receive ∷ A) k1) in
-    let d = received-none xs (known-back (code-exp r) (i-receive ∷ A) k1 .1) in
+    let k1 = known-front (code-exp r ++ i-receive mk ∷ A) (i-end ∷ []) k in
+    let a = mass-append (one 11) (code-exp r ++ i-receive mk ∷ A) (i-end ∷ []) in
+    let b = mass-append (one 11) (code-exp r) (i-receive mk ∷ A) in
+    let c = exp-none r (known-front (code-exp r) (i-receive mk ∷ A) k1) in
+    let d = received-none xs (known-back (code-exp r) (i-receive mk ∷ A) k1 .1) in
     omega arith
-statements-tree (assert e) k = marked e i-assert k
-statements-tree (print w es) k =
+statements-tree (leaf (assert e)) k = marked e i-assert k
+statements-tree (leaf (print w es)) k =
     let A = each code-argument es in
     let a = mass-append (one 11) A (i-end ∷ []) in
     let d = args-none es (known-front A (i-end ∷ []) (k .1)) in
     omega arith
-statements-tree skip k = refl
-statements-tree (goto w) k = refl
-statements-tree break k = refl
-statements-tree timeout k = refl
-statements-tree else k = refl
-statements-tree (run w es) k =
+statements-tree (leaf skip) k = refl
+statements-tree (leaf (goto w)) k = refl
+statements-tree (leaf break) k = refl
+statements-tree (leaf timeout) k = refl
+statements-tree (leaf else) k = refl
+statements-tree (leaf (run w es)) k =
     let A = each code-argument es in
     let a = mass-append (one 11) A (i-end ∷ []) in
     let d = args-none es (known-front A (i-end ∷ []) (k .1 .1)) in
     omega arith
-statements-tree (set-run r w es) k =
+statements-tree (leaf (set-run r w es)) k =
     let A = each code-argument es in
     let k1 = known-front (code-exp r ++ i-target ∷ i-name w ∷ i-set-run ∷ A) (i-end ∷ []) k in
     let a = mass-append (one 11) (code-exp r ++ i-target ∷ i-name w ∷ i-set-run ∷ A) (i-end ∷ []) in

@@ -11,7 +11,7 @@ use lib.Dec.{eqb, ltb}
 use borrow.Author.Tests.{ne-eqb, eq-eqb, lt-leb}
 use Rattle.base_codes.specs.Codes.{c-argument, c-choice, c-end, c-receive, c-run, c-send, c-set-run, c-text}
 use Rattle.base_bytes.specs.Choice.{pick, both}
-use Rattle.spec_grammar.specs.Tree.{Name, Shape, Exp, Expr, Sort, sequence, Tree, express, assign, increment, decrement, send, receive, assert, print, skip, goto, break, timeout, else, run, set-run, select, loop, bare, labelled, end, then, over, option, Declaration, Group, body, Activity, idle, once, times, Part, mtypes, global, process, init}
+use Rattle.spec_grammar.specs.Tree.{Name, Shape, Exp, Expr, Sort, sequence, Tree, leaf, express, assign, increment, decrement, send, receive, assert, print, skip, goto, break, timeout, else, run, set-run, select, loop, bare, labelled, end, then, over, option, Declaration, Group, body, Activity, idle, once, times, Part, mtypes, global, process, init}
 use Rattle.base_codes.specs.Items.{Item, codeOf, i-argument, i-assert, i-assign, i-decrement, i-do, i-end, i-end-option, i-express, i-fi, i-if, i-increment, i-init, i-local, i-name, i-od, i-receive, i-run, i-send, i-set-run, i-target, i-text}
 use Rattle.parse_code.specs.Code.{each, code-exp, code-argument, code-received, code-tree, code-declaration, code-group, code-body, code-activity, code-message, code-part}
 use Rattle.rule_sheets.specs.Walks.{after, sum}
@@ -174,17 +174,17 @@ module _ (cs vs hs : List ℕ) where
         ap (λ k. eqb k 0) (let z : weigh W i (F ++ x ∷ A ++ i-end ∷ []) ≡ 0 = omega arith in z)
 
     wide-tree : {k : Sort} (t : Tree k) (i : ℕ) → St i (code-tree t) → eqb (weigh W i (code-tree t)) 0 ≡ narrow t
-    wide-tree (express e) i s = marked e i-express i (λ z. omega arith) s
-    wide-tree (assign r e) i s =
+    wide-tree (leaf (express e)) i s = marked e i-express i (λ z. omega arith) s
+    wide-tree (leaf (assign r e)) i s =
         quiet (code-exp r ++ i-target ∷ code-exp e ++ i-assign ∷ []) i
         (every-append Calm (code-exp r ++ i-target ∷ code-exp e) (i-assign ∷ [])
         (every-append Calm (code-exp r) (i-target ∷ code-exp e) (calm-exp r) (λ k z. omega arith, calm-exp e)) (λ k z. omega arith, tt)) s
-    wide-tree (increment r) i s = marked r i-increment i (λ z. omega arith) s
-    wide-tree (decrement r) i s = marked r i-decrement i (λ z. omega arith) s
-    wide-tree (send r es) i s = closed (code-exp r) i-send (each code-argument es) i (calm-exp r) (args-codes es) opens-send (λ z. omega arith) (λ z. omega arith) s
-    wide-tree (receive r xs) i s = closed (code-exp r) i-receive (each code-received xs) i (calm-exp r) (all-received-codes xs) opens-receive (λ z. omega arith) (λ z. omega arith) s
-    wide-tree (assert e) i s = marked e i-assert i (λ z. omega arith) s
-    wide-tree (print w es) i s =
+    wide-tree (leaf (increment r)) i s = marked r i-increment i (λ z. omega arith) s
+    wide-tree (leaf (decrement r)) i s = marked r i-decrement i (λ z. omega arith) s
+    wide-tree (leaf (send mk r es)) i s = closed (code-exp r) (i-send mk) (each code-argument es) i (calm-exp r) (args-codes es) opens-send (λ z. omega arith) (λ z. omega arith) s
+    wide-tree (leaf (receive mk r xs)) i s = closed (code-exp r) (i-receive mk) (each code-received xs) i (calm-exp r) (all-received-codes xs) opens-receive (λ z. omega arith) (λ z. omega arith) s
+    wide-tree (leaf (assert e)) i s = marked e i-assert i (λ z. omega arith) s
+    wide-tree (leaf (print w es)) i s =
         let A = each code-argument es in
         let e = suc i + length A in
         let q = stood-front cs vs hs h i (i-text w ∷ A) (i-end ∷ []) s in
@@ -193,13 +193,13 @@ module _ (cs vs hs : List ℕ) where
         let c = calm (i-text w ∷ A) i (λ k z. omega arith, calm-args A (args-codes es)) q in
         let g = print-end e i h (length es) (d .1) (opener-is A h i c-text e refl (args-codes es) (q .4) (q .1) opens-print) (q .1) (d .3) (counted w es i e refl q) in
         ap (λ k. eqb k 0) (let z : weigh W i (i-text w ∷ A ++ i-end ∷ []) ≡ pick (ltb 4 (length es)) 1 0 = omega arith in z) ∙ not-over (length es) 4
-    wide-tree skip i s = quiet (code-tree skip) i (λ k z. omega arith, tt) s
-    wide-tree (goto w) i s = quiet (code-tree (goto w)) i (λ k z. omega arith, (λ k z. omega arith, tt)) s
-    wide-tree break i s = quiet (code-tree break) i (λ k z. omega arith, tt) s
-    wide-tree timeout i s = quiet (code-tree timeout) i (λ k z. omega arith, tt) s
-    wide-tree else i s = quiet (code-tree else) i (λ k z. omega arith, tt) s
-    wide-tree (run w es) i s = closed (i-name w ∷ []) i-run (each code-argument es) i (λ k z. omega arith, tt) (args-codes es) opens-run (λ z. omega arith) (λ z. omega arith) s
-    wide-tree (set-run r w es) i s =
+    wide-tree (leaf skip) i s = quiet (code-tree (leaf skip)) i (λ k z. omega arith, tt) s
+    wide-tree (leaf (goto w)) i s = quiet (code-tree (leaf (goto w))) i (λ k z. omega arith, (λ k z. omega arith, tt)) s
+    wide-tree (leaf break) i s = quiet (code-tree (leaf break)) i (λ k z. omega arith, tt) s
+    wide-tree (leaf timeout) i s = quiet (code-tree (leaf timeout)) i (λ k z. omega arith, tt) s
+    wide-tree (leaf else) i s = quiet (code-tree (leaf else)) i (λ k z. omega arith, tt) s
+    wide-tree (leaf (run w es)) i s = closed (i-name w ∷ []) i-run (each code-argument es) i (λ k z. omega arith, tt) (args-codes es) opens-run (λ z. omega arith) (λ z. omega arith) s
+    wide-tree (leaf (set-run r w es)) i s =
         let A = each code-argument es in
         let F = code-exp r ++ i-target ∷ i-name w ∷ [] in
         let q : F ++ i-set-run ∷ A ≡ code-exp r ++ i-target ∷ i-name w ∷ i-set-run ∷ A = append-assoc (code-exp r) (i-target ∷ i-name w ∷ []) (i-set-run ∷ A) in

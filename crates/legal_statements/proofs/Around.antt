@@ -16,7 +16,7 @@ use Rattle.rule_search.specs.Search.{find}
 use Rattle.rule_item.specs.Rules.{twin, badTwice, badGoto, badBreak, badElse, badBy}
 use Rattle.link_phrases_proof.proofs.Starts.{some-items}
 use Rattle.link_phrases_proof.proofs.Inside.{all-inside, phrase-inside}
-use Rattle.spec_grammar.specs.Tree.{Name, Shape, Exp, Sort, action, statement, sequence, options, Tree, express, assign, increment, decrement, send, receive, assert, print, skip, goto, break, timeout, else, run, set-run, select, loop, bare, labelled, end, then}
+use Rattle.spec_grammar.specs.Tree.{Name, Shape, Exp, Sort, action, statement, sequence, options, Tree, leaf, express, assign, increment, decrement, send, receive, assert, print, skip, goto, break, timeout, else, run, set-run, select, loop, bare, labelled, end, then}
 use Rattle.base_codes.specs.Items.{Item, codeOf, i-assert, i-assign, i-break, i-decrement, i-do, i-else, i-end, i-end-option, i-express, i-fi, i-goto, i-if, i-increment, i-label, i-name, i-od, i-option, i-receive, i-run, i-send, i-set-run, i-skip, i-target, i-text, i-timeout}
 use Rattle.base_codes.specs.Sets.{ruleOf}
 use Rattle.parse_code.specs.Code.{each, code-exp, code-argument, code-received, code-tree}
@@ -147,21 +147,21 @@ module _ (S : Scene) where
       ap (λ c. eqb c c-option) (code-at S y [] (k - 1) (back S l (y ∷ []) i (k - 1) (omega arith) s)) ∙ f
 
   action-ends : (a : Tree action) (i k : ℕ) → k ≡ i + length (code-tree a) → StandsIn S i (code-tree a) → eqb (getD (S .cs) (k - 1) 0) c-option ≡ false
-  action-ends (express e) i k q s = ends-with (code-exp e) i-express i k q s refl
-  action-ends (assign r e) i k q s = ends-with (code-exp r ++ i-target ∷ code-exp e) i-assign i k q s refl
-  action-ends (increment r) i k q s = ends-with (code-exp r) i-increment i k q s refl
-  action-ends (decrement r) i k q s = ends-with (code-exp r) i-decrement i k q s refl
-  action-ends (send r es) i k q s = ends-with (code-exp r ++ i-send ∷ each code-argument es) i-end i k q s refl
-  action-ends (receive r es) i k q s = ends-with (code-exp r ++ i-receive ∷ each code-received es) i-end i k q s refl
-  action-ends (assert e) i k q s = ends-with (code-exp e) i-assert i k q s refl
-  action-ends (print w es) i k q s = ends-with (i-text w ∷ each code-argument es) i-end i k q s refl
-  action-ends skip i k q s = ends-with [] i-skip i k q s refl
-  action-ends (goto w) i k q s = ends-with (i-name w ∷ []) i-goto i k q s refl
-  action-ends break i k q s = ends-with [] i-break i k q s refl
-  action-ends timeout i k q s = ends-with [] i-timeout i k q s refl
-  action-ends else i k q s = ends-with [] i-else i k q s refl
-  action-ends (run w es) i k q s = ends-with (i-name w ∷ i-run ∷ each code-argument es) i-end i k q s refl
-  action-ends (set-run r w es) i k q s = ends-with (code-exp r ++ i-target ∷ i-name w ∷ i-set-run ∷ each code-argument es) i-end i k q s refl
+  action-ends (leaf (express e)) i k q s = ends-with (code-exp e) i-express i k q s refl
+  action-ends (leaf (assign r e)) i k q s = ends-with (code-exp r ++ i-target ∷ code-exp e) i-assign i k q s refl
+  action-ends (leaf (increment r)) i k q s = ends-with (code-exp r) i-increment i k q s refl
+  action-ends (leaf (decrement r)) i k q s = ends-with (code-exp r) i-decrement i k q s refl
+  action-ends (leaf (send mk r es)) i k q s = ends-with (code-exp r ++ i-send mk ∷ each code-argument es) i-end i k q s refl
+  action-ends (leaf (receive mk r es)) i k q s = ends-with (code-exp r ++ i-receive mk ∷ each code-received es) i-end i k q s refl
+  action-ends (leaf (assert e)) i k q s = ends-with (code-exp e) i-assert i k q s refl
+  action-ends (leaf (print w es)) i k q s = ends-with (i-text w ∷ each code-argument es) i-end i k q s refl
+  action-ends (leaf skip) i k q s = ends-with [] i-skip i k q s refl
+  action-ends (leaf (goto w)) i k q s = ends-with (i-name w ∷ []) i-goto i k q s refl
+  action-ends (leaf break) i k q s = ends-with [] i-break i k q s refl
+  action-ends (leaf timeout) i k q s = ends-with [] i-timeout i k q s refl
+  action-ends (leaf else) i k q s = ends-with [] i-else i k q s refl
+  action-ends (leaf (run w es)) i k q s = ends-with (i-name w ∷ i-run ∷ each code-argument es) i-end i k q s refl
+  action-ends (leaf (set-run r w es)) i k q s = ends-with (code-exp r ++ i-target ∷ i-name w ∷ i-set-run ∷ each code-argument es) i-end i k q s refl
   action-ends (select os) i k q s = ends-with (i-if ∷ code-tree os) i-fi i k q s refl
   action-ends (loop os) i k q s = ends-with (i-do ∷ code-tree os) i-od i k q s refl
 
@@ -184,21 +184,21 @@ module _ (S : Scene) where
   begins-with x l i b s e = ap (λ n. eqb n c-else) (code-at S x l i s) ∙ e
 
   action-begins : (a : Tree action) (i : ℕ) → StandsIn S i (code-tree a) → eqb (getD (S .cs) i 0) c-else ≡ eqb (isElse a) 1
-  action-begins (express e) i s = begins-exp e (i-express ∷ []) i s
-  action-begins (assign r e) i s = begins-exp r (i-target ∷ code-exp e) i (front S (code-exp r ++ i-target ∷ code-exp e) (i-assign ∷ []) i s)
-  action-begins (increment r) i s = begins-exp r (i-increment ∷ []) i s
-  action-begins (decrement r) i s = begins-exp r (i-decrement ∷ []) i s
-  action-begins (send r es) i s = begins-exp r (i-send ∷ each code-argument es) i (front S (code-exp r ++ i-send ∷ each code-argument es) (i-end ∷ []) i s)
-  action-begins (receive r es) i s = begins-exp r (i-receive ∷ each code-received es) i (front S (code-exp r ++ i-receive ∷ each code-received es) (i-end ∷ []) i s)
-  action-begins (assert e) i s = begins-exp e (i-assert ∷ []) i s
-  action-begins (print w es) i s = begins-with (i-text w) (each code-argument es ++ i-end ∷ []) i false s refl
-  action-begins skip i s = begins-with i-skip [] i false s refl
-  action-begins (goto w) i s = begins-with (i-name w) (i-goto ∷ []) i false s refl
-  action-begins break i s = begins-with i-break [] i false s refl
-  action-begins timeout i s = begins-with i-timeout [] i false s refl
-  action-begins else i s = begins-with i-else [] i true s refl
-  action-begins (run w es) i s = begins-with (i-name w) (i-run ∷ (each code-argument es ++ i-end ∷ [])) i false s refl
-  action-begins (set-run r w es) i s =
+  action-begins (leaf (express e)) i s = begins-exp e (i-express ∷ []) i s
+  action-begins (leaf (assign r e)) i s = begins-exp r (i-target ∷ code-exp e) i (front S (code-exp r ++ i-target ∷ code-exp e) (i-assign ∷ []) i s)
+  action-begins (leaf (increment r)) i s = begins-exp r (i-increment ∷ []) i s
+  action-begins (leaf (decrement r)) i s = begins-exp r (i-decrement ∷ []) i s
+  action-begins (leaf (send mk r es)) i s = begins-exp r (i-send mk ∷ each code-argument es) i (front S (code-exp r ++ i-send mk ∷ each code-argument es) (i-end ∷ []) i s)
+  action-begins (leaf (receive mk r es)) i s = begins-exp r (i-receive mk ∷ each code-received es) i (front S (code-exp r ++ i-receive mk ∷ each code-received es) (i-end ∷ []) i s)
+  action-begins (leaf (assert e)) i s = begins-exp e (i-assert ∷ []) i s
+  action-begins (leaf (print w es)) i s = begins-with (i-text w) (each code-argument es ++ i-end ∷ []) i false s refl
+  action-begins (leaf skip) i s = begins-with i-skip [] i false s refl
+  action-begins (leaf (goto w)) i s = begins-with (i-name w) (i-goto ∷ []) i false s refl
+  action-begins (leaf break) i s = begins-with i-break [] i false s refl
+  action-begins (leaf timeout) i s = begins-with i-timeout [] i false s refl
+  action-begins (leaf else) i s = begins-with i-else [] i true s refl
+  action-begins (leaf (run w es)) i s = begins-with (i-name w) (i-run ∷ (each code-argument es ++ i-end ∷ [])) i false s refl
+  action-begins (leaf (set-run r w es)) i s =
       begins-exp r (i-target ∷ i-name w ∷ i-set-run ∷ each code-argument es) i (front S (code-exp r ++ i-target ∷ i-name w ∷ i-set-run ∷ each code-argument es) (i-end ∷ []) i s)
   action-begins (select os) i s = begins-with i-if (code-tree os ++ i-fi ∷ []) i false s refl
   action-begins (loop os) i s = begins-with i-do (code-tree os ++ i-od ∷ []) i false s refl
@@ -254,7 +254,7 @@ module _ (S : Scene) where
   unfolding badGoto
   goto-is i g = let z : suc i - 1 ≡ i = omega arith in rw (z, g) refl
 
-  pub goto-fault : (w : Name) (i : ℕ) (ls : List Name) → StandsIn S i (code-tree (goto w)) → Goes ls → clean S i (code-tree (goto w)) ≡ has ls w
+  pub goto-fault : (w : Name) (i : ℕ) (ls : List Name) → StandsIn S i (code-tree (leaf (goto w))) → Goes ls → clean S i (code-tree (leaf (goto w))) ≡ has ls w
   goto-fault w i ls s goes =
       let n = next S (i-name w) (i-goto ∷ []) i s in
       clean-one S (i-name w) (i-goto ∷ []) i

@@ -23,7 +23,6 @@ use Rattle.rule_least.specs.Faults.{blank}
 use Rattle.spec_grammar.specs.Tree.{Name, sequence, Tree, Model}
 use Rattle.base_codes.specs.Items.{Item, codeOf, i-name, i-plain}
 use Rattle.parse_code.specs.Code.{code-tree, code}
-use Rattle.spec_machine.specs.Program.{sizeIn}
 use Rattle.agree_stage.proofs.Stands.{Lying}
 use Rattle.spec_rules.specs.Statements.{Place, has, labelsOf, apart, allowed}
 use Rattle.legal_terms.specs.Says.{Says, itemAt}
@@ -136,7 +135,7 @@ module _ (S : Scene) where
 abbrev withLabels : Place → List Name → Place
 withLabels at ls = record { locals = at .locals; globals = at .globals; model = at .model; labels = ls }
 
-module _ (m : Model) (cs vs : List ℕ) (says : Says m cs vs) (q : Tree sequence) (h from to : ℕ) (at : Place) (lies : Lying (code m) 0 (code-tree q) from) (ends : to ≡ from + sizeIn q)
+module _ (m : Model) (cs vs : List ℕ) (says : Says m cs vs) (q : Tree sequence) (h from to : ℕ) (at : Place) (lies : Lying (code m) 0 (code-tree q) from) (ends : to ≡ from + length (code-tree q))
     (own : at .labels ≡ labelsOf q) (no-option : getD cs (from - 1) 0 ≡ c-option → ⊥) (setting : Setting (code m) cs vs (homesOf cs blank) h from to at) where
   abbrev scene : Scene
   scene =

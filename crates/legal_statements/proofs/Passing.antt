@@ -15,15 +15,17 @@ use Rattle.rule_search.specs.Sets.{among}
 use Rattle.rule_search.specs.Search.{declares, one, count}
 use Rattle.rule_item.specs.Rules.{twin}
 use Rattle.link_phrases_proof.proofs.Inside.{all-inside, phrase-inside}
-use Rattle.spec_grammar.specs.Tree.{Name, Shape, Exp, Expr, Received, into, equal, exactly, exactly-true, exactly-false, Sort, action, statement, sequence, options, Tree, express, assign, increment, decrement, send, receive, assert, print, skip, goto, break, timeout, else, run, set-run, select, loop, bare, labelled, end, then, over, option}
-use Rattle.base_codes.specs.Items.{Item, codeOf, i-argument, i-assert, i-assign, i-break, i-decrement, i-do, i-else, i-end, i-end-option, i-equal, i-express, i-fi, i-goto, i-if, i-increment, i-into, i-label, i-name, i-od, i-option, i-receive, i-run, i-send, i-set-run, i-skip, i-target, i-text, i-timeout}
-use Rattle.parse_code.specs.Code.{each, code-exp, code-argument, code-received, code-tree}
+use Rattle.spec_grammar.specs.Tree.{Name, Shape, Exp, Sort, action, statement, sequence, options, Tree, leaf, select, loop, bare, labelled, end, then, over, option, Leaf}
+use Rattle.base_codes.specs.Items.{Item, codeOf, i-do, i-end-option, i-fi, i-if, i-label, i-name, i-od, i-option}
+use Rattle.parse_code.specs.Code.{code-exp, code-tree, code-leaf}
 use Rattle.spec_rules.specs.Statements.{has, labelsOf}
 use Rattle.legal_terms.specs.Says.{itemAt}
 use Rattle.legal_statements.specs.Scene.{Scene, xs, homes, StandsIn}
 use Rattle.legal_statements.proofs.Stands.{front, back, next, code-at, proper, home}
 use Rattle.legal_statements.proofs.Arguments.{inner-code}
 use Rattle.legal_statements.proofs.Walks.{any, any-next, count-next, twin-over, twin-in, twin-out, twin-deep}
+use Rattle.parse_parts_proof.specs.Parts.{Spoken}
+use Rattle.parse_parts_proof.proofs.Closed.{closed-leaf, spoken-code}
 
 -- ---- an item that is no label and opens or closes no selection, and opens no option
 abbrev pub dull : ℕ → Bool
@@ -46,6 +48,9 @@ dull-inside (x ∷ l) p =
     let c = codeOf x in
     let z = inner-code c (p .0) in
     ((rw (ne-eqb c c-label (λ e. omega (arith, z .0)), lt-ltb c c-if (omega (arith, z .0))) refl), dull-inside l (p .1))
+
+dull-spoken : {x : Item} → Spoken x → dull (codeOf x) ≡ true
+dull-spoken {x} h = let p = spoken-code h in let c = codeOf x in rw (ne-eqb c c-label (p .1), lt-ltb c c-if (omega arith)) refl
 
 -- what stands in a set of one code
 pub codes-sets : (c : ℕ) → (among 2 c ≡ eqb c c-label) × (among 7 c ≡ eqb c c-do) × (among 8 c ≡ eqb c c-od)
@@ -145,36 +150,15 @@ module _ (S : Scene) where
   dull-exp : {s : Shape} (e : Exp s) (i : ℕ) → StandsIn S i (code-exp e) → Dull (code-exp e)
   dull-exp e i s = dull-inside (code-exp e) (phrase-inside e (proper S e i s))
 
-  dull-marked : {s : Shape} (e : Exp s) (x : Item) (i : ℕ) → StandsIn S i (code-exp e ++ x ∷ []) → dull (codeOf x) ≡ true → Dull (code-exp e ++ x ∷ [])
-  dull-marked e x i s d = dull-append (code-exp e) (x ∷ []) (dull-exp e i (front S (code-exp e) (x ∷ []) i s)) (d, tt)
+  -- wherever these items stand they are dull
+  abbrev DullAt : List Item → Type 0
+  DullAt l = (i : ℕ) → StandsIn S i l → Dull l
 
-  dull-received : (x : Received) (i : ℕ) → StandsIn S i (code-received x) → Dull (code-received x)
-  dull-received (into r) i s = dull-marked r i-into i s refl
-  dull-received (equal e) i s = dull-marked e i-equal i s refl
-  dull-received (exactly n) i s = (refl, (refl, tt))
-  dull-received exactly-true i s = (refl, (refl, tt))
-  dull-received exactly-false i s = (refl, (refl, tt))
+  dull-join : (x y : List Item) → DullAt x → DullAt y → DullAt (x ++ y)
+  dull-join x y f g i s = dull-append x y (f i (front S x y i s)) (g (i + length x) (back S x y i (i + length x) refl s))
 
-  dull-each : {A : Type 0} (f : A → List Item) → ((a : A) (i : ℕ) → StandsIn S i (f a) → Dull (f a)) → (l : List A) (i : ℕ) → StandsIn S i (each f l) → Dull (each f l)
-  dull-each f h [] i s = tt
-  dull-each f h (a ∷ l) i s =
-      dull-append (f a) (each f l) (h a i (front S (f a) (each f l) i s)) (dull-each f h l (i + length (f a)) (back S (f a) (each f l) i (i + length (f a)) refl s))
-
-  dull-arguments : (l : List Expr) (i : ℕ) → StandsIn S i (each code-argument l) → Dull (each code-argument l)
-  dull-arguments l i s = dull-each code-argument (λ e j z. dull-marked e i-argument j z refl) l i s
-
-  -- an expression, a mark, more, and a last mark
-  dull-two : {s : Shape} (e : Exp s) (x y : Item) (l : List Item) (i : ℕ) → StandsIn S i ((code-exp e ++ x ∷ l) ++ y ∷ []) → dull (codeOf x) ≡ true → dull (codeOf y) ≡ true
-      → (StandsIn S (i + length (code-exp e) + 1) l → Dull l) → Dull ((code-exp e ++ x ∷ l) ++ y ∷ [])
-  dull-two e x y l i s a b f =
-      let E = code-exp e in
-      let z = front S (E ++ x ∷ l) (y ∷ []) i s in
-      dull-append (E ++ x ∷ l) (y ∷ [])
-      (dull-append E (x ∷ l) (dull-exp e i (front S E (x ∷ l) i z))
-      (a, f (subst (λ n. StandsIn S n l) (let q : suc (i + length E) ≡ i + length E + 1 = omega arith in q) (next S x l (i + length E) (back S E (x ∷ l) i (i + length E) refl z))))) (b, tt)
-
-  dull-end : (l : List Expr) (i : ℕ) → StandsIn S i (each code-argument l ++ i-end ∷ []) → Dull (each code-argument l ++ i-end ∷ [])
-  dull-end l i s = dull-append (each code-argument l) (i-end ∷ []) (dull-arguments l i (front S (each code-argument l) (i-end ∷ []) i s)) (refl, tt)
+  dull-leaf : (l : Leaf) → DullAt (code-leaf l)
+  dull-leaf l = closed-leaf DullAt (λ i s. tt) dull-join (λ s e. dull-exp e) (λ x h i s. (dull-spoken h, tt)) l
 
   -- ---- what opens and closes a selection
   pass-select : (x y : Item) (o : List Item) (ls : List Name) (i j : ℕ) → j ≡ suc i + length o → StandsIn S i (x ∷ (o ++ y ∷ []))
@@ -250,34 +234,7 @@ module _ (S : Scene) where
       }
 
   pub passing : {k : Sort} (t : Tree k) (i j : ℕ) → j ≡ i + length (code-tree t) → StandsIn S i (code-tree t) → Passing i j (labelsOf t) (least k)
-  passing (express e) i j q s = pass-dulls (code-exp e ++ i-express ∷ []) i j q s (dull-marked e i-express i s refl)
-  passing (assign r e) i j q s =
-      pass-dulls ((code-exp r ++ i-target ∷ code-exp e) ++ i-assign ∷ []) i j q s (dull-two r i-target i-assign (code-exp e) i s refl refl (dull-exp e (i + length (code-exp r) + 1)))
-  passing (increment r) i j q s = pass-dulls (code-exp r ++ i-increment ∷ []) i j q s (dull-marked r i-increment i s refl)
-  passing (decrement r) i j q s = pass-dulls (code-exp r ++ i-decrement ∷ []) i j q s (dull-marked r i-decrement i s refl)
-  passing (send r es) i j q s =
-      pass-dulls ((code-exp r ++ i-send ∷ each code-argument es) ++ i-end ∷ []) i j q s
-      (dull-two r i-send i-end (each code-argument es) i s refl refl (dull-arguments es (i + length (code-exp r) + 1)))
-  passing (receive r es) i j q s =
-      pass-dulls ((code-exp r ++ i-receive ∷ each code-received es) ++ i-end ∷ []) i j q s
-      (dull-two r i-receive i-end (each code-received es) i s refl refl (dull-each code-received dull-received es (i + length (code-exp r) + 1)))
-  passing (assert e) i j q s = pass-dulls (code-exp e ++ i-assert ∷ []) i j q s (dull-marked e i-assert i s refl)
-  passing (print w es) i j q s =
-      pass-dulls (i-text w ∷ (each code-argument es ++ i-end ∷ [])) i j q s (refl, dull-end es (suc i) (next S (i-text w) (each code-argument es ++ i-end ∷ []) i s))
-  passing skip i j q s = pass-dulls (i-skip ∷ []) i j q s (refl, tt)
-  passing (goto w) i j q s = pass-dulls (i-name w ∷ i-goto ∷ []) i j q s (refl, (refl, tt))
-  passing break i j q s = pass-dulls (i-break ∷ []) i j q s (refl, tt)
-  passing timeout i j q s = pass-dulls (i-timeout ∷ []) i j q s (refl, tt)
-  passing else i j q s = pass-dulls (i-else ∷ []) i j q s (refl, tt)
-  passing (run w es) i j q s =
-      let L = each code-argument es ++ i-end ∷ [] in
-      pass-dulls (i-name w ∷ i-run ∷ L) i j q s (refl, (refl, dull-end es (suc (suc i)) (next S i-run L (suc i) (next S (i-name w) (i-run ∷ L) i s))))
-  passing (set-run r w es) i j q s =
-      let L = each code-argument es in
-      let k = i + length (code-exp r) + 1 in
-      pass-dulls ((code-exp r ++ i-target ∷ i-name w ∷ i-set-run ∷ L) ++ i-end ∷ []) i j q s
-      (dull-two r i-target i-end (i-name w ∷ i-set-run ∷ L) i s refl refl
-      (λ z. (refl, (refl, dull-arguments es (suc (suc k)) (next S i-set-run L (suc k) (next S (i-name w) (i-set-run ∷ L) k z))))))
+  passing (leaf l) i j q s = pass-dulls (code-leaf l) i j q s (dull-leaf l i s)
   passing (select os) i j q s =
       let O = code-tree os in
       let k = suc i + length O in

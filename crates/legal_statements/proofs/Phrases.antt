@@ -15,7 +15,7 @@ use Rattle.rule_item.specs.Rules.{roleOf, badHeight, badBy}
 use Rattle.spec_rules.specs.Heights.{height}
 use Rattle.link_phrases_proof.proofs.Starts.{phrase-starts}
 use Rattle.link_phrases_proof.proofs.Heights.{phrase-heights}
-use Rattle.spec_grammar.specs.Tree.{Shape, expression, reference, Exp, plain, indexed, num, tru, fls, get, len, unary, binary, choice}
+use Rattle.spec_grammar.specs.Tree.{Shape, expression, reference, Exp, plain, indexed, num, tru, fls, get, query, unary, binary, choice}
 use Rattle.spec_grammar.specs.Grammar.{Is-unary, is-minus, is-not, is-flip}
 use Rattle.spec_rules.specs.Expressions.{Role, operand, channel, usable, named, lawful}
 use Rattle.spec_rules.specs.Statements.{sense}
@@ -23,7 +23,7 @@ use Rattle.legal_statements.specs.Scene.{Scene, homes, starts, heights, 
 use Rattle.legal_statements.proofs.Tests.{both-turn, both-group, both-last}
 use Rattle.legal_statements.proofs.Stands.{front, back, next, inside, code-at, codes-at, proper, home, clean-append, clean-one, clean-none, fine-by, fine-free}
 use Rattle.legal_statements.proofs.Uses.{number, reference-fault}
-use Rattle.base_codes.specs.Items.{Item, codeOf, i-binary, i-choice, i-false, i-index, i-len, i-name, i-number, i-otherwise, i-plain, i-true, i-unary}
+use Rattle.base_codes.specs.Items.{Item, codeOf, i-binary, i-choice, i-false, i-index, i-query, i-name, i-number, i-otherwise, i-plain, i-true, i-unary}
 use Rattle.base_codes.specs.Sets.{ruleOf}
 use Rattle.parse_code.specs.Code.{code-exp}
 
@@ -105,7 +105,7 @@ module _ (S : Scene) where
   first-role tru l i s = ap roleOf (code-at S i-true l i s) ∙ roles .2
   first-role fls l i s = ap roleOf (code-at S i-false l i s) ∙ roles .3
   first-role (get r) l i s = first-role r l i s
-  first-role (len r) l i s = first-role r (i-len ∷ []) i (front S (code-exp r ++ i-len ∷ []) l i s)
+  first-role (query mk r) l i s = first-role r (i-query mk ∷ []) i (front S (code-exp r ++ i-query mk ∷ []) l i s)
   first-role (unary o e) l i s = first-role e (i-unary o ∷ []) i (front S (code-exp e ++ i-unary o ∷ []) l i s)
   first-role (binary o a b) l i s =
       first-role a (code-exp b) i (front S (code-exp a ++ code-exp b) (i-binary o ∷ []) i (front S (code-exp a ++ code-exp b ++ i-binary o ∷ []) l i s))
@@ -168,12 +168,12 @@ module _ (S : Scene) where
   phrase-fault tru role i k s q o r = clean-one S i-true [] i ∙ ap₂ both (free i-true [] i c-true s refl (rules-none .2)) (clean-none S (suc i))
   phrase-fault fls role i k s q o r = clean-one S i-false [] i ∙ ap₂ both (free i-false [] i c-false s refl (rules-none .3)) (clean-none S (suc i))
   phrase-fault (get v) role i k s q o r = phrase-fault v operand i k s q tt (r ∙ ap number o)
-  phrase-fault (len v) role i k s q o r =
+  phrase-fault (query mk v) role i k s q o r =
       let R = code-exp v in
-      let b = back S R (i-len ∷ []) i (i + length R) refl s in
-      last-item R i-len i (i + length R) (named (sense (S .at)) channel v) true refl
-      (phrase-fault v channel i (i + length R) (front S R (i-len ∷ []) i s) refl tt (ap roleOf (code-at S i-len [] (i + length R) b) ∙ roles .5))
-      (free i-len [] (i + length R) c-len b refl (rules-none .4))
+      let b = back S R (i-query mk ∷ []) i (i + length R) refl s in
+      last-item R (i-query mk) i (i + length R) (named (sense (S .at)) channel v) true refl
+      (phrase-fault v channel i (i + length R) (front S R (i-query mk ∷ []) i s) refl tt (ap roleOf (code-at S (i-query mk) [] (i + length R) b) ∙ roles .5))
+      (free (i-query mk) [] (i + length R) c-len b refl (rules-none .4))
       ∙ both-last (named (sense (S .at)) channel v)
   phrase-fault (unary u e) role i k s q o r =
       let E = code-exp e in

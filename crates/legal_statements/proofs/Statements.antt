@@ -18,7 +18,7 @@ use Rattle.spec_text.specs.Names.{pid}
 use Rattle.rule_search.specs.Sets.{among}
 use Rattle.rule_search.specs.Search.{find, count}
 use Rattle.rule_item.specs.Rules.{roleOf, badFormat, badCount, badPassing, badRun, badBy, globalOf, bodyOf}
-use Rattle.spec_grammar.specs.Tree.{Name, Expr, Ref, Received, express, assign, increment, decrement, send, receive, assert, print, run, set-run}
+use Rattle.spec_grammar.specs.Tree.{Name, Expr, Ref, Received, leaf, express, assign, increment, decrement, send, receive, assert, print, run, set-run}
 use Rattle.base_codes.specs.Items.{Item, codeOf, i-assert, i-assign, i-decrement, i-end, i-express, i-increment, i-name, i-receive, i-run, i-send, i-set-run, i-target, i-text}
 use Rattle.base_codes.specs.Sets.{ruleOf}
 use Rattle.parse_code.specs.Code.{each, code-exp, code-argument, code-received, code-tree}
@@ -203,11 +203,11 @@ module _ (S : Scene) where
   format-rule j = refl
 
   -- ---- the statements
-  pub express-fault : (e : Expr) (i : ℕ) (loops first : Bool) → StandsIn S i (code-tree (express e)) → clean S i (code-tree (express e)) ≡ allowed (S .at) loops first (express e)
+  pub express-fault : (e : Expr) (i : ℕ) (loops first : Bool) → StandsIn S i (code-tree (leaf (express e))) → clean S i (code-tree (leaf (express e))) ≡ allowed (S .at) loops first (leaf (express e))
   unfolding allowed
   express-fault e i loops first s = marked-fault S e operand i-express i 2 s refl (roles .0) (rules .0) (height-rule S)
 
-  pub assign-fault : (r : Ref) (e : Expr) (i : ℕ) (loops first : Bool) → StandsIn S i (code-tree (assign r e)) → clean S i (code-tree (assign r e)) ≡ allowed (S .at) loops first (assign r e)
+  pub assign-fault : (r : Ref) (e : Expr) (i : ℕ) (loops first : Bool) → StandsIn S i (code-tree (leaf (assign r e))) → clean S i (code-tree (leaf (assign r e))) ≡ allowed (S .at) loops first (leaf (assign r e))
   unfolding allowed
   assign-fault r e i loops first s =
       let R = code-exp r in
@@ -218,47 +218,47 @@ module _ (S : Scene) where
       (marked-fault S e operand i-assign (suc (i + length R)) 2 (next S i-target (E ++ i-assign ∷ []) (i + length R) (second R i-target i-assign E i s)) refl (roles .2) (rules .2)
       (height-rule S))
 
-  pub increment-fault : (r : Ref) (i : ℕ) (loops first : Bool) → StandsIn S i (code-tree (increment r)) → clean S i (code-tree (increment r)) ≡ allowed (S .at) loops first (increment r)
+  pub increment-fault : (r : Ref) (i : ℕ) (loops first : Bool) → StandsIn S i (code-tree (leaf (increment r))) → clean S i (code-tree (leaf (increment r))) ≡ allowed (S .at) loops first (leaf (increment r))
   unfolding allowed
   increment-fault r i loops first s = marked-fault S r target i-increment i 2 s tt (roles .3) (rules .3) (height-rule S)
 
-  pub decrement-fault : (r : Ref) (i : ℕ) (loops first : Bool) → StandsIn S i (code-tree (decrement r)) → clean S i (code-tree (decrement r)) ≡ allowed (S .at) loops first (decrement r)
+  pub decrement-fault : (r : Ref) (i : ℕ) (loops first : Bool) → StandsIn S i (code-tree (leaf (decrement r))) → clean S i (code-tree (leaf (decrement r))) ≡ allowed (S .at) loops first (leaf (decrement r))
   unfolding allowed
   decrement-fault r i loops first s = marked-fault S r target i-decrement i 2 s tt (roles .4) (rules .4) (height-rule S)
 
-  pub send-fault : (r : Ref) (es : List Expr) (i : ℕ) (loops first : Bool) → StandsIn S i (code-tree (send r es)) → clean S i (code-tree (send r es)) ≡ allowed (S .at) loops first (send r es)
+  pub send-fault : (mk : ℕ) (r : Ref) (es : List Expr) (i : ℕ) (loops first : Bool) → StandsIn S i (code-tree (leaf (send mk r es))) → clean S i (code-tree (leaf (send mk r es))) ≡ allowed (S .at) loops first (leaf (send mk r es))
   unfolding allowed
-  send-fault r es i loops first s =
+  send-fault mk r es i loops first s =
       let R = code-exp r in
       let L = each code-argument es in
       let k = i + length R in
-      let z = second R i-send i-end L i s in
-      ap (clean S i) (regroup R L i-send i-end)
-      ∙ with-more R i-send (L ++ i-end ∷ []) i (suc k) (lawful (sense (S .at)) channel r) (both (leb (length es) 4) (all (whole (sense (S .at))) es)) refl
-      (marked-fault S r channel i-send i 2 (initial R i-send i-end L i s) tt (roles .5) (rules .5) (height-rule S))
-      (arguments-fault S i-send es k z (openers .0 .1) (openers .1 .1) ∙ ap (both (all (whole (sense (S .at))) es)) (sent-many k (length es) (code-at S i-send (L ++ i-end ∷ []) k z))
+      let z = second R (i-send mk) i-end L i s in
+      ap (clean S i) (regroup R L (i-send mk) i-end)
+      ∙ with-more R (i-send mk) (L ++ i-end ∷ []) i (suc k) (lawful (sense (S .at)) channel r) (both (leb (length es) 4) (all (whole (sense (S .at))) es)) refl
+      (marked-fault S r channel (i-send mk) i 2 (initial R (i-send mk) i-end L i s) tt (roles .5) (rules .5) (height-rule S))
+      (arguments-fault S (i-send mk) es k z (openers .0 .1) (openers .1 .1) ∙ ap (both (all (whole (sense (S .at))) es)) (sent-many k (length es) (code-at S (i-send mk) (L ++ i-end ∷ []) k z))
       ∙ both-turn (all (whole (sense (S .at))) es) (leb (length es) 4))
 
-  pub receive-fault : (r : Ref) (es : List Received) (i : ℕ) (loops first : Bool) → StandsIn S i (code-tree (receive r es)) → clean S i (code-tree (receive r es))
-      ≡ allowed (S .at) loops first (receive r es)
+  pub receive-fault : (mk : ℕ) (r : Ref) (es : List Received) (i : ℕ) (loops first : Bool) → StandsIn S i (code-tree (leaf (receive mk r es))) → clean S i (code-tree (leaf (receive mk r es)))
+      ≡ allowed (S .at) loops first (leaf (receive mk r es))
   unfolding allowed
-  receive-fault r es i loops first s =
+  receive-fault mk r es i loops first s =
       let R = code-exp r in
       let L = each code-received es in
       let k = i + length R in
-      let z = second R i-receive i-end L i s in
-      ap (clean S i) (regroup R L i-receive i-end)
-      ∙ with-more R i-receive (L ++ i-end ∷ []) i (suc k) (lawful (sense (S .at)) channel r) (both (leb (length es) 4) (all (receives (S .at)) es)) refl
-      (marked-fault S r channel i-receive i 2 (initial R i-receive i-end L i s) tt (roles .6) (rules .6) (height-rule S))
-      (receiveds-fault S i-receive es k z (openers .0 .2) (openers .1 .2) ∙ ap (both (all (receives (S .at)) es)) (received-many k (length es) (code-at S i-receive (L ++ i-end ∷ []) k z))
+      let z = second R (i-receive mk) i-end L i s in
+      ap (clean S i) (regroup R L (i-receive mk) i-end)
+      ∙ with-more R (i-receive mk) (L ++ i-end ∷ []) i (suc k) (lawful (sense (S .at)) channel r) (both (leb (length es) 4) (all (receives (S .at)) es)) refl
+      (marked-fault S r channel (i-receive mk) i 2 (initial R (i-receive mk) i-end L i s) tt (roles .6) (rules .6) (height-rule S))
+      (receiveds-fault S (i-receive mk) es k z (openers .0 .2) (openers .1 .2) ∙ ap (both (all (receives (S .at)) es)) (received-many k (length es) (code-at S (i-receive mk) (L ++ i-end ∷ []) k z))
       ∙ both-turn (all (receives (S .at)) es) (leb (length es) 4))
 
-  pub assert-fault : (e : Expr) (i : ℕ) (loops first : Bool) → StandsIn S i (code-tree (assert e)) → clean S i (code-tree (assert e)) ≡ allowed (S .at) loops first (assert e)
+  pub assert-fault : (e : Expr) (i : ℕ) (loops first : Bool) → StandsIn S i (code-tree (leaf (assert e))) → clean S i (code-tree (leaf (assert e))) ≡ allowed (S .at) loops first (leaf (assert e))
   unfolding allowed
   assert-fault e i loops first s = marked-fault S e operand i-assert i 17 s refl (roles .7) (rules .7) (height-rule-behind S)
 
-  pub print-fault : (w : List ℕ) (es : List Expr) (i : ℕ) (loops first : Bool) → StandsIn S i (code-tree (print w es)) → clean S i (code-tree (print w es))
-      ≡ allowed (S .at) loops first (print w es)
+  pub print-fault : (w : List ℕ) (es : List Expr) (i : ℕ) (loops first : Bool) → StandsIn S i (code-tree (leaf (print w es))) → clean S i (code-tree (leaf (print w es)))
+      ≡ allowed (S .at) loops first (leaf (print w es))
   unfolding allowed formats
   print-fault w es i loops first s =
       let L = each code-argument es ++ i-end ∷ [] in
@@ -272,12 +272,12 @@ module _ (S : Scene) where
       ∙ ap (both (all (whole (sense (S .at))) es)) (printed-many i (length es) it ∙ ap (λ n. eqb (length es) (n / 2)) v))
       ∙ format-last (eqb (formatOf w % 2) 0) (all (whole (sense (S .at))) es) (eqb (length es) (formatOf w / 2))
 
-  pub run-alone-fault : (w : Name) (es : List Expr) (i : ℕ) (loops first : Bool) → StandsIn S i (code-tree (run w es)) → clean S i (code-tree (run w es)) ≡ allowed (S .at) loops first (run w es)
+  pub run-alone-fault : (w : Name) (es : List Expr) (i : ℕ) (loops first : Bool) → StandsIn S i (code-tree (leaf (run w es))) → clean S i (code-tree (leaf (run w es))) ≡ allowed (S .at) loops first (leaf (run w es))
   unfolding allowed
   run-alone-fault w es i loops first s = run-fault w i-run es i (inl refl) (rules .9) (openers .0 .3) (openers .1 .3) s
 
-  pub set-run-fault : (r : Ref) (w : Name) (es : List Expr) (i : ℕ) (loops first : Bool) → StandsIn S i (code-tree (set-run r w es)) → clean S i (code-tree (set-run r w es))
-      ≡ allowed (S .at) loops first (set-run r w es)
+  pub set-run-fault : (r : Ref) (w : Name) (es : List Expr) (i : ℕ) (loops first : Bool) → StandsIn S i (code-tree (leaf (set-run r w es))) → clean S i (code-tree (leaf (set-run r w es)))
+      ≡ allowed (S .at) loops first (leaf (set-run r w es))
   unfolding allowed
   set-run-fault r w es i loops first s =
       let R = code-exp r in

@@ -12,7 +12,7 @@ use Rattle.base_bytes.specs.Lists.{same}
 use Rattle.base_bytes.proofs.Tests.{true-false}
 use Rattle.spec_text.specs.Names.{pid}
 use Rattle.rule_item.specs.Rules.{twin}
-use Rattle.spec_grammar.specs.Tree.{Name, Sort, options, Tree, express, assign, increment, decrement, send, receive, assert, print, skip, goto, break, timeout, else, run, set-run, select, loop, bare, labelled, end, then, over, option}
+use Rattle.spec_grammar.specs.Tree.{Name, Sort, options, Tree, leaf, express, assign, increment, decrement, send, receive, assert, print, skip, goto, break, timeout, else, run, set-run, select, loop, bare, labelled, end, then, over, option}
 use Rattle.base_codes.specs.Items.{Item, codeOf, i-do, i-end-option, i-fi, i-if, i-label, i-name, i-od, i-option, i-skip, i-timeout}
 use Rattle.base_codes.specs.Sets.{ruleOf}
 use Rattle.parse_code.specs.Code.{code-tree}
@@ -28,8 +28,8 @@ use Rattle.legal_statements.proofs.Labels.{fresh, fresh-none, fresh-one
 use Rattle.legal_statements.proofs.Around.{quota, quota-zero, quota-two, silent, Prior, Deep, Around, prior-next, deep-next, deep-loop, prior-over, deep-over, statement-ends, option-seen, Goes, goto-fault, break-fault, else-fault, label-fault}
 
 -- ---- the order of what is judged
-leaf : (ls : List Name) (first twinned a c : Bool) → a ≡ c → a ≡ both (fresh ls []) (both (quota first twinned 0) c)
-leaf ls first twinned a c e = e ∙ sym (ap₂ (λ (t u : Bool). both t (both u c)) (fresh-none ls) (quota-zero first twinned))
+alone : (ls : List Name) (first twinned a c : Bool) → a ≡ c → a ≡ both (fresh ls []) (both (quota first twinned 0) c)
+alone ls first twinned a c e = e ∙ sym (ap₂ (λ (t u : Bool). both t (both u c)) (fresh-none ls) (quota-zero first twinned))
 
 two-parts : (f g q a b : Bool) → both (both f (both q a)) (both g b) ≡ both (both f g) (both q (both a b))
 two-parts true true q a b = both-group q a b
@@ -81,21 +81,21 @@ module _ (S : Scene) (goes : Goes S (S .at .labels)) where
   pub tree-fault : {k : Sort} (t : Tree k) (i : ℕ) (loops first twinned : Bool) (ls : List Name) → StandsIn S i (code-tree t) → Prior S i ls → Deep S i loops → Around S k i first twinned
       → clean S i (code-tree t) ≡ both (fresh ls (labelsOf t)) (both (quota first twinned (isElse t)) (allowed (S .at) loops first t))
   unfolding allowed
-  tree-fault (express e) i loops first twinned ls s p d h = leaf ls first twinned _ _ (express-fault S e i loops first s)
-  tree-fault (assign r e) i loops first twinned ls s p d h = leaf ls first twinned _ _ (assign-fault S r e i loops first s)
-  tree-fault (increment r) i loops first twinned ls s p d h = leaf ls first twinned _ _ (increment-fault S r i loops first s)
-  tree-fault (decrement r) i loops first twinned ls s p d h = leaf ls first twinned _ _ (decrement-fault S r i loops first s)
-  tree-fault (send r es) i loops first twinned ls s p d h = leaf ls first twinned _ _ (send-fault S r es i loops first s)
-  tree-fault (receive r es) i loops first twinned ls s p d h = leaf ls first twinned _ _ (receive-fault S r es i loops first s)
-  tree-fault (assert e) i loops first twinned ls s p d h = leaf ls first twinned _ _ (assert-fault S e i loops first s)
-  tree-fault (print w es) i loops first twinned ls s p d h = leaf ls first twinned _ _ (print-fault S w es i loops first s)
-  tree-fault skip i loops first twinned ls s p d h = leaf ls first twinned _ _ (free-one i-skip i s (silent .0))
-  tree-fault (goto w) i loops first twinned ls s p d h = leaf ls first twinned _ _ (goto-fault S w i (S .at .labels) s goes)
-  tree-fault break i loops first twinned ls s p d h = leaf ls first twinned _ _ (break-fault S i loops s d)
-  tree-fault timeout i loops first twinned ls s p d h = leaf ls first twinned _ _ (free-one i-timeout i s (silent .1))
-  tree-fault else i loops first twinned ls s p d h = else-fault S i first twinned s h ∙ sym (ap (λ (t : Bool). both t (both (quota first twinned 1) first)) (fresh-none ls))
-  tree-fault (run w es) i loops first twinned ls s p d h = leaf ls first twinned _ _ (run-alone-fault S w es i loops first s)
-  tree-fault (set-run r w es) i loops first twinned ls s p d h = leaf ls first twinned _ _ (set-run-fault S r w es i loops first s)
+  tree-fault (leaf (express e)) i loops first twinned ls s p d h = alone ls first twinned _ _ (express-fault S e i loops first s)
+  tree-fault (leaf (assign r e)) i loops first twinned ls s p d h = alone ls first twinned _ _ (assign-fault S r e i loops first s)
+  tree-fault (leaf (increment r)) i loops first twinned ls s p d h = alone ls first twinned _ _ (increment-fault S r i loops first s)
+  tree-fault (leaf (decrement r)) i loops first twinned ls s p d h = alone ls first twinned _ _ (decrement-fault S r i loops first s)
+  tree-fault (leaf (send mk r es)) i loops first twinned ls s p d h = alone ls first twinned _ _ (send-fault S mk r es i loops first s)
+  tree-fault (leaf (receive mk r es)) i loops first twinned ls s p d h = alone ls first twinned _ _ (receive-fault S mk r es i loops first s)
+  tree-fault (leaf (assert e)) i loops first twinned ls s p d h = alone ls first twinned _ _ (assert-fault S e i loops first s)
+  tree-fault (leaf (print w es)) i loops first twinned ls s p d h = alone ls first twinned _ _ (print-fault S w es i loops first s)
+  tree-fault (leaf skip) i loops first twinned ls s p d h = alone ls first twinned _ _ (free-one i-skip i s (silent .0))
+  tree-fault (leaf (goto w)) i loops first twinned ls s p d h = alone ls first twinned _ _ (goto-fault S w i (S .at .labels) s goes)
+  tree-fault (leaf break) i loops first twinned ls s p d h = alone ls first twinned _ _ (break-fault S i loops s d)
+  tree-fault (leaf timeout) i loops first twinned ls s p d h = alone ls first twinned _ _ (free-one i-timeout i s (silent .1))
+  tree-fault (leaf else) i loops first twinned ls s p d h = else-fault S i first twinned s h ∙ sym (ap (λ (t : Bool). both t (both (quota first twinned 1) first)) (fresh-none ls))
+  tree-fault (leaf (run w es)) i loops first twinned ls s p d h = alone ls first twinned _ _ (run-alone-fault S w es i loops first s)
+  tree-fault (leaf (set-run r w es)) i loops first twinned ls s p d h = alone ls first twinned _ _ (set-run-fault S r w es i loops first s)
   tree-fault (select os) i loops first twinned ls s p d h =
       let O = code-tree os in
       let n = next S i-if (O ++ i-fi ∷ []) i s in
@@ -128,7 +128,7 @@ module _ (S : Scene) (goes : Goes S (S .at .labels)) where
       (ap (λ m. eqb (getD (S .cs) m 0) c-option) z ∙ ap (λ c. eqb c c-option) (code-at S i-label A (suc i) n), λ e. absurd (true-false (sym e)))))
       ∙ sym (both-group u (fresh (ls ++ w ∷ []) (labelsOf a)) (allowed (S .at) loops false a))
       ∙ ap₂ (λ (t v : Bool). both t (both v (allowed (S .at) loops false a))) (sym (fresh-one ls w (labelsOf a))) (sym (quota-zero first twinned))
-  tree-fault end i loops first twinned ls s p d h = leaf ls first twinned _ _ (clean-none S i)
+  tree-fault end i loops first twinned ls s p d h = alone ls first twinned _ _ (clean-none S i)
   tree-fault (then a b) i loops first twinned ls s p d h =
       let A = code-tree a in
       let B = code-tree b in
@@ -141,7 +141,7 @@ module _ (S : Scene) (goes : Goes S (S .at .labels)) where
       (statement-ends S a i k refl sa, λ e. absurd (true-false (sym e))))
       ∙ two-parts (fresh ls (labelsOf a)) (fresh (ls ++ labelsOf a) (labelsOf b)) (quota first twinned (isElse a)) (allowed (S .at) loops first a) (allowed (S .at) loops false b)
       ∙ ap (λ (t : Bool). both t (both (quota first twinned (isElse a)) (both (allowed (S .at) loops first a) (allowed (S .at) loops false b)))) (sym (fresh-append ls (labelsOf a) (labelsOf b)))
-  tree-fault over i loops first twinned ls s p d h = leaf ls first twinned _ _ (clean-none S i)
+  tree-fault over i loops first twinned ls s p d h = alone ls first twinned _ _ (clean-none S i)
   tree-fault (option a b) i loops first twinned ls s p d h =
       let A = code-tree a in
       let B = code-tree b in

@@ -1,4 +1,4 @@
--- Mechanism, held to the specification by `text-leads` (crate `agree_control`).
+-- Mechanism, held to the specification by `demand2` (crate `demands`); where control goes, also by `text-leads` (crate `agree_control`).
 -- The links of a model, one number for each item, so that a stepper finds all it needs at once. They are a function of the items and of what their tokens say, so
 -- of the tree alone. `cs` are the items, `vs` what their tokens say, `hs` the bodies that they are in, `ss` where expressions start.
 -- Document 01, "Names", "How it moves"; docs/TABLES.md.

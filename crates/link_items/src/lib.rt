@@ -4,6 +4,7 @@ ghost use Prim.Native.Nat.{_+_, _-_, _≤_, _<_, min};
 ghost use lib.ListN.{length, getD, set};
 ghost use Rattle.base_ceilings.specs.Ceilings.{itemsMost};
 ghost use Rattle.link_items.specs.Links.{sizeKept};
+ghost use Rattle.rule_search.specs.Chain.{Chained};
 ghost use Rattle.rule_search.specs.Search as seek;
 ghost use Rattle.base_codes.specs.Sets as sets;
 ghost use Rattle.link_items.specs.Links as spec;
@@ -97,14 +98,24 @@ fn class_of(c: u8) -> u8
 }
 
 // The declaration that the name at item m means to item j.
-fn meant(codes: &[u8], args: &[u32], homes: &[u32], m: usize, j: usize) -> usize
+fn meant(codes: &[u8], args: &[u32], homes: &[u32], chain: &[u32], m: usize, j: usize) -> usize
+    requires { ⌜ Chained (now codes) (now args) (now chain) ⌝ }
     ensures { λ r. ⌜ r ≡ seek.lookup (now (codes .entry)) (now (args .entry)) (now (homes .entry)) (getD (now (args .entry)) m 0) (getD (now (homes .entry)) j 0) m ⌝ }
 {
-    lookup(codes, args, homes, word_at(args, m), word_at(homes, j), m)
+    lookup(
+        codes,
+        args,
+        homes,
+        chain,
+        word_at(args, m),
+        word_at(homes, j),
+        m,
+    )
 }
 
 // The label that the goto at item j names.
-fn label_of(codes: &[u8], args: &[u32], homes: &[u32], j: usize) -> usize
+fn label_of(codes: &[u8], args: &[u32], homes: &[u32], chain: &[u32], j: usize) -> usize
+    requires { ⌜ Chained (now codes) (now args) (now chain) ⌝ }
     ensures { λ r. ⌜ r ≡ seek.find (now (codes .entry)) (now (args .entry)) (now (homes .entry)) 2 (getD (now (args .entry)) (j - 1) 0) (getD (now (homes .entry)) j 0) (length (now (codes .entry))) ⌝ }
 {
     let n = codes.len();
@@ -112,6 +123,7 @@ fn label_of(codes: &[u8], args: &[u32], homes: &[u32], j: usize) -> usize
         codes,
         args,
         homes,
+        chain,
         2,
         word_at(args, minus(j, 1)),
         word_at(homes, j),
@@ -124,23 +136,24 @@ fn link_by(
     codes: &[u8],
     args: &[u32],
     homes: &[u32],
+    chain: &[u32],
     starts: &[u32],
     links: &[u32],
     class: u8,
     j: usize,
 ) -> usize
-    requires { ⌜ (j < length (now codes)) × (length (now codes) ≤ itemsMost) ⌝ }
+    requires { ⌜ (j < length (now codes)) × (length (now codes) ≤ itemsMost) × Chained (now codes) (now args) (now chain) ⌝ }
     ensures { λ r. ⌜ r ≡ spec.linkBy (now (codes .entry)) (now (args .entry)) (now (homes .entry)) (now (starts .entry)) class (now (links .entry)) j ⌝ }
 {
     match class {
-        1 => meant(codes, args, homes, word_at(starts, j), j),
-        2 => meant(codes, args, homes, minus(j, 1), j),
-        3 => rule_item::global(codes, args, homes, minus(j, 1)),
+        1 => meant(codes, args, homes, chain, word_at(starts, j), j),
+        2 => meant(codes, args, homes, chain, minus(j, 1), j),
+        3 => rule_item::global(codes, args, homes, chain, minus(j, 1)),
         4 => word_at(starts, minus(j, 1)),
         5 => link_places::mark_from(codes, j + 1),
         6 => link_places::close_of(codes, 4, j + 1),
         7 => link_places::next_from(codes, links, j + 1),
-        8 => link_places::place_from(codes, label_of(codes, args, homes, j)),
+        8 => link_places::place_from(codes, label_of(codes, args, homes, chain, j)),
         9 => link_places::past_loop(codes, links, j),
         10 => link_places::close_of(codes, 0, j + 1),
         11 => link_places::close_of(codes, 2, j + 1),
@@ -162,14 +175,30 @@ fn put(s: &mut [u32], i: usize, v: usize)
 }
 
 // All links, the last first.
-fn fill_back(codes: &[u8], args: &[u32], homes: &[u32], starts: &[u32], links: &mut [u32])
-    requires { ⌜ length (now codes) ≤ itemsMost ⌝ }
+fn fill_back(
+    codes: &[u8],
+    args: &[u32],
+    homes: &[u32],
+    chain: &[u32],
+    starts: &[u32],
+    links: &mut [u32],
+)
+    requires { ⌜ (length (now codes) ≤ itemsMost) × Chained (now codes) (now args) (now chain) ⌝ }
     ensures { λ _. ⌜ now (links .exit) ≡ spec.filledBack (now (codes .entry)) (now (args .entry)) (now (homes .entry)) (now (starts .entry)) (length (now (codes .entry))) (now (links .entry)) ⌝ }
 {
     let mut j = codes.len();
     while 0 < j {
         j -= 1;
-        let v = link_by(codes, args, homes, starts, links, class_of(codes[j]), j);
+        let v = link_by(
+            codes,
+            args,
+            homes,
+            chain,
+            starts,
+            links,
+            class_of(codes[j]),
+            j,
+        );
         put(links, j, v);
     }
 }
@@ -183,7 +212,9 @@ pub fn fill_links(codes: &[u8], args: &[u32], links: &mut [u32])
     }
     let mut homes = [0u32; base_ceilings::ITEMS_MOST];
     let mut starts = [0u32; base_ceilings::ITEMS_MOST];
+    let mut chain = [0u32; rule_search::CHAIN_ROOM];
     rule_sheets::fill_homes(codes, &mut homes);
     rule_sheets::fill_starts(codes, &mut starts);
-    fill_back(codes, args, &homes, &starts, links);
+    rule_search::fill_chain(codes, args, &mut chain);
+    fill_back(codes, args, &homes, &chain, &starts, links);
 }

@@ -1,5 +1,5 @@
 -- HOW HIGH AN EXPRESSION IS: at its last item `heightsOf` has its height, or 33 where that is more.
-use Prim.Native.Nat.{ℕ, zero, suc, _+_, _-_, _≤_, _<_, min, max}
+use Prim.Native.Nat.{ℕ, suc, _+_, _-_, _≤_, _<_, min, max}
 use native.Mathlib.Omega.{arith}
 use mathlib.Core.Path.{_≡_, refl, _∙_, ap, ap₂}
 use mathlib.Core.Bool.{Bool, true, false}
@@ -10,14 +10,14 @@ use borrow.Author.Tests.{le-ltb, leb-true, leb-false}
 use Rattle.base_ceilings.specs.Ceilings.{heightMost, itemsMost}
 use Rattle.base_codes.specs.Codes.{c-choice, c-false, c-index, c-len, c-plain, c-true, c-number}
 use Rattle.base_bytes.specs.Choice.{pick}
-use Rattle.spec_grammar.specs.Tree.{Shape, Exp, plain, indexed, num, tru, fls, get, len, unary, binary, choice}
+use Rattle.spec_grammar.specs.Tree.{Shape, Exp, plain, indexed, num, tru, fls, get, query, unary, binary, choice}
 use Rattle.rule_sheets.specs.Walks.{filled}
 use Rattle.rule_sheets.specs.Spans.{shapeOf, above, greater, heightOf, startsOf, heightsOf}
 use Rattle.link_phrases_proof.specs.Phrases.{Proper, At}
 use Rattle.spec_rules.specs.Heights.{height}
 use Rattle.link_phrases_proof.proofs.Fills.{filled-length, filled-keeps, filled-split, filled-last}
 use Rattle.link_phrases_proof.proofs.Starts.{at-front, at-back, some-items, unary-shape, binary-shape, shapes, phrase-starts}
-use Rattle.base_codes.specs.Items.{codeOf, i-binary, i-choice, i-index, i-len, i-otherwise, i-unary}
+use Rattle.base_codes.specs.Items.{codeOf, i-binary, i-choice, i-index, i-query, i-otherwise, i-unary}
 use Rattle.parse_code.specs.Code.{code-exp}
 
 -- ---- heights that stop at 33
@@ -107,12 +107,12 @@ module _ (cs ss : List ℕ) (right : (s : Shape) (e : Exp s) → Proper e → (i
       let y = height-at e p (i + 1) m (j - 1) (filled F i 1 l) refl (omega (arith, some-items e)) (rw z one) (omega arith) (omega (arith, filled-length F i 1 l)) in
       filled-last F (1 + m) i n j l (omega arith) (omega arith) (omega arith) ∙ height-index cs ss (filled F i (1 + m) l) j c-index x (shapes .5)
       ∙ ap above (second i 1 m (1 + m) (i + 1) l (j - 1) (min (heightMost + 1) (height e)) refl refl y) ∙ above-min (height e)
-  height-at (len v) p i n j l q r h g s =
+  height-at (query mk v) p i n j l q r h g s =
       let m = length (code-exp v) in
-      let t : length (code-exp v ++ i-len ∷ []) ≡ m + 1 = length-append (code-exp v) (i-len ∷ []) in
-      let x = at-back cs (code-exp v) (i-len ∷ []) i j (omega arith) h .0 in
+      let t : length (code-exp v ++ i-query mk ∷ []) ≡ m + 1 = length-append (code-exp v) (i-query mk ∷ []) in
+      let x = at-back cs (code-exp v) (i-query mk ∷ []) i j (omega arith) h .0 in
       filled-last F m i n j l (omega arith) (omega arith) (omega (arith, some-items v)) ∙ height-over cs ss (filled F i m l) j c-len x (shapes .6)
-      ∙ ap above (height-at v p i m (j - 1) l refl (omega arith) (at-front cs i (code-exp v) (i-len ∷ []) h) (omega arith) (omega arith)) ∙ above-min (height v)
+      ∙ ap above (height-at v p i m (j - 1) l refl (omega arith) (at-front cs i (code-exp v) (i-query mk ∷ []) h) (omega arith) (omega arith)) ∙ above-min (height v)
   height-at (unary o e) p i n j l q r h g s =
       let m = length (code-exp e) in
       let t : length (code-exp e ++ i-unary o ∷ []) ≡ m + 1 = length-append (code-exp e) (i-unary o ∷ []) in

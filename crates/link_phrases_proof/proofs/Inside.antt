@@ -11,9 +11,9 @@ use borrow.Author.Tests.{le-leb, lt-leb}
 use Rattle.base_codes.specs.Codes.{c-argument, c-choice, c-complement, c-name, c-number, c-or-else, c-plain, c-text}
 use Rattle.base_codes.specs.Sets.{isPart}
 use Rattle.base_bytes.specs.Choice.{either, both}
-use Rattle.spec_grammar.specs.Tree.{Shape, Exp, plain, indexed, num, tru, fls, get, len, unary, binary, choice}
+use Rattle.spec_grammar.specs.Tree.{Shape, Exp, plain, indexed, num, tru, fls, get, query, unary, binary, choice}
 use Rattle.spec_grammar.specs.Grammar.{Is-unary, is-minus, is-not, is-flip}
-use Rattle.base_codes.specs.Items.{Item, codeOf, i-binary, i-choice, i-index, i-len, i-otherwise, i-unary}
+use Rattle.base_codes.specs.Items.{Item, codeOf, i-binary, i-choice, i-index, i-query, i-otherwise, i-unary}
 use Rattle.parse_code.specs.Code.{code-exp}
 use Rattle.link_phrases_proof.specs.Phrases.{Proper, At}
 
@@ -47,7 +47,7 @@ phrase-inside (num n) p = (refl, tt)
 phrase-inside tru p = (refl, tt)
 phrase-inside fls p = (refl, tt)
 phrase-inside (get r) p = phrase-inside r p
-phrase-inside (len r) p = inside-append (code-exp r) (i-len ∷ []) (phrase-inside r p) (refl, tt)
+phrase-inside (query mk r) p = inside-append (code-exp r) (i-query mk ∷ []) (phrase-inside r p) (refl, tt)
 phrase-inside (unary o e) p = inside-append (code-exp e) (i-unary o ∷ []) (phrase-inside e (p .1)) (unary-inside (p .0), tt)
 phrase-inside (binary o a b) p =
     inside-append (code-exp a ++ code-exp b) (i-binary o ∷ []) (inside-append (code-exp a) (code-exp b) (phrase-inside a (p .2)) (phrase-inside b (p .3))) (binary-inside o (p .0) (p .1), tt)

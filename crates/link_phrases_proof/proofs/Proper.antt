@@ -5,7 +5,7 @@ use mathlib.Core.Path.{_≡_}
 use mathlib.Core.List.{List}
 use Rattle.base_kinds.specs.Kinds.{Token, level}
 use Rattle.spec_grammar.specs.Tree.{Expr}
-use Rattle.spec_grammar.specs.Grammar.{E, e-plain, e-index, e-number, e-true, e-false, e-len, e-group, e-choice, e-unary, e-binary, e-up}
+use Rattle.spec_grammar.specs.Grammar.{E, e-plain, e-index, e-number, e-true, e-false, e-query, e-group, e-choice, e-unary, e-binary, e-up}
 use Rattle.spec_grammar.proofs.Levels.{operator-small}
 use Rattle.link_phrases_proof.specs.Phrases.{Proper}
 
@@ -19,7 +19,7 @@ grammar-proper (e-index x) = grammar-proper x
 grammar-proper e-number = tt
 grammar-proper e-true = tt
 grammar-proper e-false = tt
-grammar-proper (e-len x) = grammar-proper x
+grammar-proper (e-query kind x) = grammar-proper x
 grammar-proper (e-group x) = grammar-proper x
 grammar-proper (e-choice x y z) = (grammar-proper x, grammar-proper y, grammar-proper z)
 grammar-proper (e-unary u x) = (u, grammar-proper x)

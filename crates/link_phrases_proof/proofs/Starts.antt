@@ -1,19 +1,19 @@
 -- WHERE AN EXPRESSION STARTS: at its last item `startsOf` has the place of its first.
-use Prim.Native.Nat.{ℕ, zero, suc, _+_, _-_, _≤_, _<_}
+use Prim.Native.Nat.{ℕ, suc, _+_, _-_, _≤_, _<_}
 use native.Mathlib.Omega.{arith}
-use mathlib.Core.Path.{_≡_, refl, sym as inv, _∙_, ap}
+use mathlib.Core.Path.{_≡_, refl, _∙_, ap}
 use mathlib.Core.List.{List, [], _∷_, _++_}
 use lib.ListN.{length, getD, length-append}
-use borrow.Author.Tests.{lt-ltb, le-ltb, ne-eqb, eq-eqb}
+use borrow.Author.Tests.{lt-ltb, le-ltb, ne-eqb}
 use Rattle.base_ceilings.specs.Ceilings.{itemsMost}
 use Rattle.base_codes.specs.Codes.{c-choice, c-false, c-index, c-len, c-negate, c-plain, c-remainder, c-true, c-name, c-number}
-use Rattle.spec_grammar.specs.Tree.{Shape, Exp, plain, indexed, num, tru, fls, get, len, unary, binary, choice}
+use Rattle.spec_grammar.specs.Tree.{Shape, Exp, plain, indexed, num, tru, fls, get, query, unary, binary, choice}
 use Rattle.spec_grammar.specs.Grammar.{Is-unary, is-minus, is-not, is-flip}
 use Rattle.rule_sheets.specs.Walks.{filled}
 use Rattle.rule_sheets.specs.Spans.{shapeOf, startOf, startsOf}
 use Rattle.link_phrases_proof.specs.Phrases.{Proper, At}
 use Rattle.link_phrases_proof.proofs.Fills.{filled-length, filled-keeps, filled-split, filled-last}
-use Rattle.base_codes.specs.Items.{Item, codeOf, i-binary, i-choice, i-index, i-len, i-otherwise, i-unary}
+use Rattle.base_codes.specs.Items.{Item, codeOf, i-binary, i-choice, i-index, i-query, i-otherwise, i-unary}
 use Rattle.parse_code.specs.Code.{code-exp}
 
 -- ---- items side by side
@@ -32,7 +32,7 @@ some-items (num n) = omega arith
 some-items tru = omega arith
 some-items fls = omega arith
 some-items (get r) = some-items r
-some-items (len r) = omega (arith, length-append (code-exp r) (i-len ∷ []))
+some-items (query mk r) = omega (arith, length-append (code-exp r) (i-query mk ∷ []))
 some-items (unary o e) = omega (arith, length-append (code-exp e) (i-unary o ∷ []))
 some-items (binary o a b) = omega (arith, length-append (code-exp a ++ code-exp b) (i-binary o ∷ []))
 some-items (choice a b c) = omega (arith, length-append (code-exp a ++ code-exp b ++ i-otherwise ∷ code-exp c) (i-choice ∷ []))
@@ -114,12 +114,12 @@ module _ (cs : List ℕ) where
       let g = start-at e p (i + 1) m (j - 1) (filled F i 1 l) refl (omega (arith, some-items e)) (let z : i + 1 ≡ suc i = omega arith in rw z one) (omega (arith, filled-length F i 1 l)) in
       let u : getD (filled F i (1 + m) l) (j - 1) 0 ≡ i + 1 = second i 1 m (1 + m) (i + 1) l (j - 1) (i + 1) refl refl g in
       filled-last F (1 + m) i n j l (omega arith) (omega arith) (omega arith) ∙ start-index cs (filled F i (1 + m) l) j c-index x (shapes .5) ∙ omega (arith, u)
-  start-at (len v) p i n j l q r h s =
+  start-at (query mk v) p i n j l q r h s =
       let m = length (code-exp v) in
-      let t : length (code-exp v ++ i-len ∷ []) ≡ m + 1 = length-append (code-exp v) (i-len ∷ []) in
-      let x = at-back cs (code-exp v) (i-len ∷ []) i j (omega arith) h .0 in
+      let t : length (code-exp v ++ i-query mk ∷ []) ≡ m + 1 = length-append (code-exp v) (i-query mk ∷ []) in
+      let x = at-back cs (code-exp v) (i-query mk ∷ []) i j (omega arith) h .0 in
       filled-last F m i n j l (omega arith) (omega arith) (omega (arith, some-items v)) ∙ start-over cs (filled F i m l) j c-len x (shapes .6)
-      ∙ start-at v p i m (j - 1) l refl (omega arith) (at-front cs i (code-exp v) (i-len ∷ []) h) (omega arith)
+      ∙ start-at v p i m (j - 1) l refl (omega arith) (at-front cs i (code-exp v) (i-query mk ∷ []) h) (omega arith)
   start-at (unary o e) p i n j l q r h s =
       let m = length (code-exp e) in
       let t : length (code-exp e ++ i-unary o ∷ []) ≡ m + 1 = length-append (code-exp e) (i-unary o ∷ []) in

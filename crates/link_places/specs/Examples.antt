@@ -1,4 +1,4 @@
--- Mechanism, held to the specification by `text-leads` (crate `agree_control`).
+-- Mechanism: worked examples, computed from its definitions; they are held to nothing else.
 -- Worked examples, computed: the items of `init{do::1;break::else od;L:skip}`, by number
 --   0 init 1 body 2 do 3 option 4 number 5 express 6 break 7 end-option 8 option 9 else 10 end-option 11 od 12 name 13 label 14 skip 15 end-body
 use Prim.Native.Nat.{ℕ}

@@ -1,4 +1,4 @@
--- Mechanism, held to the specification by `text-normal` (crate `normal_proof`).
+-- Mechanism, held to the specification by `demand3` (crate `demands`) as far as accepted texts and their tables go; a refusal it hands on from `judgeOf` and `genuine`.
 -- The entries that write normal text, each with one answer and one content of lent memory: document 01, "What is answered": "7 first (last for normal text's own room)";
 -- row 7 "a lent buffer shorter than its room; for normal text, than that text", row 8 "tables are those of no accepted text".
 use mathlib.Core.List.{List, _++_}

@@ -1,4 +1,4 @@
--- Mechanism, held to the specification by `text-normal` (crate `normal_proof`).
+-- Mechanism, held to the specification by `text-normal` (crate `normal_proof`), but for `behind`, of contracts alone.
 -- The tokens that tables hold, by their numbers: what an item holds, and a token with the space before it (document 01, "Normal text").
 use mathlib.Core.List.{List, [], _∷_, _++_}
 use Prim.Native.Nat.{ℕ, _-_}

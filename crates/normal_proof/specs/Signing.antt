@@ -1,4 +1,4 @@
--- Mechanism, held to the specification by `text-normal` (crate `normal_proof`).
+-- Mechanism, of proofs alone: what `genuine-owned`, `owned-genuine` (crate `normal_proof`) hold `genuine` to, over texts that `judgeOf` accepts.
 -- Whose tables numbers are: document 01, row 8, "tables are those of no accepted text"; "they are compared over their written part".
 use mathlib.Core.Path.{_≡_}
 use mathlib.Core.List.{List}

@@ -2,7 +2,7 @@
 use Prim.Native.Nat.{ℕ, zero, suc, _+_, _-_, _≤_, _<_}
 use native.Mathlib.Omega.{arith}
 use native.Mathlib.Decide.{decLt}
-use mathlib.Core.Path.{_≡_, refl, _∙_, ap}
+use mathlib.Core.Path.{_≡_, refl, _∙_, ap, sym as inv}
 use mathlib.Core.Bool.{Bool, true, false}
 use mathlib.Core.Logic.{_⊎_, inl, inr}
 use mathlib.Core.List.{List, [], _∷_, _++_, append-assoc}
@@ -14,8 +14,9 @@ use Rattle.base_bytes.specs.Choice.{pick, both, either}
 use Rattle.base_bytes.proofs.Tests.{both-true, either-true}
 use Rattle.base_kinds.specs.Kinds.{Token, sym, number, level}
 use Rattle.base_values.specs.Operators.{levelOf}
-use Rattle.spec_grammar.specs.Tree.{Shape, Exp, plain, indexed, num, tru, fls, get, len, unary, binary, choice, Ref}
-use Rattle.base_codes.specs.Items.{codeOf, i-binary, i-choice, i-index, i-len, i-otherwise, i-unary}
+use Rattle.spec_grammar.specs.Tree.{Shape, Exp, plain, indexed, num, tru, fls, get, query, unary, binary, choice, Ref}
+use Rattle.base_codes.specs.Items.{codeOf, i-binary, i-choice, i-index, i-query, i-otherwise, i-receive, i-send, i-unary}
+use Rattle.spec_grammar.specs.Marks.{k-bang, k-ask, k-len}
 use Rattle.parse_code.specs.Code.{code-exp}
 use Rattle.spec_grammar.specs.Print.{wrap, print-exp}
 use Rattle.normal_rows.specs.Rules.{rows}
@@ -43,6 +44,18 @@ sane-unary o (inr e) = absurd (big (eqb o 15) e)
     big : (b : Bool) → pick b c-negate (c-or-else + o) ≤ c-text → ⊥
     big true l = omega arith
     big false l = omega arith
+
+pub sane-query : (o : ℕ) → Sane (i-query o) → o ≡ k-len
+sane-query o (inl e) = eqb-true o k-len e
+sane-query o (inr e) = absurd (omega arith)
+
+pub sane-send : (o : ℕ) → Sane (i-send o) → o ≡ k-bang
+sane-send o (inl e) = eqb-true o k-bang e
+sane-send o (inr e) = absurd (omega arith)
+
+pub sane-receive : (o : ℕ) → Sane (i-receive o) → o ≡ k-ask
+sane-receive o (inl e) = eqb-true o k-ask e
+sane-receive o (inr e) = absurd (omega arith)
 
 -- ---- rows at any level are those of level 1
 symbol-of : (l : ℕ) → l ≤ 12 → isToken (100 + l) ≡ false
@@ -161,13 +174,15 @@ module _ (h : ℕ → Token) (ms : List ℕ) where
       at-level j k l c-index st (24 ∷ 101 ∷ 23 ∷ 120 ∷ st) out (omega arith) a b (x .0) refl (index-row k st) ∙ emit h ms 24 refl _ _ _
       ∙ walk-exp e f (suc i) k 1 refl (here-front h ms (code-exp e) (i-index ∷ []) f (suc i) (p .3)) (omega arith) (omega arith) _ _
       ∙ emit h ms 23 refl _ _ _ ∙ name-here h ms (suc i) i w refl (p .0) (p .1 (omega arith)) st _ ∙ simp append-assoc
-  walk-exp (len r) f i j l n p a b st out =
+  walk-exp (query mk r) f i j l n p a b st out =
       let k = i + length (code-exp r) in
-      let t : length (code-exp r ++ i-len ∷ []) ≡ length (code-exp r) + 1 = length-append (code-exp r) (i-len ∷ []) in
-      let x = here-back h ms (code-exp r) (i-len ∷ []) f i k refl p in
+      let t : length (code-exp r ++ i-query mk ∷ []) ≡ length (code-exp r) + 1 = length-append (code-exp r) (i-query mk ∷ []) in
+      let x = here-back h ms (code-exp r) (i-query mk ∷ []) f i k refl p in
+      let g : W h ms j ((100 + l) ∷ st) out ≡ W h ms i st (print-exp (query k-len r) l ++ out) =
       at-level j k l c-len st (22 ∷ 112 ∷ 21 ∷ 57 ∷ st) out (omega arith) a b (x .0) refl (len-row k st) ∙ emit h ms 22 refl _ _ _
-      ∙ walk-exp r f i k 12 refl (here-front h ms (code-exp r) (i-len ∷ []) f i p) (omega arith) (omega arith) _ _
-      ∙ emit h ms 21 refl _ _ _ ∙ emit h ms 57 refl _ _ _ ∙ simp append-assoc
+      ∙ walk-exp r f i k 12 refl (here-front h ms (code-exp r) (i-query mk ∷ []) f i p) (omega arith) (omega arith) _ _
+      ∙ emit h ms 21 refl _ _ _ ∙ emit h ms 57 refl _ _ _ ∙ simp append-assoc in
+      g ∙ ap (λ o. W h ms i st (print-exp (query o r) l ++ out)) (inv (sane-query mk (x .2)))
   walk-exp (unary o e) f i j l n p a b st out =
       let k = i + length (code-exp e) in
       let t : length (code-exp e ++ i-unary o ∷ []) ≡ length (code-exp e) + 1 = length-append (code-exp e) (i-unary o ∷ []) in

@@ -1,27 +1,26 @@
 -- LISTS OF ARGUMENTS, of sends and receives, formats and `run`.
-use Prim.Native.Nat.{ℕ, zero, suc, _+_, _-_, _≤_, _<_}
+use Prim.Native.Nat.{ℕ, suc, _+_, _-_}
 use native.Mathlib.Omega.{arith}
 use mathlib.Core.Path.{_≡_, refl, sym as inv, _∙_, ap}
 use mathlib.Core.Bool.{Bool, true, false}
 use mathlib.Core.Logic.{_⊎_, inl, inr}
 use mathlib.Core.List.{List, [], _∷_, _++_, append-assoc}
 use lib.ListN.{length, getD, length-append}
-use lib.Dec.{eqb, ltb}
 use borrow.Author.Tests.{ne-eqb}
 use Rattle.base_codes.specs.Codes.{c-argument, c-constant, c-equal, c-into, c-receive, c-run, c-send, c-set-run, c-text}
-use Rattle.base_bytes.specs.Choice.{pick, both, either}
-use Rattle.base_kinds.specs.Kinds.{Token, sym, name, number, text}
+use Rattle.base_bytes.specs.Choice.{pick}
+use Rattle.base_kinds.specs.Kinds.{Token}
 use Rattle.spec_grammar.specs.Marks.{'comma}
-use Rattle.spec_grammar.specs.Tree.{Shape, Exp, plain, indexed, num, tru, fls, get, len, unary, binary, choice, Expr, Received, into, equal, exactly, exactly-true, exactly-false}
-use Rattle.base_codes.specs.Items.{Item, codeOf, i-argument, i-binary, i-choice, i-equal, i-index, i-into, i-len, i-otherwise, i-unary}
+use Rattle.spec_grammar.specs.Tree.{Shape, Exp, plain, indexed, num, tru, fls, get, query, unary, binary, choice, Expr, Received, into, equal, exactly, exactly-true, exactly-false}
+use Rattle.base_codes.specs.Items.{Item, codeOf, i-argument, i-binary, i-choice, i-equal, i-index, i-into, i-query, i-otherwise, i-unary}
 use Rattle.parse_code.specs.Code.{each, code-exp, code-argument, code-received}
-use Rattle.spec_grammar.specs.Print.{print-exp, print-whole, print-received, further, join}
+use Rattle.spec_grammar.specs.Print.{print-whole, print-received, further, join}
 use Rattle.table_entries.specs.Items.{entryOf}
 use Rattle.normal_rows.specs.Rules.{rows}
-use Rattle.normal_writer.specs.Turning.{cell, rowFrom, rowOf, laid, turned, after, marked}
+use Rattle.normal_writer.specs.Turning.{cell, rowFrom, rowOf, laid, turned, after}
 use Rattle.normal_reprint_proof.specs.Here.{flagged, Here}
-use Rattle.normal_reprint_proof.proofs.Walk.{W, emit, go, tell, here-front, here-back, operand-row}
-use Rattle.normal_reprint_proof.proofs.Expressions.{walk-exp, ref-level, sane-binary, sane-unary}
+use Rattle.normal_reprint_proof.proofs.Walk.{W, emit, go, here-front, here-back}
+use Rattle.normal_reprint_proof.proofs.Expressions.{walk-exp, sane-binary, sane-unary}
 
 -- a separator, if something is behind
 abbrev pub sep : Bool → Token → List Token
@@ -51,7 +50,7 @@ module _ (h : ℕ → Token) (ms : List ℕ) where
   flag-exp fls f i p b = refl
   flag-exp (get r) f i p b = flag-exp r f i p b
   flag-exp (indexed w e) f i p b = flagged-append (code-exp e) (i-index ∷ []) b ∙ flag-exp e f (suc i) (here-front h ms (code-exp e) (i-index ∷ []) f (suc i) (p .3)) b
-  flag-exp (len r) f i p b = flagged-append (code-exp r) (i-len ∷ []) b ∙ flag-exp r f i (here-front h ms (code-exp r) (i-len ∷ []) f i p) b
+  flag-exp (query mk r) f i p b = flagged-append (code-exp r) (i-query mk ∷ []) b ∙ flag-exp r f i (here-front h ms (code-exp r) (i-query mk ∷ []) f i p) b
   flag-exp (unary o e) f i p b =
       let x = here-back h ms (code-exp e) (i-unary o ∷ []) f i (i + length (code-exp e)) refl p in
       flagged-append (code-exp e) (i-unary o ∷ []) b ∙ by (sane-unary o (x .2)) (flagged b (code-exp e)) ∙ flag-exp e f i (here-front h ms (code-exp e) (i-unary o ∷ []) f i p) b

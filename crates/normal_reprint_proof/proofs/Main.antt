@@ -3,35 +3,51 @@ use Prim.Native.Nat.{ℕ, zero, suc, _+_, _-_, _≤_, _<_, min}
 use native.Mathlib.Omega.{arith}
 use native.Mathlib.Numerals.{add-one}
 use mathlib.Core.Path.{_≡_, refl, sym as inv, _∙_, ap, subst}
-use mathlib.Core.Bool.{Bool, false}
-use mathlib.Core.Logic.{_⊎_, inl, inr}
+use mathlib.Core.Bool.{Bool, false, true}
+use mathlib.Core.Logic.{inl, inr}
 use mathlib.Core.List.{List, [], _∷_, _++_, append-nil, map}
 use lib.ListN.{length, getD, length-append, length-map}
 use lib.Seq.{getD-at}
 use Rattle.base_ceilings.specs.Ceilings.{itemsMost}
-use Rattle.base_codes.specs.Codes.{c-end-body, c-name, c-number, c-plain, c-text}
-use Rattle.base_kinds.specs.Kinds.{Token, sym, name, number, text}
+use Rattle.base_codes.specs.Codes.{c-end-body, c-name, c-number, c-plain, c-text, c-len, c-send, c-receive}
+use Rattle.base_kinds.specs.Kinds.{Token, name, number, text}
 use Rattle.text_spacing_proof.specs.Writing.{write}
 use Rattle.spec_grammar.specs.Tree.{Model}
 use Rattle.spec_grammar.specs.Print.{print-model}
 use Rattle.table_entries.specs.Entry.{Entry, entry, nothing}
-use Rattle.table_entries.specs.Items.{entryOf, Known, is-name, is-text, is-number, is-mark, AllKnown, is-type, is-unary, is-binary}
-use Rattle.table_layout.specs.Tables.{tablesOf}
+use Rattle.table_entries.specs.Items.{entryOf, Known, is-name, is-text, is-number, is-mark, AllKnown, is-type, is-unary, is-binary, is-operator, queries, sends, receives}
+use Rattle.table_entries.proofs.Items.{operator-code}
+use Rattle.parse_tables.specs.Numbering.{mark}
 use Rattle.table_layout.specs.Access.{itemsOf, codeOf, numberOf}
-use Rattle.table_layout.specs.Back.{AllFair, Small, bytesBack, valueBack, entryBack}
+use Rattle.table_layout.specs.Back.{Small, bytesBack, valueBack, entryBack}
 use Rattle.table_layout.specs.Trees.{entriesIn, tablesIn}
-use Rattle.table_layout.proofs.Holds.{holds-items, holds-code}
+use Rattle.table_layout.proofs.Holds.{holds-items}
 use Rattle.table_layout.proofs.Back.{entry-back}
 use Rattle.table_layout.proofs.Trees.{items-fair}
-use Rattle.normal_writer.specs.Turning.{marked, after, marks, told, walk, whole}
+use Rattle.normal_writer.specs.Turning.{marked, after, marks, told, walk}
 use Rattle.normal_letters.specs.Tokens.{spelled, heldOf, tokenBy}
 use Rattle.normal_writer.specs.Normal.{codesIn, tokensOf, normalOf}
 use Rattle.normal_reprint_proof.specs.Here.{holds, tok, Sane, Here}
 use Rattle.normal_reprint_proof.proofs.Models.{walk-model}
-use borrow.Author.Tests.{le-leb}
-use Rattle.spec_grammar.specs.Grammar.{is-minus, is-not, is-flip}
-use Rattle.base_codes.specs.Items.{Item}
+use borrow.Author.Tests.{le-leb, ne-eqb}
+use Rattle.spec_grammar.specs.Grammar.{is-minus, is-not, is-flip, is-len, is-bang, is-ask}
+use Rattle.base_codes.specs.Items.{Item, i-name, i-text, i-number, i-type, i-unary, i-binary, i-mark, i-operator}
 use Rattle.parse_code.specs.Code.{code}
+use Rattle.base_bytes.proofs.Tests.{true-false}
+
+-- a mark that holds no kind is none of an operator
+abbrev operates : Item → Bool
+operates (i-name w) = false
+operates (i-text w) = false
+operates (i-number n) = false
+operates (i-type k) = false
+operates (i-unary o) = false
+operates (i-binary o) = false
+operates (i-mark c) = false
+operates (i-operator c o) = true
+
+not-operator : (c d : ℕ) → mark c ≡ i-mark c → operates (mark d) ≡ true → c ≡ d → ⊥
+not-operator c d e h z = true-false (inv h ∙ ap (λ x. operates (mark x)) (inv z) ∙ ap operates e)
 
 -- ---- an item of a text has a number
 known-sane : {x : Item} → Known x → Sane x
@@ -43,7 +59,11 @@ known-sane (is-unary is-minus) = inl refl
 known-sane (is-unary is-not) = inl refl
 known-sane (is-unary is-flip) = inl refl
 known-sane (is-binary {o} a b) = inl (rw (le-leb 1 o a, le-leb o 18 b))
-known-sane (is-mark {c} a b) = inl (rw (le-leb c-plain c a, le-leb c c-end-body b))
+known-sane (is-mark {c} a b e) =
+    inl (rw (le-leb c-plain c a, le-leb c c-end-body b, ne-eqb c c-len (not-operator c c-len e refl), ne-eqb c c-send (not-operator c c-send e refl), ne-eqb c c-receive (not-operator c c-receive e refl)))
+known-sane (is-operator (queries is-len)) = inl refl
+known-sane (is-operator (sends is-bang)) = inl refl
+known-sane (is-operator (receives is-ask)) = inl refl
 
 -- ---- what the tables say an item holds
 module _ (t : List ℕ) (j : ℕ) where
@@ -77,7 +97,8 @@ module _ (t : List ℕ) (j : ℕ) where
   held-known (is-unary is-not) e l = absurd (omega arith)
   held-known (is-unary is-flip) e l = absurd (omega arith)
   held-known (is-binary a b) e l = absurd (omega arith)
-  held-known (is-mark a b) e l = absurd (omega arith)
+  held-known (is-mark a b c) e l = absurd (omega arith)
+  held-known (is-operator x) e l = let p = operator-code x in absurd (omega arith)
 
 -- ---- the items stand in the marked codes
 module _ (t : List ℕ) where

@@ -1,24 +1,24 @@
 -- STATEMENTS, sequences of them and options.
-use Prim.Native.Nat.{ℕ, zero, suc, _+_, _-_, _≤_, _<_}
+use Prim.Native.Nat.{ℕ, suc, _+_, _-_}
 use native.Mathlib.Omega.{arith}
 use mathlib.Core.Path.{_≡_, refl, sym as inv, _∙_, ap}
 use mathlib.Core.Bool.{Bool, true, false}
 use mathlib.Core.List.{List, [], _∷_, _++_, append-assoc}
 use lib.ListN.{length, getD, length-append}
 use Rattle.base_codes.specs.Codes.{c-assert, c-assign, c-break, c-decrement, c-do, c-else, c-end, c-end-closed, c-end-option, c-express, c-fi, c-goto, c-if, c-increment, c-label, c-od, c-option, c-receive, c-run, c-send, c-set-run, c-skip, c-target, c-text, c-timeout}
-use Rattle.base_bytes.specs.Choice.{pick, both}
-use Rattle.base_kinds.specs.Kinds.{Token, sym, name, number, text}
-use Rattle.spec_grammar.specs.Marks.{'semi, 'comma}
-use Rattle.spec_grammar.specs.Tree.{Sort, action, statement, sequence, options, Expr, Received, Tree, express, assign, increment, decrement, send, receive, assert, print, skip, goto, break, timeout, else, run, set-run, select, loop, bare, labelled, end, then, over, option}
+use Rattle.base_bytes.specs.Choice.{pick}
+use Rattle.base_kinds.specs.Kinds.{Token, sym, text}
+use Rattle.spec_grammar.specs.Marks.{'semi, 'comma, k-bang, k-ask}
+use Rattle.spec_grammar.specs.Tree.{Sort, action, statement, sequence, options, Tree, leaf, express, assign, increment, decrement, send, receive, assert, print, skip, goto, break, timeout, else, run, set-run, select, loop, bare, labelled, end, then, over, option}
 use Rattle.base_codes.specs.Items.{i-assert, i-assign, i-decrement, i-end, i-end-option, i-express, i-fi, i-increment, i-name, i-od, i-receive, i-send, i-set-run, i-target}
 use Rattle.parse_code.specs.Code.{each, code-exp, code-argument, code-received, code-tree}
-use Rattle.spec_grammar.specs.Print.{print-exp, print-whole, print-received, further, join, before, print-tree}
+use Rattle.spec_grammar.specs.Print.{print-whole, join, before, print-tree, print-leaf}
 use Rattle.normal_rows.specs.Rules.{rows}
-use Rattle.normal_writer.specs.Turning.{cell, rowFrom, rowOf, laid, turned, isToken, after, marked}
+use Rattle.normal_writer.specs.Turning.{cell, rowFrom, rowOf, laid, turned, isToken}
 use Rattle.normal_reprint_proof.specs.Here.{tok, flagged, Here}
 use Rattle.normal_reprint_proof.proofs.Walk.{W, emit, go, tell, here-front, here-back, name-here, format-row, format-comma-row}
-use Rattle.normal_reprint_proof.proofs.Expressions.{walk-exp}
-use Rattle.normal_reprint_proof.proofs.Lists.{sep, some, args, flagged-append, sep-join, flag-exp, walk-arguments, flag-arguments, walk-received, flag-received}
+use Rattle.normal_reprint_proof.proofs.Expressions.{walk-exp, sane-send, sane-receive}
+use Rattle.normal_reprint_proof.proofs.Lists.{sep, some, args, flagged-append, sep-join, walk-arguments, flag-arguments, walk-received, flag-received}
 
 -- the symbol of statements
 abbrev pub body-of : Bool → ℕ
@@ -167,12 +167,12 @@ module _ (h : ℕ → Token) (ms : List ℕ) where
       go h ms (suc i) i 133 c-text st (27 ∷ (256 + i) ∷ 21 ∷ 60 ∷ st) out refl refl g (format-comma-row i st) ∙ emit h ms 27 refl i ((256 + i) ∷ 21 ∷ 60 ∷ st) out ∙ tell h ms i (text w) e i (21 ∷ 60 ∷ st) ('comma ∷ out)
 
   pub walk-tree : {k : Sort} (t : Tree k) (b : Bool) (i j : ℕ) → j ≡ i + length (code-tree t) → Here h ms b i (code-tree t) → Claim k t i j
-  walk-tree (express e) b i j n p = λ f st out.
+  walk-tree (leaf (express e)) b i j n p = λ f st out.
       let k = i + length (code-exp e) in
       let t : length (code-exp e ++ i-express ∷ []) ≡ length (code-exp e) + 1 = length-append (code-exp e) (i-express ∷ []) in
       begin f j k c-express st (101 ∷ 131 ∷ st) out (omega arith) (here-back h ms (code-exp e) (i-express ∷ []) b i k refl p .0) (express-rows k st)
       ∙ walk-exp h ms e b i k 1 refl (here-front h ms (code-exp e) (i-express ∷ []) b i p) (omega arith) (omega arith) _ _
-  walk-tree (assign r e) b i j n p = λ f st out.
+  walk-tree (leaf (assign r e)) b i j n p = λ f st out.
       let R = code-exp r in
       let E = code-exp e in
       let m = i + length R in
@@ -186,52 +186,56 @@ module _ (h : ℕ → Token) (ms : List ℕ) where
       ∙ walk-exp h ms e (flagged b R) (suc m) k 1 refl (te .3) (omega arith) (omega arith) _ _
       ∙ emit h ms 32 refl _ _ _ ∙ go h ms (suc m) m 121 c-target _ _ _ refl refl (te .0) (target-row m _)
       ∙ walk-exp h ms r b i m 12 refl (here-front h ms R (i-target ∷ E) b i re) (omega arith) (omega arith) _ _ ∙ simp append-assoc
-  walk-tree (increment r) b i j n p = λ f st out.
+  walk-tree (leaf (increment r)) b i j n p = λ f st out.
       let k = i + length (code-exp r) in
       let t : length (code-exp r ++ i-increment ∷ []) ≡ length (code-exp r) + 1 = length-append (code-exp r) (i-increment ∷ []) in
       begin f j k c-increment st (33 ∷ 112 ∷ 131 ∷ st) out (omega arith) (here-back h ms (code-exp r) (i-increment ∷ []) b i k refl p .0) (increment-rows k st) ∙ emit h ms 33 refl _ _ _
       ∙ walk-exp h ms r b i k 12 refl (here-front h ms (code-exp r) (i-increment ∷ []) b i p) (omega arith) (omega arith) _ _ ∙ simp append-assoc
-  walk-tree (decrement r) b i j n p = λ f st out.
+  walk-tree (leaf (decrement r)) b i j n p = λ f st out.
       let k = i + length (code-exp r) in
       let t : length (code-exp r ++ i-decrement ∷ []) ≡ length (code-exp r) + 1 = length-append (code-exp r) (i-decrement ∷ []) in
       begin f j k c-decrement st (34 ∷ 112 ∷ 131 ∷ st) out (omega arith) (here-back h ms (code-exp r) (i-decrement ∷ []) b i k refl p .0) (decrement-rows k st) ∙ emit h ms 34 refl _ _ _
       ∙ walk-exp h ms r b i k 12 refl (here-front h ms (code-exp r) (i-decrement ∷ []) b i p) (omega arith) (omega arith) _ _ ∙ simp append-assoc
-  walk-tree (send r es) b i j n p = λ f st out.
+  walk-tree (leaf (send mk r es)) b i j n p = λ f st out.
       let R = code-exp r in
       let A = each code-argument es in
       let m = i + length R in
       let k = suc m + length A in
-      let t : length (R ++ i-send ∷ A ++ i-end ∷ []) ≡ length (R ++ i-send ∷ A) + 1 = length-append (R ++ i-send ∷ A) (i-end ∷ []) in
-      let t2 : length (R ++ i-send ∷ A) ≡ length R + suc (length A) = length-append R (i-send ∷ A) in
-      let ra = here-front h ms (R ++ i-send ∷ A) (i-end ∷ []) b i p in
-      let x = here-back h ms (R ++ i-send ∷ A) (i-end ∷ []) b i k (omega arith) p in
-      let sa = here-back h ms R (i-send ∷ A) b i m refl ra in
-      let u : flagged b (R ++ i-send ∷ A) ≡ false = flagged-append R (i-send ∷ A) b ∙ flag-arguments h ms es false (suc m) (sa .3) false in
+      let t : length (R ++ i-send mk ∷ A ++ i-end ∷ []) ≡ length (R ++ i-send mk ∷ A) + 1 = length-append (R ++ i-send mk ∷ A) (i-end ∷ []) in
+      let t2 : length (R ++ i-send mk ∷ A) ≡ length R + suc (length A) = length-append R (i-send mk ∷ A) in
+      let ra = here-front h ms (R ++ i-send mk ∷ A) (i-end ∷ []) b i p in
+      let x = here-back h ms (R ++ i-send mk ∷ A) (i-end ∷ []) b i k (omega arith) p in
+      let sa = here-back h ms R (i-send mk ∷ A) b i m refl ra in
+      let u : flagged b (R ++ i-send mk ∷ A) ≡ false = flagged-append R (i-send mk ∷ A) b ∙ flag-arguments h ms es false (suc m) (sa .3) false in
       let g : getD ms k 0 ≡ c-end = x .0 ∙ rw u refl in
+      let e : W h ms j (body-of f ∷ st) out ≡ W h ms i (131 ∷ st) (print-leaf (send k-bang r es) ++ (sep f 'semi ++ out)) =
       begin f j k c-end st (132 ∷ 131 ∷ st) out (omega arith) g (end-rows k st) ∙ walk-arguments h ms es false (suc m) k refl (sa .3) _ _
       ∙ go h ms (suc m) m (args (some es)) c-send _ _ _ refl (symbol-of-args (some es)) (sa .0) (send-row m _ (some es)) ∙ emit h ms 19 refl _ _ _
-      ∙ walk-exp h ms r b i m 12 refl (here-front h ms R (i-send ∷ A) b i ra) (omega arith) (omega arith) _ _ ∙ simp append-assoc
-  walk-tree (receive r es) b i j n p = λ f st out.
+      ∙ walk-exp h ms r b i m 12 refl (here-front h ms R (i-send mk ∷ A) b i ra) (omega arith) (omega arith) _ _ ∙ simp append-assoc in
+      e ∙ ap (λ o. W h ms i (131 ∷ st) (print-leaf (send o r es) ++ (sep f 'semi ++ out))) (inv (sane-send mk (sa .2)))
+  walk-tree (leaf (receive mk r es)) b i j n p = λ f st out.
       let R = code-exp r in
       let A = each code-received es in
       let m = i + length R in
       let k = suc m + length A in
-      let t : length (R ++ i-receive ∷ A ++ i-end ∷ []) ≡ length (R ++ i-receive ∷ A) + 1 = length-append (R ++ i-receive ∷ A) (i-end ∷ []) in
-      let t2 : length (R ++ i-receive ∷ A) ≡ length R + suc (length A) = length-append R (i-receive ∷ A) in
-      let ra = here-front h ms (R ++ i-receive ∷ A) (i-end ∷ []) b i p in
-      let x = here-back h ms (R ++ i-receive ∷ A) (i-end ∷ []) b i k (omega arith) p in
-      let sa = here-back h ms R (i-receive ∷ A) b i m refl ra in
-      let u : flagged b (R ++ i-receive ∷ A) ≡ false = flagged-append R (i-receive ∷ A) b ∙ flag-received h ms es false (suc m) (sa .3) false in
+      let t : length (R ++ i-receive mk ∷ A ++ i-end ∷ []) ≡ length (R ++ i-receive mk ∷ A) + 1 = length-append (R ++ i-receive mk ∷ A) (i-end ∷ []) in
+      let t2 : length (R ++ i-receive mk ∷ A) ≡ length R + suc (length A) = length-append R (i-receive mk ∷ A) in
+      let ra = here-front h ms (R ++ i-receive mk ∷ A) (i-end ∷ []) b i p in
+      let x = here-back h ms (R ++ i-receive mk ∷ A) (i-end ∷ []) b i k (omega arith) p in
+      let sa = here-back h ms R (i-receive mk ∷ A) b i m refl ra in
+      let u : flagged b (R ++ i-receive mk ∷ A) ≡ false = flagged-append R (i-receive mk ∷ A) b ∙ flag-received h ms es false (suc m) (sa .3) false in
       let g : getD ms k 0 ≡ c-end = x .0 ∙ rw u refl in
+      let e : W h ms j (body-of f ∷ st) out ≡ W h ms i (131 ∷ st) (print-leaf (receive k-ask r es) ++ (sep f 'semi ++ out)) =
       begin f j k c-end st (132 ∷ 131 ∷ st) out (omega arith) g (end-rows k st) ∙ walk-received h ms es false (suc m) k refl (sa .3) _ _
       ∙ go h ms (suc m) m (args (some es)) c-receive _ _ _ refl (symbol-of-args (some es)) (sa .0) (receive-row m _ (some es)) ∙ emit h ms 35 refl _ _ _
-      ∙ walk-exp h ms r b i m 12 refl (here-front h ms R (i-receive ∷ A) b i ra) (omega arith) (omega arith) _ _ ∙ simp append-assoc
-  walk-tree (assert e) b i j n p = λ f st out.
+      ∙ walk-exp h ms r b i m 12 refl (here-front h ms R (i-receive mk ∷ A) b i ra) (omega arith) (omega arith) _ _ ∙ simp append-assoc in
+      e ∙ ap (λ o. W h ms i (131 ∷ st) (print-leaf (receive o r es) ++ (sep f 'semi ++ out))) (inv (sane-receive mk (sa .2)))
+  walk-tree (leaf (assert e)) b i j n p = λ f st out.
       let k = i + length (code-exp e) in
       let t : length (code-exp e ++ i-assert ∷ []) ≡ length (code-exp e) + 1 = length-append (code-exp e) (i-assert ∷ []) in
       begin f j k c-assert st (22 ∷ 101 ∷ 21 ∷ 47 ∷ 131 ∷ st) out (omega arith) (here-back h ms (code-exp e) (i-assert ∷ []) b i k refl p .0) (assert-rows k st) ∙ emit h ms 22 refl _ _ _
       ∙ walk-exp h ms e b i k 1 refl (here-front h ms (code-exp e) (i-assert ∷ []) b i p) (omega arith) (omega arith) _ _ ∙ emit h ms 21 refl _ _ _ ∙ emit h ms 47 refl _ _ _ ∙ simp append-assoc
-  walk-tree (print w es) b i j n p = λ f st out.
+  walk-tree (leaf (print w es)) b i j n p = λ f st out.
       let A = each code-argument es in
       let k = suc i + length A in
       let t : length (A ++ i-end ∷ []) ≡ length A + 1 = length-append A (i-end ∷ []) in
@@ -242,13 +246,13 @@ module _ (h : ℕ → Token) (ms : List ℕ) where
       ∙ format w (some es) i _ _ (p .0) (p .1 (omega arith)) ∙ emit h ms 21 refl _ _ _ ∙ emit h ms 60 refl _ _ _
       ∙ ap (λ (z : List Token). W h ms i (131 ∷ st) (sym 60 ∷ sym 21 ∷ text w ∷ z)) (inv (append-assoc (sep (some es) 'comma) (join 'comma print-whole es) (sym 22 ∷ (sep f 'semi ++ out))) ∙ ap (_++ sym 22 ∷ (sep f 'semi ++ out)) (sep-join 'comma print-whole es))
       ∙ simp append-assoc
-  walk-tree skip b i j n p = λ f st out. alone c-skip 63 i j f st out n (p .0) refl (skip-rows i st)
-  walk-tree (goto w) b i j n p = λ f st out.
+  walk-tree (leaf skip) b i j n p = λ f st out. alone c-skip 63 i j f st out n (p .0) refl (skip-rows i st)
+  walk-tree (leaf (goto w)) b i j n p = λ f st out.
       begin f j (suc i) c-goto st (120 ∷ 54 ∷ 131 ∷ st) out (omega arith) (p .3 .0) (goto-rows (suc i) st) ∙ name-here h ms (suc i) i w refl (p .0) (p .1 (omega arith)) _ _ ∙ emit h ms 54 refl _ _ _
-  walk-tree break b i j n p = λ f st out. alone c-break 48 i j f st out n (p .0) refl (break-rows i st)
-  walk-tree timeout b i j n p = λ f st out. alone c-timeout 64 i j f st out n (p .0) refl (timeout-rows i st)
-  walk-tree else b i j n p = λ f st out. alone c-else 50 i j f st out n (p .0) refl (else-rows i st)
-  walk-tree (run w es) b i j n p = λ f st out.
+  walk-tree (leaf break) b i j n p = λ f st out. alone c-break 48 i j f st out n (p .0) refl (break-rows i st)
+  walk-tree (leaf timeout) b i j n p = λ f st out. alone c-timeout 64 i j f st out n (p .0) refl (timeout-rows i st)
+  walk-tree (leaf else) b i j n p = λ f st out. alone c-else 50 i j f st out n (p .0) refl (else-rows i st)
+  walk-tree (leaf (run w es)) b i j n p = λ f st out.
       let A = each code-argument es in
       let k = suc (suc i) + length A in
       let t : length (A ++ i-end ∷ []) ≡ length A + 1 = length-append A (i-end ∷ []) in
@@ -258,7 +262,7 @@ module _ (h : ℕ → Token) (ms : List ℕ) where
       begin f j k c-end-closed st (22 ∷ 132 ∷ 131 ∷ st) out (omega arith) g (closed-rows k st) ∙ emit h ms 22 refl _ _ _ ∙ walk-arguments h ms es true (suc (suc i)) k refl a _ _
       ∙ go h ms (suc (suc i)) (suc i) (args (some es)) c-run _ _ _ refl (symbol-of-args (some es)) (p .3 .0) (run-row (suc i) _ (some es)) ∙ emit h ms 21 refl _ _ _
       ∙ name-here h ms (suc i) i w refl (p .0) (p .1 (omega arith)) _ _ ∙ emit h ms 62 refl _ _ _ ∙ simp append-assoc
-  walk-tree (set-run r w es) b i j n p = λ f st out.
+  walk-tree (leaf (set-run r w es)) b i j n p = λ f st out.
       let R = code-exp r in
       let A = each code-argument es in
       let m = i + length R in

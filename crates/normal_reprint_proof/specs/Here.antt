@@ -1,4 +1,4 @@
--- Mechanism, held to the specification by `text-normal` (crate `normal_proof`).
+-- Mechanism, of proofs alone: stepping stones of `normal-text` (crate `normal_reprint_proof`).
 -- Items as the writer meets them: their marked codes, what they hold, and that they are items with a number.
 use mathlib.Core.Path.{_≡_}
 use mathlib.Core.Bool.{Bool, true}

@@ -1,4 +1,4 @@
--- Mechanism, held to the specification by `text-normal` (crate `normal_proof`).
+-- Mechanism, held to the specification by `text-normal` (crate `normal_proof`), but for `cells`, the rows in one list, which proofs/Laid.antt holds to them.
 -- How a model's items, met from the last to the first, become the tokens of its normal text from the last to the first. A stack says what is still to come on the left:
 --   1 to 69    a fixed token, by its kind                        256 + i  what item i holds: a name, a number or a string
 --   100 + l    an expression where level l is asked for (112: a reference)

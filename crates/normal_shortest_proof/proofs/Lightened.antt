@@ -9,9 +9,9 @@ use borrow.Author.Tests.{le-leb, leb-true, ne-eqb, not-true}
 use Rattle.base_bytes.specs.Choice.{both}
 use Rattle.base_bytes.proofs.Tests.{both-true, true-false}
 use Rattle.base_kinds.specs.Kinds.{Token, sym, name, number, text, level}
-use Rattle.spec_grammar.specs.Marks.{'-, '!, 'lpar, 'rpar, 'comma, 'semi, ':, '::, '->, '=, '++, '--, '?, 'mtype, 'active, 'assert, 'break, 'else, 'eval, 'false, 'goto, 'init, 'len, 'of, 'printf, 'proctype, 'run, 'skip, 'timeout, 'true}
-use Rattle.spec_grammar.specs.Tree.{Name, num, tru, fls, get, len, unary, binary, choice, Expr, Ref, Received, Sort, sequence, Tree, Value, Variable, Declaration, Group, Body, body, Activity, Part, Model}
-use Rattle.spec_grammar.specs.Grammar.{Listed, one, more, Maybe-listed, no-list, a-list, Message, commas, call, Semicolons, no-semi, semi, Trailing, none-trails, semi-trails, arrow-trails, Parted, by-semi, by-arrow, A-name, a-name, Is-type, is-bit, is-bool, is-byte, is-mtype, is-pid, is-chan, is-short, is-int, A-type, a-type, Is-unary, is-minus, is-not, is-flip, E, e-plain, e-index, e-number, e-true, e-false, e-len, e-group, e-choice, e-unary, e-binary, e-up, An-expression, A-reference, A-received, r-into, r-eval, r-number, r-true, r-false, D, s-express, s-assign, s-increment, s-decrement, s-send, s-receive, s-assert, s-print-alone, s-print, s-skip, s-goto, s-break, s-timeout, s-else, s-run, s-set-run, s-if, s-do, s-bare, s-label, q-last, q-then, o-last, o-also, A-value, v-number, v-minus, v-true, v-false, v-name, A-variable, x-bare, x-set, x-array, x-array-set, x-channel, A-declaration, declaration, A-group, a-group, Items, statements, declared, A-body, a-body, An-activity, not-active, active, active-times, A-unit, u-mtypes, u-global, u-process, u-init, Gram, g-last, g-more}
+use Rattle.spec_grammar.specs.Marks.{'-, '!, 'lpar, 'rpar, 'comma, 'semi, ':, '::, '->, '=, '++, '?, 'mtype, 'active, 'assert, 'break, 'else, 'eval, 'false, 'goto, 'init, 'len, 'of, 'printf, 'proctype, 'run, 'skip, 'timeout, 'true, '--}
+use Rattle.spec_grammar.specs.Tree.{Name, num, tru, fls, get, query, unary, binary, choice, Expr, Ref, Received, Sort, sequence, Tree, Value, Variable, Declaration, Group, Body, body, Activity, Part, Model}
+use Rattle.spec_grammar.specs.Grammar.{is-len, is-bang, is-ask, Listed, one, more, Maybe-listed, no-list, a-list, Message, commas, call, Semicolons, no-semi, semi, Trailing, none-trails, semi-trails, arrow-trails, Parted, by-semi, by-arrow, A-name, a-name, Is-type, is-bit, is-bool, is-byte, is-mtype, is-pid, is-chan, is-short, is-int, A-type, a-type, Is-unary, is-minus, is-not, is-flip, E, e-plain, e-index, e-number, e-true, e-false, e-query, e-group, e-choice, e-unary, e-binary, e-up, An-expression, A-reference, A-received, r-into, r-eval, r-number, r-true, r-false, D, s-leaf, s-express, s-assign, s-increment, s-decrement, s-send, s-receive, s-assert, s-print-alone, s-print, s-skip, s-goto, s-break, s-timeout, s-else, s-run, s-set-run, s-if, s-do, s-bare, s-label, q-last, q-then, o-last, o-also, A-value, v-number, v-minus, v-true, v-false, v-name, A-variable, x-bare, x-set, x-array, x-array-set, x-channel, A-declaration, declaration, A-group, a-group, Items, statements, declared, A-body, a-body, An-activity, not-active, active, active-times, A-unit, u-mtypes, u-global, u-process, u-init, Gram, g-last, g-more}
 use Rattle.spec_grammar.specs.Print.{wrap, print-exp, print-whole, join, print-received, print-tree, print-type, print-value, print-variable, print-declaration, print-name, print-group, print-items, print-body, print-activity, print-part, print-model}
 use Rattle.spec_grammar.proofs.Levels.{operator-small}
 use Rattle.spec_grammar.proofs.Printed.{join-more, further-more, sequence-before}
@@ -70,7 +70,7 @@ grouped (num n) l a ts p = peeled p
 grouped tru l a ts p = peeled p
 grouped fls l a ts p = peeled p
 grouped (get r) l a ts p = peeled p
-grouped (len r) l a ts p = peeled p
+grouped (query mk r) l a ts p = peeled p
 grouped (unary o e) l a ts p = peeled p
 grouped (binary o b c) l a ts p = wrapped (leb l (level o)) (leb 1 (level o)) _ ts (λ h. le-leb 1 (level o) (omega (arith, leb-true l (level o) h))) p
 grouped (choice b c d) l a ts p = peeled p
@@ -81,7 +81,7 @@ exp-lighter (e-index {w = w} x) l a b = beside (stays (name w) refl) (in-squares
 exp-lighter (e-number {n = n}) l a b = stays (number n) refl
 exp-lighter e-true l a b = stays 'true refl
 exp-lighter e-false l a b = stays 'false refl
-exp-lighter (e-len x) l a b = beside (stays 'len refl) (in-parentheses (exp-lighter x 12 (omega arith) (omega arith)))
+exp-lighter (e-query is-len x) l a b = beside (stays 'len refl) (in-parentheses (exp-lighter x 12 (omega arith) (omega arith)))
 exp-lighter (e-group {ts = ts} {e = e} x) l a b = grouped e l a ts (exp-lighter x 1 (omega arith) (omega arith))
 exp-lighter (e-choice x y z) l a b =
     in-parentheses
@@ -141,23 +141,23 @@ semicolons-lighter (semi u) = beside (left-out 'semi (neutral 'semi refl) (omega
 
 -- ---- statements
 tree-lighter : {k : Sort} {ts : List Token} {t : Tree k} → D k ts t → Lighter (print-tree t) ts
-tree-lighter (s-express x) = exp-lighter x 1 (omega arith) (omega arith)
-tree-lighter (s-assign x y) = beside (ref-lighter x) (beside (stays '= refl) (exp-lighter y 1 (omega arith) (omega arith)))
-tree-lighter (s-increment x) = beside (ref-lighter x) (stays '++ refl)
-tree-lighter (s-decrement x) = beside (ref-lighter x) (stays '-- refl)
-tree-lighter (s-send x y) = beside (ref-lighter x) (beside (stays '! refl) (message-lighter An-expression print-whole whole-lighter y))
-tree-lighter (s-receive x y) = beside (ref-lighter x) (beside (stays '? refl) (message-lighter A-received print-received received-lighter y))
-tree-lighter (s-assert x) = beside (stays 'assert refl) (in-parentheses (exp-lighter x 1 (omega arith) (omega arith)))
-tree-lighter (s-print-alone {w = w}) = beside (stays 'printf refl) (in-parentheses (stays (text w) refl))
-tree-lighter (s-print {w = w} x) =
+tree-lighter (s-leaf (s-express x)) = exp-lighter x 1 (omega arith) (omega arith)
+tree-lighter (s-leaf (s-assign x y)) = beside (ref-lighter x) (beside (stays '= refl) (exp-lighter y 1 (omega arith) (omega arith)))
+tree-lighter (s-leaf (s-increment x)) = beside (ref-lighter x) (stays '++ refl)
+tree-lighter (s-leaf (s-decrement x)) = beside (ref-lighter x) (stays '-- refl)
+tree-lighter (s-leaf (s-send is-bang x y)) = beside (ref-lighter x) (beside (stays '! refl) (message-lighter An-expression print-whole whole-lighter y))
+tree-lighter (s-leaf (s-receive is-ask x y)) = beside (ref-lighter x) (beside (stays '? refl) (message-lighter A-received print-received received-lighter y))
+tree-lighter (s-leaf (s-assert x)) = beside (stays 'assert refl) (in-parentheses (exp-lighter x 1 (omega arith) (omega arith)))
+tree-lighter (s-leaf (s-print-alone {w = w})) = beside (stays 'printf refl) (in-parentheses (stays (text w) refl))
+tree-lighter (s-leaf (s-print {w = w} x)) =
     rw (further-more 'comma An-expression print-whole x) (beside (stays 'printf refl) (in-parentheses (beside (stays (text w) refl) (beside comma-stays (list-lighter 'comma comma-stays An-expression print-whole whole-lighter x)))))
-tree-lighter s-skip = stays 'skip refl
-tree-lighter (s-goto {w = w}) = beside (stays 'goto refl) (stays (name w) refl)
-tree-lighter s-break = stays 'break refl
-tree-lighter s-timeout = stays 'timeout refl
-tree-lighter s-else = stays 'else refl
-tree-lighter (s-run {w = w} x) = beside (stays 'run refl) (beside (stays (name w) refl) (in-parentheses (maybe-lighter 'comma comma-stays An-expression print-whole whole-lighter x)))
-tree-lighter (s-set-run {w = w} x y) =
+tree-lighter (s-leaf s-skip) = stays 'skip refl
+tree-lighter (s-leaf (s-goto {w = w})) = beside (stays 'goto refl) (stays (name w) refl)
+tree-lighter (s-leaf s-break) = stays 'break refl
+tree-lighter (s-leaf s-timeout) = stays 'timeout refl
+tree-lighter (s-leaf s-else) = stays 'else refl
+tree-lighter (s-leaf (s-run {w = w} x)) = beside (stays 'run refl) (beside (stays (name w) refl) (in-parentheses (maybe-lighter 'comma comma-stays An-expression print-whole whole-lighter x)))
+tree-lighter (s-leaf (s-set-run {w = w} x y)) =
     simp append-assoc
     (beside (ref-lighter x) (beside (stays '= refl) (beside (stays 'run refl) (beside (stays (name w) refl) (in-parentheses (maybe-lighter 'comma comma-stays An-expression print-whole whole-lighter y))))))
 tree-lighter (s-if x) = in-if (tree-lighter x)

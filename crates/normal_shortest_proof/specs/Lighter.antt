@@ -1,4 +1,4 @@
--- Mechanism, held to the specification by `text-normal` (crate `normal_proof`).
+-- Mechanism, of proofs alone: what `model-lighter` (crate `normal_shortest_proof`) says of a tree's printed tokens beside any others of that tree.
 -- When tokens us may stand for tokens ts wherever these stand: written they are no longer, they are tokens that a text can hold if these are, and they nest no deeper.
 use mathlib.Core.Path.{_≡_}
 use mathlib.Core.Option.{none}

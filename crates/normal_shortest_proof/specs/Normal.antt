@@ -1,4 +1,4 @@
--- Mechanism, held to the specification by `text-normal` (crate `normal_proof`).
+-- Bridge, for `text-normal` (crate `normal_proof`): what the writer is held to, the printed tokens of `spec_grammar` written out.
 -- The normal text of a tree: document 01, "Normal text": "the fewest parentheses, `;`, comma notation, no optional separator, and one space exactly where two tokens
 -- side by side would read otherwise".
 use mathlib.Core.List.{List}

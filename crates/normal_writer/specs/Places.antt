@@ -1,4 +1,4 @@
--- Mechanism, held to the specification by `text-normal` (crate `normal_proof`).
+-- Mechanism, of contracts alone: no theorem holds it to the specification; how the arrays of the code show a stack and a list of tokens.
 -- A stack and a list of tokens that grow downwards in lent arrays: what they hold begins at a place.
 use mathlib.Core.Path.{_≡_}
 use mathlib.Core.List.{List}

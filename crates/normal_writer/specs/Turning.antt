@@ -1,4 +1,4 @@
--- Mechanism, held to the specification by `text-normal` (crate `normal_proof`).
+-- Mechanism, held to the specification by `text-normal` (crate `normal_proof`), but for `turnRoom`, of contracts alone.
 -- Items turned into tokens from the back, by the rows of specs/Rules.antt of `normal_rows`. Binary operators by their levels (document 01, "Operators follow table 3.2 of 002"):
 -- parentheses exactly around what is looser than what is asked for, so a right operand of the same level keeps them.
 use mathlib.Core.Bool.{Bool, true, false}

@@ -3,9 +3,9 @@ use mathlib.Core.Path.{_≡_, refl, ap, sym as inv, _∙_}
 use mathlib.Core.Option.{Option, none, some}
 use mathlib.Core.List.{List, [], _∷_, _++_, append-assoc}
 use Prim.Native.Nat.{ℕ}
-use Rattle.spec_grammar.specs.Tree.{Name, Shape, expression, reference, Exp, plain, indexed, num, tru, fls, get, len, unary, binary, choice, Expr, Received, into, equal, exactly, exactly-true, exactly-false, Sort, action, statement, sequence, options, Tree, express, assign, increment, decrement, send, receive, assert, print, skip, goto, break, timeout, else, run, set-run, select, loop, bare, labelled, end, then, over, option, Value, unset, set-number, set-minus, set-true, set-false, set-name, set-channel, Variable, variable, Declaration, declare, Group, group, Body, body, idle, once, times, Part, mtypes, global, process, init, Model}
-use Rattle.base_codes.specs.Items.{Item, i-active, i-active-many, i-argument, i-assert, i-assign, i-binary, i-body, i-channel, i-choice, i-declared, i-decrement, i-do, i-end, i-end-body, i-end-option, i-equal, i-express, i-false, i-fi, i-field, i-global, i-group, i-if, i-increment, i-index, i-init, i-into, i-label, i-len, i-local, i-message, i-minus, i-mtypes, i-name, i-named, i-number, i-od, i-option, i-otherwise, i-parameter, i-proctype, i-receive, i-run, i-send, i-set-run, i-size, i-target, i-text, i-true, i-type, i-unary, i-value}
-use Rattle.parse_code.specs.Code.{each, code-exp, code-argument, code-received, code-tree, code-field, code-size, code-value, code-variable, code-declaration, code-parameter, code-group, code-body, code-message, code-part, code}
+use Rattle.spec_grammar.specs.Tree.{Name, Shape, expression, reference, Exp, plain, indexed, num, tru, fls, get, query, unary, binary, choice, Expr, Received, into, equal, exactly, exactly-true, exactly-false, Sort, action, statement, sequence, options, Tree, leaf, express, assign, increment, decrement, send, receive, assert, print, skip, goto, break, timeout, else, run, set-run, select, loop, bare, labelled, end, then, over, option, Value, unset, set-number, set-minus, set-true, set-false, set-name, set-channel, Variable, variable, Declaration, declare, Group, group, Body, body, idle, once, times, Part, mtypes, global, process, init, Model, Leaf}
+use Rattle.base_codes.specs.Items.{Item, i-active, i-active-many, i-argument, i-assert, i-assign, i-binary, i-body, i-channel, i-choice, i-declared, i-decrement, i-do, i-end, i-end-body, i-end-option, i-equal, i-express, i-false, i-fi, i-field, i-global, i-group, i-if, i-increment, i-index, i-init, i-into, i-label, i-query, i-local, i-message, i-minus, i-mtypes, i-name, i-named, i-number, i-od, i-option, i-otherwise, i-parameter, i-proctype, i-receive, i-run, i-send, i-set-run, i-size, i-target, i-text, i-true, i-type, i-unary, i-value}
+use Rattle.parse_code.specs.Code.{each, code-exp, code-argument, code-received, code-tree, code-field, code-size, code-value, code-variable, code-declaration, code-parameter, code-group, code-body, code-message, code-part, code, code-leaf}
 use Rattle.parse_code.proofs.Build.{hd, tl, Front, Rest-of, add-action, front, back, exec, start, build}
 
 shift : (i : Item) (f : Front) (x y c : List Item) → exec (i ∷ ((x ++ y) ++ c)) f ≡ exec (i ∷ (x ++ (y ++ c))) f
@@ -26,7 +26,7 @@ exp-run (num n) = λ c f. refl
 exp-run tru = λ c f. refl
 exp-run fls = λ c f. refl
 exp-run (get r) = exp-run r
-exp-run (len r) = λ c f. simp append-assoc (exp-run r (i-len ∷ c) f)
+exp-run (query o r) = λ c f. simp append-assoc (exp-run r (i-query o ∷ c) f)
 exp-run (unary o e) = λ c f. simp append-assoc (exp-run e (i-unary o ∷ c) f)
 exp-run (binary o a b) = λ c f. simp append-assoc (exp-run a (code-exp b ++ i-binary o ∷ c) f ∙ exp-run b (i-binary o ∷ c) (push a f))
 exp-run (choice a b d) = λ c f.
@@ -124,24 +124,28 @@ Adds statement s = (c : List Item) (f : Front) → exec (code-tree s ++ c) f ≡
 Adds sequence q = (c : List Item) (f : Front) → exec (code-tree q ++ c) f ≡ add-sequence q (exec c f)
 Adds options os = (c : List Item) (f : Front) → exec (code-tree os ++ c) f ≡ add-options os (exec c f)
 
+leaf-run : (l : Leaf) (c : List Item) (f : Front) → exec (code-leaf l ++ c) f ≡ add-action (leaf l) (exec c f)
+unfolding with-args with-recs
+leaf-run (express e) = λ c f. simp append-assoc (exp-run e (i-express ∷ c) f)
+leaf-run (assign r e) = λ c f. simp append-assoc (exp-run r (i-target ∷ code-exp e ++ i-assign ∷ c) f ∙ exp-run e (i-assign ∷ c) (push (get r) f))
+leaf-run (increment r) = λ c f. simp append-assoc (exp-run r (i-increment ∷ c) f)
+leaf-run (decrement r) = λ c f. simp append-assoc (exp-run r (i-decrement ∷ c) f)
+leaf-run (send o r l) = λ c f. simp append-assoc (exp-run r (i-send o ∷ each code-argument l ++ i-end ∷ c) f ∙ ap (back (i-send o) (push (get r) f)) (arguments l c f))
+leaf-run (receive o r l) = λ c f. simp append-assoc (exp-run r (i-receive o ∷ each code-received l ++ i-end ∷ c) f ∙ ap (back (i-receive o) (push (get r) f)) (receiveds l c f))
+leaf-run (assert e) = λ c f. simp append-assoc (exp-run e (i-assert ∷ c) f)
+leaf-run (print w l) = λ c f. shift (i-text w) f (each code-argument l) (i-end ∷ []) c ∙ ap (back (i-text w) f) (arguments l c f)
+leaf-run skip = λ c f. refl
+leaf-run (goto w) = λ c f. refl
+leaf-run break = λ c f. refl
+leaf-run timeout = λ c f. refl
+leaf-run else = λ c f. refl
+leaf-run (run w l) = λ c f. shift i-run (front (i-name w) f) (each code-argument l) (i-end ∷ []) c ∙ ap (back i-run (front (i-name w) f)) (arguments l c f)
+leaf-run (set-run r w l) = λ c f.
+    simp append-assoc (exp-run r (i-target ∷ i-name w ∷ i-set-run ∷ each code-argument l ++ i-end ∷ c) f ∙ ap (back i-set-run (front (i-name w) (push (get r) f))) (arguments l c f))
+
 tree-run : {k : Sort} (t : Tree k) → Adds k t
 unfolding with-args with-recs
-tree-run (express e) = λ c f. simp append-assoc (exp-run e (i-express ∷ c) f)
-tree-run (assign r e) = λ c f. simp append-assoc (exp-run r (i-target ∷ code-exp e ++ i-assign ∷ c) f ∙ exp-run e (i-assign ∷ c) (push (get r) f))
-tree-run (increment r) = λ c f. simp append-assoc (exp-run r (i-increment ∷ c) f)
-tree-run (decrement r) = λ c f. simp append-assoc (exp-run r (i-decrement ∷ c) f)
-tree-run (send r l) = λ c f. simp append-assoc (exp-run r (i-send ∷ each code-argument l ++ i-end ∷ c) f ∙ ap (back i-send (push (get r) f)) (arguments l c f))
-tree-run (receive r l) = λ c f. simp append-assoc (exp-run r (i-receive ∷ each code-received l ++ i-end ∷ c) f ∙ ap (back i-receive (push (get r) f)) (receiveds l c f))
-tree-run (assert e) = λ c f. simp append-assoc (exp-run e (i-assert ∷ c) f)
-tree-run (print w l) = λ c f. shift (i-text w) f (each code-argument l) (i-end ∷ []) c ∙ ap (back (i-text w) f) (arguments l c f)
-tree-run skip = λ c f. refl
-tree-run (goto w) = λ c f. refl
-tree-run break = λ c f. refl
-tree-run timeout = λ c f. refl
-tree-run else = λ c f. refl
-tree-run (run w l) = λ c f. shift i-run (front (i-name w) f) (each code-argument l) (i-end ∷ []) c ∙ ap (back i-run (front (i-name w) f)) (arguments l c f)
-tree-run (set-run r w l) = λ c f.
-    simp append-assoc (exp-run r (i-target ∷ i-name w ∷ i-set-run ∷ each code-argument l ++ i-end ∷ c) f ∙ ap (back i-set-run (front (i-name w) (push (get r) f))) (arguments l c f))
+tree-run (leaf l) = leaf-run l
 tree-run (select os) = λ c f. shift i-if f (code-tree os) (i-fi ∷ []) c ∙ ap (back i-if f) (tree-run os (i-fi ∷ c) f ∙ options-fill os (exec c f))
 tree-run (loop os) = λ c f. shift i-do f (code-tree os) (i-od ∷ []) c ∙ ap (back i-do f) (tree-run os (i-od ∷ c) f ∙ options-fill os (exec c f))
 tree-run (bare a) = λ c f. tree-run a c f

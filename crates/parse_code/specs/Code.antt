@@ -1,4 +1,4 @@
--- Mechanism, held to the specification by `code-injective` (crate `parse_code`).
+-- Bridge: what `parse-sound`, `parse-complete` (crate `parse_proof`) hold the parser to; that it says all that the tree says, by `code-injective` (crate `parse_code`).
 -- The code of a tree: a list of items in text order, expressions in postfix, on which all later passes work. It says all that the tree says (proofs/Build.antt).
 -- An item with a payload comes from one token (name, number, string, type). It is followed, at once or after an index, by the mark that says what it is for:
 --   a reference   name plain | name INDEX index, with INDEX an expression; as an operand nothing follows, else: len, target, increment, decrement, send, receive or into
@@ -15,8 +15,8 @@
 use mathlib.Core.Option.{Option, none, some}
 use mathlib.Core.List.{List, [], _∷_, _++_}
 use Prim.Native.Nat.{ℕ}
-use Rattle.base_codes.specs.Items.{Item, i-active, i-active-many, i-argument, i-assert, i-assign, i-binary, i-body, i-break, i-channel, i-choice, i-constant, i-declared, i-decrement, i-do, i-else, i-end, i-end-body, i-end-option, i-equal, i-express, i-false, i-fi, i-field, i-global, i-goto, i-group, i-if, i-increment, i-index, i-init, i-into, i-label, i-len, i-local, i-message, i-minus, i-mtypes, i-name, i-named, i-number, i-od, i-option, i-otherwise, i-parameter, i-plain, i-proctype, i-receive, i-run, i-send, i-set-run, i-size, i-skip, i-target, i-text, i-timeout, i-true, i-type, i-unary, i-value}
-use Rattle.spec_grammar.specs.Tree.{Name, Shape, Exp, plain, indexed, num, tru, fls, get, len, unary, binary, choice, Expr, Received, into, equal, exactly, exactly-true, exactly-false, Sort, Tree, express, assign, increment, decrement, send, receive, assert, print, skip, goto, break, timeout, else, run, set-run, select, loop, bare, labelled, end, then, over, option, Value, unset, set-number, set-minus, set-true, set-false, set-name, set-channel, Variable, variable, Declaration, declare, Group, group, Body, body, Activity, idle, once, times, Part, mtypes, global, process, init, Model}
+use Rattle.base_codes.specs.Items.{Item, i-active, i-active-many, i-argument, i-assert, i-assign, i-binary, i-body, i-break, i-channel, i-choice, i-constant, i-declared, i-decrement, i-do, i-else, i-end, i-end-body, i-end-option, i-equal, i-express, i-false, i-fi, i-field, i-global, i-goto, i-group, i-if, i-increment, i-index, i-init, i-into, i-label, i-query, i-local, i-message, i-minus, i-mtypes, i-name, i-named, i-number, i-od, i-option, i-otherwise, i-parameter, i-plain, i-proctype, i-receive, i-run, i-send, i-set-run, i-size, i-skip, i-target, i-text, i-timeout, i-true, i-type, i-unary, i-value}
+use Rattle.spec_grammar.specs.Tree.{Name, Shape, Exp, plain, indexed, num, tru, fls, get, query, unary, binary, choice, Expr, Received, into, equal, exactly, exactly-true, exactly-false, Leaf, express, assign, increment, decrement, send, receive, assert, print, skip, goto, break, timeout, else, run, set-run, Sort, Tree, leaf, select, loop, bare, labelled, end, then, over, option, Value, unset, set-number, set-minus, set-true, set-false, set-name, set-channel, Variable, variable, Declaration, declare, Group, group, Body, body, Activity, idle, once, times, Part, mtypes, global, process, init, Model}
 
 abbrev pub each : {A : Type 0} → (A → List Item) → List A → List Item
 each f [] = []
@@ -29,7 +29,7 @@ code-exp (num n) = i-number n ∷ []
 code-exp tru = i-true ∷ []
 code-exp fls = i-false ∷ []
 code-exp (get r) = code-exp r
-code-exp (len r) = code-exp r ++ i-len ∷ []
+code-exp (query o r) = code-exp r ++ i-query o ∷ []
 code-exp (unary o e) = code-exp e ++ i-unary o ∷ []
 code-exp (binary o a b) = code-exp a ++ code-exp b ++ i-binary o ∷ []
 code-exp (choice a b c) = code-exp a ++ code-exp b ++ i-otherwise ∷ code-exp c ++ i-choice ∷ []
@@ -44,22 +44,25 @@ code-received (exactly n) = i-number n ∷ i-constant ∷ []
 code-received exactly-true = i-true ∷ i-constant ∷ []
 code-received exactly-false = i-false ∷ i-constant ∷ []
 
+abbrev pub code-leaf : Leaf → List Item
+code-leaf (express e) = code-exp e ++ i-express ∷ []
+code-leaf (assign r e) = code-exp r ++ i-target ∷ code-exp e ++ i-assign ∷ []
+code-leaf (increment r) = code-exp r ++ i-increment ∷ []
+code-leaf (decrement r) = code-exp r ++ i-decrement ∷ []
+code-leaf (send o r es) = code-exp r ++ i-send o ∷ each code-argument es ++ i-end ∷ []
+code-leaf (receive o r xs) = code-exp r ++ i-receive o ∷ each code-received xs ++ i-end ∷ []
+code-leaf (assert e) = code-exp e ++ i-assert ∷ []
+code-leaf (print w es) = i-text w ∷ each code-argument es ++ i-end ∷ []
+code-leaf skip = i-skip ∷ []
+code-leaf (goto w) = i-name w ∷ i-goto ∷ []
+code-leaf break = i-break ∷ []
+code-leaf timeout = i-timeout ∷ []
+code-leaf else = i-else ∷ []
+code-leaf (run w es) = i-name w ∷ i-run ∷ each code-argument es ++ i-end ∷ []
+code-leaf (set-run r w es) = code-exp r ++ i-target ∷ i-name w ∷ i-set-run ∷ each code-argument es ++ i-end ∷ []
+
 abbrev pub code-tree : {k : Sort} → Tree k → List Item
-code-tree (express e) = code-exp e ++ i-express ∷ []
-code-tree (assign r e) = code-exp r ++ i-target ∷ code-exp e ++ i-assign ∷ []
-code-tree (increment r) = code-exp r ++ i-increment ∷ []
-code-tree (decrement r) = code-exp r ++ i-decrement ∷ []
-code-tree (send r es) = code-exp r ++ i-send ∷ each code-argument es ++ i-end ∷ []
-code-tree (receive r xs) = code-exp r ++ i-receive ∷ each code-received xs ++ i-end ∷ []
-code-tree (assert e) = code-exp e ++ i-assert ∷ []
-code-tree (print w es) = i-text w ∷ each code-argument es ++ i-end ∷ []
-code-tree skip = i-skip ∷ []
-code-tree (goto w) = i-name w ∷ i-goto ∷ []
-code-tree break = i-break ∷ []
-code-tree timeout = i-timeout ∷ []
-code-tree else = i-else ∷ []
-code-tree (run w es) = i-name w ∷ i-run ∷ each code-argument es ++ i-end ∷ []
-code-tree (set-run r w es) = code-exp r ++ i-target ∷ i-name w ∷ i-set-run ∷ each code-argument es ++ i-end ∷ []
+code-tree (leaf l) = code-leaf l
 code-tree (select os) = i-if ∷ code-tree os ++ i-fi ∷ []
 code-tree (loop os) = i-do ∷ code-tree os ++ i-od ∷ []
 code-tree (bare a) = code-tree a

@@ -1,4 +1,4 @@
--- Mechanism, held to the specification by `same-answer` (crate `parse_machine_proof`).
+-- Mechanism, of contracts alone: no theorem holds it to the specification; `parsed`, which it cites, is held by `items-mean`, `accepts` (crate `parse_machine_proof`).
 -- What the entry promises of an answer (specs/Answer.antt of `parse_machine_proof`) and of the lent arrays: "A refusal changes no lent number or byte .. What lies beyond the
 -- written part stays" (document 01, "What is answered, and what stays behind").
 use Prim.Native.Nat.{ℕ, _≤_}

@@ -1,4 +1,4 @@
--- Mechanism, held to the specification by `same-answer` (crate `parse_machine_proof`).
+-- Mechanism, of contracts alone: no theorem holds it to the specification; how the arrays of the code show the machine's state.
 -- How the arrays of the code show the machine's state: the stack is what lies from `sp` on, the items are the first n of the output.
 use Prim.Native.Nat.{ℕ, _≤_}
 use mathlib.Core.Path.{_≡_}

@@ -1,4 +1,4 @@
--- Mechanism, held to the specification by `same-answer` (crate `parse_machine_proof`).
+-- Mechanism, held to the specification by `items-mean`, `accepts`, `two-means`, `three-means` (crate `parse_machine_proof`).
 -- The answer for a list of kinds. Document 01, "What is answered", "Order: 7 first .., then length, .. then grammar with bracket and if/do depth (2, 3).
 -- Within a pass the smallest place wins, then the smallest number."
 use Prim.Native.Nat.{ℕ}

@@ -1,4 +1,4 @@
--- Mechanism, held to the specification by `same-answer` (crate `parse_machine_proof`).
+-- Mechanism, held by `items-mean`, `accepts`, `two-means` (crate `parse_machine_proof`) to `too-deep` of `parse_proof`, which stands for the specification.
 -- Document 01, "Ceilings": "open brackets 32; open if/do 8", and refusal 2 for the token that passes one, over kinds alone.
 -- What opens and closes, and how the two counts go, is said in specs/Depth.antt of `parse_proof`; proofs/Judge.antt has that the places are the same.
 use Prim.Native.Nat.{ℕ, _+_}

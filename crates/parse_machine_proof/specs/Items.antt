@@ -1,4 +1,4 @@
--- Mechanism, held to the specification by `same-answer` (crate `parse_machine_proof`).
+-- Mechanism, held to the specification by `items-mean`, `accepts` (crate `parse_machine_proof`), but for `answer-of`, `meant`, `In-range`, `All-in-range`, of proofs alone.
 -- What the machine's numbers say of a list of tokens: the items of a tree's code, each name, number and string with what its token holds; and the answer as `parse_proof` gives it.
 -- THE LAYOUT OF ITEMS (their order is that of specs/Code.antt of `parse_code`, their numbers those of specs/Numbering.antt of `parse_tables`). Each has a token and a size,
 -- the number of items just before it that belong to it. Token and size are

@@ -1,4 +1,4 @@
--- Mechanism, held to the specification by `same-answer` (crate `parse_machine_proof`).
+-- Mechanism, held to the specification by `items-mean`, `accepts` (crate `parse_machine_proof`).
 -- The parsing machine: a stack of symbols (specs/Numbering.antt of `parse_tables`), top first, a place in the list of kinds, and the items written so far.
 -- Document 01, "first token that can continue no text of the grammar", is the place where it refuses (proofs/Same.antt, proofs/Main.antt).
 -- A number on the stack is a symbol, with the place and the count of items at which its right side was begun. An item is a symbol, with the place of its token

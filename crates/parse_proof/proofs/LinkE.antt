@@ -7,10 +7,10 @@ use Prim.Native.Nat.{ℕ, zero, suc, _≤_}
 use native.Mathlib.Omega.{arith}
 use lib.Dec.{T, eqb, eqb→eq, eqb·suc-zero}
 use Rattle.base_kinds.specs.Kinds.{Token, sym, level}
-use Rattle.spec_grammar.specs.Marks.{'rpar, '], ':, '->}
+use Rattle.spec_grammar.specs.Marks.{'rpar, '], ':, '->, k-len}
 use Rattle.spec_grammar.specs.Tree.{Expr}
-use Rattle.spec_grammar.specs.Grammar.{is-minus, is-not, is-flip, E, e-plain, e-index, e-number, e-true, e-false, e-len, e-group, e-choice, e-unary, e-binary, e-up}
-use Rattle.base_codes.specs.Items.{Item, i-binary, i-choice, i-express, i-index, i-len, i-otherwise, i-unary}
+use Rattle.spec_grammar.specs.Grammar.{is-minus, is-not, is-flip, E, e-plain, e-index, e-number, e-true, e-false, is-len, e-query, e-group, e-choice, e-unary, e-binary, e-up}
+use Rattle.base_codes.specs.Items.{Item, i-binary, i-choice, i-express, i-index, i-query, i-otherwise, i-unary}
 use Rattle.parse_code.specs.Code.{code-exp}
 use Rattle.spec_grammar.proofs.Levels.{operator-small, level-top}
 use Rattle.parse_proof.specs.Engine.{nt, tm, act, In, here, there, L, emit, eat, by}
@@ -231,7 +231,7 @@ e-bound (e-index x) = omega arith
 e-bound e-number = omega arith
 e-bound e-true = omega arith
 e-bound e-false = omega arith
-e-bound (e-len x) = omega arith
+e-bound (e-query is-len x) = omega arith
 e-bound (e-group x) = omega arith
 e-bound (e-choice x y z) = omega arith
 e-bound (e-unary u x) = omega arith
@@ -245,8 +245,8 @@ e-in (e-index x) k w o h d = simp append-assoc (by here (eat refl (by (there her
 e-in e-number k w o h d = by (there here) (by here (eat refl d))
 e-in e-true k w o h d = by (there here) (by (there here) (eat refl (emit d)))
 e-in e-false k w o h d = by (there here) (by (there (there here)) (eat refl (emit d)))
-e-in (e-len x) k w o h d =
-    simp append-assoc (by (there here) (by (there (there (there here))) (eat refl (eat refl (e-in x (key 'rpar ∷ act i-len ∷ k) ('rpar ∷ w) (i-len ∷ o) (omega arith) (eat refl (emit d)))))))
+e-in (e-query is-len x) k w o h d =
+    simp append-assoc (by (there here) (by (there (there (there here))) (eat refl (eat refl (e-in x (key 'rpar ∷ act (i-query k-len) ∷ k) ('rpar ∷ w) (i-query k-len ∷ o) (omega arith) (eat refl (emit d)))))))
 e-in (e-group x) k w o h d =
     simp append-assoc (by (there here) (by (there (there (there (there here)))) (eat refl (e-in x (nt n-closing ∷ k) ('rpar ∷ w) o (omega arith) (leave 1 (by here (eat refl d)))))))
 e-in (e-choice {ys = ys} {zs = zs} {b = b} {c = c} x y z) k w o h d =
@@ -273,7 +273,7 @@ ref-in (e-index x) h k w o d = simp append-assoc (eat refl (by (there here) (eat
 ref-in e-number h k w o d = absurd (omega arith)
 ref-in e-true h k w o d = absurd (omega arith)
 ref-in e-false h k w o d = absurd (omega arith)
-ref-in (e-len x) h k w o d = absurd (omega arith)
+ref-in (e-query is-len x) h k w o d = absurd (omega arith)
 ref-in (e-group x) h k w o d = absurd (omega arith)
 ref-in (e-choice x y z) h k w o d = absurd (omega arith)
 ref-in (e-unary u x) h k w o d = absurd (omega arith)
@@ -287,8 +287,8 @@ start-in (e-index x) k w o h d = by here (ref-in (e-index x) (omega arith) (nt n
 start-in e-number k w o h d = by (there here) (by here (by here (eat refl d)))
 start-in e-true k w o h d = by (there here) (by here (by (there here) (eat refl (emit d))))
 start-in e-false k w o h d = by (there here) (by here (by (there (there here)) (eat refl (emit d))))
-start-in (e-len x) k w o h d =
-    simp append-assoc (by (there here) (by here (by (there (there (there here))) (eat refl (eat refl (e-in x (key 'rpar ∷ act i-len ∷ tails (act i-express ∷ k)) ('rpar ∷ w) (i-len ∷ o) (omega arith) (eat refl (emit d))))))))
+start-in (e-query is-len x) k w o h d =
+    simp append-assoc (by (there here) (by here (by (there (there (there here))) (eat refl (eat refl (e-in x (key 'rpar ∷ act (i-query k-len) ∷ tails (act i-express ∷ k)) ('rpar ∷ w) (i-query k-len ∷ o) (omega arith) (eat refl (emit d))))))))
 start-in (e-group x) k w o h d =
     simp append-assoc (by (there here) (by here (by (there (there (there (there here)))) (eat refl (e-in x (nt n-closing ∷ tails (act i-express ∷ k)) ('rpar ∷ w) o (omega arith) (leave 1 (by here (eat refl d))))))))
 start-in (e-choice {ys = ys} {zs = zs} {b = b} {c = c} x y z) k w o h d =

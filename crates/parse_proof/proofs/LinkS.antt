@@ -5,10 +5,10 @@ use mathlib.Core.List.{List, [], _∷_, _++_, append-assoc}
 use Prim.Native.Nat.{ℕ, zero, suc}
 use native.Mathlib.Omega.{arith}
 use Rattle.base_kinds.specs.Kinds.{Token, name, kindOf}
-use Rattle.spec_grammar.specs.Marks.{'!, 'lpar, 'rpar, 'comma, '=, '++, '--, '?, 'fi, 'od, 'run}
+use Rattle.spec_grammar.specs.Marks.{'!, 'lpar, 'rpar, 'comma, '=, '++, '?, 'fi, 'od, 'run, k-bang, k-ask, '--}
 use Rattle.spec_grammar.specs.Tree.{Expr, Received, Sort, action, statement, sequence, options, Tree}
-use Rattle.spec_grammar.specs.Grammar.{Listed, one, more, Maybe-listed, no-list, a-list, Message, commas, call, Trailing, none-trails, semi-trails, arrow-trails, Parted, by-semi, by-arrow, An-expression, A-received, r-into, r-eval, r-number, r-true, r-false, D, s-express, s-assign, s-increment, s-decrement, s-send, s-receive, s-assert, s-print-alone, s-print, s-skip, s-goto, s-break, s-timeout, s-else, s-run, s-set-run, s-if, s-do, s-bare, s-label, q-last, q-then, o-last, o-also, statements}
-use Rattle.base_codes.specs.Items.{Item, i-argument, i-assert, i-assign, i-decrement, i-end, i-end-option, i-equal, i-express, i-fi, i-increment, i-into, i-name, i-od, i-receive, i-send, i-set-run, i-target}
+use Rattle.spec_grammar.specs.Grammar.{Listed, one, more, Maybe-listed, no-list, a-list, Message, commas, call, Trailing, none-trails, semi-trails, arrow-trails, Parted, by-semi, by-arrow, An-expression, A-received, r-into, r-eval, r-number, r-true, r-false, D, is-bang, is-ask, s-leaf, s-express, s-assign, s-increment, s-decrement, s-send, s-receive, s-assert, s-print-alone, s-print, s-skip, s-goto, s-break, s-timeout, s-else, s-run, s-set-run, s-if, s-do, s-bare, s-label, q-last, q-then, o-last, o-also}
+use Rattle.base_codes.specs.Items.{Item, i-argument, i-assert, i-assign, i-end, i-end-option, i-equal, i-express, i-fi, i-increment, i-into, i-name, i-od, i-receive, i-send, i-set-run, i-target, i-decrement}
 use Rattle.parse_code.specs.Code.{each, code-exp, code-argument, code-received, code-tree}
 use Rattle.parse_proof.specs.Engine.{nt, tm, act, In, here, there, L, emit, eat, by}
 use Rattle.parse_proof.specs.Productions.{NT, n-ix, n-argument, n-arguments, n-more-arguments, n-sent, n-received, n-more-received, n-got, n-statement, n-after-name, n-action, n-after-ref, n-sequence, n-more-statements, n-after-separator, n-option, n-more-options, Ter, sy, any-name, Right, key, eats, prods, G}
@@ -93,31 +93,31 @@ starts-with sequence = nt n-sequence ∷ []
 starts-with options = nt n-option ∷ nt n-more-options ∷ []
 
 pub d-in : {s : Sort} {ts : List Token} {t : Tree s} → D s ts t → Derives (starts-with s) ts (code-tree t)
-d-in (s-express x) = λ k w o d. simp append-assoc (start-in x k w (i-express ∷ o) (omega arith) (by here (emit d)))
-d-in (s-assign {us = us} {e = e} x y) = λ k w o d.
+d-in (s-leaf (s-express x)) = λ k w o d. simp append-assoc (start-in x k w (i-express ∷ o) (omega arith) (by here (emit d)))
+d-in (s-leaf (s-assign {us = us} {e = e} x y)) = λ k w o d.
     simp append-assoc (by here (ref-in x (omega arith) (nt n-after-ref ∷ k) ('= ∷ us ++ w) (i-target ∷ code-exp e ++ i-assign ∷ o)
     (by here (eat refl (emit (by here (e-in y (act i-assign ∷ k) w (i-assign ∷ o) (omega arith) (by here (emit d)))))))))
-d-in (s-increment x) = λ k w o d. simp append-assoc (by here (ref-in x (omega arith) (nt n-after-ref ∷ k) ('++ ∷ w) (i-increment ∷ o) (by (there here) (eat refl (emit d)))))
-d-in (s-decrement x) = λ k w o d. simp append-assoc (by here (ref-in x (omega arith) (nt n-after-ref ∷ k) ('-- ∷ w) (i-decrement ∷ o) (by (there (there here)) (eat refl (emit d)))))
-d-in (s-send {us = us} {es = es} x y) = λ k w o d.
-    simp append-assoc (by here (ref-in x (omega arith) (nt n-after-ref ∷ k) ('! ∷ us ++ w) (i-send ∷ each code-argument es ++ i-end ∷ o)
+d-in (s-leaf (s-increment x)) = λ k w o d. simp append-assoc (by here (ref-in x (omega arith) (nt n-after-ref ∷ k) ('++ ∷ w) (i-increment ∷ o) (by (there here) (eat refl (emit d)))))
+d-in (s-leaf (s-decrement x)) = λ k w o d. simp append-assoc (by here (ref-in x (omega arith) (nt n-after-ref ∷ k) ('-- ∷ w) (i-decrement ∷ o) (by (there (there here)) (eat refl (emit d)))))
+d-in (s-leaf (s-send {us = us} {es = es} is-bang x y)) = λ k w o d.
+    simp append-assoc (by here (ref-in x (omega arith) (nt n-after-ref ∷ k) ('! ∷ us ++ w) (i-send k-bang ∷ each code-argument es ++ i-end ∷ o)
     (by (there (there (there here))) (eat refl (emit (sent-in y (act i-end ∷ k) w (i-end ∷ o) (emit d)))))))
-d-in (s-receive {us = us} {xs = xs} x y) = λ k w o d.
-    simp append-assoc (by here (ref-in x (omega arith) (nt n-after-ref ∷ k) ('? ∷ us ++ w) (i-receive ∷ each code-received xs ++ i-end ∷ o)
+d-in (s-leaf (s-receive {us = us} {xs = xs} is-ask x y)) = λ k w o d.
+    simp append-assoc (by here (ref-in x (omega arith) (nt n-after-ref ∷ k) ('? ∷ us ++ w) (i-receive k-ask ∷ each code-received xs ++ i-end ∷ o)
     (by (there (there (there (there here)))) (eat refl (emit (got-in y (act i-end ∷ k) w (i-end ∷ o) (emit d)))))))
-d-in (s-assert x) = λ k w o d.
+d-in (s-leaf (s-assert x)) = λ k w o d.
     simp append-assoc (by (there here) (by (there here) (eat refl (eat refl (e-in x (key 'rpar ∷ act i-assert ∷ k) ('rpar ∷ w) (i-assert ∷ o) (omega arith) (by here (eat refl (emit d))))))))
-d-in s-print-alone = λ k w o d. by (there here) (by (there (there here)) (eat refl (eat refl (eat refl (by here (eat refl (emit d)))))))
-d-in (s-print x) = λ k w o d.
+d-in (s-leaf s-print-alone) = λ k w o d. by (there here) (by (there (there here)) (eat refl (eat refl (eat refl (by here (eat refl (emit d)))))))
+d-in (s-leaf (s-print x)) = λ k w o d.
     simp append-assoc (by (there here) (by (there (there here)) (eat refl (eat refl (eat refl (by (there here) (eat refl (arguments-in x (key 'rpar ∷ act i-end ∷ k) ('rpar ∷ w) (i-end ∷ o) (eat refl (emit d))))))))))
-d-in s-skip = λ k w o d. by (there here) (by (there (there (there here))) (eat refl (emit d)))
-d-in s-goto = λ k w o d. by (there here) (by (there (there (there (there here)))) (eat refl (eat refl (emit d))))
-d-in s-break = λ k w o d. by (there here) (by (there (there (there (there (there here))))) (eat refl (emit d)))
-d-in s-timeout = λ k w o d. by (there here) (by (there (there (there (there (there (there here)))))) (eat refl (emit d)))
-d-in s-else = λ k w o d. by (there here) (by (there (there (there (there (there (there (there here))))))) (eat refl (emit d)))
-d-in (s-run x) = λ k w o d.
+d-in (s-leaf s-skip) = λ k w o d. by (there here) (by (there (there (there here))) (eat refl (emit d)))
+d-in (s-leaf s-goto) = λ k w o d. by (there here) (by (there (there (there (there here)))) (eat refl (eat refl (emit d))))
+d-in (s-leaf s-break) = λ k w o d. by (there here) (by (there (there (there (there (there here))))) (eat refl (emit d)))
+d-in (s-leaf s-timeout) = λ k w o d. by (there here) (by (there (there (there (there (there (there here)))))) (eat refl (emit d)))
+d-in (s-leaf s-else) = λ k w o d. by (there here) (by (there (there (there (there (there (there (there here))))))) (eat refl (emit d)))
+d-in (s-leaf (s-run x)) = λ k w o d.
     simp append-assoc (by (there here) (by (there (there (there (there (there (there (there (there here)))))))) (eat refl (eat refl (emit (eat refl (maybe-in x (key 'rpar ∷ act i-end ∷ k) ('rpar ∷ w) (i-end ∷ o) (eat refl (emit d)))))))))
-d-in (s-set-run {us = us} {w = v} {es = es} x y) = λ k w o d.
+d-in (s-leaf (s-set-run {us = us} {w = v} {es = es} x y)) = λ k w o d.
     simp append-assoc (by here (ref-in x (omega arith) (nt n-after-ref ∷ k) ('= ∷ 'run ∷ name v ∷ 'lpar ∷ us ++ 'rpar ∷ w) (i-target ∷ i-name v ∷ i-set-run ∷ each code-argument es ++ i-end ∷ o)
     (by here (eat refl (emit (by (there here) (eat refl (eat refl (emit (eat refl (maybe-in y (key 'rpar ∷ act i-end ∷ k) ('rpar ∷ w) (i-end ∷ o) (eat refl (emit d)))))))))))))
 d-in (s-if x) = λ k w o d. simp append-assoc (by (there here) (by (there (there (there (there (there (there (there (there (there here))))))))) (eat refl (emit (d-in x (key 'fi ∷ act i-fi ∷ k) ('fi ∷ w) (i-fi ∷ o) (eat refl (emit d)))))))

@@ -3,10 +3,10 @@ use mathlib.Core.Path.{_≡_, refl, ap, sym as inv, _∙_}
 use mathlib.Core.List.{List, [], _∷_, _++_, append-assoc, append-nil}
 use Prim.Native.Nat.{ℕ, suc}
 use Rattle.base_kinds.specs.Kinds.{Token, sym, name, level}
-use Rattle.spec_grammar.specs.Marks.{'lpar, 'rpar, '[, '], 'comma, ':, '->, 'eval, 'false, 'len, 'true}
-use Rattle.spec_grammar.specs.Tree.{plain, indexed, num, tru, fls, get, len, unary, binary, choice, Expr, into, equal, exactly, exactly-true, exactly-false}
-use Rattle.spec_grammar.specs.Grammar.{Listed, one, more, no-list, a-list, commas, call, Is-unary, E, e-plain, e-index, e-number, e-true, e-false, e-len, e-group, e-choice, e-unary, e-binary, e-up, An-expression, A-reference, r-into, r-eval, r-number, r-true, r-false}
-use Rattle.base_codes.specs.Items.{Item, i-argument, i-binary, i-choice, i-constant, i-equal, i-express, i-false, i-index, i-into, i-len, i-name, i-otherwise, i-plain, i-true, i-unary}
+use Rattle.spec_grammar.specs.Marks.{'lpar, 'rpar, '[, '], 'comma, ':, '->, 'eval, 'false, 'len, 'true, k-len}
+use Rattle.spec_grammar.specs.Tree.{plain, indexed, num, tru, fls, get, query, unary, binary, choice, Expr, into, equal, exactly, exactly-true, exactly-false}
+use Rattle.spec_grammar.specs.Grammar.{Listed, one, more, no-list, a-list, commas, call, Is-unary, E, e-plain, e-index, e-number, e-true, e-false, is-len, e-query, e-group, e-choice, e-unary, e-binary, e-up, An-expression, A-reference, r-into, r-eval, r-number, r-true, r-false}
+use Rattle.base_codes.specs.Items.{Item, i-argument, i-binary, i-choice, i-constant, i-equal, i-express, i-false, i-index, i-into, i-query, i-name, i-otherwise, i-plain, i-true, i-unary}
 use Rattle.parse_code.specs.Code.{each, code-exp, code-argument}
 use Rattle.parse_proof.specs.Engine.{nt, tm, act}
 use Rattle.parse_proof.specs.Productions.{NT, e1, n-operand, n-ref, n-ix, n-opened, n-closing, n-argument, n-arguments, n-more-arguments, n-received, any-name, any-number, key, operation, tails}
@@ -122,8 +122,8 @@ means-true = (tru, e-true, refl)
 pub means-false : Means n-opened (key 'false ∷ act i-false ∷ [])
 means-false = (fls, e-false, refl)
 
-pub means-len : Means n-opened (key 'len ∷ key 'lpar ∷ nt n-ref ∷ key 'rpar ∷ act i-len ∷ [])
-means-len ts p (r, x, h) = (len r, e-len x, rw h)
+pub means-len : Means n-opened (key 'len ∷ key 'lpar ∷ nt n-ref ∷ key 'rpar ∷ act (i-query k-len) ∷ [])
+means-len ts p (r, x, h) = (query k-len r, e-query is-len x, rw h)
 
 pub means-round : Means n-opened (key 'lpar ∷ nt e1 ∷ nt n-closing ∷ [])
 means-round ts p (e, x, h) us q f =

@@ -3,10 +3,10 @@ use mathlib.Core.Path.{_≡_, refl, ap, _∙_}
 use mathlib.Core.List.{List, [], _∷_, _++_, append-assoc, append-nil}
 use Prim.Native.Nat.{ℕ}
 use Rattle.base_kinds.specs.Kinds.{Token, name, text}
-use Rattle.spec_grammar.specs.Marks.{'!, 'lpar, 'rpar, 'comma, 'semi, ':, '::, '->, '=, '++, '--, '?, 'assert, 'break, 'do, 'else, 'fi, 'goto, 'if, 'od, 'printf, 'run, 'skip, 'timeout}
-use Rattle.spec_grammar.specs.Tree.{get, Expr, Ref, Received, action, statement, sequence, options, Tree, express, assign, increment, decrement, send, receive, assert, print, skip, goto, break, timeout, else, run, set-run, select, loop, bare, labelled, end, then, over, option}
-use Rattle.spec_grammar.specs.Grammar.{Message, Trailing, none-trails, semi-trails, arrow-trails, Parted, by-semi, by-arrow, e-up, An-expression, A-reference, A-received, D, s-express, s-assign, s-increment, s-decrement, s-send, s-receive, s-assert, s-print-alone, s-print, s-skip, s-goto, s-break, s-timeout, s-else, s-run, s-set-run, s-if, s-do, s-bare, s-label, q-last, q-then, o-last, o-also, statements}
-use Rattle.base_codes.specs.Items.{Item, i-assert, i-assign, i-break, i-decrement, i-do, i-else, i-end, i-end-option, i-express, i-fi, i-goto, i-if, i-increment, i-label, i-name, i-od, i-option, i-receive, i-run, i-send, i-set-run, i-skip, i-target, i-timeout}
+use Rattle.spec_grammar.specs.Marks.{'!, 'lpar, 'rpar, 'comma, 'semi, ':, '::, '->, '=, '++, '?, 'assert, 'break, 'do, 'else, 'fi, 'goto, 'if, 'od, 'printf, 'run, 'skip, 'timeout, k-ask, k-bang, '--}
+use Rattle.spec_grammar.specs.Tree.{get, Expr, Ref, Received, action, statement, sequence, options, Tree, leaf, express, assign, increment, decrement, send, receive, assert, print, skip, goto, break, timeout, else, run, set-run, select, loop, bare, labelled, end, then, over, option}
+use Rattle.spec_grammar.specs.Grammar.{Message, Trailing, none-trails, semi-trails, arrow-trails, Parted, by-semi, by-arrow, e-up, An-expression, A-reference, A-received, D, is-bang, is-ask, s-leaf, s-express, s-assign, s-increment, s-decrement, s-send, s-receive, s-assert, s-print-alone, s-print, s-skip, s-goto, s-break, s-timeout, s-else, s-run, s-set-run, s-if, s-do, s-bare, s-label, q-last, q-then, o-last, o-also}
+use Rattle.base_codes.specs.Items.{Item, i-assert, i-assign, i-break, i-do, i-else, i-end, i-end-option, i-express, i-fi, i-goto, i-if, i-increment, i-label, i-name, i-od, i-option, i-receive, i-run, i-send, i-set-run, i-skip, i-target, i-timeout, i-decrement}
 use Rattle.parse_code.specs.Code.{each, code-exp, code-argument, code-received, code-tree}
 use Rattle.parse_proof.specs.Engine.{nt, tm, act}
 use Rattle.parse_proof.specs.Productions.{e1, n-ix, n-opened, n-argument, n-arguments, n-more-arguments, n-sent, n-received, n-got, n-statement, n-after-name, n-action, n-after-ref, n-right-side, n-other, n-sequence, n-more-statements, n-after-separator, n-option, n-more-options, any-name, any-text, key, tails}
@@ -69,10 +69,10 @@ means-set us q y xs r g =
     carry-set (code-exp r) q xs us (y xs r g)
 
 pub means-increment : Means n-after-ref (key '++ ∷ act i-increment ∷ [])
-means-increment xs r g = (increment r, s-increment g, refl)
+means-increment xs r g = (leaf (increment r), s-leaf (s-increment g), refl)
 
 pub means-decrement : Means n-after-ref (key '-- ∷ act i-decrement ∷ [])
-means-decrement xs r g = (decrement r, s-decrement g, refl)
+means-decrement xs r g = (leaf (decrement r), s-leaf (s-decrement g), refl)
 
 with-end : (x : List Item) (i : Item) (p q c : List Item) → p ++ q ≡ c → x ++ (i ∷ (p ++ (q ++ (i-end ∷ [])))) ≡ x ++ i ∷ c ++ i-end ∷ []
 with-end x i p q c h = simp (← h, append-assoc)
@@ -81,61 +81,61 @@ target-end : (c b q x : List Item) (i : Item) → q ≡ x → c ++ (b ++ (q ++ (
 target-end c b q x i h = rw (h, append-assoc c, append-assoc b)
 
 send-of : (xs ts us : List Token) (r : Ref) (p q c : List Item) → A-reference xs r → p ≡ c → (l : List Expr) × Message An-expression (ts ++ us) l × (c ++ q ≡ each code-argument l) →
-    (a : Tree action) × D action (xs ++ ('! ∷ (ts ++ (us ++ [])))) a × (code-exp r ++ (i-send ∷ (p ++ (q ++ (i-end ∷ [])))) ≡ code-tree a)
-send-of xs ts us r p q c g h (l, z, i) = (send r l, rw append-nil (s-send g z), with-end (code-exp r) i-send p q (each code-argument l) (ap (_++ q) h ∙ i))
+    (a : Tree action) × D action (xs ++ ('! ∷ (ts ++ (us ++ [])))) a × (code-exp r ++ (i-send k-bang ∷ (p ++ (q ++ (i-end ∷ [])))) ≡ code-tree a)
+send-of xs ts us r p q c g h (l, z, i) = (leaf (send k-bang r l), rw append-nil (s-leaf (s-send is-bang g z)), with-end (code-exp r) (i-send k-bang) p q (each code-argument l) (ap (_++ q) h ∙ i))
 
 receive-of : (xs ts us : List Token) (r : Ref) (p q c : List Item) → A-reference xs r → p ≡ c → (l : List Received) × Message A-received (ts ++ us) l × (c ++ q ≡ each code-received l) →
-    (a : Tree action) × D action (xs ++ ('? ∷ (ts ++ (us ++ [])))) a × (code-exp r ++ (i-receive ∷ (p ++ (q ++ (i-end ∷ [])))) ≡ code-tree a)
-receive-of xs ts us r p q c g h (l, z, i) = (receive r l, rw append-nil (s-receive g z), with-end (code-exp r) i-receive p q (each code-received l) (ap (_++ q) h ∙ i))
+    (a : Tree action) × D action (xs ++ ('? ∷ (ts ++ (us ++ [])))) a × (code-exp r ++ (i-receive k-ask ∷ (p ++ (q ++ (i-end ∷ [])))) ≡ code-tree a)
+receive-of xs ts us r p q c g h (l, z, i) = (leaf (receive k-ask r l), rw append-nil (s-leaf (s-receive is-ask g z)), with-end (code-exp r) (i-receive k-ask) p q (each code-received l) (ap (_++ q) h ∙ i))
 
-pub means-send : Means n-after-ref (key '! ∷ act i-send ∷ nt n-argument ∷ nt n-sent ∷ act i-end ∷ [])
+pub means-send : Means n-after-ref (key '! ∷ act (i-send k-bang) ∷ nt n-argument ∷ nt n-sent ∷ act i-end ∷ [])
 means-send ts p (e, x, h) us q y xs r g =
     send-of xs ts us r p q (code-argument e) g h (y ts e x)
 
-pub means-receive : Means n-after-ref (key '? ∷ act i-receive ∷ nt n-received ∷ nt n-got ∷ act i-end ∷ [])
+pub means-receive : Means n-after-ref (key '? ∷ act (i-receive k-ask) ∷ nt n-received ∷ nt n-got ∷ act i-end ∷ [])
 means-receive ts p (e, x, h) us q y xs r g =
     receive-of xs ts us r p q (code-received e) g h (y ts e x)
 
 pub means-express : Means n-after-ref (tails (act i-express ∷ []))
-means-express u10 p10 f10 u9 p9 f9 u8 p8 f8 u7 p7 f7 u6 p6 f6 u5 p5 f5 u4 p4 f4 u3 p3 f3 u2 p2 f2 u1 p1 f1 xs r g = let (e, y, i) = ten xs (get r) (e-up g) u10 p10 f10 u9 p9 f9 u8 p8 f8 u7 p7 f7 u6 p6 f6 u5 p5 f5 u4 p4 f4 u3 p3 f3 u2 p2 f2 u1 p1 f1 in (express e, s-express y, i)
+means-express u10 p10 f10 u9 p9 f9 u8 p8 f8 u7 p7 f7 u6 p6 f6 u5 p5 f5 u4 p4 f4 u3 p3 f3 u2 p2 f2 u1 p1 f1 xs r g = let (e, y, i) = ten xs (get r) (e-up g) u10 p10 f10 u9 p9 f9 u8 p8 f8 u7 p7 f7 u6 p6 f6 u5 p5 f5 u4 p4 f4 u3 p3 f3 u2 p2 f2 u1 p1 f1 in (leaf (express e), s-leaf (s-express y), i)
 
 pub means-assign : Means n-right-side (nt e1 ∷ act i-assign ∷ [])
-means-assign us q (e, x, h) xs r g = (assign r e, rw append-nil (s-assign g x), target-end (code-exp r) (i-target ∷ []) q (code-exp e) i-assign h)
+means-assign us q (e, x, h) xs r g = (leaf (assign r e), rw append-nil (s-leaf (s-assign g x)), target-end (code-exp r) (i-target ∷ []) q (code-exp e) i-assign h)
 
 pub means-set-run : Means n-right-side (key 'run ∷ tm any-name ∷ act i-set-run ∷ key 'lpar ∷ nt n-arguments ∷ key 'rpar ∷ act i-end ∷ [])
 means-set-run v us q (l, x, h) xs r g =
-    (set-run r v l, rw append-assoc at (s-set-run {w = v} g x), target-end (code-exp r) (i-target ∷ i-name v ∷ i-set-run ∷ []) q (each code-argument l) i-end h)
+    (leaf (set-run r v l), rw append-assoc at (s-leaf (s-set-run {w = v} g x)), target-end (code-exp r) (i-target ∷ i-name v ∷ i-set-run ∷ []) q (each code-argument l) i-end h)
 
 pub means-other-express : Means n-other (nt n-opened ∷ tails (act i-express ∷ []))
-means-other-express xs p (a, x, h) u10 p10 f10 u9 p9 f9 u8 p8 f8 u7 p7 f7 u6 p6 f6 u5 p5 f5 u4 p4 f4 u3 p3 f3 u2 p2 f2 u1 p1 f1 = let (e, y, i) = ten xs a x u10 p10 f10 u9 p9 f9 u8 p8 f8 u7 p7 f7 u6 p6 f6 u5 p5 f5 u4 p4 f4 u3 p3 f3 u2 p2 f2 u1 p1 f1 in (express e, s-express y, rw h i)
+means-other-express xs p (a, x, h) u10 p10 f10 u9 p9 f9 u8 p8 f8 u7 p7 f7 u6 p6 f6 u5 p5 f5 u4 p4 f4 u3 p3 f3 u2 p2 f2 u1 p1 f1 = let (e, y, i) = ten xs a x u10 p10 f10 u9 p9 f9 u8 p8 f8 u7 p7 f7 u6 p6 f6 u5 p5 f5 u4 p4 f4 u3 p3 f3 u2 p2 f2 u1 p1 f1 in (leaf (express e), s-leaf (s-express y), rw h i)
 
 pub means-assert : Means n-other (key 'assert ∷ key 'lpar ∷ nt e1 ∷ key 'rpar ∷ act i-assert ∷ [])
-means-assert ts p (e, x, h) = (assert e, s-assert x, rw h)
+means-assert ts p (e, x, h) = (leaf (assert e), s-leaf (s-assert x), rw h)
 
-print-of : {v : List ℕ} {ts : List Token} {l : List Expr} → Further 'comma An-expression ts l → D action ('printf ∷ 'lpar ∷ text v ∷ ts ++ 'rpar ∷ []) (print v l)
-print-of no-further = s-print-alone
-print-of (further y) = s-print y
+print-of : {v : List ℕ} {ts : List Token} {l : List Expr} → Further 'comma An-expression ts l → D action ('printf ∷ 'lpar ∷ text v ∷ ts ++ 'rpar ∷ []) (leaf (print v l))
+print-of no-further = (s-leaf s-print-alone)
+print-of (further y) = s-leaf (s-print y)
 
 pub means-print : Means n-other (key 'printf ∷ key 'lpar ∷ tm any-text ∷ nt n-more-arguments ∷ key 'rpar ∷ act i-end ∷ [])
-means-print v ts p (l, x, h) = (print v l, print-of x, rw h)
+means-print v ts p (l, x, h) = (leaf (print v l), print-of x, rw h)
 
 pub means-skip : Means n-other (key 'skip ∷ act i-skip ∷ [])
-means-skip = (skip, s-skip, refl)
+means-skip = ((leaf skip), (s-leaf s-skip), refl)
 
 pub means-goto : Means n-other (key 'goto ∷ tm any-name ∷ act i-goto ∷ [])
-means-goto v = (goto v, s-goto, refl)
+means-goto v = (leaf (goto v), (s-leaf s-goto), refl)
 
 pub means-break : Means n-other (key 'break ∷ act i-break ∷ [])
-means-break = (break, s-break, refl)
+means-break = ((leaf break), (s-leaf s-break), refl)
 
 pub means-timeout : Means n-other (key 'timeout ∷ act i-timeout ∷ [])
-means-timeout = (timeout, s-timeout, refl)
+means-timeout = ((leaf timeout), (s-leaf s-timeout), refl)
 
 pub means-else : Means n-other (key 'else ∷ act i-else ∷ [])
-means-else = (else, s-else, refl)
+means-else = ((leaf else), (s-leaf s-else), refl)
 
 pub means-run : Means n-other (key 'run ∷ tm any-name ∷ act i-run ∷ key 'lpar ∷ nt n-arguments ∷ key 'rpar ∷ act i-end ∷ [])
-means-run v ts p (l, x, h) = (run v l, s-run x, rw h)
+means-run v ts p (l, x, h) = (leaf (run v l), s-leaf (s-run x), rw h)
 
 options-of : {ts us : List Token} {q : Tree sequence} {os : Tree options} → An-option ts q → More-options us os → D options (ts ++ us) (option q os)
 options-of (an-option x) no-options = rw append-nil (o-last x)

@@ -1,4 +1,4 @@
--- Mechanism, held to the specification by `parse-sound`, `parse-complete` (crate `parse_proof`).
+-- Mechanism that stands for the specification: `Legal` (crate `legal_items`) and specs/Refusals.antt cite `too-deep` as what document 01 says of depth; `judge` is held by `judge-two`, `judge-three` (crate `parse_proof`).
 -- How deep brackets and selections may nest, and the answer of the grammar's whole pass. Document 01, "Ceilings": "open brackets 32; open if/do 8"; refusals 2 and 3 are
 -- judged in one pass: "Within a pass the smallest place wins, then the smallest number." One count runs over `(`, `[` and `{`, another over `if` and `do`.
 use mathlib.Core.Bool.{Bool, cond}

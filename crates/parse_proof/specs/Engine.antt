@@ -1,4 +1,4 @@
--- Mechanism, held to the specification by `parse-sound`, `parse-complete` (crate `parse_proof`).
+-- Mechanism, held to the specification by `parse-sound`, `parse-complete` (crate `parse_proof`), but for `In` and `L`, of proofs alone.
 -- A grammar as data, with outputs; what it derives; and a predictive machine over it, with one token of lookahead.
 -- Document 01, "first token that can continue no text of the grammar", is answered by this machine for any grammar that passes the tests of proofs/Core.antt.
 use mathlib.Core.Path.{_≡_}

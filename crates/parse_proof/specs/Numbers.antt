@@ -1,4 +1,4 @@
--- Mechanism, held to the specification by `parse-sound`, `parse-complete` (crate `parse_proof`).
+-- Mechanism, of proofs alone: so that what is tested of every number holds of every nonterminal (proofs/Numbered.antt).
 -- The nonterminals by number, for tables.
 use mathlib.Core.List.{List, [], _∷_}
 use Prim.Native.Nat.{ℕ}

@@ -7,8 +7,8 @@ use mathlib.Core.List.{List, [], _∷_, _++_, map}
 use Prim.Native.Nat.{ℕ}
 use lib.Dec.{eqb}
 use Rattle.base_kinds.specs.Kinds.{Token, sym, name, number, text, kindOf, level}
-use Rattle.spec_grammar.specs.Marks.{'!, '++, '-, '--, '->, ':, '::, '=, '?, '[, '], 'active, 'assert, 'break, 'chan, 'comma, 'do, 'else, 'eval, 'false, 'fi, 'goto, 'if, 'init, 'lbrace, 'len, 'lpar, 'mtype, 'od, 'of, 'printf, 'proctype, 'rbrace, 'rpar, 'run, 'semi, 'skip, 'timeout, 'true, '~}
-use Rattle.base_codes.specs.Items.{Item, i-active, i-active-many, i-argument, i-assert, i-assign, i-binary, i-body, i-break, i-channel, i-choice, i-constant, i-declared, i-decrement, i-do, i-else, i-end, i-end-body, i-end-option, i-equal, i-express, i-false, i-fi, i-field, i-global, i-goto, i-group, i-if, i-increment, i-index, i-init, i-into, i-label, i-len, i-local, i-message, i-minus, i-mtypes, i-name, i-named, i-number, i-od, i-option, i-otherwise, i-parameter, i-plain, i-proctype, i-receive, i-run, i-send, i-set-run, i-size, i-skip, i-target, i-text, i-timeout, i-true, i-type, i-unary, i-value}
+use Rattle.spec_grammar.specs.Marks.{'!, '++, '-, '->, ':, '::, '=, '?, '[, '], 'active, 'assert, 'break, 'chan, 'comma, 'do, 'else, 'eval, 'false, 'fi, 'goto, 'if, 'init, 'lbrace, 'len, 'lpar, 'mtype, 'od, 'of, 'printf, 'proctype, 'rbrace, 'rpar, 'run, 'semi, 'skip, 'timeout, 'true, '~, k-len, k-bang, k-ask, '--}
+use Rattle.base_codes.specs.Items.{Item, i-active, i-active-many, i-argument, i-assert, i-assign, i-binary, i-body, i-break, i-channel, i-choice, i-constant, i-declared, i-do, i-else, i-end, i-end-body, i-end-option, i-equal, i-express, i-false, i-fi, i-field, i-global, i-goto, i-group, i-if, i-increment, i-index, i-init, i-into, i-label, i-query, i-local, i-message, i-minus, i-mtypes, i-name, i-named, i-number, i-od, i-option, i-otherwise, i-parameter, i-plain, i-proctype, i-receive, i-run, i-send, i-set-run, i-size, i-skip, i-target, i-text, i-timeout, i-true, i-type, i-unary, i-value, i-decrement}
 use Rattle.parse_proof.specs.Engine.{Sym, nt, tm, act, Grammar}
 
 pub data NT : Type 0 where
@@ -105,7 +105,7 @@ prods n-opened =
     (tm any-number ∷ []) ∷
     (key 'true ∷ act i-true ∷ []) ∷
     (key 'false ∷ act i-false ∷ []) ∷
-    (key 'len ∷ key 'lpar ∷ nt n-ref ∷ key 'rpar ∷ act i-len ∷ []) ∷
+    (key 'len ∷ key 'lpar ∷ nt n-ref ∷ key 'rpar ∷ act (i-query k-len) ∷ []) ∷
     (key 'lpar ∷ nt e1 ∷ nt n-closing ∷ []) ∷
     (key '- ∷ nt n-operand ∷ act (i-unary 15) ∷ []) ∷
     (key '! ∷ nt n-operand ∷ act (i-unary 19) ∷ []) ∷
@@ -130,8 +130,8 @@ prods n-after-ref =
     (key '= ∷ act i-target ∷ nt n-right-side ∷ []) ∷
     (key '++ ∷ act i-increment ∷ []) ∷
     (key '-- ∷ act i-decrement ∷ []) ∷
-    (key '! ∷ act i-send ∷ nt n-argument ∷ nt n-sent ∷ act i-end ∷ []) ∷
-    (key '? ∷ act i-receive ∷ nt n-received ∷ nt n-got ∷ act i-end ∷ []) ∷
+    (key '! ∷ act (i-send k-bang) ∷ nt n-argument ∷ nt n-sent ∷ act i-end ∷ []) ∷
+    (key '? ∷ act (i-receive k-ask) ∷ nt n-received ∷ nt n-got ∷ act i-end ∷ []) ∷
     (tails (act i-express ∷ [])) ∷ []
 prods n-right-side = (nt e1 ∷ act i-assign ∷ []) ∷ (key 'run ∷ tm any-name ∷ act i-set-run ∷ key 'lpar ∷ nt n-arguments ∷ key 'rpar ∷ act i-end ∷ []) ∷ []
 prods n-other =

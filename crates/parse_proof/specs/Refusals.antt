@@ -1,4 +1,4 @@
--- Mechanism, held to the specification by `parse-sound`, `parse-complete` (crate `parse_proof`).
+-- Bridge, for `answer-row`, `row-answer` (crate `read_refusals_proof`): what the grammar's refusals mean, over `Gram` and `StrayAt` (crate `spec_grammar`) and `too-deep`.
 -- Document 01, rows 2 and 3 of "What is answered", as far as the grammar goes: "bracket, if/do .. ceiling passed" and "first token that can continue no text of the grammar".
 use mathlib.Core.Path.{_≡_}
 use mathlib.Core.Option.{some}

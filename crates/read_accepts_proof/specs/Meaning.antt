@@ -1,4 +1,4 @@
--- Mechanism, held to the specification by `read-legal`, `legal-read` (crate `legal_texts`).
+-- Bridge: what `accepted-means`, `means-accepted` (crate `read_accepts_proof`) hold `judgeOf` to, over trees and their items; over trees alone it is `Legal`, by `read-legal`, `legal-read` (crate `legal_texts`).
 -- What it means that a text is accepted: document 01, "What is answered", all rows that refuse a text turned round.
 use mathlib.Core.Path.{_≡_}
 use mathlib.Core.Option.{none}

@@ -1,4 +1,4 @@
--- Mechanism, held to the specification by `read-legal`, `legal-read` (crate `legal_texts`).
+-- Mechanism, held to the specification by `read-legal`, `legal-read` (crate `legal_texts`), the tables by `tree-tables`, `tables-tree` (crate `read_accepts_proof`), `laid` by `text-laid` (same crate); `left` by no theorem.
 -- All passes of the reader in their order, and the place of each refusal: document 01, "What is answered, and what stays behind":
 -- "then length, then bytes and tokens (1, 2), then grammar with bracket and if/do depth (2, 3), then names and rules (2, 4, 5), then 6".
 use mathlib.Core.Bool.{Bool, true, false}

@@ -1,4 +1,4 @@
--- Mechanism, held to the specification by `answer-row`, `row-answer` (crate `read_refusals_proof`).
+-- Bridge: what `answer-row`, `row-answer` (crate `read_refusals_proof`) hold `readOf` to: bytes by `reading` itself, the grammar over trees, names, rules and ceilings over items.
 -- The rows of document 01's table "What is answered, and what stays behind" that a reader can give, each with what it stands for, its place, and the passes that came before it:
 -- "7 first .., then length, then bytes and tokens (1, 2), then grammar with bracket and if/do depth (2, 3), then names and rules (2, 4, 5), then 6".
 use mathlib.Core.Path.{_≡_}

@@ -1,4 +1,4 @@
--- Mechanism, held to the specification by `rules` (crate `legal_texts`).
+-- Mechanism, held to the specification by `passed-modest` (crate `legal_items`).
 -- The ceilings that are judged last: document 01, "Ceilings" and row 6, "any other ceiling passed, or no process starts".
 -- `cs` are the items, `vs` what their tokens say, `hs` the bodies that they are in.
 use Prim.Native.Nat.{ℕ, _+_, _-_}

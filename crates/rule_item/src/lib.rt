@@ -15,6 +15,7 @@ use rule_search::opener;
 use rule_sheets::byte_on;
 use rule_sheets::choose;
 ghost use Rattle.base_codes.specs.Sets as sets;
+ghost use Rattle.rule_search.specs.Chain.{Chained};
 ghost use Rattle.rule_item.specs.Rules as rules;
 
 // How far a field stands behind its channel, two items for each, where it is one too many.
@@ -77,18 +78,19 @@ fn bad_use(
     codes: &[u8],
     args: &[u32],
     homes: &[u32],
+    chain: &[u32],
     m: usize,
     h: usize,
     role: u8,
     indexed: bool,
 ) -> u8
-    ensures { λ r. ⌜ r ≡ rules.badUse (now (codes .entry)) (now (args .entry)) (now (homes .entry)) m h role indexed ⌝ }
+    ensures { λ r. ⌜ (Chained (now (codes .entry)) (now (args .entry)) (now (chain .entry)) → r ≡ rules.badUse (now (codes .entry)) (now (args .entry)) (now (homes .entry)) m h role indexed) ⌝ }
 {
     let w = word_at(args, m);
     if w == 0 {
         return bad_plain(role == 0, indexed);
     }
-    let d = lookup(codes, args, homes, w, h, m);
+    let d = lookup(codes, args, homes, chain, w, h, m);
     let c = base_bytes::byte_at(codes, d);
     if c == base_codes::MESSAGE {
         return bad_plain(either(role == 0, role == 3), indexed);
@@ -99,13 +101,14 @@ fn bad_use(
     4
 }
 
-fn bad_ref(codes: &[u8], args: &[u32], homes: &[u32], starts: &[u32], j: usize) -> u8
-    ensures { λ r. ⌜ r ≡ rules.badRef (now (codes .entry)) (now (args .entry)) (now (homes .entry)) (now (starts .entry)) j ⌝ }
+fn bad_ref(codes: &[u8], args: &[u32], homes: &[u32], chain: &[u32], starts: &[u32], j: usize) -> u8
+    ensures { λ r. ⌜ (Chained (now (codes .entry)) (now (args .entry)) (now (chain .entry)) → r ≡ rules.badRef (now (codes .entry)) (now (args .entry)) (now (homes .entry)) (now (starts .entry)) j) ⌝ }
 {
     bad_use(
         codes,
         args,
         homes,
+        chain,
         word_at(starts, j),
         word_at(homes, j),
         role_of(byte_on(codes, j, 1)),
@@ -113,55 +116,73 @@ fn bad_ref(codes: &[u8], args: &[u32], homes: &[u32], starts: &[u32], j: usize) 
     )
 }
 
-fn bad_twice(codes: &[u8], args: &[u32], homes: &[u32], set: u8, j: usize) -> u8
-    ensures { λ r. ⌜ r ≡ rules.badTwice (now (codes .entry)) (now (args .entry)) (now (homes .entry)) set j ⌝ }
+fn bad_twice(codes: &[u8], args: &[u32], homes: &[u32], chain: &[u32], set: u8, j: usize) -> u8
+    ensures { λ r. ⌜ (Chained (now (codes .entry)) (now (args .entry)) (now (chain .entry)) → set < 3 → r ≡ rules.badTwice (now (codes .entry)) (now (args .entry)) (now (homes .entry)) set j) ⌝ }
 {
     let w = word_at(args, minus(j, 1));
-    let d = find(codes, args, homes, set, w, word_at(homes, j), j);
+    let d = find(codes, args, homes, chain, set, w, word_at(homes, j), j);
     choose(either(w == 0, d < j), 4, 0)
 }
 
-fn bad_named(codes: &[u8], args: &[u32], homes: &[u32], j: usize) -> u8
-    ensures { λ r. ⌜ r ≡ rules.badNamed (now (codes .entry)) (now (args .entry)) (now (homes .entry)) j ⌝ }
+fn bad_named(codes: &[u8], args: &[u32], homes: &[u32], chain: &[u32], j: usize) -> u8
+    ensures { λ r. ⌜ (Chained (now (codes .entry)) (now (args .entry)) (now (chain .entry)) → r ≡ rules.badNamed (now (codes .entry)) (now (args .entry)) (now (homes .entry)) j) ⌝ }
 {
     let m = minus(j, 1);
-    let d = lookup(codes, args, homes, word_at(args, m), word_at(homes, j), m);
+    let d = lookup(
+        codes,
+        args,
+        homes,
+        chain,
+        word_at(args, m),
+        word_at(homes, j),
+        m,
+    );
     choose(base_bytes::byte_at(codes, d) == base_codes::MESSAGE, 0, 4)
 }
 
-fn bad_goto(codes: &[u8], args: &[u32], homes: &[u32], j: usize) -> u8
-    ensures { λ r. ⌜ r ≡ rules.badGoto (now (codes .entry)) (now (args .entry)) (now (homes .entry)) j ⌝ }
+fn bad_goto(codes: &[u8], args: &[u32], homes: &[u32], chain: &[u32], j: usize) -> u8
+    ensures { λ r. ⌜ (Chained (now (codes .entry)) (now (args .entry)) (now (chain .entry)) → r ≡ rules.badGoto (now (codes .entry)) (now (args .entry)) (now (homes .entry)) j) ⌝ }
 {
     let w = word_at(args, minus(j, 1));
     let n = codes.len();
     choose(
-        find(codes, args, homes, 2, w, word_at(homes, j), n) < n,
+        find(codes, args, homes, chain, 2, w, word_at(homes, j), n) < n,
         0,
         4,
     )
 }
 
 // The first global declaration of the name of item m, in the whole text.
-pub fn global(codes: &[u8], args: &[u32], homes: &[u32], m: usize) -> usize
-    ensures { λ r. ⌜ r ≡ rules.globalOf (now (codes .entry)) (now (args .entry)) (now (homes .entry)) m ⌝ }
+pub fn global(codes: &[u8], args: &[u32], homes: &[u32], chain: &[u32], m: usize) -> usize
+    ensures { λ r. ⌜ (Chained (now (codes .entry)) (now (args .entry)) (now (chain .entry)) → r ≡ rules.globalOf (now (codes .entry)) (now (args .entry)) (now (homes .entry)) m) ⌝ }
 {
-    find(codes, args, homes, 1, word_at(args, m), 0, codes.len())
+    find(
+        codes,
+        args,
+        homes,
+        chain,
+        1,
+        word_at(args, m),
+        0,
+        codes.len(),
+    )
 }
 
-fn bad_run(codes: &[u8], args: &[u32], homes: &[u32], j: usize) -> u8
-    ensures { λ r. ⌜ r ≡ rules.badRun (now (codes .entry)) (now (args .entry)) (now (homes .entry)) j ⌝ }
+fn bad_run(codes: &[u8], args: &[u32], homes: &[u32], chain: &[u32], j: usize) -> u8
+    ensures { λ r. ⌜ (Chained (now (codes .entry)) (now (args .entry)) (now (chain .entry)) → r ≡ rules.badRun (now (codes .entry)) (now (args .entry)) (now (homes .entry)) j) ⌝ }
 {
     let m = minus(j, 1);
     let l = find(
         codes,
         args,
         homes,
+        chain,
         1,
         word_at(args, m),
         word_at(homes, j),
         m,
     );
-    let g = global(codes, args, homes, m);
+    let g = global(codes, args, homes, chain, m);
     choose(
         l < m,
         4,
@@ -176,34 +197,38 @@ fn body_of(codes: &[u8], g: usize) -> usize
     if g < codes.len() { g + 1 } else { 0 }
 }
 
-fn bad_passing(codes: &[u8], args: &[u32], homes: &[u32], o: usize, k: usize) -> u8
-    ensures { λ r. ⌜ r ≡ rules.badPassing (now (codes .entry)) (now (args .entry)) (now (homes .entry)) o k ⌝ }
+fn bad_passing(codes: &[u8], args: &[u32], homes: &[u32], chain: &[u32], o: usize, k: usize) -> u8
+    ensures { λ r. ⌜ (Chained (now (codes .entry)) (now (args .entry)) (now (chain .entry)) → r ≡ rules.badPassing (now (codes .entry)) (now (args .entry)) (now (homes .entry)) o k) ⌝ }
 {
-    let g = global(codes, args, homes, minus(o, 1));
+    let g = global(codes, args, homes, chain, minus(o, 1));
     let p = count(codes, homes, 6, body_of(codes, g), 0, codes.len());
-    choose(bad_run(codes, args, homes, o) == 0, choose(k == p, 0, 5), 0)
+    choose(
+        bad_run(codes, args, homes, chain, o) == 0,
+        choose(k == p, 0, 5),
+        0,
+    )
 }
 
 // k arguments for what item o began.
-fn bad_count(codes: &[u8], args: &[u32], homes: &[u32], o: usize, k: usize) -> u8
-    ensures { λ r. ⌜ r ≡ rules.badCount (now (codes .entry)) (now (args .entry)) (now (homes .entry)) o k ⌝ }
+fn bad_count(codes: &[u8], args: &[u32], homes: &[u32], chain: &[u32], o: usize, k: usize) -> u8
+    ensures { λ r. ⌜ (Chained (now (codes .entry)) (now (args .entry)) (now (chain .entry)) → r ≡ rules.badCount (now (codes .entry)) (now (args .entry)) (now (homes .entry)) o k) ⌝ }
 {
     match base_bytes::byte_at(codes, o) {
         base_codes::TEXT => choose(k == word_at(args, o) / 2, 0, 5),
         base_codes::SEND => choose(base_ceilings::FIELDS_MOST < k, 5, 0),
         base_codes::RECEIVE => choose(base_ceilings::FIELDS_MOST < k, 5, 0),
-        base_codes::RUN => bad_passing(codes, args, homes, o, k),
-        base_codes::SET_RUN => bad_passing(codes, args, homes, o, k),
+        base_codes::RUN => bad_passing(codes, args, homes, chain, o, k),
+        base_codes::SET_RUN => bad_passing(codes, args, homes, chain, o, k),
         _ => 0,
     }
 }
 
-fn bad_end(codes: &[u8], args: &[u32], homes: &[u32], j: usize) -> u8
-    ensures { λ r. ⌜ r ≡ rules.badEnd (now (codes .entry)) (now (args .entry)) (now (homes .entry)) j ⌝ }
+fn bad_end(codes: &[u8], args: &[u32], homes: &[u32], chain: &[u32], j: usize) -> u8
+    ensures { λ r. ⌜ (Chained (now (codes .entry)) (now (args .entry)) (now (chain .entry)) → r ≡ rules.badEnd (now (codes .entry)) (now (args .entry)) (now (homes .entry)) j) ⌝ }
 {
     let o = opener(codes, j);
     let k = count(codes, homes, 5, word_at(homes, j), o, j);
-    bad_count(codes, args, homes, o, k)
+    bad_count(codes, args, homes, chain, o, k)
 }
 
 fn bad_break(codes: &[u8], homes: &[u32], j: usize) -> u8
@@ -342,12 +367,13 @@ pub fn bad_by(
     codes: &[u8],
     args: &[u32],
     homes: &[u32],
+    chain: &[u32],
     starts: &[u32],
     heights: &[u32],
     rule: u8,
     j: usize,
 ) -> u8
-    ensures { λ r. ⌜ r ≡ rules.badBy (now (codes .entry)) (now (args .entry)) (now (homes .entry)) (now (starts .entry)) (now (heights .entry)) rule j ⌝ }
+    ensures { λ r. ⌜ (Chained (now (codes .entry)) (now (args .entry)) (now (chain .entry)) → r ≡ rules.badBy (now (codes .entry)) (now (args .entry)) (now (homes .entry)) (now (starts .entry)) (now (heights .entry)) rule j) ⌝ }
 {
     match rule {
         1 => bad_format(args, j),
@@ -356,16 +382,16 @@ pub fn bad_by(
         4 => bad_else(codes, j),
         5 => bad_second(codes, homes, 9, j),
         6 => bad_second(codes, homes, 10, j),
-        7 => bad_twice(codes, args, homes, 2, j),
-        8 => bad_twice(codes, args, homes, 1, j),
-        9 => bad_goto(codes, args, homes, j),
-        10 => bad_run(codes, args, homes, j),
+        7 => bad_twice(codes, args, homes, chain, 2, j),
+        8 => bad_twice(codes, args, homes, chain, 1, j),
+        9 => bad_goto(codes, args, homes, chain, j),
+        10 => bad_run(codes, args, homes, chain, j),
         11 => bad_size(args, base_ceilings::ARRAY_MOST, j),
-        12 => bad_named(codes, args, homes, j),
+        12 => bad_named(codes, args, homes, chain, j),
         13 => bad_size(args, base_ceilings::CAPACITY_MOST, j),
         14 => bad_field(codes, j),
-        15 => bad_ref(codes, args, homes, starts, j),
-        16 => bad_end(codes, args, homes, j),
+        15 => bad_ref(codes, args, homes, chain, starts, j),
+        16 => bad_end(codes, args, homes, chain, j),
         17 => bad_height(heights, j),
         _ => 0,
     }

@@ -1,4 +1,4 @@
--- Mechanism, held to the specification by `rules` (crate `legal_texts`).
+-- Mechanism, of proofs alone: in what sense `checked` gives the least fault (proofs/Theorems.antt).
 -- What a least fault is: the faults of a model's items, and which of two is sooner: by place, then by number.
 use Prim.Native.Nat.{ℕ, zero, suc, _+_, _≤_, _<_}
 use mathlib.Core.Path.{_≡_}

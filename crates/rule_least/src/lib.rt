@@ -1,6 +1,7 @@
 // The least fault of a model whose grammar is right, by place and then by number (document 01, "Within a pass the smallest place wins, then the smallest number").
 ghost use mathlib.Core.Path.{_≡_};
 ghost use Prim.Native.Nat.{_+_, _-_, _<_};
+ghost use Rattle.rule_search.specs.Chain.{Chained};
 ghost use Rattle.rule_least.specs.Faults as faults;
 use base_bytes::minus;
 use base_bytes::word_at;
@@ -58,16 +59,18 @@ fn joined(
     codes: &[u8],
     args: &[u32],
     homes: &[u32],
+    chain: &[u32],
     starts: &[u32],
     heights: &[u32],
     toks: &[u32],
     j: usize,
     f: Fault,
 ) -> Fault
+    requires { ⌜ Chained (now codes) (now args) (now chain) ⌝ }
     ensures { λ r. ⌜ r ≡ faults.joined (now (codes .entry)) (now (args .entry)) (now (homes .entry)) (now (starts .entry)) (now (heights .entry)) (now (toks .entry)) j f ⌝ }
 {
     let rule = rule_item::rule_of(base_bytes::byte_at(codes, j));
-    let m = rule_item::bad_by(codes, args, homes, starts, heights, rule, j);
+    let m = rule_item::bad_by(codes, args, homes, chain, starts, heights, rule, j);
     if m == 0 {
         return f;
     }
@@ -79,17 +82,19 @@ fn least_fault(
     codes: &[u8],
     args: &[u32],
     homes: &[u32],
+    chain: &[u32],
     starts: &[u32],
     heights: &[u32],
     toks: &[u32],
 ) -> Fault
+    requires { ⌜ Chained (now codes) (now args) (now chain) ⌝ }
     ensures { λ r. ⌜ r ≡ faults.leastOf (now (codes .entry)) (now (args .entry)) (now (homes .entry)) (now (starts .entry)) (now (heights .entry)) (now (toks .entry)) ⌝ }
 {
     let mut best = Fault::None;
     let mut j = codes.len();
     while 0 < j {
         j -= 1;
-        best = joined(codes, args, homes, starts, heights, toks, j, best);
+        best = joined(codes, args, homes, chain, starts, heights, toks, j, best);
     }
     best
 }
@@ -101,8 +106,10 @@ pub fn check(codes: &[u8], args: &[u32], toks: &[u32]) -> Fault
     let mut homes = [0u32; base_ceilings::ITEMS_MOST];
     let mut starts = [0u32; base_ceilings::ITEMS_MOST];
     let mut heights = [0u32; base_ceilings::ITEMS_MOST];
+    let mut chain = [0u32; rule_search::CHAIN_ROOM];
     rule_sheets::fill_homes(codes, &mut homes);
     rule_sheets::fill_starts(codes, &mut starts);
     rule_sheets::fill_heights(codes, &starts, &mut heights);
-    least_fault(codes, args, &homes, &starts, &heights, toks)
+    rule_search::fill_chain(codes, args, &mut chain);
+    least_fault(codes, args, &homes, &chain, &starts, &heights, toks)
 }

@@ -1,3 +1,3 @@
 pub mod Sets
 pub mod Search
-pub mod Blocks
+pub mod Chain

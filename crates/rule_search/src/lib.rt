@@ -1,9 +1,11 @@
 // Searches over the items of a model: sets of items, declarations by name and body, counts.
+// Declarations are found along a chain, which a caller has filled (`fill_chain`) and lends: what a search finds is said for a chain that passes no declaration over.
 ghost use mathlib.Core.Path.{_≡_};
-ghost use Prim.Native.Nat.{ℕ, _+_, _-_, _≤_, _<_};
-ghost use lib.ListN.{getD};
-ghost use Rattle.rule_sheets.specs.Walks.{first};
-ghost use Rattle.rule_search.specs.Blocks.{Clear};
+ghost use Prim.Native.Nat.{_≤_, _<_};
+ghost use lib.ListN.{set};
+ghost use Rattle.base_ceilings.specs.Ceilings.{itemsMost};
+ghost use Rattle.rule_sheets.specs.Walks.{filled};
+ghost use Rattle.rule_search.specs.Chain.{isNamed, Chained, linked, chainOf, headOf, nextOf};
 use base_bytes::both;
 use base_bytes::either;
 use base_bytes::minus;
@@ -14,8 +16,8 @@ use base_codes::within;
 ghost use Rattle.rule_search.specs.Sets as sets;
 ghost use Rattle.rule_search.specs.Search as finding;
 
-// How many items are looked at together.
-const BLOCK: usize = 64;
+// The numbers of a chain: one for each name and one for each item.
+pub const CHAIN_ROOM: usize = 2 * base_ceilings::ITEMS_MOST;
 
 // Does an item belong to a set?
 pub fn among(set: u8, c: u8) -> bool
@@ -70,104 +72,133 @@ fn declares(
     }
 }
 
-// The greater of two.
-fn greater(a: u8, b: u8) -> u8
-    ensures { λ r. ⌜ (a ≤ r) × (b ≤ r) ⌝ }
+// Does an item declare a name or a label?
+fn is_named(c: u8) -> bool
+    ensures { λ r. ⌜ r ≡ isNamed c ⌝ }
 {
-    if a <= b { b } else { a }
+    either(among(1, c), among(2, c))
 }
 
-// A number that none of the items is above.
-fn highest(codes: &[u8]) -> u8
-    ensures { λ r. ⌜ ((i : ℕ) → getD (now (codes .entry)) i 0 ≤ r) ⌝ }
+// A number stored at a place, if the place is there.
+fn put(s: &mut [u32], i: usize, v: usize)
+    requires { ⌜ v < 4294967296 ⌝ }
+    ensures { λ _. ⌜ now (s .exit) ≡ set (now (s .entry)) i v ⌝ }
 {
-    let mut top: u8 = 0;
-    let mut k: usize = 0;
-    while k < codes.len() {
-        top = greater(top, codes[k]);
-        k += 1;
+    if i < s.len() {
+        s[i] = v as u32;
     }
-    top
 }
 
-// Is it plain at a glance that no item from a place to a place is of the set? Asked for declarations alone, whose numbers are the highest.
-fn is_clear(codes: &[u8], set: u8, from: usize, to: usize) -> bool
-    ensures { λ r. ⌜ Clear (now (codes .entry)) set from to r ⌝ }
+// No name has a declaration below n.
+fn clear(n: usize, chain: &mut [u32])
+    requires { ⌜ n ≤ itemsMost ⌝ }
+    ensures { λ _. ⌜ now (chain .exit) ≡ filled (λ l w. n) 0 n (now (chain .entry)) ⌝ }
 {
-    if set != 1 {
-        return false;
+    let mut w: usize = 0;
+    while w < n {
+        put(chain, w, n);
+        w += 1;
     }
-    if to < from {
-        return false;
-    }
-    if codes.len() < to {
-        return false;
-    }
-    highest(&codes[from..to]) < base_codes::DECLARED
 }
 
-// The first item from a place on, below `to`, that declares the name; `to` where there is none.
-fn find_from(
-    codes: &[u8],
-    args: &[u32],
-    homes: &[u32],
-    set: u8,
-    w: usize,
-    h: usize,
-    from: usize,
-    to: usize,
-) -> usize
-    ensures { λ r. ⌜ r ≡ first (finding.declares (now (codes .entry)) (now (args .entry)) (now (homes .entry)) set w h) from (to - from) ⌝ }
+// Item j goes before the declarations of its name, which stand behind it.
+fn link(codes: &[u8], args: &[u32], chain: &mut [u32], j: usize)
+    requires { ⌜ j < itemsMost ⌝ }
+    ensures { λ _. ⌜ now (chain .exit) ≡ linked (now (codes .entry)) (now (args .entry)) (now (chain .entry)) j ⌝ }
 {
-    if is_clear(codes, set, from, to) {
-        return to;
+    let w = word_at(args, minus(j, 1));
+    if both(
+        is_named(base_bytes::byte_at(codes, j)),
+        w < base_ceilings::ITEMS_MOST,
+    ) {
+        let e = word_at(chain, w);
+        put(chain, j + base_ceilings::ITEMS_MOST, e);
+        put(chain, w, j);
     }
-    let mut d = from;
-    while d < to {
-        if declares(codes, args, homes, set, w, h, d) {
-            return d;
-        }
-        d += 1;
-    }
-    d
 }
 
-// The first item below `to` that does so; `to` where there is none. Items are looked at in blocks, since few of them declare anything.
+// For each name its first declaration, and for each declaration the next of the same name, into an array that stays as it is where there are too many items.
+pub fn fill_chain(codes: &[u8], args: &[u32], chain: &mut [u32])
+    ensures { λ _. ⌜ now (chain .exit) ≡ chainOf (now (codes .entry)) (now (args .entry)) (now (chain .entry)) ⌝ }
+{
+    if base_ceilings::ITEMS_MOST < codes.len() {
+        return;
+    }
+    clear(codes.len(), chain);
+    let mut j = codes.len();
+    while 0 < j {
+        j -= 1;
+        link(codes, args, chain, j);
+    }
+}
+
+// Where a search for the name w starts.
+fn head(chain: &[u32], w: usize) -> usize
+    ensures { λ r. ⌜ r ≡ headOf (now (chain .entry)) w ⌝ }
+{
+    if w < base_ceilings::ITEMS_MOST {
+        word_at(chain, w)
+    } else {
+        0
+    }
+}
+
+// Where a search for the name w goes on behind item d.
+fn past(args: &[u32], chain: &[u32], w: usize, d: usize) -> usize
+    requires { ⌜ d < 18446744073709551615 ⌝ }
+    ensures { λ r. ⌜ r ≡ nextOf (now (args .entry)) (now (chain .entry)) w d ⌝ }
+    ensures { λ r. ⌜ d < r ⌝ }
+{
+    let e = base_bytes::word_on(chain, d, base_ceilings::ITEMS_MOST);
+    if both(word_at(args, minus(d, 1)) == w, d < e) {
+        return e;
+    }
+    d + 1
+}
+
+// The first item below `to` that declares the name w in the body h, of names (set 1) or labels (set 2); `to` where there is none.
 pub fn find(
     codes: &[u8],
     args: &[u32],
     homes: &[u32],
+    chain: &[u32],
     set: u8,
     w: usize,
     h: usize,
     to: usize,
 ) -> usize
-    ensures { λ r. ⌜ r ≡ finding.find (now (codes .entry)) (now (args .entry)) (now (homes .entry)) set w h to ⌝ }
+    ensures { λ r. ⌜ (Chained (now (codes .entry)) (now (args .entry)) (now (chain .entry)) → set < 3 → r ≡ finding.find (now (codes .entry)) (now (args .entry)) (now (homes .entry)) set w h to) ⌝ }
 {
     if w == 0 {
         return to;
     }
-    let mut d: usize = 0;
+    let mut d = head(chain, w);
     while d < to {
-        let e = d + base_bytes::least(BLOCK, to - d);
-        let f = find_from(codes, args, homes, set, w, h, d, e);
-        if f < e {
-            return f;
+        if declares(codes, args, homes, set, w, h, d) {
+            return d;
         }
-        d = e;
+        d = past(args, chain, w, d);
     }
-    d
+    to
 }
 
 // The declaration that the name w means at item m of the body h: a local's, or else a global's.
-pub fn lookup(codes: &[u8], args: &[u32], homes: &[u32], w: usize, h: usize, m: usize) -> usize
-    ensures { λ r. ⌜ r ≡ finding.lookup (now (codes .entry)) (now (args .entry)) (now (homes .entry)) w h m ⌝ }
+pub fn lookup(
+    codes: &[u8],
+    args: &[u32],
+    homes: &[u32],
+    chain: &[u32],
+    w: usize,
+    h: usize,
+    m: usize,
+) -> usize
+    ensures { λ r. ⌜ (Chained (now (codes .entry)) (now (args .entry)) (now (chain .entry)) → r ≡ finding.lookup (now (codes .entry)) (now (args .entry)) (now (homes .entry)) w h m) ⌝ }
 {
-    let d = find(codes, args, homes, 1, w, h, m);
+    let d = find(codes, args, homes, chain, 1, w, h, m);
     if d < m {
         return d;
     }
-    find(codes, args, homes, 1, w, 0, m)
+    find(codes, args, homes, chain, 1, w, 0, m)
 }
 
 // One more than the last item of a set below j; 0 where there is none.

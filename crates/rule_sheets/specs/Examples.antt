@@ -1,4 +1,4 @@
--- Mechanism, held to the specification by `rules` (crate `legal_texts`).
+-- Mechanism: worked examples, computed from its definitions; they are held to nothing else.
 -- Worked examples, computed.
 use Prim.Native.Nat.{ℕ}
 use mathlib.Core.Path.{_≡_, refl}

@@ -1,4 +1,4 @@
--- Mechanism, held to the specification by `rules` (crate `legal_texts`).
+-- Mechanism, held to the specification by `read-legal`, `legal-read` (crate `legal_texts`).
 -- What the token of an item says, as one number: names by the first item that has the name, numbers by their value, formats by what they ask for.
 -- It is a function of spellings alone: no place of the text is in it. Document 01, "Names" and row 5 of "What is answered".
 use Prim.Native.Nat.{ℕ, _+_, _-_, min}

@@ -33,11 +33,11 @@ fn turn(t: &[u32], s: &mut [i32], line: &mut [u8]) -> Taken
 {
     let o = step_all::nth(t, s, 0);
     match o {
-        Offer::Step(p, _, q) => {
+        Offer::Step(x) => {
             let mut printed = [0u8; base_ceilings::PRINT_ROOM];
-            let n = step_prints::print_at(t, s, p, q, &mut printed);
+            let n = step_prints::print_at(t, s, x.process, x.place, &mut printed);
             put_printed(&printed, n, line);
-            step_take::take(t, s, p, q)
+            step_all::advance(t, s, x)
         }
         Offer::Beyond(_) => Taken::Idle,
     }

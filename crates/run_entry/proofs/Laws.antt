@@ -8,7 +8,7 @@ use lib.IntN.{ℤ}
 use Rattle.table_genuine.specs.Genuine.{written}
 use Rattle.spec_machine.specs.Effect.{Outcome}
 use Rattle.spec_machine.specs.Machine as machine
-use Rattle.spec_machine.specs.Machine.{Machine, finished, blocked, «open», offered}
+use Rattle.spec_machine.specs.Machine.{Machine, finished, blocked, «open», offered, advance}
 use Rattle.spec_trails.specs.Runs as runs
 use Rattle.spec_trails.specs.Runs.{stood, firstTaken, runBy, runFrom}
 use Rattle.step_all.specs.Moving.{machineIn, nthIn, verdictAs}
@@ -17,7 +17,6 @@ use Rattle.step_all.specs.declared.Offer.the-variants.{Step, Beyond}
 use Rattle.step_all.specs.declared.Verdict.{Verdict}
 use Rattle.base_outcome.specs.declared.Taken.{Taken}
 use Rattle.base_outcome.specs.declared.Taken.the-variants.{Done, Refuted, Faulted, Idle}
-use Rattle.step_take.specs.Effects.{takenOf}
 use Rattle.step_entry.specs.Entries.{refusalOf}
 use Rattle.base_values.specs.declared.Fault.{Fault}
 use Rattle.run_entry.specs.Runs.{endingAs, endingOf, shown, turnIn, runIn}
@@ -31,7 +30,7 @@ use Rattle.run_entry.specs.declared.Ran.the-variants.{Ended, Refused}
 module _ (t : List ℕ) (s : List ℤ) {o : Offer} (e : o ≡ nthIn 0 (offered (machineIn t) s)) where
   -- what comes of the first step, by the answer that it is
   abbrev turnBy : Offer → Outcome (List ℤ)
-  turnBy (Step p k q) = takenOf t p q s
+  turnBy (Step x) = advance (machineIn t) s x
   turnBy (Beyond n) = (Idle, s)
 
   turn-is : (x : Offer) → o ≡ x → turnBy x ≡ turnIn t s
@@ -42,8 +41,8 @@ module _ (t : List ℕ) (s : List ℤ) {o : Offer} (e : o ≡ nthIn 0 (offered (
       go [] = refl
       go (c ∷ l) = refl
 
-  pub turn-step : (p k q : ℕ) → o ≡ Step p k q → {r : Outcome (List ℤ)} → r ≡ takenOf t p q s → r ≡ turnIn t s
-  turn-step p k q f g = g ∙ turn-is (Step p k q) f
+  pub turn-step : (x : machine.Step) → o ≡ Step x → {r : Outcome (List ℤ)} → r ≡ advance (machineIn t) s x → r ≡ turnIn t s
+  turn-step x f g = g ∙ turn-is (Step x) f
 
   pub turn-none : (n : ℕ) → o ≡ Beyond n → (Idle, s) ≡ turnIn t s
   turn-none n f = turn-is (Beyond n) f

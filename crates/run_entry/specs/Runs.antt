@@ -1,4 +1,4 @@
--- Mechanism, held to the specification by `demand2` (crate `demands`).
+-- Mechanism, held to the specification by `demand2` (crate `demands`), but for `endingOf` and `turnIn`, of contracts alone.
 -- The automatic run is that of `spec_trails`, over the machine of the tables: mechanism, held to the run of the model by `demand2` (crate `demands`). Its answers, each by the case that it stands
 -- for. `t` are tables, `s` a state.
 use mathlib.Core.List.{List}

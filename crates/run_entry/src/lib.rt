@@ -28,7 +28,7 @@ pub fn turn(t: &[u32], s: &mut [i32]) -> Taken
 {
     let o = step_all::nth(t, s, 0);
     match o {
-        Offer::Step(p, _, q) => step_take::take(t, s, p, q),
+        Offer::Step(x) => step_all::advance(t, s, x),
         Offer::Beyond(_) => Taken::Idle,
     }
 }

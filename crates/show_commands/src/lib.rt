@@ -2,6 +2,7 @@
 // refusal, a failed assertion, a fault or a blocked state, 2 for an error.
 ghost use mathlib.Core.Path.{_≡_};
 ghost use Rattle.show_commands.specs.Statuses as statuses;
+use base_outcome::Step;
 use run_entry::Ending;
 use run_entry::Ran;
 use show_answers::put;
@@ -10,7 +11,37 @@ use step_all::Offer;
 use step_all::Verdict;
 use trail_replay::Replayed;
 
-// `start`: each offered step of a state, with its process, its number, its proctype and its statement; how many there are.
+// An offered step: its process, its number, its proctype and its statement.
+fn put_offer(
+    t: &[u32],
+    s: &[i32],
+    text: &[u8],
+    kinds: &[u8],
+    starts: &[u32],
+    ends: &[u32],
+    toks: &[u32],
+    x: Step,
+) {
+    put_number(x.process as usize);
+    put(b"\t");
+    put_number(x.number as usize);
+    put(b"\t");
+    show_state::put_proctype(t, state_layout::unit_of(s, x.process) as usize);
+    put(b"\t");
+    put(show_statement::statement(
+        text,
+        kinds,
+        starts,
+        ends,
+        base_bytes::word_at(toks, x.place as usize),
+    ));
+    put(b"\n");
+}
+
+// So many steps are shown, always more than there are.
+const LISTED_MOST: u32 = base_ceilings::PROCESSES_MOST as u32 * base_ceilings::ITEMS_MOST as u32;
+
+// `start`: each offered step of a state; how many there are.
 fn list_offers(
     t: &[u32],
     s: &[i32],
@@ -20,25 +51,12 @@ fn list_offers(
     ends: &[u32],
     toks: &[u32],
 ) -> usize {
-    let mut n: u16 = 0;
-    while n < 65535 {
+    let mut n: u32 = 0;
+    while n < LISTED_MOST {
         let o = step_all::nth(t, s, n);
         match o {
-            Offer::Step(p, k, q) => {
-                put_number(p as usize);
-                put(b"\t");
-                put_number(k as usize);
-                put(b"\t");
-                show_state::put_proctype(t, state_layout::unit_of(s, p) as usize);
-                put(b"\t");
-                put(show_statement::statement(
-                    text,
-                    kinds,
-                    starts,
-                    ends,
-                    base_bytes::word_at(toks, q as usize),
-                ));
-                put(b"\n");
+            Offer::Step(x) => {
+                put_offer(t, s, text, kinds, starts, ends, toks, x);
             }
             Offer::Beyond(_) => {
                 return n as usize;

@@ -2,6 +2,7 @@
 ghost use mathlib.Core.Path.{_≡_};
 ghost use Rattle.show_commands.specs.Statuses as statuses;
 use base_bytes::part;
+use base_outcome::Step;
 use base_outcome::Taken;
 use base_values::Fault;
 use show_answers::put;
@@ -9,13 +10,10 @@ use show_answers::put_bytes;
 use show_answers::put_number;
 use show_answers::seek;
 use show_commands::put_replayed;
-use step_offers::Walk;
+use step_all::Offer;
 use trail_form::Formed;
 use trail_form::Record;
 use trail_replay::Replayed;
-
-// The last process that there can be.
-const LAST_PROCESS: usize = base_ceilings::PROCESSES_MOST - 1;
 
 // A line past those of all steps.
 const PAST_STEPS: usize = 2 * base_ceilings::STEPS_MOST;
@@ -30,8 +28,8 @@ fn put_fault(f: Fault) {
     }
 }
 
-// Takes the step at place q and shows what it did.
-fn step_aloud(t: &[u32], s: &mut [i32], p: u8, q: u32) {
+// Takes a step and shows what it did.
+fn step_aloud(t: &[u32], s: &mut [i32], x: Step) {
     let mut before = [0i32; base_ceilings::STATE_ROOM];
     let mut i: usize = 0;
     while i < base_ceilings::STATE_ROOM {
@@ -39,11 +37,11 @@ fn step_aloud(t: &[u32], s: &mut [i32], p: u8, q: u32) {
         i += 1;
     }
     let mut printed = [0u8; base_ceilings::PRINT_ROOM];
-    let n = step_prints::print_at(t, s, p, q, &mut printed);
-    let r = step_take::take(t, s, p, q);
+    let n = step_prints::print_at(t, s, x.process, x.place, &mut printed);
+    let r = step_all::advance(t, s, x);
     match r {
         Taken::Done => {
-            show_state::put_effects(t, &before, s, p, q);
+            show_state::put_effects(t, &before, s, x.process, x.place);
             if n > 0 {
                 put(b"\tprinted ");
                 put_bytes(part(&printed, 0, n));
@@ -78,20 +76,19 @@ fn list_step(
     process: u32,
     k: u32,
 ) {
-    let w = step_all::step_at(t, s, process, k);
-    match w {
-        Walk::Found(q) => {
-            let p = base_bytes::least(process as usize, LAST_PROCESS) as u8;
-            let token = base_bytes::word_at(toks, q as usize);
-            show_state::put_proctype(t, state_layout::unit_of(s, p) as usize);
+    let o = step_all::step_at(t, s, process, k);
+    match o {
+        Offer::Step(x) => {
+            let token = base_bytes::word_at(toks, x.place as usize);
+            show_state::put_proctype(t, state_layout::unit_of(s, x.process) as usize);
             put(b"\t");
             put_number(show_statement::place(kinds, starts, token));
             put(b"\t");
             put(show_statement::statement(text, kinds, starts, ends, token));
             put(b"\n");
-            step_aloud(t, s, p, q);
+            step_aloud(t, s, x);
         }
-        Walk::Left(_) => put(b"not offered\n"),
+        Offer::Beyond(_) => put(b"not offered\n"),
     }
 }
 

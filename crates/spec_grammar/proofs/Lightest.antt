@@ -7,11 +7,11 @@ use native.Mathlib.Omega.{arith}
 use lib.Dec.{T, leb, leb→le, le→leb}
 use lib.ListN.{length}
 use borrow.Author.Tests.{le-leb}
-use Rattle.base_kinds.specs.Kinds.{Token, name, level}
-use Rattle.spec_grammar.specs.Marks.{'!, 'lpar, 'rpar, 'rbrace, 'comma, 'semi, '->, '=, '++, '--, '?, 'fi, 'od, 'proctype, 'run}
-use Rattle.spec_grammar.specs.Tree.{Name, num, tru, fls, get, len, unary, binary, choice, Expr, Ref, Received, Sort, sequence, Tree, Value, Variable, Declaration, Group, Body, body, Activity, Part, Model}
-use Rattle.spec_grammar.specs.Grammar.{Listed, one, more, Maybe-listed, no-list, a-list, Message, commas, call, Parted, by-semi, by-arrow, A-name, a-name, A-type, a-type, E, e-plain, e-index, e-number, e-true, e-false, e-len, e-group, e-choice, e-unary, e-binary, e-up, An-expression, A-reference, A-received, r-into, r-eval, r-number, r-true, r-false, D, s-express, s-assign, s-increment, s-decrement, s-send, s-receive, s-assert, s-print-alone, s-print, s-skip, s-goto, s-break, s-timeout, s-else, s-run, s-set-run, s-if, s-do, s-bare, s-label, q-last, q-then, o-last, o-also, A-value, v-number, v-minus, v-true, v-false, v-name, A-variable, x-bare, x-set, x-array, x-array-set, x-channel, A-declaration, declaration, A-group, a-group, Items, statements, declared, A-body, a-body, An-activity, not-active, active, active-times, A-unit, u-mtypes, u-global, u-process, u-init, Gram, g-last, g-more}
-use Rattle.spec_grammar.specs.Print.{wrap, print-exp, print-ref, print-whole, join, print-received, print-tree, print-type, print-value, print-variable, print-declaration, print-name, print-group, print-items, print-body, print-activity, print-part, print-model, total, is-parenthesis}
+use Rattle.base_kinds.specs.Kinds.{Token, sym, name, level}
+use Rattle.spec_grammar.specs.Marks.{'lpar, 'rpar, 'rbrace, 'comma, 'semi, '->, '=, '++, 'fi, 'od, 'proctype, 'run, '--}
+use Rattle.spec_grammar.specs.Tree.{Name, num, tru, fls, get, query, unary, binary, choice, Expr, Ref, Received, Leaf, Sort, sequence, Tree, Value, Variable, Declaration, Group, Body, body, Activity, Part, Model}
+use Rattle.spec_grammar.specs.Grammar.{Listed, one, more, Maybe-listed, no-list, a-list, Message, commas, call, Parted, by-semi, by-arrow, A-name, a-name, A-type, a-type, E, e-plain, e-index, e-number, e-true, e-false, e-query, e-group, e-choice, e-unary, e-binary, e-up, An-expression, A-reference, A-received, r-into, r-eval, r-number, r-true, r-false, A-leaf, s-express, s-assign, s-increment, s-decrement, s-send, s-receive, s-assert, s-print-alone, s-print, s-skip, s-goto, s-break, s-timeout, s-else, s-run, s-set-run, D, s-leaf, s-if, s-do, s-bare, s-label, q-last, q-then, o-last, o-also, A-value, v-number, v-minus, v-true, v-false, v-name, A-variable, x-bare, x-set, x-array, x-array-set, x-channel, A-declaration, declaration, A-group, a-group, Items, statements, declared, A-body, a-body, An-activity, not-active, active, active-times, A-unit, u-mtypes, u-global, u-process, u-init, Gram, g-last, g-more}
+use Rattle.spec_grammar.specs.Print.{wrap, print-exp, print-ref, print-whole, join, print-received, print-tree, print-type, print-value, print-variable, print-declaration, print-name, print-group, print-items, print-body, print-activity, print-part, print-model, total, is-parenthesis, print-leaf}
 use Rattle.spec_grammar.proofs.Printed.{join-more, further-more, sequence-before}
 
 pub total-append : (μ : Token → ℕ) (ts us : List Token) → total μ (ts ++ us) ≡ total μ ts + total μ us
@@ -38,7 +38,7 @@ module _ (μ : Token → ℕ) (lighter : μ 'semi ≤ μ '->) (cheaper : μ 'com
   exp-pair tru l m = omega arith
   exp-pair fls l m = omega arith
   exp-pair (get r) l m = omega arith
-  exp-pair (len r) l m = omega arith
+  exp-pair (query mk r) l m = omega arith
   exp-pair (unary o e) l m = omega arith
   exp-pair (binary o a b) l m = wrap-pair (leb l (level o)) (leb m (level o)) _
   exp-pair (choice a b c) l m = omega arith
@@ -48,7 +48,7 @@ module _ (μ : Token → ℕ) (lighter : μ 'semi ≤ μ '->) (cheaper : μ 'com
   exp-less tru l = omega arith
   exp-less fls l = omega arith
   exp-less (get r) l = omega arith
-  exp-less (len r) l = omega arith
+  exp-less (query mk r) l = omega arith
   exp-less (unary o e) l = omega arith
   exp-less (binary o a b) l = wrap-less (leb l (level o)) (leb (suc l) (level o)) _ (λ t. le→leb l (level o) (omega (arith, leb→le (suc l) (level o) t)))
   exp-less (choice a b c) l = omega arith
@@ -59,7 +59,7 @@ module _ (μ : Token → ℕ) (lighter : μ 'semi ≤ μ '->) (cheaper : μ 'com
   exp-light e-number = omega arith
   exp-light e-true = omega arith
   exp-light e-false = omega arith
-  exp-light (e-len {ts = ts} x) = simp (total-append μ) (omega (arith, exp-light x))
+  exp-light (e-query {ts = ts} kind x) = simp (total-append μ) (omega (arith, exp-light x))
   exp-light (e-group {ts = ts} {e = e} x) = omega (arith, exp-light x, exp-pair e 11 1, total-append μ ts ('rpar ∷ []))
   exp-light (e-choice x y z) = simp (total-append μ) (omega (arith, exp-light x, exp-light y, exp-light z))
   exp-light (e-unary u x) = omega (arith, exp-light x)
@@ -102,27 +102,27 @@ module _ (μ : Token → ℕ) (lighter : μ 'semi ≤ μ '->) (cheaper : μ 'com
   parted-light (by-arrow u) = omega (arith, lighter)
 
   -- statements
-  tree-light : {k : Sort} {ts : List Token} {t : Tree k} → D k ts t → total μ (print-tree t) ≤ total μ ts
-  tree-light (s-express x) = exp-light x
-  tree-light (s-assign {ts = ts} {us = us} {r = r} {e = e} x y) = omega (arith, exp-light x, exp-light y, total-append μ ts ('= ∷ us), total-append μ (print-ref r) ('= ∷ print-whole e))
-  tree-light (s-increment {ts = ts} {r = r} x) = omega (arith, exp-light x, total-append μ ts ('++ ∷ []), total-append μ (print-ref r) ('++ ∷ []))
-  tree-light (s-decrement {ts = ts} {r = r} x) = omega (arith, exp-light x, total-append μ ts ('-- ∷ []), total-append μ (print-ref r) ('-- ∷ []))
-  tree-light (s-send {ts = ts} {us = us} {r = r} {es = es} x y) =
-      omega (arith, exp-light x, message-light An-expression print-whole whole-light y, total-append μ ts ('! ∷ us), total-append μ (print-ref r) ('! ∷ join 'comma print-whole es))
-  tree-light (s-receive {ts = ts} {us = us} {r = r} {xs = xs} x y) =
-      omega (arith, exp-light x, message-light A-received print-received received-light y, total-append μ ts ('? ∷ us), total-append μ (print-ref r) ('? ∷ join 'comma print-received xs))
-  tree-light (s-assert {ts = ts} {e = e} x) = omega (arith, exp-light x, total-append μ ts ('rpar ∷ []), total-append μ (print-whole e) ('rpar ∷ []))
-  tree-light s-print-alone = omega arith
-  tree-light (s-print {ts = ts} {es = es} x) = rw (further-more 'comma An-expression print-whole x)
+  leaf-light : {ts : List Token} {l : Leaf} → A-leaf ts l → total μ (print-leaf l) ≤ total μ ts
+  leaf-light (s-express x) = exp-light x
+  leaf-light (s-assign {ts = ts} {us = us} {r = r} {e = e} x y) = omega (arith, exp-light x, exp-light y, total-append μ ts ('= ∷ us), total-append μ (print-ref r) ('= ∷ print-whole e))
+  leaf-light (s-increment {ts = ts} {r = r} x) = omega (arith, exp-light x, total-append μ ts ('++ ∷ []), total-append μ (print-ref r) ('++ ∷ []))
+  leaf-light (s-decrement {ts = ts} {r = r} x) = omega (arith, exp-light x, total-append μ ts ('-- ∷ []), total-append μ (print-ref r) ('-- ∷ []))
+  leaf-light (s-send {o = o} {ts = ts} {us = us} {r = r} {es = es} kind x y) =
+      omega (arith, exp-light x, message-light An-expression print-whole whole-light y, total-append μ ts (sym o ∷ us), total-append μ (print-ref r) (sym o ∷ join 'comma print-whole es))
+  leaf-light (s-receive {o = o} {ts = ts} {us = us} {r = r} {xs = xs} kind x y) =
+      omega (arith, exp-light x, message-light A-received print-received received-light y, total-append μ ts (sym o ∷ us), total-append μ (print-ref r) (sym o ∷ join 'comma print-received xs))
+  leaf-light (s-assert {ts = ts} {e = e} x) = omega (arith, exp-light x, total-append μ ts ('rpar ∷ []), total-append μ (print-whole e) ('rpar ∷ []))
+  leaf-light s-print-alone = omega arith
+  leaf-light (s-print {ts = ts} {es = es} x) = rw (further-more 'comma An-expression print-whole x)
       (omega (arith, list-light 'comma An-expression print-whole whole-light x, total-append μ ts ('rpar ∷ []), total-append μ (join 'comma print-whole es) ('rpar ∷ [])))
-  tree-light s-skip = omega arith
-  tree-light s-goto = omega arith
-  tree-light s-break = omega arith
-  tree-light s-timeout = omega arith
-  tree-light s-else = omega arith
-  tree-light (s-run {ts = ts} {es = es} x) =
+  leaf-light s-skip = omega arith
+  leaf-light s-goto = omega arith
+  leaf-light s-break = omega arith
+  leaf-light s-timeout = omega arith
+  leaf-light s-else = omega arith
+  leaf-light (s-run {ts = ts} {es = es} x) =
       omega (arith, maybe-light 'comma An-expression print-whole whole-light x, total-append μ ts ('rpar ∷ []), total-append μ (join 'comma print-whole es) ('rpar ∷ []))
-  tree-light (s-set-run {ts = ts} {us = us} {r = r} {w = w} {es = es} x y) =
+  leaf-light (s-set-run {ts = ts} {us = us} {r = r} {w = w} {es = es} x y) =
       omega (
         arith,
         exp-light x,
@@ -132,6 +132,9 @@ module _ (μ : Token → ℕ) (lighter : μ 'semi ≤ μ '->) (cheaper : μ 'com
         total-append μ (print-ref r ++ '= ∷ 'run ∷ name w ∷ 'lpar ∷ join 'comma print-whole es) ('rpar ∷ []),
         total-append μ (print-ref r) ('= ∷ 'run ∷ name w ∷ 'lpar ∷ join 'comma print-whole es),
       )
+
+  tree-light : {k : Sort} {ts : List Token} {t : Tree k} → D k ts t → total μ (print-tree t) ≤ total μ ts
+  tree-light (s-leaf x) = leaf-light x
   tree-light (s-if {ts = ts} {os = os} x) = omega (arith, tree-light x, total-append μ ts ('fi ∷ []), total-append μ (print-tree os) ('fi ∷ []))
   tree-light (s-do {ts = ts} {os = os} x) = omega (arith, tree-light x, total-append μ ts ('od ∷ []), total-append μ (print-tree os) ('od ∷ []))
   tree-light (s-bare x) = tree-light x

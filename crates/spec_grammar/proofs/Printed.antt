@@ -10,9 +10,9 @@ use lib.Dec.{leb}
 use borrow.Author.Tests.{leb-true}
 use Rattle.base_kinds.specs.Kinds.{Token, name, number}
 use Rattle.spec_grammar.specs.Marks.{'[, '], 'comma, 'semi}
-use Rattle.spec_grammar.specs.Tree.{Name, Expr, Ref, Received, Sort, sequence, Tree, Value, Variable, variable, Declaration, Group, Body, body, Activity, Part, Model}
-use Rattle.spec_grammar.specs.Grammar.{Listed, one, more, Maybe-listed, no-list, a-list, Message, commas, call, no-semi, none-trails, by-semi, A-name, a-name, A-type, a-type, E, e-plain, e-index, e-number, e-true, e-false, e-len, e-group, e-choice, e-unary, e-binary, e-up, An-expression, A-reference, A-received, r-into, r-eval, r-number, r-true, r-false, D, s-express, s-assign, s-increment, s-decrement, s-send, s-receive, s-assert, s-print-alone, s-print, s-skip, s-goto, s-break, s-timeout, s-else, s-run, s-set-run, s-if, s-do, s-bare, s-label, q-last, q-then, o-last, o-also, A-value, v-number, v-minus, v-true, v-false, v-name, A-variable, x-bare, x-set, x-array, x-array-set, x-channel, A-declaration, declaration, A-group, a-group, Items, statements, declared, A-body, a-body, An-activity, not-active, active, active-times, A-unit, u-mtypes, u-global, u-process, u-init, Gram, g-last, g-more}
-use Rattle.spec_grammar.specs.Print.{wrap, print-exp, print-ref, print-whole, further, join, print-received, before, print-tree, print-type, print-value, print-variable, print-declaration, print-name, print-group, print-items, print-body, print-activity, print-part, print-model}
+use Rattle.spec_grammar.specs.Tree.{Name, Expr, Ref, Received, Leaf, Sort, sequence, Tree, Value, Variable, variable, Declaration, Group, Body, body, Activity, Part, Model}
+use Rattle.spec_grammar.specs.Grammar.{Listed, one, more, Maybe-listed, no-list, a-list, Message, commas, call, no-semi, none-trails, by-semi, A-name, a-name, A-type, a-type, E, e-plain, e-index, e-number, e-true, e-false, e-query, e-group, e-choice, e-unary, e-binary, e-up, An-expression, A-reference, A-received, r-into, r-eval, r-number, r-true, r-false, A-leaf, s-express, s-assign, s-increment, s-decrement, s-send, s-receive, s-assert, s-print-alone, s-print, s-skip, s-goto, s-break, s-timeout, s-else, s-run, s-set-run, D, s-leaf, s-if, s-do, s-bare, s-label, q-last, q-then, o-last, o-also, A-value, v-number, v-minus, v-true, v-false, v-name, A-variable, x-bare, x-set, x-array, x-array-set, x-channel, A-declaration, declaration, A-group, a-group, Items, statements, declared, A-body, a-body, An-activity, not-active, active, active-times, A-unit, u-mtypes, u-global, u-process, u-init, Gram, g-last, g-more}
+use Rattle.spec_grammar.specs.Print.{wrap, print-exp, print-ref, print-whole, further, join, print-received, before, print-leaf, print-tree, print-type, print-value, print-variable, print-declaration, print-name, print-group, print-items, print-body, print-activity, print-part, print-model}
 use Rattle.spec_grammar.proofs.Levels.{level-top}
 
 -- what stands where a tighter expression is asked for stands where a looser one is
@@ -38,7 +38,7 @@ exp-printed (e-index x) = (λ l h. loosen 12 (omega arith) (e-index (exp-printed
 exp-printed e-number = (λ l h. loosen 11 h e-number, λ h. absurd (omega arith))
 exp-printed e-true = (λ l h. loosen 11 h e-true, λ h. absurd (omega arith))
 exp-printed e-false = (λ l h. loosen 11 h e-false, λ h. absurd (omega arith))
-exp-printed (e-len x) = (λ l h. loosen 11 h (e-len (exp-printed x .1 (omega arith))), λ h. absurd (omega arith))
+exp-printed (e-query kind x) = (λ l h. loosen 11 h (e-query kind (exp-printed x .1 (omega arith))), λ h. absurd (omega arith))
 exp-printed (e-group x) = (exp-printed x .0, λ h. absurd (omega arith))
 exp-printed (e-choice x y z) = (λ l h. loosen 11 h (e-choice (exp-printed x .0 1 (omega arith)) (exp-printed y .0 1 (omega arith)) (exp-printed z .0 1 (omega arith))), λ h. absurd (omega arith))
 exp-printed (e-unary u x) = (λ l h. loosen 11 h (e-unary u (exp-printed x .0 11 (omega arith))), λ h. absurd (omega arith))
@@ -88,23 +88,26 @@ pub sequence-before : {ts : List Token} {q : Tree sequence} → D sequence ts q 
 sequence-before (q-last x u) = refl
 sequence-before (q-then x u y) = refl
 
+leaf-printed : {ts : List Token} {l : Leaf} → A-leaf ts l → A-leaf (print-leaf l) l
+leaf-printed (s-express {ts = ts} {e = e} x) = s-express (whole-printed ts e x)
+leaf-printed (s-assign {us = us} {e = e} x y) = s-assign (ref-printed x) (whole-printed us e y)
+leaf-printed (s-increment x) = s-increment (ref-printed x)
+leaf-printed (s-decrement x) = s-decrement (ref-printed x)
+leaf-printed (s-send kind x y) = s-send kind (ref-printed x) (message-printed An-expression print-whole whole-printed y)
+leaf-printed (s-receive kind x y) = s-receive kind (ref-printed x) (message-printed A-received print-received received-printed y)
+leaf-printed (s-assert {ts = ts} {e = e} x) = s-assert (whole-printed ts e x)
+leaf-printed s-print-alone = s-print-alone
+leaf-printed (s-print x) = rw (further-more 'comma An-expression print-whole x) (s-print (arguments-printed x))
+leaf-printed s-skip = s-skip
+leaf-printed s-goto = s-goto
+leaf-printed s-break = s-break
+leaf-printed s-timeout = s-timeout
+leaf-printed s-else = s-else
+leaf-printed (s-run x) = s-run (maybe-printed 'comma An-expression print-whole whole-printed x)
+leaf-printed (s-set-run x y) = s-set-run (ref-printed x) (maybe-printed 'comma An-expression print-whole whole-printed y)
+
 tree-printed : {k : Sort} {ts : List Token} {t : Tree k} → D k ts t → D k (print-tree t) t
-tree-printed (s-express {ts = ts} {e = e} x) = s-express (whole-printed ts e x)
-tree-printed (s-assign {us = us} {e = e} x y) = s-assign (ref-printed x) (whole-printed us e y)
-tree-printed (s-increment x) = s-increment (ref-printed x)
-tree-printed (s-decrement x) = s-decrement (ref-printed x)
-tree-printed (s-send x y) = s-send (ref-printed x) (message-printed An-expression print-whole whole-printed y)
-tree-printed (s-receive x y) = s-receive (ref-printed x) (message-printed A-received print-received received-printed y)
-tree-printed (s-assert {ts = ts} {e = e} x) = s-assert (whole-printed ts e x)
-tree-printed s-print-alone = s-print-alone
-tree-printed (s-print x) = rw (further-more 'comma An-expression print-whole x) (s-print (arguments-printed x))
-tree-printed s-skip = s-skip
-tree-printed s-goto = s-goto
-tree-printed s-break = s-break
-tree-printed s-timeout = s-timeout
-tree-printed s-else = s-else
-tree-printed (s-run x) = s-run (maybe-printed 'comma An-expression print-whole whole-printed x)
-tree-printed (s-set-run x y) = s-set-run (ref-printed x) (maybe-printed 'comma An-expression print-whole whole-printed y)
+tree-printed (s-leaf x) = s-leaf (leaf-printed x)
 tree-printed (s-if x) = s-if (tree-printed x)
 tree-printed (s-do x) = s-do (tree-printed x)
 tree-printed (s-bare x) = s-bare (tree-printed x)

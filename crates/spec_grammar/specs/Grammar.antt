@@ -1,4 +1,4 @@
--- THE GRAMMAR of document 01 ("The edition we read", Grammar) as relations between lists of tokens and trees.
+-- Document 01, "Grammar. A model is one or more units with any number of `;` between and after. ..": THE GRAMMAR as relations between lists of tokens and trees.
 -- Read `X ts t`: the tokens ts are an X, and t is its tree. In quotes stand the paper's words. The paper goes from the whole to the parts;
 -- here each part stands before what it is a part of, so the model is at the end. How deep brackets and selections may nest is no matter of the grammar.
 use mathlib.Core.Path.{_≡_}
@@ -6,8 +6,8 @@ use mathlib.Core.Option.{none, some}
 use mathlib.Core.List.{List, [], _∷_, _++_}
 use Prim.Native.Nat.{ℕ, suc}
 use Rattle.base_kinds.specs.Kinds.{Token, sym, name, number, text, level}
-use Rattle.spec_grammar.specs.Marks.{'-, '!, 'lpar, 'rpar, '[, '], 'lbrace, 'rbrace, 'comma, 'semi, ':, '::, '->, '=, '++, '--, '?, 'mtype, 'active, 'assert, 'break, 'do, 'else, 'eval, 'false, 'fi, 'goto, 'if, 'init, 'len, 'od, 'of, 'printf, 'proctype, 'run, 'skip, 'timeout, 'true}
-use Rattle.spec_grammar.specs.Tree.{Name, plain, indexed, num, tru, fls, get, len, unary, binary, choice, Expr, Ref, Received, into, equal, exactly, exactly-true, exactly-false, Sort, action, statement, sequence, options, Tree, express, assign, increment, decrement, send, receive, assert, print, skip, goto, break, timeout, else, run, set-run, select, loop, bare, labelled, end, then, over, option, Value, unset, set-number, set-minus, set-true, set-false, set-name, set-channel, Variable, variable, Declaration, declare, Group, group, Body, body, Activity, idle, once, times, Part, mtypes, global, process, init, Model}
+use Rattle.spec_grammar.specs.Marks.{k-bang, k-ask, k-len, '-, 'lpar, 'rpar, '[, '], 'lbrace, 'rbrace, 'comma, 'semi, ':, '::, '->, '=, '++, 'mtype, 'active, 'assert, 'break, 'do, 'else, 'eval, 'false, 'fi, 'goto, 'if, 'init, 'od, 'of, 'printf, 'proctype, 'run, 'skip, 'timeout, 'true, '--}
+use Rattle.spec_grammar.specs.Tree.{Name, plain, indexed, num, tru, fls, get, query, unary, binary, choice, Expr, Ref, Received, into, equal, exactly, exactly-true, exactly-false, Leaf, express, assign, increment, send, receive, assert, print, skip, goto, break, timeout, else, run, set-run, Sort, action, statement, sequence, options, Tree, leaf, select, loop, bare, labelled, end, then, over, option, Value, unset, set-number, set-minus, set-true, set-false, set-name, set-channel, Variable, variable, Declaration, declare, Group, group, Body, body, Activity, idle, once, times, Part, mtypes, global, process, init, Model, decrement}
 
 -- LISTS: one or more X, "parted" by the token s
 pub data Listed (s : Token) {A : Type 0} (X : List Token → A → Type 0) : List Token → List A → Type 0 where
@@ -61,6 +61,10 @@ pub data Is-unary : ℕ → Type 0 where
   is-not : Is-unary 19
   is-flip : Is-unary 20
 
+-- the words that ask of a channel
+pub data Is-query : ℕ → Type 0 where
+  is-len : Is-query k-len
+
 -- E l ts e: an expression that stands where operators looser than level l would want parentheses. Level 12 has references alone ("a name, plain or indexed"),
 -- 11 all operands and the unary operators, l from 10 to 1 the binary operators of levels 10 to l, which associate to the left
 pub data E : ℕ → List Token → Expr → Type 0 where
@@ -70,7 +74,7 @@ pub data E : ℕ → List Token → Expr → Type 0 where
   e-true : E 11 ('true ∷ []) tru
   e-false : E 11 ('false ∷ []) fls
   -- "`len(c)` .. operands"
-  e-len : {ts : List Token} {r : Ref} → E 12 ts (get r) → E 11 ('len ∷ 'lpar ∷ ts ++ 'rpar ∷ []) (len r)
+  e-query : {o : ℕ} {ts : List Token} {r : Ref} → Is-query o → E 12 ts (get r) → E 11 (sym o ∷ 'lpar ∷ ts ++ 'rpar ∷ []) (query o r)
   e-group : {ts : List Token} {e : Expr} → E 1 ts e → E 11 ('lpar ∷ ts ++ 'rpar ∷ []) e
   -- "A conditional is `(a -> b : c)`, parentheses always."
   e-choice : {xs ys zs : List Token} {a b c : Expr} → E 1 xs a → E 1 ys b → E 1 zs c → E 11 ('lpar ∷ xs ++ '-> ∷ ys ++ ': ∷ zs ++ 'rpar ∷ []) (choice a b c)
@@ -92,27 +96,39 @@ pub data A-received : List Token → Received → Type 0 where
   r-true : A-received ('true ∷ []) exactly-true
   r-false : A-received ('false ∷ []) exactly-false
 
--- STATEMENTS: D k ts t, with k the sort of tree
-pub data D : (k : Sort) → List Token → Tree k → Type 0 where
+-- STATEMENTS. The marks of a send and of a receive
+pub data Is-send : ℕ → Type 0 where
+  is-bang : Is-send k-bang
+
+pub data Is-receive : ℕ → Type 0 where
+  is-ask : Is-receive k-ask
+
+-- statements that hold no other
+pub data A-leaf : List Token → Leaf → Type 0 where
   -- "Statements: expression, assignment, `v++`, `v--`, `c!args`, `c?args`, `assert(e)`, `printf(string, args)`, `skip`, `goto`, `break`, `timeout`,
-  -- `run name(args)`, `v = run name(args)`, and `if`/`do` with one or more options .. `run` and `printf` may have no args." `else` is judged later
-  s-express : {ts : List Token} {e : Expr} → An-expression ts e → D action ts (express e)
-  s-assign : {ts us : List Token} {r : Ref} {e : Expr} → A-reference ts r → An-expression us e → D action (ts ++ '= ∷ us) (assign r e)
-  s-increment : {ts : List Token} {r : Ref} → A-reference ts r → D action (ts ++ '++ ∷ []) (increment r)
-  s-decrement : {ts : List Token} {r : Ref} → A-reference ts r → D action (ts ++ '-- ∷ []) (decrement r)
-  s-send : {ts us : List Token} {r : Ref} {es : List Expr} → A-reference ts r → Message An-expression us es → D action (ts ++ '! ∷ us) (send r es)
-  s-receive : {ts us : List Token} {r : Ref} {xs : List Received} → A-reference ts r → Message A-received us xs → D action (ts ++ '? ∷ us) (receive r xs)
-  s-assert : {ts : List Token} {e : Expr} → An-expression ts e → D action ('assert ∷ 'lpar ∷ ts ++ 'rpar ∷ []) (assert e)
-  s-print-alone : {w : List ℕ} → D action ('printf ∷ 'lpar ∷ text w ∷ 'rpar ∷ []) (print w [])
-  s-print : {w : List ℕ} {ts : List Token} {es : List Expr} → Listed 'comma An-expression ts es → D action ('printf ∷ 'lpar ∷ text w ∷ 'comma ∷ ts ++ 'rpar ∷ []) (print w es)
-  s-skip : D action ('skip ∷ []) skip
-  s-goto : {w : Name} → D action ('goto ∷ name w ∷ []) (goto w)
-  s-break : D action ('break ∷ []) break
-  s-timeout : D action ('timeout ∷ []) timeout
-  s-else : D action ('else ∷ []) else
-  s-run : {w : Name} {ts : List Token} {es : List Expr} → Maybe-listed 'comma An-expression ts es → D action ('run ∷ name w ∷ 'lpar ∷ ts ++ 'rpar ∷ []) (run w es)
+  -- `run name(args)`, `v = run name(args)` .. `run` and `printf` may have no args." `else` is judged later
+  s-express : {ts : List Token} {e : Expr} → An-expression ts e → A-leaf ts (express e)
+  s-assign : {ts us : List Token} {r : Ref} {e : Expr} → A-reference ts r → An-expression us e → A-leaf (ts ++ '= ∷ us) (assign r e)
+  s-increment : {ts : List Token} {r : Ref} → A-reference ts r → A-leaf (ts ++ '++ ∷ []) (increment r)
+  s-decrement : {ts : List Token} {r : Ref} → A-reference ts r → A-leaf (ts ++ '-- ∷ []) (decrement r)
+  s-send : {o : ℕ} {ts us : List Token} {r : Ref} {es : List Expr} → Is-send o → A-reference ts r → Message An-expression us es → A-leaf (ts ++ sym o ∷ us) (send o r es)
+  s-receive : {o : ℕ} {ts us : List Token} {r : Ref} {xs : List Received} → Is-receive o → A-reference ts r → Message A-received us xs → A-leaf (ts ++ sym o ∷ us) (receive o r xs)
+  s-assert : {ts : List Token} {e : Expr} → An-expression ts e → A-leaf ('assert ∷ 'lpar ∷ ts ++ 'rpar ∷ []) (assert e)
+  s-print-alone : {w : List ℕ} → A-leaf ('printf ∷ 'lpar ∷ text w ∷ 'rpar ∷ []) (print w [])
+  s-print : {w : List ℕ} {ts : List Token} {es : List Expr} → Listed 'comma An-expression ts es → A-leaf ('printf ∷ 'lpar ∷ text w ∷ 'comma ∷ ts ++ 'rpar ∷ []) (print w es)
+  s-skip : A-leaf ('skip ∷ []) skip
+  s-goto : {w : Name} → A-leaf ('goto ∷ name w ∷ []) (goto w)
+  s-break : A-leaf ('break ∷ []) break
+  s-timeout : A-leaf ('timeout ∷ []) timeout
+  s-else : A-leaf ('else ∷ []) else
+  s-run : {w : Name} {ts : List Token} {es : List Expr} → Maybe-listed 'comma An-expression ts es → A-leaf ('run ∷ name w ∷ 'lpar ∷ ts ++ 'rpar ∷ []) (run w es)
   s-set-run : {ts us : List Token} {r : Ref} {w : Name} {es : List Expr} → A-reference ts r → Maybe-listed 'comma An-expression us es →
-      D action (ts ++ '= ∷ 'run ∷ name w ∷ 'lpar ∷ us ++ 'rpar ∷ []) (set-run r w es)
+      A-leaf (ts ++ '= ∷ 'run ∷ name w ∷ 'lpar ∷ us ++ 'rpar ∷ []) (set-run r w es)
+
+-- D k ts t, with k the sort of tree
+pub data D : (k : Sort) → List Token → Tree k → Type 0 where
+  s-leaf : {ts : List Token} {l : Leaf} → A-leaf ts l → D action ts (leaf l)
+  -- "and `if`/`do` with one or more options"
   s-if : {ts : List Token} {os : Tree options} → D options ts os → D action ('if ∷ ts ++ 'fi ∷ []) (select os)
   s-do : {ts : List Token} {os : Tree options} → D options ts os → D action ('do ∷ ts ++ 'od ∷ []) (loop os)
   -- "A statement may carry one label."

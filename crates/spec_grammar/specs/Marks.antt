@@ -1,6 +1,17 @@
--- The fixed tokens by name: a quote, then the spelling, or a word where a name may not hold that spelling.
+-- Document 01, "Marks: `( ) [ ] { } , ; : :: -> ..`" and "Keywords: active assert ..": the fixed tokens by name: a quote, then the spelling, or a word where a name may not hold that spelling.
 -- The numbers are those of specs/Kinds.antt of `base_kinds`; document 01, "Marks" and "Keywords". The last marks and keywords of each kind have no use yet.
+use Prim.Native.Nat.{ℕ}
 use Rattle.base_kinds.specs.Kinds.{Token, sym}
+
+-- the kinds that trees hold of `!`, `?` and `len`
+abbrev pub k-bang : ℕ
+k-bang = 19
+
+abbrev pub k-ask : ℕ
+k-ask = 35
+
+abbrev pub k-len : ℕ
+k-len = 57
 
 abbrev pub '|| : Token
 '|| = sym 1
@@ -57,7 +68,7 @@ abbrev pub '% : Token
 '% = sym 18
 
 abbrev pub '! : Token
-'! = sym 19
+'! = sym k-bang
 
 abbrev pub '~ : Token
 '~ = sym 20
@@ -105,7 +116,7 @@ abbrev pub '-- : Token
 '-- = sym 34
 
 abbrev pub '? : Token
-'? = sym 35
+'? = sym k-ask
 
 abbrev pub '!! : Token
 '!! = sym 36
@@ -171,7 +182,7 @@ abbrev pub 'init : Token
 'init = sym 56
 
 abbrev pub 'len : Token
-'len = sym 57
+'len = sym k-len
 
 abbrev pub 'od : Token
 'od = sym 58

@@ -5,8 +5,8 @@ use mathlib.Core.List.{List, [], _∷_, _++_}
 use Prim.Native.Nat.{ℕ, suc, _+_}
 use lib.Dec.{eqb, leb}
 use Rattle.base_kinds.specs.Kinds.{Token, sym, name, number, text, level}
-use Rattle.spec_grammar.specs.Marks.{'-, '!, 'lpar, 'rpar, '[, '], 'lbrace, 'rbrace, 'comma, 'semi, ':, '::, '->, '=, '++, '--, '?, 'mtype, 'active, 'assert, 'break, 'do, 'else, 'eval, 'false, 'fi, 'goto, 'if, 'init, 'len, 'od, 'of, 'printf, 'proctype, 'run, 'skip, 'timeout, 'true}
-use Rattle.spec_grammar.specs.Tree.{Name, Shape, Exp, plain, indexed, num, tru, fls, get, len, unary, binary, choice, Expr, Ref, Received, into, equal, exactly, exactly-true, exactly-false, Sort, sequence, Tree, express, assign, increment, decrement, send, receive, assert, print, skip, goto, break, timeout, else, run, set-run, select, loop, bare, labelled, end, then, over, option, Value, unset, set-number, set-minus, set-true, set-false, set-name, set-channel, Variable, variable, Declaration, declare, Group, group, Body, body, Activity, idle, once, times, Part, mtypes, global, process, init, Model}
+use Rattle.spec_grammar.specs.Marks.{'-, 'lpar, 'rpar, '[, '], 'lbrace, 'rbrace, 'comma, 'semi, ':, '::, '->, '=, '++, 'mtype, 'active, 'assert, 'break, 'do, 'else, 'eval, 'false, 'fi, 'goto, 'if, 'init, 'od, 'of, 'printf, 'proctype, 'run, 'skip, 'timeout, 'true, '--}
+use Rattle.spec_grammar.specs.Tree.{Name, Shape, Exp, plain, indexed, num, tru, fls, get, query, unary, binary, choice, Expr, Ref, Received, into, equal, exactly, exactly-true, exactly-false, Leaf, express, assign, increment, decrement, send, receive, assert, print, skip, goto, break, timeout, else, run, set-run, Sort, sequence, Tree, leaf, select, loop, bare, labelled, end, then, over, option, Value, unset, set-number, set-minus, set-true, set-false, set-name, set-channel, Variable, variable, Declaration, declare, Group, group, Body, body, Activity, idle, once, times, Part, mtypes, global, process, init, Model}
 
 -- parentheses where the test fails
 abbrev pub wrap : Bool → List Token → List Token
@@ -21,7 +21,7 @@ print-exp (num n) l = number n ∷ []
 print-exp tru l = 'true ∷ []
 print-exp fls l = 'false ∷ []
 print-exp (get r) l = print-exp r 12
-print-exp (len r) l = 'len ∷ 'lpar ∷ print-exp r 12 ++ 'rpar ∷ []
+print-exp (query o r) l = sym o ∷ 'lpar ∷ print-exp r 12 ++ 'rpar ∷ []
 print-exp (unary o e) l = sym o ∷ print-exp e 11
 print-exp (binary o a b) l = wrap (leb l (level o)) (print-exp a (level o) ++ sym o ∷ print-exp b (suc (level o)))
 print-exp (choice a b c) l = 'lpar ∷ print-exp a 1 ++ '-> ∷ print-exp b 1 ++ ': ∷ print-exp c 1 ++ 'rpar ∷ []
@@ -53,22 +53,25 @@ abbrev pub before : Tree sequence → List Token → List Token
 before end ts = ts
 before (then s q) ts = 'semi ∷ ts
 
+abbrev pub print-leaf : Leaf → List Token
+print-leaf (express e) = print-whole e
+print-leaf (assign r e) = print-ref r ++ '= ∷ print-whole e
+print-leaf (increment r) = print-ref r ++ '++ ∷ []
+print-leaf (decrement r) = print-ref r ++ '-- ∷ []
+print-leaf (send o r es) = print-ref r ++ sym o ∷ join 'comma print-whole es
+print-leaf (receive o r xs) = print-ref r ++ sym o ∷ join 'comma print-received xs
+print-leaf (assert e) = 'assert ∷ 'lpar ∷ print-whole e ++ 'rpar ∷ []
+print-leaf (print w es) = 'printf ∷ 'lpar ∷ text w ∷ further 'comma print-whole es ++ 'rpar ∷ []
+print-leaf skip = 'skip ∷ []
+print-leaf (goto w) = 'goto ∷ name w ∷ []
+print-leaf break = 'break ∷ []
+print-leaf timeout = 'timeout ∷ []
+print-leaf else = 'else ∷ []
+print-leaf (run w es) = 'run ∷ name w ∷ 'lpar ∷ join 'comma print-whole es ++ 'rpar ∷ []
+print-leaf (set-run r w es) = print-ref r ++ '= ∷ 'run ∷ name w ∷ 'lpar ∷ join 'comma print-whole es ++ 'rpar ∷ []
+
 abbrev pub print-tree : {k : Sort} → Tree k → List Token
-print-tree (express e) = print-whole e
-print-tree (assign r e) = print-ref r ++ '= ∷ print-whole e
-print-tree (increment r) = print-ref r ++ '++ ∷ []
-print-tree (decrement r) = print-ref r ++ '-- ∷ []
-print-tree (send r es) = print-ref r ++ '! ∷ join 'comma print-whole es
-print-tree (receive r xs) = print-ref r ++ '? ∷ join 'comma print-received xs
-print-tree (assert e) = 'assert ∷ 'lpar ∷ print-whole e ++ 'rpar ∷ []
-print-tree (print w es) = 'printf ∷ 'lpar ∷ text w ∷ further 'comma print-whole es ++ 'rpar ∷ []
-print-tree skip = 'skip ∷ []
-print-tree (goto w) = 'goto ∷ name w ∷ []
-print-tree break = 'break ∷ []
-print-tree timeout = 'timeout ∷ []
-print-tree else = 'else ∷ []
-print-tree (run w es) = 'run ∷ name w ∷ 'lpar ∷ join 'comma print-whole es ++ 'rpar ∷ []
-print-tree (set-run r w es) = print-ref r ++ '= ∷ 'run ∷ name w ∷ 'lpar ∷ join 'comma print-whole es ++ 'rpar ∷ []
+print-tree (leaf l) = print-leaf l
 print-tree (select os) = 'if ∷ print-tree os ++ 'fi ∷ []
 print-tree (loop os) = 'do ∷ print-tree os ++ 'od ∷ []
 print-tree (bare a) = print-tree a

@@ -1,6 +1,7 @@
--- Trees: what document 01 ("The edition we read", Grammar) says a model is made of. All that counts is here and nothing else ("Normal text": the tree ignores
+-- Document 01, "A model is one or more units .. A unit is ..": trees, what a model is made of. All that counts is here and nothing else ("Normal text": the tree ignores
 -- blanks, comments, needless parentheses, leading zeros, `->` against `;`, extra or optional separators and the two message notations. All else counts).
 -- Operators and types are the kinds of their tokens (specs/Kinds.antt of `base_kinds`); the grammar restricts them.
+use mathlib.Core.Bool.{Bool, true, false}
 use mathlib.Core.Option.{Option}
 use mathlib.Core.List.{List}
 use Prim.Native.Nat.{ℕ}
@@ -19,7 +20,8 @@ pub data Exp : Shape → Type 0 where
   num : ℕ → Exp expression
   tru fls : Exp expression
   get : Exp reference → Exp expression
-  len : Exp reference → Exp expression
+  -- what a word asks of a channel, by the word's kind
+  query : ℕ → Exp reference → Exp expression
   unary : ℕ → Exp expression → Exp expression
   binary : ℕ → Exp expression → Exp expression → Exp expression
   choice : Exp expression → Exp expression → Exp expression → Exp expression
@@ -37,26 +39,47 @@ pub data Received : Type 0 where
   exactly : ℕ → Received
   exactly-true exactly-false : Received
 
+-- a statement that holds no other; a send and a receive have the kind of their mark
+pub data Leaf : Type 0 where
+  express : Expr → Leaf
+  assign : Ref → Expr → Leaf
+  increment : Ref → Leaf
+  decrement : Ref → Leaf
+  send : ℕ → Ref → List Expr → Leaf
+  receive : ℕ → Ref → List Received → Leaf
+  assert : Expr → Leaf
+  print : List ℕ → List Expr → Leaf
+  skip : Leaf
+  goto : Name → Leaf
+  break : Leaf
+  timeout : Leaf
+  else : Leaf
+  run : Name → List Expr → Leaf
+  set-run : Ref → Name → List Expr → Leaf
+
+abbrev pub is-else : Leaf → Bool
+is-else (express e) = false
+is-else (assign r e) = false
+is-else (increment r) = false
+is-else (decrement r) = false
+is-else (send o r es) = false
+is-else (receive o r xs) = false
+is-else (assert e) = false
+is-else (print w es) = false
+is-else skip = false
+is-else (goto w) = false
+is-else break = false
+is-else timeout = false
+is-else else = true
+is-else (run w es) = false
+is-else (set-run r w es) = false
+
 pub data Sort : Type 0 where
   action statement sequence options : Sort
 
--- a statement without its label (action), with it, the statements of a body or an option, the options of a selection
+-- a statement without its label (action: a leaf, a selection or a loop), with it, the statements of a body or an option, the options of a selection
 pub data Tree : Sort → Type 0 where
-  express : Expr → Tree action
-  assign : Ref → Expr → Tree action
-  increment : Ref → Tree action
-  decrement : Ref → Tree action
-  send : Ref → List Expr → Tree action
-  receive : Ref → List Received → Tree action
-  assert : Expr → Tree action
-  print : List ℕ → List Expr → Tree action
-  skip : Tree action
-  goto : Name → Tree action
-  break : Tree action
-  timeout : Tree action
-  else : Tree action
-  run : Name → List Expr → Tree action
-  set-run : Ref → Name → List Expr → Tree action
+  leaf : Leaf → Tree action
   select : Tree options → Tree action
   loop : Tree options → Tree action
   bare : Tree action → Tree statement

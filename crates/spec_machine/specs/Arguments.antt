@@ -1,7 +1,7 @@
 -- Document 01, "How it moves": "Within a statement work goes left to right in the text, but a channel's number and field count are tested first", "Faults: .. index out of range, a channel
 -- number that was never made, wrong field count at run time", "each constant and `eval` equals its field, tried left to right to the first difference". Targets, channel operands and
 -- arguments worked out; the first fault ends the work.
-use Prim.Native.Nat.{ℕ, _+_}
+use Prim.Native.Nat.{ℕ, _+_, min}
 use mathlib.Core.List.{List, [], _∷_}
 use lib.IntN.{ℤ, pos, negsuc}
 use lib.Dec.{eqb, ltb}
@@ -13,7 +13,8 @@ use Rattle.base_values.specs.declared.Answer.{Answer}
 use Rattle.base_values.specs.declared.Answer.the-variants.{Value, Fails}
 use Rattle.spec_grammar.specs.Tree.{Name, Expr, Ref, plain, indexed, Received, into, equal, exactly, exactly-true, exactly-false}
 use Rattle.spec_machine.specs.Eval.{Scene, eval}
-use Rattle.spec_machine.specs.Stage.{Stage}
+use Rattle.spec_machine.specs.Stage.{Message, Stage}
+use Rattle.spec_machine.specs.Messages.{Finding, findFrom}
 
 -- ## references
 abbrev pub nameOf : Ref → Name
@@ -69,23 +70,27 @@ unfoldable pub values : Scene → List Expr → WorkedOut
 values c [] = all []
 values c (e ∷ es) = valuesBy (eval c e) (values c es)
 
--- ## the arguments of a receive, against the fields of the oldest message of channel v
+-- ## the arguments of a receive, against the fields of a message
 -- 1 where it agrees with field f, 0 where it differs; a variable agrees with every field, and is stored to later
-abbrev pub agree : {S : Type 0} → Stage S → ℤ → ℕ → Received → Answer
-agree c v f (into r) = pick (c .constant (nameOf r)) (equalBy (eval (c .scene) r) (c .oldest v f)) (Value (pos 1))
-agree c v f (equal e) = equalBy (eval (c .scene) e) (c .oldest v f)
-agree c v f (exactly n) = equalBy (Value (pos n)) (c .oldest v f)
-agree c v f exactly-true = equalBy (Value (pos 1)) (c .oldest v f)
-agree c v f exactly-false = equalBy (Value (pos 0)) (c .oldest v f)
+abbrev pub agree : {S : Type 0} → Stage S → Message → ℕ → Received → Answer
+agree c x f (into r) = pick (c .constant (nameOf r)) (equalBy (eval (c .scene) r) (x f)) (Value (pos 1))
+agree c x f (equal e) = equalBy (eval (c .scene) e) (x f)
+agree c x f (exactly n) = equalBy (Value (pos n)) (x f)
+agree c x f exactly-true = equalBy (Value (pos 1)) (x f)
+agree c x f exactly-false = equalBy (Value (pos 0)) (x f)
 
 -- "each constant and `eval` equals its field, tried left to right to the first difference"
 abbrev pub agreeBy : Answer → Answer → Answer
 agreeBy (Value v) y = pick (isTrue v) y (Value v)
 agreeBy (Fails f) y = Fails f
 
-unfoldable pub agrees : {S : Type 0} → Stage S → ℤ → ℕ → List Received → Answer
-agrees c v f [] = Value (pos 1)
-agrees c v f (x ∷ xs) = agreeBy (agree c v f x) (agrees c v (f + 1) xs)
+unfoldable pub agrees : {S : Type 0} → Stage S → Message → ℕ → List Received → Answer
+agrees c x f [] = Value (pos 1)
+agrees c x f (r ∷ rs) = agreeBy (agree c x f r) (agrees c x (f + 1) rs)
+
+-- ## what a receive finds in channel v: the oldest message alone is tried, where there is one
+abbrev pub finding : {S : Type 0} → Stage S → ℤ → List Received → Finding
+finding c v xs = findFrom (λ k. agrees c (c .message v k) 0 xs) 0 (min 1 (c .scene .waiting v))
 
 -- ## the targets of a receive: which number of its variable each argument means; one that is compared has none
 pub data Aims : Type 0 where

@@ -3,28 +3,28 @@
 -- start at 0 (002). `active [0]` starts none". Processes that begin, and the initial state.
 use Prim.Native.Nat.{ℕ, zero, suc, _+_}
 use mathlib.Core.List.{List, [], _∷_, _++_}
-use lib.ListN.{length, getD, replicate}
+use lib.ListN.{length, replicate}
 use lib.IntN.{ℤ, pos}
 use Rattle.base_values.specs.Types.{castOf}
 use Rattle.base_values.specs.Operators.{unaryOf}
-use Rattle.spec_grammar.specs.Tree.{Name, end, Value, unset, set-number, set-minus, set-true, set-false, set-name, set-channel, Body, body, Activity, idle, once, times, Part, mtypes, global, process, init, Model}
-use Rattle.parse_code.specs.Code.{each, code-group, code-activity, code-part}
+use Rattle.spec_grammar.specs.Tree.{end, Value, unset, set-number, set-minus, set-true, set-false, set-name, set-channel, Body, body, Part, mtypes, global, process, init, Model}
+use Rattle.spec_machine.specs.Sizes.{sum, sizeGroup, sizeActivity, sizePart}
 use Rattle.spec_rules.specs.Ceilings.{startedBy}
 use Rattle.spec_machine.specs.Program.{enter, startIn, endIn}
-use Rattle.spec_machine.specs.State.{Channel, Process, State}
-use Rattle.spec_machine.specs.Names.{Var, variablesOf, parametersOf, localsOf, globalIn, messagesOf, unitAt, messageFrom, numberOf}
+use Rattle.spec_machine.specs.State.{Channel, State}
+use Rattle.spec_machine.specs.Names.{Var, parametersOf, localsOf, globalIn, messagesOf, unitAt, messageFrom, numberOf}
 
--- ## where the items of a unit begin: a place is the number of an item of the tree's code
+-- ## where the numbers of a unit begin
 unfoldable pub itemsBefore : Model → ℕ → ℕ
 itemsBefore [] k = 0
 itemsBefore (u ∷ m) zero = 0
-itemsBefore (u ∷ m) (suc k) = length (code-part u) + itemsBefore m k
+itemsBefore (u ∷ m) (suc k) = sizePart u + itemsBefore m k
 
--- where a unit's body begins, if the unit's items begin at item i
+-- where a unit's body begins, if the unit's numbers begin with i
 abbrev pub bodyIn : Part → ℕ → ℕ
 bodyIn (mtypes ws) i = i
 bodyIn (global d) i = i
-bodyIn (process a w gs b) i = i + length (code-activity a w) + length (each code-group gs)
+bodyIn (process a w gs b) i = i + sizeActivity a + sum sizeGroup gs
 bodyIn (init b) i = i + 1
 
 abbrev pub bodyOf : Part → Body

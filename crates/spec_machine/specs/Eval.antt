@@ -10,7 +10,7 @@ use Rattle.base_values.specs.Operators.{isTrue, applyOf, unaryOf, truth}
 use Rattle.base_values.specs.declared.Fault.the-variants.{Index, Channel}
 use Rattle.base_values.specs.declared.Answer.{Answer}
 use Rattle.base_values.specs.declared.Answer.the-variants.{Value, Fails}
-use Rattle.spec_grammar.specs.Tree.{Name, Shape, Exp, plain, indexed, num, tru, fls, get, len, unary, binary, choice}
+use Rattle.spec_grammar.specs.Tree.{Name, Shape, Exp, plain, indexed, num, tru, fls, get, query, unary, binary, choice}
 
 -- what names and numbers of channels stand for, in a state and for a process
 pub record Scene : Type 0 where
@@ -75,7 +75,7 @@ eval c (num n) = Value (pos n)
 eval c tru = Value (pos 1)
 eval c fls = Value (pos 0)
 eval c (get r) = eval c r
-eval c (len r) = lengthBy c (eval c r)
+eval c (query o r) = lengthBy c (eval c r)
 eval c (unary o e) = signBy o (eval c e)
 eval c (binary o a b) = operateBy o (eval c a) (eval c b)
 eval c (choice a b d) = chooseBy (eval c a) (eval c b) (eval c d)

@@ -7,7 +7,8 @@ use mathlib.Core.List.{List, [], _∷_}
 use lib.IntN.{ℤ, pos}
 use Rattle.base_values.specs.declared.Fault.the-variants.{Divide}
 use Rattle.base_outcome.specs.declared.Taken.the-variants.{Done}
-use Rattle.spec_grammar.specs.Tree.{Expr, Received, action, Tree, plain, indexed, num, get, len, binary, into, equal, exactly, exactly-true, exactly-false, express, send, receive, unset, Declaration, mtypes, global, Model}
+use Rattle.spec_grammar.specs.Marks.{k-bang, k-ask, k-len}
+use Rattle.spec_grammar.specs.Tree.{Expr, Received, action, Tree, plain, indexed, num, get, query, binary, into, equal, exactly, exactly-true, exactly-false, leaf, express, send, receive, unset, Declaration, mtypes, global, Model}
 use Rattle.spec_machine.specs.State.{Channel, State}
 use Rattle.spec_machine.specs.Machine.{offered}
 use Rattle.spec_machine.specs.Steps.{machineOf}
@@ -25,10 +26,10 @@ abbrev waiting : List (List ℤ) → List Channel
 waiting l = channel-of 0 0 l ∷ []
 
 abbrev sends : Expr → Tree action
-sends e = send (plain c) (e ∷ [])
+sends e = leaf (send k-bang (plain c) (e ∷ []))
 
 abbrev receives : Received → Tree action
-receives r = receive (plain c) (r ∷ [])
+receives r = leaf (receive k-ask (plain c) (r ∷ []))
 
 -- a message goes behind those that wait
 behind-them : Turns bytes-and-x (sends (num 5)) (c-and-x (pos 0)) (waiting []) (c-and-x (pos 0)) (waiting (one (pos 5) ∷ []))
@@ -53,13 +54,13 @@ unfolding working
 empty = refl
 
 -- `len(c)==2`
-lengths : Turns bytes-and-x (express (binary 6 (len (plain c)) (num 2))) (c-and-x (pos 0)) (waiting (one (pos 5) ∷ one (pos 6) ∷ [])) (c-and-x (pos 0)) (waiting (one (pos 5) ∷ one (pos 6) ∷ []))
-    × WaitsAt bytes-and-x (express (binary 6 (len (plain c)) (num 2))) (c-and-x (pos 0)) (waiting (one (pos 5) ∷ []))
+lengths : Turns bytes-and-x (leaf (express (binary 6 (query k-len (plain c)) (num 2)))) (c-and-x (pos 0)) (waiting (one (pos 5) ∷ one (pos 6) ∷ [])) (c-and-x (pos 0)) (waiting (one (pos 5) ∷ one (pos 6) ∷ []))
+    × WaitsAt bytes-and-x (leaf (express (binary 6 (query k-len (plain c)) (num 2)))) (c-and-x (pos 0)) (waiting (one (pos 5) ∷ []))
 unfolding working
 lengths = (refl, refl)
 
 -- ## "Sent values are cast to field types": each to its own
-casts : Turns (channel c 1 (byte ∷ bit ∷ short ∷ int ∷ []) ∷ []) (send (plain c) (num 300 ∷ num 2 ∷ num 40000 ∷ num 40000 ∷ [])) (one (pos 1) ∷ []) (waiting [])
+casts : Turns (channel c 1 (byte ∷ bit ∷ short ∷ int ∷ []) ∷ []) (leaf (send k-bang (plain c) (num 300 ∷ num 2 ∷ num 40000 ∷ num 40000 ∷ []))) (one (pos 1) ∷ []) (waiting [])
     (one (pos 1) ∷ []) (waiting ((pos 44 ∷ pos 0 ∷ minus 25536 ∷ pos 40000 ∷ []) ∷ []))
 unfolding working
 casts = refl
@@ -104,32 +105,32 @@ abbrev a-at-i : Received
 a-at-i = into (indexed a (get (plain i)))
 
 -- `c?i,a[i]`: the old i, 0, is the index, and i becomes 1; the other way round it is the same
-old-index : Turns with-array (receive (plain c) (into (plain i) ∷ a-at-i ∷ [])) (values (pos 0) (pos 0) (pos 0)) (waiting message) (values (pos 1) (pos 7) (pos 0)) (waiting [])
-    × Turns with-array (receive (plain c) (a-at-i ∷ into (plain i) ∷ [])) (values (pos 0) (pos 0) (pos 0)) (waiting message) (values (pos 7) (pos 1) (pos 0)) (waiting [])
-    × Turns with-array (receive (plain c) (into (plain i) ∷ a-at-i ∷ [])) (values (pos 1) (pos 0) (pos 0)) (waiting message) (values (pos 1) (pos 0) (pos 7)) (waiting [])
+old-index : Turns with-array (leaf (receive k-ask (plain c) (into (plain i) ∷ a-at-i ∷ []))) (values (pos 0) (pos 0) (pos 0)) (waiting message) (values (pos 1) (pos 7) (pos 0)) (waiting [])
+    × Turns with-array (leaf (receive k-ask (plain c) (a-at-i ∷ into (plain i) ∷ []))) (values (pos 0) (pos 0) (pos 0)) (waiting message) (values (pos 7) (pos 1) (pos 0)) (waiting [])
+    × Turns with-array (leaf (receive k-ask (plain c) (into (plain i) ∷ a-at-i ∷ []))) (values (pos 1) (pos 0) (pos 0)) (waiting message) (values (pos 1) (pos 0) (pos 7)) (waiting [])
 unfolding working
 old-index = (refl, refl, refl)
 
 -- `c?i,i`: "stores go left to right"
-last-stays : Turns with-array (receive (plain c) (into (plain i) ∷ into (plain i) ∷ [])) (values (pos 0) (pos 0) (pos 0)) (waiting message) (values (pos 7) (pos 0) (pos 0)) (waiting [])
+last-stays : Turns with-array (leaf (receive k-ask (plain c) (into (plain i) ∷ into (plain i) ∷ []))) (values (pos 0) (pos 0) (pos 0)) (waiting message) (values (pos 7) (pos 0) (pos 0)) (waiting [])
 unfolding working
 last-stays = refl
 
 -- `c?i,eval(i)`: the test sees the old i
-old-test : WaitsAt with-array (receive (plain c) (into (plain i) ∷ equal (of i) ∷ [])) (values (pos 1) (pos 0) (pos 0)) (waiting message)
-    × Turns with-array (receive (plain c) (into (plain i) ∷ equal (of i) ∷ [])) (values (pos 7) (pos 0) (pos 0)) (waiting message) (values (pos 1) (pos 0) (pos 0)) (waiting [])
+old-test : WaitsAt with-array (leaf (receive k-ask (plain c) (into (plain i) ∷ equal (of i) ∷ []))) (values (pos 1) (pos 0) (pos 0)) (waiting message)
+    × Turns with-array (leaf (receive k-ask (plain c) (into (plain i) ∷ equal (of i) ∷ []))) (values (pos 7) (pos 0) (pos 0)) (waiting message) (values (pos 1) (pos 0) (pos 0)) (waiting [])
 unfolding working
 old-test = (refl, refl)
 
 -- "tried left to right to the first difference": behind 2 against 1 `eval(1/0)` is not worked out, behind 1 it is; in front of 2 it is
-first-difference : WaitsAt with-array (receive (plain c) (exactly 2 ∷ equal faulty ∷ [])) (values (pos 0) (pos 0) (pos 0)) (waiting message)
-    × FaultsAt with-array (receive (plain c) (exactly 1 ∷ equal faulty ∷ [])) (values (pos 0) (pos 0) (pos 0)) (waiting message) Divide
-    × FaultsAt with-array (receive (plain c) (equal faulty ∷ exactly 2 ∷ [])) (values (pos 0) (pos 0) (pos 0)) (waiting message) Divide
+first-difference : WaitsAt with-array (leaf (receive k-ask (plain c) (exactly 2 ∷ equal faulty ∷ []))) (values (pos 0) (pos 0) (pos 0)) (waiting message)
+    × FaultsAt with-array (leaf (receive k-ask (plain c) (exactly 1 ∷ equal faulty ∷ []))) (values (pos 0) (pos 0) (pos 0)) (waiting message) Divide
+    × FaultsAt with-array (leaf (receive k-ask (plain c) (equal faulty ∷ exactly 2 ∷ []))) (values (pos 0) (pos 0) (pos 0)) (waiting message) Divide
 unfolding working
 first-difference = (refl, refl, refl)
 
 -- `c?c,i`: the message goes out of the channel that c named before
-own-name : Turns with-array (receive (plain c) (into (plain c) ∷ into (plain i) ∷ [])) (values (pos 0) (pos 0) (pos 0)) (channel-of 0 0 ((pos 9 ∷ pos 7 ∷ []) ∷ []) ∷ [])
+own-name : Turns with-array (leaf (receive k-ask (plain c) (into (plain c) ∷ into (plain i) ∷ []))) (values (pos 0) (pos 0) (pos 0)) (channel-of 0 0 ((pos 9 ∷ pos 7 ∷ []) ∷ []) ∷ [])
     (one (pos 9) ∷ one (pos 7) ∷ (pos 0 ∷ pos 0 ∷ []) ∷ []) (waiting [])
 unfolding working
 own-name = refl
@@ -156,19 +157,19 @@ abbrev c-and-d : List (List ℤ)
 c-and-d = one (pos 1) ∷ one (pos 2) ∷ []
 
 abbrev to-d : Tree action
-to-d = send (plain d) (num 300 ∷ num 300 ∷ [])
+to-d = leaf (send k-bang (plain d) (num 300 ∷ num 300 ∷ []))
 
 -- `d!300,300`, though the first is full; `d?1,eval(2)` leaves the first as it is
 to-the-second : Turns second to-d c-and-d (both-held []) c-and-d (both-held ((pos 44 ∷ pos 300 ∷ []) ∷ []))
     × Turns second to-d c-and-d (both-held ((pos 1 ∷ pos 2 ∷ []) ∷ [])) c-and-d (both-held ((pos 1 ∷ pos 2 ∷ []) ∷ (pos 44 ∷ pos 300 ∷ []) ∷ []))
     × WaitsAt second to-d c-and-d (both-held ((pos 1 ∷ pos 2 ∷ []) ∷ (pos 1 ∷ pos 2 ∷ []) ∷ []))
-    × Turns second (receive (plain d) (exactly 1 ∷ equal (num 2) ∷ [])) c-and-d (both-held ((pos 1 ∷ pos 2 ∷ []) ∷ [])) c-and-d (both-held [])
+    × Turns second (leaf (receive k-ask (plain d) (exactly 1 ∷ equal (num 2) ∷ []))) c-and-d (both-held ((pos 1 ∷ pos 2 ∷ []) ∷ [])) c-and-d (both-held [])
 unfolding working
 to-the-second = (refl, refl, refl, refl)
 
 -- ## globals: `chan c=[2]of{byte};byte a[2];init{c?a[1]}`
 abbrev global-array : Model
-global-array = global (channel c 2 (byte ∷ [])) ∷ global (array byte a 2 unset) ∷ main [] (receive (plain c) (into (indexed a (num 1)) ∷ []) ∷ []) ∷ []
+global-array = global (channel c 2 (byte ∷ [])) ∷ global (array byte a 2 unset) ∷ main [] (leaf (receive k-ask (plain c) (into (indexed a (num 1)) ∷ [])) ∷ []) ∷ []
 
 abbrev global-at : ℕ → ℕ → List (List ℤ) → State
 global-at j v l = state (one (pos 1) ∷ (pos 0 ∷ pos v ∷ []) ∷ []) (process-at 2 j [] ∷ []) (channel-of 0 0 l ∷ [])

@@ -6,7 +6,8 @@ use mathlib.Core.Path.{refl}
 use mathlib.Core.List.{List, [], _∷_}
 use lib.IntN.{ℤ, pos}
 use Rattle.base_values.specs.declared.Fault.the-variants.{Divide, Shift, Index, Channel, Fields}
-use Rattle.spec_grammar.specs.Tree.{Expr, action, Tree, plain, indexed, num, get, len, binary, choice, into, equal, exactly, express, assign, increment, send, receive, unset, set-number, Declaration}
+use Rattle.spec_grammar.specs.Marks.{k-bang, k-ask, k-len}
+use Rattle.spec_grammar.specs.Tree.{Expr, action, Tree, plain, indexed, num, get, query, binary, choice, into, equal, exactly, leaf, express, assign, increment, send, receive, unset, set-number, Declaration}
 use Rattle.spec_machine.specs.State as states
 use Rattle.spec_machine.specs.ExamplesWords.{working, a, c, d, x, minus, byte, chan, int, neg, quotient, sum, faulty, scalar, array, channel, channel-of, one, Gives, Leaves, Faults, Turns, FaultsAt, WaitsAt}
 
@@ -15,7 +16,7 @@ abbrev x-only : List Declaration
 x-only = scalar int x unset ∷ []
 
 abbrev setting : Expr → Tree action
-setting e = assign (plain x) e
+setting e = leaf (assign (plain x) e)
 
 -- "zero divisor"
 divisors : Leaves x-only (setting (quotient (num 7) (num 1))) (one (pos 7) ∷ []) × Leaves x-only (setting (quotient (num 7) (neg (num 1)))) (one (minus 7) ∷ [])
@@ -34,17 +35,17 @@ abbrev a-only : List Declaration
 a-only = array byte a 2 unset ∷ []
 
 abbrev at-index : Expr → Tree action
-at-index e = assign (indexed a e) (num 7)
+at-index e = leaf (assign (indexed a e) (num 7))
 
 indices : Leaves a-only (at-index (num 0)) ((pos 7 ∷ pos 0 ∷ []) ∷ []) × Leaves a-only (at-index (num 1)) ((pos 0 ∷ pos 7 ∷ []) ∷ [])
-    × Faults a-only (at-index (num 2)) Index × Faults a-only (at-index (neg (num 1))) Index × Leaves a-only (increment (indexed a (num 1))) ((pos 0 ∷ pos 1 ∷ []) ∷ [])
-    × Faults a-only (increment (indexed a (num 2))) Index
+    × Faults a-only (at-index (num 2)) Index × Faults a-only (at-index (neg (num 1))) Index × Leaves a-only (leaf (increment (indexed a (num 1)))) ((pos 0 ∷ pos 1 ∷ []) ∷ [])
+    × Faults a-only (leaf (increment (indexed a (num 2)))) Index
 unfolding working
 indices = (refl, refl, refl, refl, refl, refl)
 
 -- `a[1]` is 5, as `a[0]` is; `a[2]` and `a[-1]` as tests count as executable
-reads : Leaves (array byte a 2 (set-number 5) ∷ []) (express (get (indexed a (num 1)))) ((pos 5 ∷ pos 5 ∷ []) ∷ [])
-    × Faults (array byte a 2 (set-number 5) ∷ []) (express (get (indexed a (num 2)))) Index × Faults (array byte a 2 (set-number 5) ∷ []) (express (get (indexed a (neg (num 1))))) Index
+reads : Leaves (array byte a 2 (set-number 5) ∷ []) (leaf (express (get (indexed a (num 1))))) ((pos 5 ∷ pos 5 ∷ []) ∷ [])
+    × Faults (array byte a 2 (set-number 5) ∷ []) (leaf (express (get (indexed a (num 2))))) Index × Faults (array byte a 2 (set-number 5) ∷ []) (leaf (express (get (indexed a (neg (num 1)))))) Index
 unfolding working
 reads = (refl, refl, refl)
 
@@ -53,17 +54,17 @@ abbrev c-and-d : ℕ → List Declaration
 c-and-d k = channel c 1 (byte ∷ []) ∷ scalar chan d (set-number k) ∷ []
 
 abbrev to-d : Tree action
-to-d = send (plain d) (num 5 ∷ [])
+to-d = leaf (send k-bang (plain d) (num 5 ∷ []))
 
 -- "a channel number that was never made": 0 and 2
 numbers : Gives (c-and-d 1) to-d (one (pos 1) ∷ one (pos 1) ∷ []) (channel-of 0 0 (one (pos 5) ∷ []) ∷ []) × Faults (c-and-d 0) to-d Channel × Faults (c-and-d 2) to-d Channel
-    × Faults (c-and-d 2) (receive (plain d) (exactly 5 ∷ [])) Channel
+    × Faults (c-and-d 2) (leaf (receive k-ask (plain d) (exactly 5 ∷ []))) Channel
 unfolding working
 numbers = (refl, refl, refl, refl)
 
 -- "`len` of an unmade channel too"
-lengths : Gives (c-and-d 1) (express (binary 6 (len (plain d)) (num 0))) (one (pos 1) ∷ one (pos 1) ∷ []) (channel-of 0 0 [] ∷ [])
-    × Faults (c-and-d 0) (express (binary 6 (len (plain d)) (num 0))) Channel × Faults (c-and-d 2) (express (binary 6 (len (plain d)) (num 0))) Channel
+lengths : Gives (c-and-d 1) (leaf (express (binary 6 (query k-len (plain d)) (num 0)))) (one (pos 1) ∷ one (pos 1) ∷ []) (channel-of 0 0 [] ∷ [])
+    × Faults (c-and-d 0) (leaf (express (binary 6 (query k-len (plain d)) (num 0)))) Channel × Faults (c-and-d 2) (leaf (express (binary 6 (query k-len (plain d)) (num 0)))) Channel
 unfolding working
 lengths = (refl, refl, refl)
 
@@ -72,7 +73,7 @@ abbrev pairs : List Declaration
 pairs = channel c 1 (byte ∷ byte ∷ []) ∷ []
 
 abbrev sending : List Expr → Tree action
-sending es = send (plain c) es
+sending es = leaf (send k-bang (plain c) es)
 
 -- no message waits, or one of 3 and 4
 abbrev empty : List states.Channel
@@ -82,13 +83,13 @@ abbrev full : List states.Channel
 full = channel-of 0 0 ((pos 3 ∷ pos 4 ∷ []) ∷ []) ∷ []
 
 counts : Gives pairs (sending (num 1 ∷ num 2 ∷ [])) (one (pos 1) ∷ []) (channel-of 0 0 ((pos 1 ∷ pos 2 ∷ []) ∷ []) ∷ [])
-    × Faults pairs (sending (num 1 ∷ [])) Fields × Faults pairs (sending (num 1 ∷ num 2 ∷ num 3 ∷ [])) Fields × Faults pairs (receive (plain c) (exactly 3 ∷ [])) Fields
+    × Faults pairs (sending (num 1 ∷ [])) Fields × Faults pairs (sending (num 1 ∷ num 2 ∷ num 3 ∷ [])) Fields × Faults pairs (leaf (receive k-ask (plain c) (exactly 3 ∷ []))) Fields
 unfolding working
 counts = (refl, refl, refl, refl)
 
 -- ## which comes first
 -- of an assignment the target's index, then the right side
-target-first : Faults a-only (assign (indexed a (num 2)) faulty) Index × Faults a-only (assign (indexed a (num 1)) faulty) Divide
+target-first : Faults a-only (leaf (assign (indexed a (num 2)) faulty)) Index × Faults a-only (leaf (assign (indexed a (num 1)) faulty)) Divide
 unfolding working
 target-first = (refl, refl)
 
@@ -105,12 +106,12 @@ both = channel c 1 (byte ∷ byte ∷ []) ∷ array byte a 2 unset ∷ []
 abbrev low : List (List ℤ)
 low = one (pos 1) ∷ (pos 0 ∷ pos 0 ∷ []) ∷ []
 
-receive-order : WaitsAt both (receive (plain c) (equal faulty ∷ into (indexed a (num 0)) ∷ [])) low empty
-    × FaultsAt both (receive (plain c) (equal faulty ∷ into (indexed a (num 0)) ∷ [])) low full Divide
-    × WaitsAt both (receive (plain c) (into (indexed a (num 2)) ∷ exactly 5 ∷ [])) low full
-    × FaultsAt both (receive (plain c) (into (indexed a (num 2)) ∷ equal faulty ∷ [])) low full Divide
-    × FaultsAt both (receive (plain c) (into (indexed a (num 2)) ∷ exactly 4 ∷ [])) low full Index
-    × Turns both (receive (plain c) (into (indexed a (num 1)) ∷ exactly 4 ∷ [])) low full (one (pos 1) ∷ (pos 0 ∷ pos 3 ∷ []) ∷ []) empty
+receive-order : WaitsAt both (leaf (receive k-ask (plain c) (equal faulty ∷ into (indexed a (num 0)) ∷ []))) low empty
+    × FaultsAt both (leaf (receive k-ask (plain c) (equal faulty ∷ into (indexed a (num 0)) ∷ []))) low full Divide
+    × WaitsAt both (leaf (receive k-ask (plain c) (into (indexed a (num 2)) ∷ exactly 5 ∷ []))) low full
+    × FaultsAt both (leaf (receive k-ask (plain c) (into (indexed a (num 2)) ∷ equal faulty ∷ []))) low full Divide
+    × FaultsAt both (leaf (receive k-ask (plain c) (into (indexed a (num 2)) ∷ exactly 4 ∷ []))) low full Index
+    × Turns both (leaf (receive k-ask (plain c) (into (indexed a (num 1)) ∷ exactly 4 ∷ []))) low full (one (pos 1) ∷ (pos 0 ∷ pos 3 ∷ []) ∷ []) empty
 unfolding working
 receive-order = (refl, refl, refl, refl, refl, refl)
 

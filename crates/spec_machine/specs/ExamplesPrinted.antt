@@ -5,18 +5,18 @@ use mathlib.Core.Path.{_≡_, refl}
 use mathlib.Core.List.{List, [], _∷_}
 use Rattle.base_kinds.specs.Kinds.{bytes}
 use Rattle.base_values.specs.declared.Fault.the-variants.{Divide}
-use Rattle.spec_grammar.specs.Tree.{Expr, action, Tree, num, assert, print, skip, set-minus, Declaration}
+use Rattle.spec_grammar.specs.Tree.{Expr, action, Tree, num, leaf, assert, print, skip, set-minus, Declaration}
 use Rattle.spec_machine.specs.Begins.{initial}
 use Rattle.spec_machine.specs.Steps.{machineOf}
 use Rattle.spec_machine.specs.Places.{startOf}
-use Rattle.spec_machine.specs.ExamplesWords.{working, x, byte, int, neg, sum, faulty, of, scalar, only, Faults}
+use Rattle.spec_machine.specs.ExamplesWords.{working, x, byte, int, neg, sum, faulty, of, scalar, only, offer, Faults}
 
 -- what the first statement of `init{DECLARATIONS;S}` prints at the start
 abbrev printed : List Declaration → Tree action → List ℕ
-printed ds s = machineOf (only ds s) .printed (initial (only ds s)) 0 (startOf (only ds s) 0)
+printed ds s = machineOf (only ds s) .printed (initial (only ds s)) (offer 0 1 (startOf (only ds s) 0))
 
 abbrev says : List ℕ → List Expr → List ℕ
-says w es = printed [] (print w es)
+says w es = printed [] (leaf (print w es))
 
 -- ## `%d` and `%%`
 plain-text : (says (bytes "O'Neill") [] ≡ bytes "O'Neill") × (says [] [] ≡ [])
@@ -39,7 +39,7 @@ unfolding working
 signed = (refl, refl, refl)
 
 -- the value, whatever its type: a byte that got -1, an int
-typed : (printed (scalar byte x (set-minus 1) ∷ []) (print (bytes "%d") (of x ∷ [])) ≡ bytes "255") × (printed (scalar int x (set-minus 1) ∷ []) (print (bytes "%d") (of x ∷ [])) ≡ bytes "-1")
+typed : (printed (scalar byte x (set-minus 1) ∷ []) (leaf (print (bytes "%d") (of x ∷ []))) ≡ bytes "255") × (printed (scalar int x (set-minus 1) ∷ []) (leaf (print (bytes "%d") (of x ∷ []))) ≡ bytes "-1")
 unfolding working
 typed = (refl, refl)
 
@@ -50,7 +50,7 @@ unfolding working
 escapes = (refl, refl, refl, refl, refl)
 
 -- ## nothing: a fault in a later value, in the first one, an assertion, `skip`
-nothing : (says (bytes "a%d%d") (num 1 ∷ faulty ∷ []) ≡ []) × (says (bytes "a%d") (faulty ∷ []) ≡ []) × Faults [] (print (bytes "a%d") (faulty ∷ [])) Divide × (printed [] (assert (num 0)) ≡ [])
-    × (printed [] skip ≡ [])
+nothing : (says (bytes "a%d%d") (num 1 ∷ faulty ∷ []) ≡ []) × (says (bytes "a%d") (faulty ∷ []) ≡ []) × Faults [] (leaf (print (bytes "a%d") (faulty ∷ []))) Divide × (printed [] (leaf (assert (num 0))) ≡ [])
+    × (printed [] (leaf skip) ≡ [])
 unfolding working
 nothing = (refl, refl, refl, refl, refl)

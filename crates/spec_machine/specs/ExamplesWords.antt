@@ -13,10 +13,11 @@ use Rattle.spec_grammar.specs.Tree.{Name, Expr, plain, num, get, unary, binary,
 use Rattle.spec_machine.specs.Effect.{Outcome, format}
 use Rattle.spec_machine.specs.State.{Channel, Process, State}
 use Rattle.spec_machine.specs.Begins.{initial}
-use Rattle.spec_machine.specs.Machine.{Step, offered, asked}
+use Rattle.spec_machine.specs.Machine.{Step, offered, asked, advance}
 use Rattle.spec_machine.specs.Steps.{machineOf}
 use Rattle.spec_machine.specs.Places.{startOf, endOf}
 use Rattle.spec_machine.specs.Examples.{machine}
+pub use Rattle.spec_machine.specs.Examples.{offer}
 
 -- to unfold this is to unfold all that the examples compute with
 unfoldable pub working : Unit {0}
@@ -158,13 +159,9 @@ abbrev pub one : ℤ → List ℤ
 one v = v ∷ []
 
 -- ## steps
--- process p, its k-th offered step, at place j
-abbrev pub offer : ℕ → ℕ → ℕ → Step
-offer p k j = record { process = p; number = k; place = j }
-
 abbrev pub takenBy : Model → State → Option Step → Outcome State
 takenBy t σ none = (Idle, σ)
-takenBy t σ (some s) = machineOf t .take σ (s .process) (s .place)
+takenBy t σ (some s) = advance (machineOf t) σ s
 
 -- what comes of the k-th offered step of process p; Idle, where there is none
 abbrev pub taken : Model → ℕ → ℕ → State → Outcome State

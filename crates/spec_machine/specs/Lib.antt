@@ -1,8 +1,10 @@
 pub mod Eval
+pub mod Messages
 pub mod Stage
 pub mod Arguments
 pub mod Ready
 pub mod Effect
+pub mod Sizes
 pub mod Program
 pub mod Offers
 pub mod StatementExamples
@@ -15,6 +17,7 @@ pub mod Steps
 pub mod Places
 pub mod Fits
 pub mod Examples
+pub mod ExamplesMessages
 pub mod ExamplesWords
 pub mod ExamplesStatements
 pub mod ExamplesFaults

@@ -1,37 +1,53 @@
 -- Document 01, "How it moves": "`else` and all the rest are judged with `timeout` not executable; it is executable exactly where nothing then is, in any process. Offered steps are listed by
 -- process number, then text order", "Verdicts: .. `finished` (all ended), `blocked`, `open` (some step offered)". A machine, whatever its states are: all that is seen of it and done from
--- outside; and over any machine the list of all offered steps and the verdict.
+-- outside; and over any machine the list of all offered steps, what a step does, and the verdict.
 use Prim.Native.Nat.{ℕ, zero, suc, _+_}
 use mathlib.Core.Bool.{Bool, true, false}
 use mathlib.Core.Option.{Option, none, some}
 use mathlib.Core.List.{List, [], _∷_, _++_}
 use lib.Dec.{eqb}
 use Rattle.base_bytes.specs.Choice.{pick}
+use Rattle.base_outcome.specs.declared.Partner.{Partner}
+use Rattle.base_outcome.specs.declared.Partner.the-variants.{Nobody}
+pub use Rattle.base_outcome.specs.declared.Step.{Step}
 use Rattle.spec_machine.specs.Effect.{Outcome}
 
--- ## a machine: all that is seen and done from outside. Steps are told by their process and their place
+-- ## moves and steps
+-- what a process is offered: a place, and a partner, which is the process and the place there that move along, or nobody
+pub record Move : Type 0 where
+  pub place : ℕ
+  pub partner : Partner
+
+-- moves of these places, along with nobody
+abbrev pub alone : List ℕ → List Move
+alone [] = []
+alone (q ∷ qs) = record { place = q; partner = Nobody } ∷ alone qs
+
+-- a step has its process, its number k among the steps of that process, from 1, its place and its partner (crate `base_outcome`): the k-th step of process p, which makes this move
+abbrev pub stepOf : ℕ → ℕ → Move → Step
+stepOf p k y = record { process = p; number = k; place = y .place; partner = y .partner }
+
+-- and the move that a step makes
+abbrev pub moveOf : Step → Move
+moveOf x = record { place = x .place; partner = x .partner }
+
+-- ## a machine: all that is seen and done from outside
 pub record Machine (S : Type 0) : Type 0 where
   pub processes : S → ℕ
-  -- the steps of a process, by their places, in text order; the test says whether `timeout` is executable
-  pub steps : S → Bool → ℕ → List ℕ
+  -- the moves of a process, in text order; the test says whether `timeout` is executable
+  pub steps : S → Bool → ℕ → List Move
   pub ended : S → ℕ → Bool
-  pub take : S → ℕ → ℕ → Outcome S
-  pub printed : S → ℕ → ℕ → List ℕ
+  pub take : S → Step → Outcome S
+  pub printed : S → Step → List ℕ
 
 -- ## over any machine
--- a step: its process, its number k among the steps of that process, from 1, and its place
-pub record Step : Type 0 where
-  pub process : ℕ
-  pub number : ℕ
-  pub place : ℕ
-
-abbrev pub numbered : ℕ → ℕ → List ℕ → List Step
+abbrev pub numbered : ℕ → ℕ → List Move → List Step
 numbered p k [] = []
-numbered p k (q ∷ qs) = record { process = p; number = k; place = q } ∷ numbered p (k + 1) qs
+numbered p k (y ∷ ys) = stepOf p k y ∷ numbered p (k + 1) ys
 
-abbrev pub isSome : List ℕ → Bool
+abbrev pub isSome : List Move → Bool
 isSome [] = false
-isSome (q ∷ qs) = true
+isSome (y ∷ ys) = true
 
 pub data Verdict : Type 0 where
   finished blocked «open» : Verdict
@@ -57,6 +73,10 @@ module _ {S : Type 0} (M : Machine S) where
   unfoldable pub asked : ℕ → ℕ → List Step → Option Step
   asked p k [] = none
   asked p k (x ∷ l) = pick (eqb (x .process) p) (pick (eqb (x .number) k) (some x) (asked p k l)) (asked p k l)
+
+  -- a step is taken, and then comes what follows every step: nothing today
+  unfoldable pub advance : S → Step → Outcome S
+  advance s x = M .take s x
 
   unfoldable pub endedFrom : S → ℕ → ℕ → Bool
   endedFrom s p zero = true

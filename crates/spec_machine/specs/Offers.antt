@@ -4,27 +4,13 @@ use Prim.Native.Nat.{ℕ, _+_}
 use mathlib.Core.Bool.{Bool}
 use mathlib.Core.List.{List, [], _∷_, _++_}
 use Rattle.base_bytes.specs.Choice.{pick}
-use Rattle.spec_grammar.specs.Tree.{Sort, action, Tree, express, assign, increment, decrement, send, receive, assert, print, skip, goto, break, timeout, else, run, set-run, select, loop, bare, labelled, end, then, over, option}
+use Rattle.spec_grammar.specs.Tree.{Sort, action, Tree, leaf, select, loop, bare, labelled, end, then, over, option, is-else}
 use Rattle.base_bytes.specs.Lists.{orElse}
-use Rattle.spec_machine.specs.Program.{sizeIn}
+use Rattle.spec_machine.specs.Sizes.{sizeIn}
 
 -- the place of a statement, if it is `else`
 abbrev pub elseOf : {k : Sort} → Tree k → ℕ → List ℕ
-elseOf (express e) i = []
-elseOf (assign r e) i = []
-elseOf (increment r) i = []
-elseOf (decrement r) i = []
-elseOf (send r es) i = []
-elseOf (receive r xs) i = []
-elseOf (assert e) i = []
-elseOf (print w es) i = []
-elseOf skip i = []
-elseOf (goto w) i = []
-elseOf break i = []
-elseOf timeout i = []
-elseOf else i = i ∷ []
-elseOf (run w es) i = []
-elseOf (set-run r w es) i = []
+elseOf (leaf l) i = pick (is-else l) (i ∷ []) []
 elseOf (select os) i = []
 elseOf (loop os) i = []
 elseOf (bare a) i = elseOf a i
@@ -35,27 +21,13 @@ elseOf (then s q) i = elseOf s i
 elseOf over i = []
 elseOf (option q os) i = elseOf q (i + 1) ++ elseOf os (i + 2 + sizeIn q)
 
--- `can a j` says whether the statement a, which is no selection, is executable at place j; the items of the tree begin at item i
+-- `can a j` says whether the statement a, which is no selection, is executable at place j; the numbers of the tree begin with i
 module _ (can : Tree action → ℕ → Bool) where
   abbrev pub itself : Tree action → ℕ → List ℕ
   itself a i = pick (can a i) (i ∷ []) []
 
   unfoldable pub offers : {k : Sort} → Tree k → ℕ → List ℕ
-  offers (express e) i = itself (express e) i
-  offers (assign r e) i = itself (assign r e) i
-  offers (increment r) i = itself (increment r) i
-  offers (decrement r) i = itself (decrement r) i
-  offers (send r es) i = itself (send r es) i
-  offers (receive r xs) i = itself (receive r xs) i
-  offers (assert e) i = itself (assert e) i
-  offers (print w es) i = itself (print w es) i
-  offers skip i = itself skip i
-  offers (goto w) i = itself (goto w) i
-  offers break i = itself break i
-  offers timeout i = itself timeout i
-  offers else i = itself else i
-  offers (run w es) i = itself (run w es) i
-  offers (set-run r w es) i = itself (set-run r w es) i
+  offers (leaf l) i = itself (leaf l) i
   offers (select os) i = orElse (offers os (i + 1)) (elseOf os (i + 1))
   offers (loop os) i = orElse (offers os (i + 1)) (elseOf os (i + 1))
   offers (bare a) i = offers a i

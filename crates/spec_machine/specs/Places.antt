@@ -2,7 +2,7 @@
 -- and labels may come later". The places of a unit, and what names stand for in its statements.
 use Prim.Native.Nat.{ℕ, zero, suc, _+_}
 use mathlib.Core.Path.{_≡_}
-use mathlib.Core.List.{List, [], _∷_, _++_}
+use mathlib.Core.List.{[], _∷_, _++_}
 use Rattle.spec_grammar.specs.Tree.{action, sequence, Tree, Body, body, Part, mtypes, global, process, init, Model}
 use Rattle.spec_rules.specs.Senses.{Scope}
 use Rattle.spec_rules.specs.Statements.{Place, labelsOf}
@@ -18,7 +18,7 @@ Bodied (global d) = ⊥
 Bodied (process a w gs b) = Unit {0}
 Bodied (init b) = Unit {0}
 
--- where the items of its body begin
+-- where the numbers of its body begin
 abbrev pub bodyAt : Model → ℕ → ℕ
 bodyAt m k = bodyIn (unitAt m k) (itemsBefore m k)
 

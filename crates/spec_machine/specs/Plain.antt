@@ -2,18 +2,19 @@
 -- its channels still fit", "Sent values are cast to field types", "a new one takes the next number". The stage of a process in a plain state: what its statements see there and can change.
 use Prim.Native.Nat.{ℕ, _+_, _-_}
 use mathlib.Core.Bool.{Bool, true, false}
-use mathlib.Core.List.{List, [], _∷_, _++_}
-use lib.ListN.{length, getD, set, drop}
+use mathlib.Core.List.{List, [], _∷_}
+use lib.ListN.{length, getD, set}
 use lib.IntN.{ℤ, pos}
 use lib.Dec.{ltb, leb}
 use Rattle.base_ceilings.specs.Ceilings.{channelsMost, processesMost}
 use Rattle.base_bytes.specs.Choice.{both}
 use Rattle.base_bytes.specs.Numbers.{nat}
 use Rattle.base_values.specs.Types.{castOf}
-use Rattle.spec_grammar.specs.Tree.{Name, Value, unset, set-number, set-minus, set-true, set-false, set-name, set-channel, Part, Model}
+use Rattle.spec_grammar.specs.Tree.{Value, unset, set-number, set-minus, set-true, set-false, set-name, set-channel, Part, Model}
 use Rattle.spec_rules.specs.Ceilings.{madeByBody}
 use Rattle.spec_machine.specs.Eval.{Scene}
 use Rattle.spec_machine.specs.Stage.{Stage}
+use Rattle.spec_machine.specs.Messages.{putAt, takeAt}
 use Rattle.spec_machine.specs.State.{Channel, Process, State, noChannel, noProcess}
 use Rattle.spec_machine.specs.Names.{Var, Meaning, local, global, message, self, unknown, variablesOf, unitAt, proctypeOf, meant}
 use Rattle.spec_machine.specs.Begins.{bodyOf, begins}
@@ -135,12 +136,12 @@ module _ (m : Model) (p : ℕ) where
         constant = λ w. isMessage (meant m u w);
         capacity = λ v. capacityIn (declaredBy m (channelAt σ v));
         fields = λ v. length (typesIn (declaredBy m (channelAt σ v)));
-        oldest = λ v f. getD (getD (channelAt σ v .held) 0 []) f (pos 0);
+        message = λ v k f. getD (getD (channelAt σ v .held) k []) f (pos 0);
         room = λ w. both (ltb (length (σ .processes)) processesMost) (leb (length (σ .channels) + madeByBody (bodyOf (unitAt m (proctypeOf m w)))) channelsMost);
         newest = pos (length (σ .processes));
         store = λ w k v x. stored (meant m u w) k v x;
-        put = λ v l x. withChannel (nat v - 1) (channelAt x v .held ++ castAll (typesIn (declaredBy m (channelAt x v))) l ∷ []) x;
-        take = λ v x. withChannel (nat v - 1) (drop 1 (channelAt x v .held)) x;
+        put = λ v k l x. withChannel (nat v - 1) (putAt k (castAll (typesIn (declaredBy m (channelAt x v))) l) (channelAt x v .held)) x;
+        take = λ v k x. withChannel (nat v - 1) (takeAt k (channelAt x v .held)) x;
         begin = λ w l x. begins m (proctypeOf m w) l x;
         go = λ n x. goes n x;
       }

@@ -1,32 +1,25 @@
 -- Document 01, "How it moves": "(an ended option leads past `fi`, or back to `do`)", "`goto` and `break` are steps of their own (H)". The statements of a model in text order, each with its
--- place and the place that follows it. A place is the number of the item in the tree's code (crate `parse_code`) with which a statement begins, behind its label; the end of a process is the
--- item that ends its body.
+-- place and the place that follows it. A place is the first of the numbers (specs/Sizes.antt) that a statement takes, behind its label; the end of a process is the last of those of its body.
 use Prim.Native.Nat.{ℕ, suc, _+_}
 use mathlib.Core.Path.{_≡_}
 use mathlib.Core.List.{List, _∷_}
-use lib.ListN.{length}
 use Rattle.base_bytes.specs.Choice.{pick}
 use Rattle.base_bytes.specs.Lists.{same}
-use Rattle.spec_grammar.specs.Tree.{Name, Sort, action, statement, sequence, options, Tree, express, assign, increment, decrement, send, receive, assert, print, skip, goto, break, timeout, else, run, set-run, select, loop, bare, labelled, end, then, over, option, Group, Body, body, Activity, Part, process, init, Model}
-use Rattle.base_codes.specs.Items.{i-local}
-use Rattle.parse_code.specs.Code.{each, code-tree, code-declaration, code-group, code-activity, code-part}
+use Rattle.spec_grammar.specs.Tree.{Name, Sort, action, statement, sequence, options, Tree, leaf, select, loop, bare, labelled, end, then, over, option, Group, Body, body, Activity, Part, process, init, Model}
+use Rattle.spec_machine.specs.Sizes.{sum, sizeIn, sizeDeclaration, sizeGroup, sizeActivity, sizePart}
 use Rattle.spec_machine.specs.Stage.{Ways}
 
--- how many items a tree has
-abbrev pub sizeIn : {k : Sort} → Tree k → ℕ
-sizeIn a = length (code-tree a)
-
--- the place of a statement whose items begin at item i: behind its label, which is two items
+-- the place of a statement whose numbers begin with i: behind its label, which takes two
 abbrev pub placeIn : Tree statement → ℕ → ℕ
 placeIn (bare a) i = i
 placeIn (labelled w a) i = i + 2
 
--- where a sequence whose items begin at item i leads: to its first statement, or, if it has none, to n
+-- where a sequence whose numbers begin with i leads: to its first statement, or, if it has none, to n
 abbrev pub enter : Tree sequence → ℕ → ℕ → ℕ
 enter end i n = n
 enter (then s q) i n = placeIn s i
 
--- `Within k t i n o a j m u`: in the tree t of sort k, whose items begin at item i, behind which place n follows, and whose loop place o is behind, the statement a has the place j, place m follows it, and
+-- `Within k t i n o a j m u`: in the tree t of sort k, whose numbers begin with i, behind which place n follows, and whose loop place o is behind, the statement a has the place j, place m follows it, and
 -- place u is behind its loop
 pub data Within : (k : Sort) → Tree k → ℕ → ℕ → ℕ → Tree action → ℕ → ℕ → ℕ → Type 0 where
   itself : {a : Tree action} {i n o : ℕ} → Within action a i n o a i n o
@@ -38,27 +31,13 @@ pub data Within : (k : Sort) → Tree k → ℕ → ℕ → ℕ → Tree action 
   -- each statement of a sequence leads to the next
   in-first : {s : Tree statement} {q : Tree sequence} {i n o : ℕ} {a : Tree action} {j m u : ℕ} → Within statement s i (enter q (i + sizeIn s) n) o a j m u → Within sequence (then s q) i n o a j m u
   in-rest : {s : Tree statement} {q : Tree sequence} {i n o : ℕ} {a : Tree action} {j m u : ℕ} → Within sequence q (i + sizeIn s) n o a j m u → Within sequence (then s q) i n o a j m u
-  -- an option stands between two items of its own
+  -- an option stands between two numbers of its own
   in-option : {q : Tree sequence} {os : Tree options} {i n o : ℕ} {a : Tree action} {j m u : ℕ} → Within sequence q (i + 1) n o a j m u → Within options (option q os) i n o a j m u
   in-others : {q : Tree sequence} {os : Tree options} {i n o : ℕ} {a : Tree action} {j m u : ℕ} → Within options os (i + 2 + sizeIn q) n o a j m u → Within options (option q os) i n o a j m u
 
--- the place of the first statement with the label w in the tree, whose items begin at item i; d, if there is none
+-- the place of the first statement with the label w in the tree, whose numbers begin with i; d, if there is none
 abbrev pub labelIn : Name → {k : Sort} → Tree k → ℕ → ℕ → ℕ
-labelIn w (express e) i d = d
-labelIn w (assign r e) i d = d
-labelIn w (increment r) i d = d
-labelIn w (decrement r) i d = d
-labelIn w (send r es) i d = d
-labelIn w (receive r xs) i d = d
-labelIn w (assert e) i d = d
-labelIn w (print v es) i d = d
-labelIn w skip i d = d
-labelIn w (goto v) i d = d
-labelIn w break i d = d
-labelIn w timeout i d = d
-labelIn w else i d = d
-labelIn w (run v es) i d = d
-labelIn w (set-run r v es) i d = d
+labelIn w (leaf l) i d = d
 labelIn w (select os) i d = labelIn w os (i + 1) d
 labelIn w (loop os) i d = labelIn w os (i + 1) d
 labelIn w (bare a) i d = labelIn w a i d
@@ -69,15 +48,15 @@ labelIn w over i d = d
 labelIn w (option q os) i d = labelIn w q (i + 1) (labelIn w os (i + 2 + sizeIn q) d)
 
 -- ## bodies
--- `Holds m i u b k`: in the units m, whose items begin at item i, the unit that item u begins has the body b, whose items begin at item k
+-- `Holds m i u b k`: in the units m, whose numbers begin with i, the unit that is known by the number u (the last of its head) has the body b, whose numbers begin with k
 pub data Holds : Model → ℕ → ℕ → Body → ℕ → Type 0 where
-  in-process : {x : Activity} {w : Name} {gs : List Group} {b : Body} {m : Model} {i u k : ℕ} → suc u ≡ i + length (code-activity x w) → k ≡ suc u + length (each code-group gs) → Holds (process x w gs b ∷ m) i u b k
+  in-process : {x : Activity} {w : Name} {gs : List Group} {b : Body} {m : Model} {i u k : ℕ} → suc u ≡ i + sizeActivity x → k ≡ suc u + sum sizeGroup gs → Holds (process x w gs b ∷ m) i u b k
   in-init : {b : Body} {m : Model} {i k : ℕ} → k ≡ i + 1 → Holds (init b ∷ m) i i b k
-  later : {x : Part} {m : Model} {i u k : ℕ} {b : Body} → Holds m (i + length (code-part x)) u b k → Holds (x ∷ m) i u b k
+  later : {x : Part} {m : Model} {i u k : ℕ} {b : Body} → Holds m (i + sizePart x) u b k → Holds (x ∷ m) i u b k
 
--- where the statements of a body begin whose items begin at item k, behind `body` and the declarations, and where it ends
+-- where the statements of a body begin whose numbers begin with k, behind its `{` and the declarations, and where it ends
 abbrev pub startIn : Body → ℕ → ℕ
-startIn (body ds q) k = k + 1 + length (each (code-declaration i-local) ds)
+startIn (body ds q) k = k + 1 + sum sizeDeclaration ds
 
 abbrev pub endIn : Body → ℕ → ℕ
 endIn (body ds q) k = startIn (body ds q) k + sizeIn q
@@ -85,7 +64,7 @@ endIn (body ds q) k = startIn (body ds q) k + sizeIn q
 abbrev pub sequenceOf : Body → Tree sequence
 sequenceOf (body ds q) = q
 
--- in the model m, the unit that item u begins has the statement a at place j, and h are the ways from there
+-- in the model m, the unit of the number u has the statement a at place j, and h are the ways from there
 pub record Statement (m : Model) (u : ℕ) (a : Tree action) (j : ℕ) (h : Ways) : Type 0 where
   pub own : Body
   pub at : ℕ
@@ -93,7 +72,7 @@ pub record Statement (m : Model) (u : ℕ) (a : Tree action) (j : ℕ) (h : Ways
   pub inside : Within sequence (sequenceOf own) (startIn own at) (endIn own at) 0 a j (h .next) (h .out)
   pub labels : (w : Name) → h .label w ≡ labelIn w (sequenceOf own) (startIn own at) 0
 
--- that unit ends at item j
+-- that unit ends at place j
 pub record BodyEnd (m : Model) (u j : ℕ) : Type 0 where
   pub own : Body
   pub at : ℕ

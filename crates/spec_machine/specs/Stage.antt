@@ -7,6 +7,10 @@ use lib.IntN.{ℤ}
 use Rattle.spec_grammar.specs.Tree.{Name}
 use Rattle.spec_machine.specs.Eval.{Scene}
 
+-- a message, wherever it lies: the value of each field, from 0
+abbrev pub Message : Type 0
+Message = ℕ → ℤ
+
 -- what becomes of a state, whatever states are
 abbrev pub Change : Type 0 → Type 0
 Change S = S → S
@@ -17,19 +21,19 @@ pub record Stage (S : Type 0) : Type 0 where
   pub scene : Scene
   -- this name is an mtype name
   pub constant : Name → Bool
-  -- a channel that was made, by its number: how many messages it can hold, how many fields each has, and the fields of its oldest one, from 0
+  -- a channel that was made, by its number: how many messages it can hold, how many fields each has, and each of its messages, from 0, the oldest first
   pub capacity : ℤ → ℕ
   pub fields : ℤ → ℕ
-  pub oldest : ℤ → ℕ → ℤ
+  pub message : ℤ → ℕ → Message
   -- a process of this proctype and its channels still fit, and the number that it would take
   pub room : Name → Bool
   pub newest : ℤ
   -- ## what can be changed
   -- a value stored in number k of a variable: "Storing keeps low bits"
   pub store : Name → ℕ → ℤ → Change S
-  -- one more message of these values in a channel: "Sent values are cast to field types"; the oldest one taken out
-  pub put : ℤ → List ℤ → Change S
-  pub take : ℤ → Change S
+  -- a message of these values put in a channel as its message k: "Sent values are cast to field types"; its message k taken out
+  pub put : ℤ → ℕ → List ℤ → Change S
+  pub take : ℤ → ℕ → Change S
   -- one more process of this proctype, with these arguments
   pub begin : Name → List ℤ → Change S
   -- the process itself goes on at this place

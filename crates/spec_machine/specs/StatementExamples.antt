@@ -15,9 +15,11 @@ use Rattle.base_values.specs.declared.Fault.the-variants.{Divide, Index, Fields
 use Rattle.base_values.specs.declared.Answer.{Answer}
 use Rattle.base_values.specs.declared.Answer.the-variants.{Value, Fails}
 use Rattle.base_outcome.specs.declared.Taken.the-variants.{Done, Faulted}
-use Rattle.spec_grammar.specs.Tree.{Name, Expr, Tree, action, plain, indexed, num, get, binary, choice, into, express, send, receive, skip, else, select, bare, labelled, end, then, over, option}
+use Rattle.spec_grammar.specs.Marks.{k-bang, k-ask}
+use Rattle.spec_grammar.specs.Tree.{Name, Expr, Tree, action, plain, indexed, num, get, binary, choice, into, leaf, express, send, receive, skip, else, select, bare, labelled, end, then, over, option}
 use Rattle.spec_machine.specs.Eval.{eval}
 use Rattle.spec_machine.specs.Stage.{Stage, Ways}
+use Rattle.spec_machine.specs.Messages.{findFrom}
 use Rattle.spec_machine.specs.Arguments.{values, agrees, targets}
 use Rattle.spec_machine.specs.Ready.{ready}
 use Rattle.spec_machine.specs.Effect.{deliveries, effect}
@@ -52,12 +54,12 @@ small most s =
       constant = λ w. false;
       capacity = λ v. most;
       fields = λ v. 2;
-      oldest = λ v f. pick (eqb f 0) (pos 1) (pos 7);
+      message = λ v k f. pick (eqb f 0) (pos 1) (pos 7);
       room = λ w. false;
       newest = pos 1;
       store = λ w k v x. set x (slot w + k) v;
-      put = λ v l x. x;
-      take = λ v x. x;
+      put = λ v k l x. x;
+      take = λ v k x. x;
       begin = λ w l x. x;
       go = λ n x. x;
     }
@@ -71,7 +73,7 @@ ways = record { next = 9; out = 0; label = λ w. 0 }
 
 -- ## `if::GUARD;skip::else fi`, whose items begin at item 10: the guard has place 12, `else` place 17
 abbrev chosen : Expr → Tree action
-chosen guard = select (option (then (bare (express guard)) (then (bare skip) end)) (option (then (bare else) end) over))
+chosen guard = select (option (then (bare (leaf (express guard))) (then (bare (leaf skip)) end)) (option (then (bare (leaf else)) end) over))
 
 abbrev offered : Expr → List ℕ
 offered guard = offers (λ x j. ready (small 1 before) false x) (chosen guard) 10
@@ -90,27 +92,27 @@ unfolding offers ready eval applyOf divideOf
 faulty-guard = refl
 
 -- ## `c!1,2` where one message waits
-full : ready (small 1 before) false (send (plain c) (num 1 ∷ num 2 ∷ [])) ≡ false
+full : ready (small 1 before) false (leaf (send k-bang (plain c) (num 1 ∷ num 2 ∷ []))) ≡ false
 unfolding ready same
 full = refl
 
-free : ready (small 2 before) false (send (plain c) (num 1 ∷ num 2 ∷ [])) ≡ true
+free : ready (small 2 before) false (leaf (send k-bang (plain c) (num 1 ∷ num 2 ∷ []))) ≡ true
 unfolding ready same
 free = refl
 
 -- one argument for two fields: a fault, so executable, and with it taken the state stays
-short : (ready (small 1 before) false (send (plain c) (num 1 ∷ [])) ≡ true) × (effect (small 1 before) ways before (send (plain c) (num 1 ∷ [])) ≡ (Faulted Fields, before))
+short : (ready (small 1 before) false (leaf (send k-bang (plain c) (num 1 ∷ []))) ≡ true) × (effect (small 1 before) ways before (leaf (send k-bang (plain c) (num 1 ∷ []))) ≡ (Faulted Fields, before))
 unfolding ready effect values eval same
 short = (refl, refl)
 
 -- ## `c?i,a[i]`: the index is the old i, so a[0] gets 7 and i gets 1
-old-index : effect (small 1 before) ways before (receive (plain c) (into (plain i) ∷ into (indexed a (get (plain i))) ∷ [])) ≡ (Done, pos 1 ∷ pos 7 ∷ pos 0 ∷ pos 1 ∷ [])
-unfolding effect agrees targets deliveries eval same
+old-index : effect (small 1 before) ways before (leaf (receive k-ask (plain c) (into (plain i) ∷ into (indexed a (get (plain i))) ∷ []))) ≡ (Done, pos 1 ∷ pos 7 ∷ pos 0 ∷ pos 1 ∷ [])
+unfolding effect agrees findFrom targets deliveries eval same
 old-index = refl
 
 -- `c?i,a[2]`: an index out of range changes nothing, i neither
-past-end : effect (small 1 before) ways before (receive (plain c) (into (plain i) ∷ into (indexed a (num 2)) ∷ [])) ≡ (Faulted Index, before)
-unfolding effect agrees targets deliveries eval same
+past-end : effect (small 1 before) ways before (leaf (receive k-ask (plain c) (into (plain i) ∷ into (indexed a (num 2)) ∷ []))) ≡ (Faulted Index, before)
+unfolding effect agrees findFrom targets deliveries eval same
 past-end = refl
 
 -- ## "`&&`, `||` and the conditional evaluate only what they need", and give 0 or 1
@@ -132,6 +134,6 @@ unfolding eval applyOf divideOf same
 left-first = (refl, refl, refl)
 
 -- ## `skip;i:skip`, whose items begin at item 10: a `goto i` leads to the second `skip`, behind its label
-labelled-place : labelIn i (then (bare skip) (then (labelled i skip) end)) 10 0 ≡ 13
+labelled-place : labelIn i (then (bare (leaf skip)) (then (labelled i (leaf skip)) end)) 10 0 ≡ 13
 unfolding same
 labelled-place = refl

@@ -1,25 +1,26 @@
 -- Document 01, "How it moves": "Offered steps are listed by process number, then text order", "(an ended option leads past `fi`, or back to `do`)", "An ended one keeps its number for the
 -- whole run". The machine of a model: what each process is offered and does in a plain state.
-use Prim.Native.Nat.{ℕ, zero, suc, _+_, _-_}
-use mathlib.Core.Bool.{Bool, true, false}
-use mathlib.Core.List.{List, [], _∷_, _++_}
+use Prim.Native.Nat.{ℕ, _+_}
+use mathlib.Core.Bool.{Bool}
+use mathlib.Core.List.{List, []}
 use lib.ListN.{length, getD}
-use lib.Dec.{eqb, ltb}
+use lib.Dec.{eqb}
 use Rattle.base_bytes.specs.Choice.{pick}
-use Rattle.spec_grammar.specs.Tree.{Name, Sort, action, Tree, express, assign, increment, decrement, send, receive, assert, print, skip, goto, break, timeout, else, run, set-run, select, loop, bare, labelled, end, then, over, option, Model}
+use Rattle.spec_grammar.specs.Tree.{Sort, action, Tree, leaf, select, loop, bare, labelled, end, then, over, option, Model}
 use Rattle.base_outcome.specs.declared.Taken.the-variants.{Idle}
 use Rattle.spec_machine.specs.Stage.{Stage, Ways}
 use Rattle.spec_machine.specs.Ready.{ready}
 use Rattle.spec_machine.specs.Effect.{Outcome, effect, prints}
 use Rattle.spec_machine.specs.Offers.{offers}
-use Rattle.spec_machine.specs.Program.{sizeIn, enter, labelIn, startIn, endIn, sequenceOf}
+use Rattle.spec_machine.specs.Sizes.{sizeIn}
+use Rattle.spec_machine.specs.Program.{enter, labelIn, startIn, endIn, sequenceOf}
 use Rattle.spec_machine.specs.State.{Process, State, noProcess}
 use Rattle.spec_machine.specs.Names.{unitAt}
 use Rattle.spec_machine.specs.Begins.{itemsBefore, bodyIn, bodyOf}
 use Rattle.spec_machine.specs.Plain.{plainStage}
-use Rattle.spec_machine.specs.Machine.{Machine}
+use Rattle.spec_machine.specs.Machine.{Machine, alone}
 
--- ## the statement at a place: the tree's items begin at item i, place n follows it, its loop ends before place o
+-- ## the statement at a place: the tree's numbers begin with i, place n follows it, its loop ends before place o
 pub data Found : Type 0 where
   nothing : Found
   -- the statement, the place that follows, the place behind its loop
@@ -33,21 +34,7 @@ abbrev pub here : Tree action → ℕ → ℕ → ℕ → ℕ → Found
 here a i n o j = pick (eqb i j) (found a n o) nothing
 
 unfoldable pub statementAt : {k : Sort} → Tree k → ℕ → ℕ → ℕ → ℕ → Found
-statementAt (express e) i n o j = here (express e) i n o j
-statementAt (assign r e) i n o j = here (assign r e) i n o j
-statementAt (increment r) i n o j = here (increment r) i n o j
-statementAt (decrement r) i n o j = here (decrement r) i n o j
-statementAt (send r es) i n o j = here (send r es) i n o j
-statementAt (receive r xs) i n o j = here (receive r xs) i n o j
-statementAt (assert e) i n o j = here (assert e) i n o j
-statementAt (print w es) i n o j = here (print w es) i n o j
-statementAt skip i n o j = here skip i n o j
-statementAt (goto w) i n o j = here (goto w) i n o j
-statementAt break i n o j = here break i n o j
-statementAt timeout i n o j = here timeout i n o j
-statementAt else i n o j = here else i n o j
-statementAt (run w es) i n o j = here (run w es) i n o j
-statementAt (set-run r w es) i n o j = here (set-run r w es) i n o j
+statementAt (leaf l) i n o j = here (leaf l) i n o j
 -- "an ended option leads past `fi`, or back to `do`"; `break` leads past `od`
 statementAt (select os) i n o j = orFound (here (select os) i n o j) (statementAt os (i + 1) n o j)
 statementAt (loop os) i n o j = orFound (here (loop os) i n o j) (statementAt os (i + 1) i n j)
@@ -100,5 +87,13 @@ module _ (m : Model) (σ : State) (p : ℕ) where
   unfoldable pub printOf : ℕ → List ℕ
   printOf j = printBy (standing j)
 
+-- no statement has a partner
 abbrev pub machineOf : Model → Machine State
-machineOf m = record { processes = λ σ. length (σ .processes); steps = λ σ late p. stepsOf m σ p late; ended = λ σ p. endedOf m σ p; take = λ σ p j. takeOf m σ p j; printed = λ σ p j. printOf m σ p j }
+machineOf m =
+    record {
+      processes = λ σ. length (σ .processes);
+      steps = λ σ late p. alone (stepsOf m σ p late);
+      ended = λ σ p. endedOf m σ p;
+      take = λ σ x. takeOf m σ (x .process) (x .place);
+      printed = λ σ x. printOf m σ (x .process) (x .place);
+    }

@@ -1,1 +1,1 @@
-// The machine of the specification is definitions alone (specs/).
+// The machine of the specification is definitions alone (specs/), and the laws of messages (proofs/).

@@ -7,7 +7,7 @@ use mathlib.Core.Option.{none, some}
 use mathlib.Core.List.{[], _∷_}
 use lib.ListN.{replicate}
 use Rattle.base_kinds.specs.Kinds.{bytes}
-use Rattle.spec_grammar.specs.Tree.{Name, num, action, sequence, Tree, print, skip, else, select, loop, bare, labelled, end, then, over, option}
+use Rattle.spec_grammar.specs.Tree.{Name, num, action, sequence, Tree, leaf, print, skip, else, select, loop, bare, labelled, end, then, over, option}
 use Rattle.spec_grammar.specs.Tree.{unset, set-number, set-channel, Declaration, declare, group, body, Activity, idle, once, times, Part, mtypes, global, process, init, Model}
 use Rattle.spec_grammar.specs.Tree as tree
 use Rattle.spec_rules.specs.Ceilings.{modest}
@@ -27,17 +27,17 @@ one s = then (bare s) end
 -- n statements before others
 abbrev skips : ℕ → Tree sequence → Tree sequence
 skips zero q = q
-skips (suc n) q = then (bare skip) (skips n q)
+skips (suc n) q = then (bare (leaf skip)) (skips n q)
 
 -- `init{STATEMENTS}`, `init{skip}`, and `ACTIVITY proctype x(){skip}`
 abbrev only : Tree sequence → Model
 only q = init (body [] q) ∷ []
 
 abbrev rest : Part
-rest = init (body [] (one skip))
+rest = init (body [] (one (leaf skip)))
 
 abbrev proctype : Activity → Part
-proctype k = process k x [] (body [] (one skip))
+proctype k = process k x [] (body [] (one (leaf skip)))
 
 -- n scalars, an array of n, a channel
 abbrev scalars : ℕ → Declaration
@@ -60,13 +60,13 @@ unfolding modest
 statements-of-two-bodies = (refl, refl)
 
 -- `if::skip::else fi` has three statements, `do::x:skip od` two
-selection-counts : (modest (only (skips 509 (one (select (option (one skip) (option (one else) over)))))) ≡ true)
-    × (modest (only (skips 510 (one (select (option (one skip) (option (one else) over)))))) ≡ false)
+selection-counts : (modest (only (skips 509 (one (select (option (one (leaf skip)) (option (one (leaf else)) over)))))) ≡ true)
+    × (modest (only (skips 510 (one (select (option (one (leaf skip)) (option (one (leaf else)) over)))))) ≡ false)
 unfolding modest
 selection-counts = (refl, refl)
 
-label-does-not-count : (modest (only (skips 510 (one (loop (option (then (labelled x skip) end) over))))) ≡ true)
-    × (modest (only (skips 511 (one (loop (option (then (labelled x skip) end) over))))) ≡ false)
+label-does-not-count : (modest (only (skips 510 (one (loop (option (then (labelled x (leaf skip)) end) over))))) ≡ true)
+    × (modest (only (skips 511 (one (loop (option (then (labelled x (leaf skip)) end) over))))) ≡ false)
 unfolding modest
 label-does-not-count = (refl, refl)
 
@@ -85,29 +85,29 @@ global-numbers-64 : (modest (global (scalars 64) ∷ rest ∷ []) ≡ true) × (
 unfolding modest
 global-numbers-64 = (refl, refl, refl, refl)
 
-process-numbers-32 : (modest (init (body (scalars 32 ∷ []) (one skip)) ∷ []) ≡ true) × (modest (init (body (array 31 ∷ scalars 1 ∷ []) (one skip)) ∷ []) ≡ true)
-    × (modest (init (body (scalars 33 ∷ []) (one skip)) ∷ []) ≡ false) × (modest (init (body (array 32 ∷ scalars 1 ∷ []) (one skip)) ∷ []) ≡ false)
+process-numbers-32 : (modest (init (body (scalars 32 ∷ []) (one (leaf skip))) ∷ []) ≡ true) × (modest (init (body (array 31 ∷ scalars 1 ∷ []) (one (leaf skip))) ∷ []) ≡ true)
+    × (modest (init (body (scalars 33 ∷ []) (one (leaf skip))) ∷ []) ≡ false) × (modest (init (body (array 32 ∷ scalars 1 ∷ []) (one (leaf skip))) ∷ []) ≡ false)
 unfolding modest
 process-numbers-32 = (refl, refl, refl, refl)
 
-parameters-count : (modest (rest ∷ process idle x (group int (replicate 2 x) ∷ group chan (x ∷ []) ∷ []) (body (scalars 29 ∷ []) (one skip)) ∷ []) ≡ true)
-    × (modest (rest ∷ process idle x (group int (replicate 2 x) ∷ group chan (x ∷ []) ∷ []) (body (scalars 30 ∷ []) (one skip)) ∷ []) ≡ false)
+parameters-count : (modest (rest ∷ process idle x (group int (replicate 2 x) ∷ group chan (x ∷ []) ∷ []) (body (scalars 29 ∷ []) (one (leaf skip))) ∷ []) ≡ true)
+    × (modest (rest ∷ process idle x (group int (replicate 2 x) ∷ group chan (x ∷ []) ∷ []) (body (scalars 30 ∷ []) (one (leaf skip))) ∷ []) ≡ false)
 unfolding modest
 parameters-count = (refl, refl)
 
 -- each body for itself, and none of the global ones
-numbers-per-process : modest (global (scalars 64) ∷ init (body (scalars 32 ∷ []) (one skip)) ∷ process once x [] (body (scalars 32 ∷ []) (one skip)) ∷ []) ≡ true
+numbers-per-process : modest (global (scalars 64) ∷ init (body (scalars 32 ∷ []) (one (leaf skip))) ∷ process once x [] (body (scalars 32 ∷ []) (one (leaf skip))) ∷ []) ≡ true
 unfolding modest
 numbers-per-process = refl
 
 -- ## "printf arguments 4", wherever it stands
-printf-arguments-4 : (modest (only (one (print [] (replicate 4 (num 1))))) ≡ true) × (modest (only (one (print [] (replicate 5 (num 1))))) ≡ false)
+printf-arguments-4 : (modest (only (one (leaf (print [] (replicate 4 (num 1)))))) ≡ true) × (modest (only (one (leaf (print [] (replicate 5 (num 1)))))) ≡ false)
 unfolding modest
 printf-arguments-4 = (refl, refl)
 
-printf-in-a-selection : (modest (only (one (loop (option (skips 1 (one (print [] (replicate 4 (num 1))))) over)))) ≡ true)
-    × (modest (only (one (loop (option (skips 1 (one (print [] (replicate 5 (num 1))))) over)))) ≡ false)
-    × (modest (rest ∷ process idle x [] (body [] (one (print [] (replicate 5 (num 1))))) ∷ []) ≡ false)
+printf-in-a-selection : (modest (only (one (loop (option (skips 1 (one (leaf (print [] (replicate 4 (num 1)))))) over)))) ≡ true)
+    × (modest (only (one (loop (option (skips 1 (one (leaf (print [] (replicate 5 (num 1)))))) over)))) ≡ false)
+    × (modest (rest ∷ process idle x [] (body [] (one (leaf (print [] (replicate 5 (num 1)))))) ∷ []) ≡ false)
 unfolding modest
 printf-in-a-selection = (refl, refl, refl)
 
@@ -127,14 +127,14 @@ channels-16 : (modest (global (channels 16) ∷ rest ∷ []) ≡ true) × (modes
 unfolding modest
 channels-16 = (refl, refl)
 
-channels-of-processes : (modest (global (channels 4) ∷ process (times 4) x [] (body (channels 3 ∷ []) (one skip)) ∷ []) ≡ true)
-    × (modest (global (channels 5) ∷ process (times 4) x [] (body (channels 3 ∷ []) (one skip)) ∷ []) ≡ false)
-    × (modest (global (channels 16) ∷ init (body (channels 1 ∷ []) (one skip)) ∷ []) ≡ false)
+channels-of-processes : (modest (global (channels 4) ∷ process (times 4) x [] (body (channels 3 ∷ []) (one (leaf skip))) ∷ []) ≡ true)
+    × (modest (global (channels 5) ∷ process (times 4) x [] (body (channels 3 ∷ []) (one (leaf skip))) ∷ []) ≡ false)
+    × (modest (global (channels 16) ∷ init (body (channels 1 ∷ []) (one (leaf skip))) ∷ []) ≡ false)
 unfolding modest
 channels-of-processes = (refl, refl, refl)
 
-channels-of-none : (modest (process idle x [] (body (channels 17 ∷ []) (one skip)) ∷ rest ∷ []) ≡ true)
-    × (modest (process (times 0) x [] (body (channels 17 ∷ []) (one skip)) ∷ rest ∷ []) ≡ true)
+channels-of-none : (modest (process idle x [] (body (channels 17 ∷ []) (one (leaf skip))) ∷ rest ∷ []) ≡ true)
+    × (modest (process (times 0) x [] (body (channels 17 ∷ []) (one (leaf skip))) ∷ rest ∷ []) ≡ true)
 unfolding modest
 channels-of-none = (refl, refl)
 

@@ -7,29 +7,15 @@ use lib.ListN.{length}
 use lib.Dec.{leb}
 use Rattle.base_ceilings.specs.Ceilings.{channelsMost, globalsMost, mtypesMost, numbersMost, printedMost, processesMost, proctypesMost, statementsMost}
 use Rattle.base_bytes.specs.Choice.{both}
-use Rattle.spec_grammar.specs.Tree.{Value, unset, set-number, set-minus, set-true, set-false, set-name, set-channel, Declaration, declare, Group, group, Body, body, Activity, idle, once, times, Part, mtypes, global, process, init, Model}
+use Rattle.spec_grammar.specs.Tree.{Value, unset, set-number, set-minus, set-true, set-false, set-name, set-channel, Declaration, declare, Group, group, Body, body, Activity, idle, once, times, Part, mtypes, global, process, init, Model, Leaf}
 use Rattle.spec_grammar.specs.Tree as tree
-use Rattle.spec_grammar.specs.Tree.{Sort, Tree, express, assign, increment, decrement, send, receive, assert, print, skip, goto, break, timeout, else, run, set-run, select, loop, bare, labelled, end, then, over, option}
+use Rattle.spec_grammar.specs.Tree.{Sort, Tree, leaf, express, assign, increment, decrement, send, receive, assert, print, skip, goto, break, timeout, else, run, set-run, select, loop, bare, labelled, end, then, over, option}
 use Rattle.spec_rules.specs.Statements.{all}
 use Rattle.spec_rules.specs.Units.{tally}
 
 -- every statement, `if`, `do` and `else` included; options, labels and declarations are none
 abbrev pub statementsIn : {k : Sort} → Tree k → ℕ
-statementsIn (express e) = 1
-statementsIn (assign r e) = 1
-statementsIn (increment r) = 1
-statementsIn (decrement r) = 1
-statementsIn (send r es) = 1
-statementsIn (receive r xs) = 1
-statementsIn (assert e) = 1
-statementsIn (print w es) = 1
-statementsIn skip = 1
-statementsIn (goto w) = 1
-statementsIn break = 1
-statementsIn timeout = 1
-statementsIn else = 1
-statementsIn (run w es) = 1
-statementsIn (set-run r w es) = 1
+statementsIn (leaf l) = 1
 statementsIn (select os) = 1 + statementsIn os
 statementsIn (loop os) = 1 + statementsIn os
 statementsIn (bare a) = statementsIn a
@@ -39,23 +25,26 @@ statementsIn (then s q) = statementsIn s + statementsIn q
 statementsIn over = 0
 statementsIn (option q os) = statementsIn q + statementsIn os
 
+abbrev pub leafNarrow : Leaf → Bool
+leafNarrow (express e) = true
+leafNarrow (assign r e) = true
+leafNarrow (increment r) = true
+leafNarrow (decrement r) = true
+leafNarrow (send o r es) = true
+leafNarrow (receive o r xs) = true
+leafNarrow (assert e) = true
+leafNarrow (print w es) = leb (length es) printedMost
+leafNarrow skip = true
+leafNarrow (goto w) = true
+leafNarrow break = true
+leafNarrow timeout = true
+leafNarrow else = true
+leafNarrow (run w es) = true
+leafNarrow (set-run r w es) = true
+
 -- "printf arguments 4"
 abbrev pub narrow : {k : Sort} → Tree k → Bool
-narrow (express e) = true
-narrow (assign r e) = true
-narrow (increment r) = true
-narrow (decrement r) = true
-narrow (send r es) = true
-narrow (receive r xs) = true
-narrow (assert e) = true
-narrow (print w es) = leb (length es) printedMost
-narrow skip = true
-narrow (goto w) = true
-narrow break = true
-narrow timeout = true
-narrow else = true
-narrow (run w es) = true
-narrow (set-run r w es) = true
+narrow (leaf l) = leafNarrow l
 narrow (select os) = narrow os
 narrow (loop os) = narrow os
 narrow (bare a) = narrow a

@@ -1,4 +1,4 @@
--- Worked examples on both sides of the rules on names and numbers (crate `spec_rules`), computed: document 01, "Names", "Ceilings" and rows 2, 4 and 5 of "What is answered".
+-- Document 01, "Names", "Ceilings" and rows 2, 4 and 5 of "What is answered" ("name unknown, declared twice, of the wrong kind", ..): worked examples on both sides of the rules, computed.
 -- Each is a small tree: true where the model is lawful, false where it is not.
 use Prim.Native.Nat.{ℕ, zero, suc}
 use mathlib.Core.Path.{_≡_, refl}
@@ -10,8 +10,9 @@ use Rattle.base_bytes.specs.Lists.{same}
 use Rattle.spec_text.specs.Formats.{formatFrom}
 use Rattle.spec_text.specs.Names.{pid}
 use Rattle.base_kinds.specs.Kinds.{bytes}
-use Rattle.spec_grammar.specs.Tree.{Name, Expr, plain, indexed, num, get, len, unary, binary, choice, into, equal, exactly}
-use Rattle.spec_grammar.specs.Tree.{action, sequence, Tree, express, assign, increment, decrement, send, receive, print, skip, goto, break, else, run, set-run, select, loop, bare, labelled, end, then, over, option}
+use Rattle.spec_grammar.specs.Marks.{k-len, k-bang, k-ask}
+use Rattle.spec_grammar.specs.Tree.{Name, Expr, plain, indexed, num, get, query, unary, binary, choice, into, equal, exactly}
+use Rattle.spec_grammar.specs.Tree.{action, sequence, Tree, leaf, express, assign, increment, decrement, send, receive, print, skip, goto, break, else, run, set-run, select, loop, bare, labelled, end, then, over, option}
 use Rattle.spec_grammar.specs.Tree.{Value, unset, set-name, set-channel, Declaration, declare, group, body, idle, once, Part, mtypes, global, process, init}
 use Rattle.spec_grammar.specs.Tree as tree
 use Rattle.spec_rules.specs.Senses.{senseIn, fresh, senseOf}
@@ -74,14 +75,14 @@ one s = then (bare s) end
 
 -- `init{skip}`
 abbrev rest : Part
-rest = init (body [] (one skip))
+rest = init (body [] (one (leaf skip)))
 
 -- `DECLARATION init{skip}`, and `init{DECLARATION;skip}`
 abbrev outside : Declaration → Bool
 outside k = modelLawful (global k ∷ rest ∷ [])
 
 abbrev inside : Declaration → Bool
-inside k = modelLawful (init (body (k ∷ []) (one skip)) ∷ [])
+inside k = modelLawful (init (body (k ∷ []) (one (leaf skip))) ∷ [])
 
 -- `mtype={m};int x,a[2];chan c=[1] of{int},d[2];proctype p(int y){skip} init{DECLARATIONS;STATEMENTS} proctype q(){skip}`
 abbrev bodied : List Declaration → Tree sequence → Bool
@@ -89,13 +90,13 @@ bodied ds s =
     modelLawful
     (mtypes (m ∷ []) ∷ global (declare int (tree.variable x none unset ∷ tree.variable a (some 2) unset ∷ []))
     ∷ global (declare chan (tree.variable c none (set-channel 1 (int ∷ [])) ∷ tree.variable d (some 2) unset ∷ []))
-    ∷ process idle p (group int (y ∷ []) ∷ []) (body [] (one skip)) ∷ init (body ds s) ∷ process idle q [] (body [] (one skip)) ∷ [])
+    ∷ process idle p (group int (y ∷ []) ∷ []) (body [] (one (leaf skip))) ∷ init (body ds s) ∷ process idle q [] (body [] (one (leaf skip))) ∷ [])
 
 abbrev says : Tree action → Bool
 says s = bodied [] (one s)
 
 abbrev asks : Expr → Bool
-asks e = says (express e)
+asks e = says (leaf (express e))
 
 abbrev var : Name → Expr
 var w = get (plain w)
@@ -139,52 +140,52 @@ mtype-name-and-global : (modelLawful (mtypes (m ∷ []) ∷ global (scalar x) �
 unfolding judging
 mtype-name-and-global = (refl, refl)
 
-proctype-and-global : (modelLawful (global (scalar x) ∷ process once p [] (body [] (one skip)) ∷ []) ≡ true)
-    × (modelLawful (global (scalar p) ∷ process once p [] (body [] (one skip)) ∷ []) ≡ false)
-    × (modelLawful (process once p [] (body [] (one skip)) ∷ global (scalar p) ∷ []) ≡ false)
+proctype-and-global : (modelLawful (global (scalar x) ∷ process once p [] (body [] (one (leaf skip))) ∷ []) ≡ true)
+    × (modelLawful (global (scalar p) ∷ process once p [] (body [] (one (leaf skip))) ∷ []) ≡ false)
+    × (modelLawful (process once p [] (body [] (one (leaf skip))) ∷ global (scalar p) ∷ []) ≡ false)
 unfolding judging
 proctype-and-global = (refl, refl, refl)
 
-two-proctypes : (modelLawful (process once p [] (body [] (one skip)) ∷ process once q [] (body [] (one skip)) ∷ []) ≡ true)
-    × (modelLawful (process once p [] (body [] (one skip)) ∷ process once p [] (body [] (one skip)) ∷ []) ≡ false)
+two-proctypes : (modelLawful (process once p [] (body [] (one (leaf skip))) ∷ process once q [] (body [] (one (leaf skip))) ∷ []) ≡ true)
+    × (modelLawful (process once p [] (body [] (one (leaf skip))) ∷ process once p [] (body [] (one (leaf skip))) ∷ []) ≡ false)
 unfolding judging
 two-proctypes = (refl, refl)
 
 -- ## "a local hides any of them from its own name on", a parameter too; two locals of one name are one too many
-local-hides-a-chan : (bodied [] (one (send (plain c) (num 1 ∷ []))) ≡ true) × (bodied (scalar c ∷ []) (one (send (plain c) (num 1 ∷ []))) ≡ false)
+local-hides-a-chan : (bodied [] (one (leaf (send k-bang (plain c) (num 1 ∷ [])))) ≡ true) × (bodied (scalar c ∷ []) (one (leaf (send k-bang (plain c) (num 1 ∷ [])))) ≡ false)
 unfolding judging
 local-hides-a-chan = (refl, refl)
 
-local-hides-an-mtype-name : (bodied (scalar m ∷ []) (one (assign (plain m) (num 1))) ≡ true) × (bodied [] (one (assign (plain m) (num 1))) ≡ false)
+local-hides-an-mtype-name : (bodied (scalar m ∷ []) (one (leaf (assign (plain m) (num 1)))) ≡ true) × (bodied [] (one (leaf (assign (plain m) (num 1)))) ≡ false)
 unfolding judging
 local-hides-an-mtype-name = (refl, refl)
 
-local-hides-an-array : (bodied (scalar a ∷ []) (one (assign (plain a) (num 1))) ≡ true) × (bodied [] (one (assign (plain a) (num 1))) ≡ false)
+local-hides-an-array : (bodied (scalar a ∷ []) (one (leaf (assign (plain a) (num 1)))) ≡ true) × (bodied [] (one (leaf (assign (plain a) (num 1)))) ≡ false)
 unfolding judging
 local-hides-an-array = (refl, refl)
 
-two-locals : (bodied (scalar x ∷ scalar y ∷ []) (one (skip)) ≡ true) × (bodied (scalar y ∷ scalar y ∷ []) (one (skip)) ≡ false)
+two-locals : (bodied (scalar x ∷ scalar y ∷ []) (one (leaf skip)) ≡ true) × (bodied (scalar y ∷ scalar y ∷ []) (one (leaf skip)) ≡ false)
 unfolding judging
 two-locals = (refl, refl)
 
-parameter-and-local : (modelLawful (process once p (group int (x ∷ []) ∷ []) (body (scalar y ∷ []) (one (skip))) ∷ []) ≡ true)
-    × (modelLawful (process once p (group int (x ∷ []) ∷ []) (body (scalar x ∷ []) (one (skip))) ∷ []) ≡ false)
+parameter-and-local : (modelLawful (process once p (group int (x ∷ []) ∷ []) (body (scalar y ∷ []) (one (leaf skip))) ∷ []) ≡ true)
+    × (modelLawful (process once p (group int (x ∷ []) ∷ []) (body (scalar x ∷ []) (one (leaf skip))) ∷ []) ≡ false)
 unfolding judging
 parameter-and-local = (refl, refl)
 
-two-parameters : (modelLawful (process once p (group int (x ∷ y ∷ []) ∷ []) (body [] (one (skip))) ∷ []) ≡ true)
-    × (modelLawful (process once p (group int (x ∷ x ∷ []) ∷ []) (body [] (one (skip))) ∷ []) ≡ false)
+two-parameters : (modelLawful (process once p (group int (x ∷ y ∷ []) ∷ []) (body [] (one (leaf skip))) ∷ []) ≡ true)
+    × (modelLawful (process once p (group int (x ∷ x ∷ []) ∷ []) (body [] (one (leaf skip))) ∷ []) ≡ false)
 unfolding judging
 two-parameters = (refl, refl)
 
-own-parameter-hides-the-proctype : (modelLawful (process once p (group int (p ∷ []) ∷ []) (body [] (one (assign (plain p) (num 1)))) ∷ []) ≡ true)
-    × (modelLawful (process once p (group int (p ∷ []) ∷ []) (body [] (one (run p (num 1 ∷ [])))) ∷ []) ≡ false)
+own-parameter-hides-the-proctype : (modelLawful (process once p (group int (p ∷ []) ∷ []) (body [] (one (leaf (assign (plain p) (num 1))))) ∷ []) ≡ true)
+    × (modelLawful (process once p (group int (p ∷ []) ∷ []) (body [] (one (leaf (run p (num 1 ∷ []))))) ∷ []) ≡ false)
 unfolding judging
 own-parameter-hides-the-proctype = (refl, refl)
 
 -- "from its own name on": local `mtype y=m` has the mtype name, local `mtype m=m` itself, and behind local `int m` the name is a variable
-own-value : (bodied (name mtype y none (set-name m) ∷ []) (one (skip)) ≡ true) × (bodied (name mtype m none (set-name m) ∷ []) (one (skip)) ≡ false)
-    × (bodied (scalar m ∷ name mtype y none (set-name m) ∷ []) (one (skip)) ≡ false)
+own-value : (bodied (name mtype y none (set-name m) ∷ []) (one (leaf skip)) ≡ true) × (bodied (name mtype m none (set-name m) ∷ []) (one (leaf skip)) ≡ false)
+    × (bodied (scalar m ∷ name mtype y none (set-name m) ∷ []) (one (leaf skip)) ≡ false)
 unfolding judging
 own-value = (refl, refl, refl)
 
@@ -199,177 +200,177 @@ unknown-name : (asks (var x) ≡ true) × (asks (var y) ≡ false)
 unfolding judging
 unknown-name = (refl, refl)
 
-global-before-use : (modelLawful (global (scalar x) ∷ init (body [] (one (express (var x)))) ∷ []) ≡ true)
-    × (modelLawful (init (body [] (one (express (var x)))) ∷ global (scalar x) ∷ []) ≡ false)
+global-before-use : (modelLawful (global (scalar x) ∷ init (body [] (one (leaf (express (var x))))) ∷ []) ≡ true)
+    × (modelLawful (init (body [] (one (leaf (express (var x))))) ∷ global (scalar x) ∷ []) ≡ false)
 unfolding judging
 global-before-use = (refl, refl)
 
-mtype-name-before-use : (modelLawful (mtypes (x ∷ []) ∷ init (body [] (one (express (var x)))) ∷ []) ≡ true)
-    × (modelLawful (init (body [] (one (express (var x)))) ∷ mtypes (x ∷ []) ∷ []) ≡ false)
+mtype-name-before-use : (modelLawful (mtypes (x ∷ []) ∷ init (body [] (one (leaf (express (var x))))) ∷ []) ≡ true)
+    × (modelLawful (init (body [] (one (leaf (express (var x))))) ∷ mtypes (x ∷ []) ∷ []) ≡ false)
 unfolding judging
 mtype-name-before-use = (refl, refl)
 
 -- ## "`_pid` is neither declared nor stored to (4)"
-pid-as-operand : (asks (var pid) ≡ true) × (says (assign (plain x) (var pid)) ≡ true) × (says (send (plain c) (var pid ∷ [])) ≡ true)
-    × (says (receive (plain c) (equal (var pid) ∷ [])) ≡ true)
+pid-as-operand : (asks (var pid) ≡ true) × (says (leaf (assign (plain x) (var pid))) ≡ true) × (says (leaf (send k-bang (plain c) (var pid ∷ []))) ≡ true)
+    × (says (leaf (receive k-ask (plain c) (equal (var pid) ∷ []))) ≡ true)
 unfolding judging
 pid-as-operand = (refl, refl, refl, refl)
 
-pid-declared : (outside (scalar pid) ≡ false) × (inside (scalar pid) ≡ false) × (modelLawful (process once p (group int (pid ∷ []) ∷ []) (body [] (one (skip))) ∷ []) ≡ false)
-    × (modelLawful (mtypes (pid ∷ []) ∷ rest ∷ []) ≡ false) × (modelLawful (process once pid [] (body [] (one skip)) ∷ []) ≡ false)
-    × (bodied [] (then (labelled pid skip) end) ≡ false)
+pid-declared : (outside (scalar pid) ≡ false) × (inside (scalar pid) ≡ false) × (modelLawful (process once p (group int (pid ∷ []) ∷ []) (body [] (one (leaf skip))) ∷ []) ≡ false)
+    × (modelLawful (mtypes (pid ∷ []) ∷ rest ∷ []) ≡ false) × (modelLawful (process once pid [] (body [] (one (leaf skip))) ∷ []) ≡ false)
+    × (bodied [] (then (labelled pid (leaf skip)) end) ≡ false)
 unfolding judging
 pid-declared = (refl, refl, refl, refl, refl, refl)
 
-pid-stored-to : (says (increment (plain x)) ≡ true) × (says (receive (plain c) (into (plain x) ∷ [])) ≡ true) × (says (assign (plain pid) (num 1)) ≡ false)
-    × (says (increment (plain pid)) ≡ false) × (says (decrement (plain pid)) ≡ false) × (says (receive (plain c) (into (plain pid) ∷ [])) ≡ false)
-    × (says (set-run (plain pid) q []) ≡ false)
+pid-stored-to : (says (leaf (increment (plain x))) ≡ true) × (says (leaf (receive k-ask (plain c) (into (plain x) ∷ []))) ≡ true) × (says (leaf (assign (plain pid) (num 1))) ≡ false)
+    × (says (leaf (increment (plain pid))) ≡ false) × (says (leaf (decrement (plain pid))) ≡ false) × (says (leaf (receive k-ask (plain c) (into (plain pid) ∷ []))) ≡ false)
+    × (says (leaf (set-run (plain pid) q [])) ≡ false)
 unfolding judging
 pid-stored-to = (refl, refl, refl, refl, refl, refl, refl)
 
-pid-otherwise : (asks (get (indexed pid (num 0))) ≡ false) × (asks (len (plain pid)) ≡ false) × (says (send (plain pid) (num 1 ∷ [])) ≡ false)
+pid-otherwise : (asks (get (indexed pid (num 0))) ≡ false) × (asks (query k-len (plain pid)) ≡ false) × (says (leaf (send k-bang (plain pid) (num 1 ∷ []))) ≡ false)
     × (outside (name int x none (set-name pid)) ≡ false)
 unfolding judging
 pid-otherwise = (refl, refl, refl, refl)
 
 -- ## "of the wrong kind", "bad index use"
-mtype-name : (asks (var m) ≡ true) × (says (receive (plain c) (into (plain m) ∷ [])) ≡ true) × (says (assign (plain m) (num 1)) ≡ false) × (says (increment (plain m)) ≡ false)
-    × (asks (get (indexed m (num 0))) ≡ false) × (says (receive (plain c) (into (indexed m (num 0)) ∷ [])) ≡ false) × (says (set-run (plain m) q []) ≡ false)
+mtype-name : (asks (var m) ≡ true) × (says (leaf (receive k-ask (plain c) (into (plain m) ∷ []))) ≡ true) × (says (leaf (assign (plain m) (num 1))) ≡ false) × (says (leaf (increment (plain m))) ≡ false)
+    × (asks (get (indexed m (num 0))) ≡ false) × (says (leaf (receive k-ask (plain c) (into (indexed m (num 0)) ∷ []))) ≡ false) × (says (leaf (set-run (plain m) q [])) ≡ false)
 unfolding judging
 mtype-name = (refl, refl, refl, refl, refl, refl, refl)
 
-proctype-as-variable : (asks (var p) ≡ false) × (says (assign (plain p) (num 1)) ≡ false) × (asks (get (indexed p (num 0))) ≡ false)
+proctype-as-variable : (asks (var p) ≡ false) × (says (leaf (assign (plain p) (num 1))) ≡ false) × (asks (get (indexed p (num 0))) ≡ false)
 unfolding judging
 proctype-as-variable = (refl, refl, refl)
 
-scalar-without-index : (asks (var x) ≡ true) × (says (assign (plain x) (num 1)) ≡ true) × (asks (get (indexed x (num 0))) ≡ false) × (says (assign (indexed x (num 0)) (num 1)) ≡ false)
+scalar-without-index : (asks (var x) ≡ true) × (says (leaf (assign (plain x) (num 1))) ≡ true) × (asks (get (indexed x (num 0))) ≡ false) × (says (leaf (assign (indexed x (num 0)) (num 1))) ≡ false)
 unfolding judging
 scalar-without-index = (refl, refl, refl, refl)
 
-array-with-index : (asks (get (indexed a (num 0))) ≡ true) × (says (assign (indexed a (num 0)) (num 1)) ≡ true) × (says (receive (plain c) (into (indexed a (num 0)) ∷ [])) ≡ true)
-    × (asks (var a) ≡ false) × (says (assign (plain a) (num 1)) ≡ false) × (says (receive (plain c) (into (plain a) ∷ [])) ≡ false)
+array-with-index : (asks (get (indexed a (num 0))) ≡ true) × (says (leaf (assign (indexed a (num 0)) (num 1))) ≡ true) × (says (leaf (receive k-ask (plain c) (into (indexed a (num 0)) ∷ []))) ≡ true)
+    × (asks (var a) ≡ false) × (says (leaf (assign (plain a) (num 1))) ≡ false) × (says (leaf (receive k-ask (plain c) (into (plain a) ∷ []))) ≡ false)
 unfolding judging
 array-with-index = (refl, refl, refl, refl, refl, refl)
 
 -- the index itself is judged, and an index out of range is a fault of a run
 index-judged : (asks (get (indexed a (var x))) ≡ true) × (asks (get (indexed a (num 2))) ≡ true) × (asks (get (indexed a (var a))) ≡ false)
-    × (says (assign (indexed a (var y)) (num 1)) ≡ false)
+    × (says (leaf (assign (indexed a (var y)) (num 1))) ≡ false)
 unfolding judging
 index-judged = (refl, refl, refl, refl)
 
 -- ## "A channel operand is a chan variable"
-chan-sends : (says (send (plain c) (num 1 ∷ [])) ≡ true) × (says (send (indexed d (num 0)) (num 1 ∷ [])) ≡ true) × (says (send (plain x) (num 1 ∷ [])) ≡ false)
-    × (says (send (plain m) (num 1 ∷ [])) ≡ false) × (says (send (plain d) (num 1 ∷ [])) ≡ false) × (says (send (indexed c (num 0)) (num 1 ∷ [])) ≡ false)
-    × (says (send (indexed a (num 0)) (num 1 ∷ [])) ≡ false)
+chan-sends : (says (leaf (send k-bang (plain c) (num 1 ∷ []))) ≡ true) × (says (leaf (send k-bang (indexed d (num 0)) (num 1 ∷ []))) ≡ true) × (says (leaf (send k-bang (plain x) (num 1 ∷ []))) ≡ false)
+    × (says (leaf (send k-bang (plain m) (num 1 ∷ []))) ≡ false) × (says (leaf (send k-bang (plain d) (num 1 ∷ []))) ≡ false) × (says (leaf (send k-bang (indexed c (num 0)) (num 1 ∷ []))) ≡ false)
+    × (says (leaf (send k-bang (indexed a (num 0)) (num 1 ∷ []))) ≡ false)
 unfolding judging
 chan-sends = (refl, refl, refl, refl, refl, refl, refl)
 
-chan-receives : (says (receive (plain c) (exactly 1 ∷ [])) ≡ true) × (says (receive (plain x) (exactly 1 ∷ [])) ≡ false)
+chan-receives : (says (leaf (receive k-ask (plain c) (exactly 1 ∷ []))) ≡ true) × (says (leaf (receive k-ask (plain x) (exactly 1 ∷ []))) ≡ false)
 unfolding judging
 chan-receives = (refl, refl)
 
-chan-has-length : (asks (len (plain c)) ≡ true) × (asks (len (indexed d (num 1))) ≡ true) × (asks (len (plain x)) ≡ false) × (asks (len (plain d)) ≡ false)
-    × (asks (len (plain q)) ≡ false)
+chan-has-length : (asks (query k-len (plain c)) ≡ true) × (asks (query k-len (indexed d (num 1))) ≡ true) × (asks (query k-len (plain x)) ≡ false) × (asks (query k-len (plain d)) ≡ false)
+    × (asks (query k-len (plain q)) ≡ false)
 unfolding judging
 chan-has-length = (refl, refl, refl, refl, refl)
 
 -- a chan is a variable as any other, and how many fields a message has is no rule of the text: "wrong field count at run time"
-chan-as-variable : (says (assign (plain c) (num 1)) ≡ true) × (asks (var c) ≡ true) × (says (send (plain c) (num 1 ∷ num 2 ∷ [])) ≡ true)
+chan-as-variable : (says (leaf (assign (plain c) (num 1))) ≡ true) × (asks (var c) ≡ true) × (says (leaf (send k-bang (plain c) (num 1 ∷ num 2 ∷ []))) ≡ true)
 unfolding judging
 chan-as-variable = (refl, refl, refl)
 
 -- ## "`else` is only the first statement of an option, unlabelled, once per selection"
-else-first : (says (select (option (one skip) (option (one else) over))) ≡ true) × (says (loop (option (one else) over)) ≡ true) × (says else ≡ false)
+else-first : (says (select (option (one (leaf skip)) (option (one (leaf else)) over))) ≡ true) × (says (loop (option (one (leaf else)) over)) ≡ true) × (says (leaf else) ≡ false)
 unfolding judging
 else-first = (refl, refl, refl)
 
-else-not-first : says (select (option (then (bare skip) (one else)) over)) ≡ false
+else-not-first : says (select (option (then (bare (leaf skip)) (one (leaf else))) over)) ≡ false
 unfolding judging
 else-not-first = refl
 
-else-labelled : (says (select (option (then (bare else) (then (labelled L skip) end)) over)) ≡ true) × (says (select (option (then (labelled L else) end) over)) ≡ false)
+else-labelled : (says (select (option (then (bare (leaf else)) (then (labelled L (leaf skip)) end)) over)) ≡ true) × (says (select (option (then (labelled L (leaf else)) end) over)) ≡ false)
 unfolding judging
 else-labelled = (refl, refl)
 
-else-twice : (says (select (option (one (select (option (one else) over))) (option (one else) over))) ≡ true) × (says (select (option (one else) (option (one else) over))) ≡ false)
-    × (says (loop (option (one else) (option (one skip) (option (one else) over)))) ≡ false)
+else-twice : (says (select (option (one (select (option (one (leaf else)) over))) (option (one (leaf else)) over))) ≡ true) × (says (select (option (one (leaf else)) (option (one (leaf else)) over))) ≡ false)
+    × (says (loop (option (one (leaf else)) (option (one (leaf skip)) (option (one (leaf else)) over)))) ≡ false)
 unfolding judging
 else-twice = (refl, refl, refl)
 
 -- ## "`else` or `break` out of place"
-break-in-do : (says (loop (option (one break) over)) ≡ true) × (says (loop (option (one (select (option (one break) over))) over)) ≡ true) × (says break ≡ false)
-    × (says (select (option (one break) over)) ≡ false) × (bodied [] (then (bare (loop (option (one skip) over))) (one break)) ≡ false)
+break-in-do : (says (loop (option (one (leaf break)) over)) ≡ true) × (says (loop (option (one (select (option (one (leaf break)) over))) over)) ≡ true) × (says (leaf break) ≡ false)
+    × (says (select (option (one (leaf break)) over)) ≡ false) × (bodied [] (then (bare (loop (option (one (leaf skip)) over))) (one (leaf break))) ≡ false)
 unfolding judging
 break-in-do = (refl, refl, refl, refl, refl)
 
 -- ## "labels are per body", "proctypes and labels may come later"
-goto-label : (bodied [] (then (bare (goto L)) (then (labelled L skip) end)) ≡ true)
-    × (bodied [] (then (bare (select (option (then (labelled L skip) end) over))) (one (goto L))) ≡ true) × (says (goto L) ≡ false)
-    × (bodied [] (then (labelled L skip) (one (goto x))) ≡ false)
+goto-label : (bodied [] (then (bare (leaf (goto L))) (then (labelled L (leaf skip)) end)) ≡ true)
+    × (bodied [] (then (bare (select (option (then (labelled L (leaf skip)) end) over))) (one (leaf (goto L)))) ≡ true) × (says (leaf (goto L)) ≡ false)
+    × (bodied [] (then (labelled L (leaf skip)) (one (leaf (goto x)))) ≡ false)
 unfolding judging
 goto-label = (refl, refl, refl, refl)
 
-label-of-another-body : modelLawful (process once p [] (body [] (then (labelled L skip) end)) ∷ init (body [] (one (goto L))) ∷ []) ≡ false
+label-of-another-body : modelLawful (process once p [] (body [] (then (labelled L (leaf skip)) end)) ∷ init (body [] (one (leaf (goto L)))) ∷ []) ≡ false
 unfolding judging
 label-of-another-body = refl
 
-label-twice : (bodied [] (then (labelled L skip) (then (labelled x skip) end)) ≡ true) × (bodied [] (then (labelled L skip) (then (labelled L skip) end)) ≡ false)
-    × (bodied [] (then (labelled L (select (option (then (labelled L skip) end) over))) end) ≡ false)
+label-twice : (bodied [] (then (labelled L (leaf skip)) (then (labelled x (leaf skip)) end)) ≡ true) × (bodied [] (then (labelled L (leaf skip)) (then (labelled L (leaf skip)) end)) ≡ false)
+    × (bodied [] (then (labelled L (select (option (then (labelled L (leaf skip)) end) over))) end) ≡ false)
 unfolding judging
 label-twice = (refl, refl, refl)
 
-label-in-two-bodies : modelLawful (process once p [] (body [] (then (labelled L skip) end)) ∷ init (body [] (then (labelled L skip) end)) ∷ []) ≡ true
+label-in-two-bodies : modelLawful (process once p [] (body [] (then (labelled L (leaf skip)) end)) ∷ init (body [] (then (labelled L (leaf skip)) end)) ∷ []) ≡ true
 unfolding judging
 label-in-two-bodies = refl
 
 -- ## "wrong number of arguments"
-run-arguments : (says (run p (num 1 ∷ [])) ≡ true) × (says (set-run (plain x) p (num 1 ∷ [])) ≡ true) × (says (run p []) ≡ false) × (says (run p (num 1 ∷ num 2 ∷ [])) ≡ false)
-    × (says (set-run (plain x) p []) ≡ false)
+run-arguments : (says (leaf (run p (num 1 ∷ []))) ≡ true) × (says (leaf (set-run (plain x) p (num 1 ∷ []))) ≡ true) × (says (leaf (run p [])) ≡ false) × (says (leaf (run p (num 1 ∷ num 2 ∷ []))) ≡ false)
+    × (says (leaf (set-run (plain x) p [])) ≡ false)
 unfolding judging
 run-arguments = (refl, refl, refl, refl, refl)
 
-run-of-a-later-proctype : (says (run q []) ≡ true) × (says (run q (num 1 ∷ [])) ≡ false)
+run-of-a-later-proctype : (says (leaf (run q [])) ≡ true) × (says (leaf (run q (num 1 ∷ []))) ≡ false)
 unfolding judging
 run-of-a-later-proctype = (refl, refl)
 
-run-of-itself : (modelLawful (process once p (group int (x ∷ []) ∷ []) (body [] (one (run p (num 1 ∷ [])))) ∷ []) ≡ true)
-    × (modelLawful (process once p (group int (x ∷ []) ∷ []) (body [] (one (run p []))) ∷ []) ≡ false)
+run-of-itself : (modelLawful (process once p (group int (x ∷ []) ∷ []) (body [] (one (leaf (run p (num 1 ∷ []))))) ∷ []) ≡ true)
+    × (modelLawful (process once p (group int (x ∷ []) ∷ []) (body [] (one (leaf (run p [])))) ∷ []) ≡ false)
 unfolding judging
 run-of-itself = (refl, refl)
 
-run-hidden-by-a-local : (bodied (scalar y ∷ []) (one (run q [])) ≡ true) × (bodied (scalar q ∷ []) (one (run q [])) ≡ false)
-    × (bodied (scalar q ∷ []) (one (set-run (plain x) q [])) ≡ false)
+run-hidden-by-a-local : (bodied (scalar y ∷ []) (one (leaf (run q []))) ≡ true) × (bodied (scalar q ∷ []) (one (leaf (run q []))) ≡ false)
+    × (bodied (scalar q ∷ []) (one (leaf (set-run (plain x) q []))) ≡ false)
 unfolding judging
 run-hidden-by-a-local = (refl, refl, refl)
 
-run-of-no-proctype : (says (run x []) ≡ false) × (says (run m []) ≡ false) × (says (run y []) ≡ false) × (says (run pid []) ≡ false)
+run-of-no-proctype : (says (leaf (run x [])) ≡ false) × (says (leaf (run m [])) ≡ false) × (says (leaf (run y [])) ≡ false) × (says (leaf (run pid [])) ≡ false)
 unfolding judging
 run-of-no-proctype = (refl, refl, refl, refl)
 
-printf-arguments : (says (print (bytes "") []) ≡ true) × (says (print (bytes "%d") (num 1 ∷ [])) ≡ true) × (says (print (bytes "%d %d") (num 1 ∷ num 2 ∷ [])) ≡ true)
-    × (says (print (bytes "%d") []) ≡ false) × (says (print (bytes "%d") (num 1 ∷ num 2 ∷ [])) ≡ false) × (says (print (bytes "") (num 1 ∷ [])) ≡ false)
-    × (says (print (bytes "%d %d") (num 1 ∷ [])) ≡ false)
+printf-arguments : (says (leaf (print (bytes "") [])) ≡ true) × (says (leaf (print (bytes "%d") (num 1 ∷ []))) ≡ true) × (says (leaf (print (bytes "%d %d") (num 1 ∷ num 2 ∷ []))) ≡ true)
+    × (says (leaf (print (bytes "%d") [])) ≡ false) × (says (leaf (print (bytes "%d") (num 1 ∷ num 2 ∷ []))) ≡ false) × (says (leaf (print (bytes "") (num 1 ∷ []))) ≡ false)
+    × (says (leaf (print (bytes "%d %d") (num 1 ∷ []))) ≡ false)
 unfolding judging
 printf-arguments = (refl, refl, refl, refl, refl, refl, refl)
 
 -- "`%` in a format not followed by `d` or `%`"
-printf-percent : (says (print (bytes "%%") []) ≡ true) × (says (print (bytes "%%d") []) ≡ true) × (says (print (bytes "%%%d") (num 1 ∷ [])) ≡ true)
-    × (says (print (bytes "%x") []) ≡ false) × (says (print (bytes "%") []) ≡ false) × (says (print (bytes "%%%") []) ≡ false)
-    × (says (print (bytes "%x%d") (num 1 ∷ [])) ≡ false) × (says (print (bytes "%%d") (num 1 ∷ [])) ≡ false)
+printf-percent : (says (leaf (print (bytes "%%") [])) ≡ true) × (says (leaf (print (bytes "%%d") [])) ≡ true) × (says (leaf (print (bytes "%%%d") (num 1 ∷ []))) ≡ true)
+    × (says (leaf (print (bytes "%x") [])) ≡ false) × (says (leaf (print (bytes "%") [])) ≡ false) × (says (leaf (print (bytes "%%%") [])) ≡ false)
+    × (says (leaf (print (bytes "%x%d") (num 1 ∷ []))) ≡ false) × (says (leaf (print (bytes "%%d") (num 1 ∷ []))) ≡ false)
 unfolding judging
 printf-percent = (refl, refl, refl, refl, refl, refl, refl, refl)
 
 -- five arguments are a ceiling (6), no rule
-printf-five : says (print (bytes "%d%d%d%d%d") (num 1 ∷ num 2 ∷ num 3 ∷ num 4 ∷ num 5 ∷ [])) ≡ true
+printf-five : says (leaf (print (bytes "%d%d%d%d%d") (num 1 ∷ num 2 ∷ num 3 ∷ num 4 ∷ num 5 ∷ []))) ≡ true
 unfolding judging
 printf-five = refl
 
 -- ## "more than 4 message arguments"
-sent-arguments : (says (send (plain c) (replicate 4 (num 1))) ≡ true) × (says (send (plain c) (replicate 5 (num 1))) ≡ false)
+sent-arguments : (says (leaf (send k-bang (plain c) (replicate 4 (num 1)))) ≡ true) × (says (leaf (send k-bang (plain c) (replicate 5 (num 1)))) ≡ false)
 unfolding judging
 sent-arguments = (refl, refl)
 
-received-arguments : (says (receive (plain c) (replicate 4 (exactly 1))) ≡ true) × (says (receive (plain c) (replicate 5 (exactly 1))) ≡ false)
+received-arguments : (says (leaf (receive k-ask (plain c) (replicate 4 (exactly 1)))) ≡ true) × (says (leaf (receive k-ask (plain c) (replicate 5 (exactly 1)))) ≡ false)
 unfolding judging
 received-arguments = (refl, refl)
 
@@ -383,12 +384,12 @@ height-32 : (asks (above (num 1) 31) ≡ true) × (asks (above (num 1) 32) ≡ f
 unfolding judging
 height-32 = (refl, refl)
 
-height-of-len : (asks (above (len (plain c)) 30) ≡ true) × (asks (above (len (plain c)) 31) ≡ false)
+height-of-len : (asks (above (query k-len (plain c)) 30) ≡ true) × (asks (above (query k-len (plain c)) 31) ≡ false)
 unfolding judging
 height-of-len = (refl, refl)
 
-height-of-index : (asks (get (indexed a (above (num 1) 30))) ≡ true) × (says (increment (indexed a (above (num 1) 30))) ≡ true)
-    × (asks (get (indexed a (above (num 1) 31))) ≡ false) × (says (increment (indexed a (above (num 1) 31))) ≡ false)
+height-of-index : (asks (get (indexed a (above (num 1) 30))) ≡ true) × (says (leaf (increment (indexed a (above (num 1) 30)))) ≡ true)
+    × (asks (get (indexed a (above (num 1) 31))) ≡ false) × (says (leaf (increment (indexed a (above (num 1) 31)))) ≡ false)
 unfolding judging
 height-of-index = (refl, refl, refl, refl)
 
@@ -398,8 +399,8 @@ height-of-parts : (asks (binary 14 (num 1) (above (num 1) 30)) ≡ true) × (ask
 unfolding judging
 height-of-parts = (refl, refl, refl, refl, refl)
 
-height-of-arguments : (says (send (plain c) (num 1 ∷ above (num 1) 31 ∷ [])) ≡ true) × (says (receive (plain c) (equal (above (num 1) 31) ∷ [])) ≡ true)
-    × (says (send (plain c) (num 1 ∷ above (num 1) 32 ∷ [])) ≡ false) × (says (receive (plain c) (equal (above (num 1) 32) ∷ [])) ≡ false)
+height-of-arguments : (says (leaf (send k-bang (plain c) (num 1 ∷ above (num 1) 31 ∷ []))) ≡ true) × (says (leaf (receive k-ask (plain c) (equal (above (num 1) 31) ∷ []))) ≡ true)
+    × (says (leaf (send k-bang (plain c) (num 1 ∷ above (num 1) 32 ∷ []))) ≡ false) × (says (leaf (receive k-ask (plain c) (equal (above (num 1) 32) ∷ []))) ≡ false)
 unfolding judging
 height-of-arguments = (refl, refl, refl, refl)
 

@@ -7,7 +7,7 @@ use Rattle.base_bytes.specs.Choice.{pick, both}
 use Rattle.base_bytes.specs.Lists.{same}
 use Rattle.spec_text.specs.Names.{pid}
 use Rattle.spec_rules.specs.Heights.{height}
-use Rattle.spec_grammar.specs.Tree.{Name, Expr, Shape, Exp, plain, indexed, num, tru, fls, get, len, unary, binary, choice}
+use Rattle.spec_grammar.specs.Tree.{Name, Expr, Shape, Exp, plain, indexed, num, tru, fls, get, query, unary, binary, choice}
 use Rattle.spec_rules.specs.Senses.{Sense, variable, constant, procedure, unknown}
 
 -- what a reference is for
@@ -58,7 +58,7 @@ module _ (sense : Name → Sense) where
   named role tru = true
   named role fls = true
   named role (get r) = named operand r
-  named role (len r) = named channel r
+  named role (query o r) = named channel r
   named role (unary o e) = named operand e
   named role (binary o a b) = both (named operand a) (named operand b)
   named role (choice a b c) = both (named operand a) (both (named operand b) (named operand c))

@@ -10,7 +10,7 @@ use Rattle.base_bytes.specs.Choice.{pick, both, either}
 use Rattle.base_bytes.specs.Lists.{same}
 use Rattle.spec_text.specs.Formats.{formatOf}
 use Rattle.spec_text.specs.Names.{pid}
-use Rattle.spec_grammar.specs.Tree.{Name, Received, into, equal, exactly, exactly-true, exactly-false, Sort, Tree, express, assign, increment, decrement, send, receive, assert, print, skip, goto, break, timeout, else, run, set-run, select, loop, bare, labelled, end, then, over, option}
+use Rattle.spec_grammar.specs.Tree.{Name, Received, into, equal, exactly, exactly-true, exactly-false, Sort, Tree, leaf, express, assign, increment, decrement, send, receive, assert, print, skip, goto, break, timeout, else, run, set-run, select, loop, bare, labelled, end, then, over, option, is-else, Leaf}
 use Rattle.spec_rules.specs.Senses.{Sense, variable, constant, procedure, unknown, Scope, isUnknown, senseIn, senseOf}
 use Rattle.spec_rules.specs.Expressions.{channel, target, received, lawful, whole}
 
@@ -31,21 +31,7 @@ has (v ∷ l) w = either (same v w) (has l w)
 
 -- the labels of a tree, in text order
 abbrev pub labelsOf : {k : Sort} → Tree k → List Name
-labelsOf (express e) = []
-labelsOf (assign r e) = []
-labelsOf (increment r) = []
-labelsOf (decrement r) = []
-labelsOf (send r es) = []
-labelsOf (receive r xs) = []
-labelsOf (assert e) = []
-labelsOf (print w es) = []
-labelsOf skip = []
-labelsOf (goto w) = []
-labelsOf break = []
-labelsOf timeout = []
-labelsOf else = []
-labelsOf (run w es) = []
-labelsOf (set-run r w es) = []
+labelsOf (leaf l) = []
 labelsOf (select os) = labelsOf os
 labelsOf (loop os) = labelsOf os
 labelsOf (bare a) = labelsOf a
@@ -62,21 +48,7 @@ apart (w ∷ l) = pick (either (same w pid) (has l w)) false (apart l)
 
 -- an option begins with `else`
 abbrev pub isElse : {k : Sort} → Tree k → ℕ
-isElse (express e) = 0
-isElse (assign r e) = 0
-isElse (increment r) = 0
-isElse (decrement r) = 0
-isElse (send r es) = 0
-isElse (receive r xs) = 0
-isElse (assert e) = 0
-isElse (print w es) = 0
-isElse skip = 0
-isElse (goto w) = 0
-isElse break = 0
-isElse timeout = 0
-isElse else = 1
-isElse (run w es) = 0
-isElse (set-run r w es) = 0
+isElse (leaf l) = pick (is-else l) 1 0
 isElse (select os) = 0
 isElse (loop os) = 0
 isElse (bare a) = isElse a
@@ -113,24 +85,27 @@ module _ (at : Place) where
   unfoldable pub formats : List ℕ → ℕ → Bool
   formats w n = both (eqb (formatOf w % 2) 0) (eqb n (formatOf w / 2))
 
+  abbrev pub leafAllowed : Bool → Bool → Leaf → Bool
+  leafAllowed loops first (express e) = whole sense e
+  leafAllowed loops first (assign r e) = both (lawful sense target r) (whole sense e)
+  leafAllowed loops first (increment r) = lawful sense target r
+  leafAllowed loops first (decrement r) = lawful sense target r
+  leafAllowed loops first (send o r es) = both (lawful sense channel r) (both (leb (length es) fieldsMost) (all (whole sense) es))
+  leafAllowed loops first (receive o r xs) = both (lawful sense channel r) (both (leb (length xs) fieldsMost) (all receives xs))
+  leafAllowed loops first (assert e) = whole sense e
+  leafAllowed loops first (print w es) = both (formats w (length es)) (all (whole sense) es)
+  leafAllowed loops first skip = true
+  leafAllowed loops first (goto w) = has (at .labels) w
+  leafAllowed loops first break = loops
+  leafAllowed loops first timeout = true
+  leafAllowed loops first else = first
+  leafAllowed loops first (run w es) = both (runs w (length es)) (all (whole sense) es)
+  leafAllowed loops first (set-run r w es) = both (lawful sense target r) (both (runs w (length es)) (all (whole sense) es))
+
   -- `loops` says that the statement is in a `do`; `first` that it is an option's first statement, unlabelled
   unfoldable pub allowed : {k : Sort} → Bool → Bool → Tree k → Bool
-  allowed loops first (express e) = whole sense e
-  allowed loops first (assign r e) = both (lawful sense target r) (whole sense e)
-  allowed loops first (increment r) = lawful sense target r
-  allowed loops first (decrement r) = lawful sense target r
+  allowed loops first (leaf l) = leafAllowed loops first l
   -- "more than 4 message arguments"
-  allowed loops first (send r es) = both (lawful sense channel r) (both (leb (length es) fieldsMost) (all (whole sense) es))
-  allowed loops first (receive r xs) = both (lawful sense channel r) (both (leb (length xs) fieldsMost) (all receives xs))
-  allowed loops first (assert e) = whole sense e
-  allowed loops first (print w es) = both (formats w (length es)) (all (whole sense) es)
-  allowed loops first skip = true
-  allowed loops first (goto w) = has (at .labels) w
-  allowed loops first break = loops
-  allowed loops first timeout = true
-  allowed loops first else = first
-  allowed loops first (run w es) = both (runs w (length es)) (all (whole sense) es)
-  allowed loops first (set-run r w es) = both (lawful sense target r) (both (runs w (length es)) (all (whole sense) es))
   -- "once per selection"
   allowed loops first (select os) = both (leb (isElse os) 1) (allowed loops false os)
   allowed loops first (loop os) = both (leb (isElse os) 1) (allowed true false os)

@@ -1,4 +1,4 @@
--- Worked examples of formats and numbers, computed, on both sides: `%d`, `%%`, a bad `%` and one at the end; digits, signs and both ends of the range; escapes.
+-- Document 01, "`%` in a format not followed by `d` or `%`", "a backslash must be followed by `n`, `t`, `"` or a backslash": worked examples, computed, on both sides: `%d`, `%%`, a bad `%` and one at the end; digits, signs and both ends of the range; escapes.
 use Prim.Native.Nat.{ℕ}
 use mathlib.Core.Path.{_≡_, refl}
 use mathlib.Core.List.{List, [], _∷_}

@@ -5,7 +5,7 @@ use mathlib.Core.Path.{_≡_, refl}
 use mathlib.Core.Option.{none}
 use mathlib.Core.List.{List, [], _∷_}
 use lib.IntN.{ℤ, pos}
-use Rattle.spec_grammar.specs.Tree.{num, assert, bare, end, then, body, init, Model}
+use Rattle.spec_grammar.specs.Tree.{num, leaf, assert, bare, end, then, body, init, Model}
 use Rattle.base_kinds.specs.Kinds.{bytes}
 use Rattle.spec_text.specs.Formats.{digitsBy}
 use Rattle.spec_machine.specs.Begins.{initial}
@@ -40,7 +40,7 @@ two-strayed = refl
 
 -- ## `init{assert(0)}`
 abbrev failing : Model
-failing = init (body [] (then (bare (assert (num 0))) end)) ∷ []
+failing = init (body [] (then (bare (leaf (assert (num 0)))) end)) ∷ []
 
 -- a failing step counts, and changes nothing
 failing-run : runFrom (machineOf failing) 9 (initial failing) ≡ record { ending = refuted; count = 1; state = initial failing }

@@ -4,7 +4,8 @@ use mathlib.Core.Path.{_≡_, refl}
 use mathlib.Core.List.{[], _∷_}
 use lib.ListN.{length}
 use Rattle.base_kinds.specs.Kinds.{bytes}
-use Rattle.spec_grammar.specs.Tree.{Name, plain, num, binary, into, express, send, receive, print, run, unset, group, Model}
+use Rattle.spec_grammar.specs.Marks.{k-bang, k-ask}
+use Rattle.spec_grammar.specs.Tree.{Name, plain, num, binary, into, leaf, express, send, receive, print, run, unset, group, Model}
 use Rattle.spec_machine.specs.State.{State}
 use Rattle.spec_machine.specs.Begins.{initial}
 use Rattle.spec_machine.specs.Machine.{finished, «open», offered}
@@ -33,10 +34,10 @@ abbrev factorial : Model
 factorial =
     proctype fact (group int (n ∷ []) ∷ group chan (p ∷ []) ∷ []) (channel child 1 (int ∷ []) ∷ scalar int result unset ∷ [])
     (either
-    ((express (binary 9 (of n) (num 1)) ∷ send (plain p) (num 1 ∷ []) ∷ []) ∷
-    (express (binary 11 (of n) (num 2)) ∷ run fact (binary 15 (of n) (num 1) ∷ of child ∷ []) ∷ receive (plain child) (into (plain result) ∷ []) ∷ send (plain p) (binary 16 (of n) (of result) ∷ []) ∷ []) ∷ []) ∷ []) ∷
+    ((leaf (express (binary 9 (of n) (num 1))) ∷ leaf (send k-bang (plain p) (num 1 ∷ [])) ∷ []) ∷
+    (leaf (express (binary 11 (of n) (num 2))) ∷ leaf (run fact (binary 15 (of n) (num 1) ∷ of child ∷ [])) ∷ leaf (receive k-ask (plain child) (into (plain result) ∷ [])) ∷ leaf (send k-bang (plain p) (binary 16 (of n) (of result) ∷ [])) ∷ []) ∷ []) ∷ []) ∷
     main (scalar int result unset ∷ channel child 1 (int ∷ []) ∷ [])
-    (run fact (num 12 ∷ of child ∷ []) ∷ receive (plain child) (into (plain result) ∷ []) ∷ print (bytes "result: %d\\n") (of result ∷ []) ∷ []) ∷ []
+    (leaf (run fact (num 12 ∷ of child ∷ [])) ∷ leaf (receive k-ask (plain child) (into (plain result) ∷ [])) ∷ leaf (print (bytes "result: %d\\n") (of result ∷ [])) ∷ []) ∷ []
 
 abbrev after : ℕ → Ran State
 after k = runFrom (machineOf factorial) k (initial factorial)
@@ -47,6 +48,6 @@ unfolding working runFrom
 ends = (refl, refl, refl)
 
 -- the last of them, at place 103, prints the result
-prints : (after 48 .ending ≡ stood «open») × (offered (machineOf factorial) (after 48 .state) ≡ offer 0 1 103 ∷ []) × (machineOf factorial .printed (after 48 .state) 0 103 ≡ bytes "result: 479001600\n")
+prints : (after 48 .ending ≡ stood «open») × (offered (machineOf factorial) (after 48 .state) ≡ offer 0 1 103 ∷ []) × (machineOf factorial .printed (after 48 .state) (offer 0 1 103) ≡ bytes "result: 479001600\n")
 unfolding working runFrom
 prints = (refl, refl, refl)

@@ -7,7 +7,7 @@ use mathlib.Core.Option.{none}
 use mathlib.Core.List.{List, [], _∷_}
 use lib.IntN.{pos}
 use Rattle.base_kinds.specs.Kinds.{bytes}
-use Rattle.spec_grammar.specs.Tree.{plain, num, express, assign, assert, unset, Model}
+use Rattle.spec_grammar.specs.Tree.{plain, num, leaf, express, assign, assert, unset, Model}
 use Rattle.spec_machine.specs.State.{State}
 use Rattle.spec_machine.specs.Begins.{initial}
 use Rattle.spec_machine.specs.Machine.{finished, blocked, «open»}
@@ -28,7 +28,7 @@ replay t v l σ = replayFrom (machineOf t) v l 1 none σ
 abbrev twice : Model
 twice =
     main (scalar int x unset ∷ [])
-    (either ((assign (plain x) (num 1) ∷ []) ∷ (assign (plain x) (num 2) ∷ []) ∷ []) ∷ either ((assign (plain x) (sum (of x) (num 10)) ∷ []) ∷ (assign (plain x) (sum (of x) (num 20)) ∷ []) ∷ []) ∷ []) ∷ []
+    (either ((leaf (assign (plain x) (num 1)) ∷ []) ∷ (leaf (assign (plain x) (num 2)) ∷ []) ∷ []) ∷ either ((leaf (assign (plain x) (sum (of x) (num 10))) ∷ []) ∷ (leaf (assign (plain x) (sum (of x) (num 20))) ∷ []) ∷ []) ∷ []) ∷ []
 
 abbrev with-x : ℕ → ℕ → State
 with-x j v = state [] (process-at 0 j (one (pos v) ∷ []) ∷ []) []
@@ -59,7 +59,7 @@ claims = (refl, refl, refl, refl, refl)
 
 -- "its k-th offered step": of process 1 alone, though process 0 has steps too; `active proctype P(){if::1::1 fi}active proctype Q(){if::1;0::1 fi}`: 3 and 17, the second option of Q ends it at 29
 abbrev pair : Model
-pair = active P [] (either ((express (num 1) ∷ []) ∷ (express (num 1) ∷ []) ∷ []) ∷ []) ∷ active Q [] (either ((express (num 1) ∷ express (num 0) ∷ []) ∷ (express (num 1) ∷ []) ∷ []) ∷ []) ∷ []
+pair = active P [] (either ((leaf (express (num 1)) ∷ []) ∷ (leaf (express (num 1)) ∷ []) ∷ []) ∷ []) ∷ active Q [] (either ((leaf (express (num 1)) ∷ leaf (express (num 0)) ∷ []) ∷ (leaf (express (num 1)) ∷ []) ∷ []) ∷ []) ∷ []
 
 abbrev pair-at : ℕ → ℕ → State
 pair-at j k = state [] (process-at 0 j [] ∷ process-at 1 k [] ∷ []) []
@@ -71,7 +71,7 @@ own-steps = (refl, refl, refl)
 
 -- no step at all: `V` is the first line; `init{0}` is blocked at once
 abbrev zero : Model
-zero = main [] (express (num 0) ∷ []) ∷ []
+zero = main [] (leaf (express (num 0)) ∷ []) ∷ []
 
 no-steps : (replay zero (standing blocked) [] (initial zero) ≡ (accepted, initial zero)) × (replay zero (standing finished) [] (initial zero) ≡ (refused 12 1, initial zero))
     × (replay zero (standing blocked) (S 0 1 ∷ []) (initial zero) ≡ (refused 11 1, initial zero))
@@ -80,10 +80,10 @@ no-steps = (refl, refl, refl)
 
 -- ## `init{int x;x=1;assert(0);x=3}` and `init{int x;x=1;1/0;x=3}`: the second statement at 11 fails
 abbrev asserts : Model
-asserts = main (scalar int x unset ∷ []) (assign (plain x) (num 1) ∷ assert (num 0) ∷ assign (plain x) (num 3) ∷ []) ∷ []
+asserts = main (scalar int x unset ∷ []) (leaf (assign (plain x) (num 1)) ∷ leaf (assert (num 0)) ∷ leaf (assign (plain x) (num 3)) ∷ []) ∷ []
 
 abbrev divides : Model
-divides = main (scalar int x unset ∷ []) (assign (plain x) (num 1) ∷ express faulty ∷ assign (plain x) (num 3) ∷ []) ∷ []
+divides = main (scalar int x unset ∷ []) (leaf (assign (plain x) (num 1)) ∷ leaf (express faulty) ∷ leaf (assign (plain x) (num 3)) ∷ []) ∷ []
 
 -- "only its own verdict holds": not the other, and not that of the state, which is open
 own-verdict : (replay asserts assertion (S 0 1 ∷ S 0 1 ∷ []) (initial asserts) ≡ (accepted, with-x 11 1)) × (replay asserts fault (S 0 1 ∷ S 0 1 ∷ []) (initial asserts) ≡ (refused 12 3, with-x 11 1))

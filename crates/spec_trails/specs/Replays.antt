@@ -9,7 +9,7 @@ use Rattle.base_bytes.specs.Choice.{pick}
 use Rattle.base_outcome.specs.declared.Taken.{Taken}
 use Rattle.base_outcome.specs.declared.Taken.the-variants.{Done, Refuted, Faulted, Idle}
 use Rattle.spec_trails.specs.Trails.{Recorded}
-use Rattle.spec_machine.specs.Machine.{Machine, Step, Verdict, finished, blocked, «open», offered, asked, verdict}
+use Rattle.spec_machine.specs.Machine.{Machine, Step, Verdict, finished, blocked, «open», offered, asked, advance, verdict}
 
 -- "`V` and a verdict": `assert`, `fault`, or that of the state
 pub data Claim : Type 0 where
@@ -47,7 +47,7 @@ module _ {S : Type 0} (M : Machine S) where
 
   abbrev pub recorded : ℕ → S → Option Step → (Option Claim → S → Replayed × S) → Replayed × S
   recorded line s none rest = (refused 11 line, s)
-  recorded line s (some x) rest = followed line s (M .take s (x .process) (x .place) .0) (M .take s (x .process) (x .place) .1) rest
+  recorded line s (some x) rest = followed line s (advance M s x .0) (advance M s x .1) rest
 
   -- the records from a line on, in state s, behind a step that failed so, or did not
   unfoldable pub replayFrom : Claim → List Recorded → ℕ → Option Claim → S → Replayed × S

@@ -6,7 +6,7 @@ use Rattle.base_values.specs.declared.Fault.{Fault}
 use Rattle.base_outcome.specs.declared.Taken.{Taken}
 use Rattle.base_outcome.specs.declared.Taken.the-variants.{Done, Refuted, Faulted, Idle}
 use Rattle.spec_machine.specs.Effect.{Outcome}
-use Rattle.spec_machine.specs.Machine.{Machine, Step, Verdict, offered, verdict}
+use Rattle.spec_machine.specs.Machine.{Machine, Step, Verdict, offered, advance, verdict}
 
 -- how a run ends
 pub data Ending : Type 0 where
@@ -28,7 +28,7 @@ module _ {S : Type 0} (M : Machine S) where
 
   abbrev pub firstTaken : S → List Step → Outcome S
   firstTaken s [] = (Idle, s)
-  firstTaken s (x ∷ l) = M .take s (x .process) (x .place)
+  firstTaken s (x ∷ l) = advance M s x
 
   abbrev pub runBy : Taken → S → (S → Ran S) → Ran S
   runBy Done s rest = oneMore (rest s)

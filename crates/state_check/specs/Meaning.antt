@@ -1,4 +1,4 @@
--- Mechanism, held to the specification by `demand2` (crate `demands`).
+-- Mechanism, of proofs alone: `is-state-stands`, `stands-is-state` (crate `state_check`) hold `isStateOf` to it; to the specification's states `demand2` (crate `demands`) holds `isStateOf` itself.
 -- What a state of the model is, in the words of document 01: "A state of the model (refusal 9): values in their types, places that belong to the process's proctype or
 -- its end, messages in their field types, counts within ceilings, channels with the capacity and fields of some declaration, unused numbers 0".
 -- `isStateOf` lets through nothing else (`is-state-stands`, proofs/Meaning.antt) and all of it (`stands-is-state`, proofs/Exact.antt), whatever the tables are.

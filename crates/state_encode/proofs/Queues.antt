@@ -1,22 +1,25 @@
 -- MESSAGES PUT INTO AND TAKEN OUT OF a channel's numbers are put into and taken out of the list that it holds.
-use Prim.Native.Nat.{ℕ, zero, suc, _+_, _-_, _*_, _<_, _≤_}
+use Prim.Native.Nat.{ℕ, zero, suc, _+_, _-_, _*_, _/_, _%_, _<_, _≤_}
 use native.Mathlib.Omega.{arith}
-use mathlib.Core.Path.{_≡_, refl, sym as inv, ap, ap₂, _∙_}
+use native.Mathlib.Decide.{ℕ-discrete, decLt}
+use mathlib.Core.Path.{_≡_, refl, sym as inv, ap, ap₂, subst, _∙_}
 use mathlib.Core.List.{List, [], _∷_, _++_, append-assoc, append-nil}
-use lib.ListN.{length, getD, set, replicate, length-append, length-set}
-use lib.Seq.{getD-append-seam, set-append-seam}
+use lib.ListN.{length, getD, set, length-append, length-set, List·getD-eq-default, List·getD-map}
+use lib.Seq.{lt-length-set, getD-append-seam, set-append-seam, getD-set-same, getD-set-other, ext-getD}
 use lib.IntN.{ℤ, pos}
 use Rattle.base_ceilings.specs.Ceilings.{capacityMost, channelsMost, fieldsMost}
 use Rattle.state_layout.specs.Layout.{kept, cellOf, channelAt, fieldAt, declaredOf, channelSize}
 use Rattle.state_layout.specs.Walks.{walk}
 use Rattle.base_values.specs.Types.{castOf}
 use Rattle.step_ready.specs.Channels.{fieldsOf}
-use Rattle.step_messages.specs.Messages.{fieldType, appended, removed}
+use Rattle.step_messages.specs.Messages.{fieldType, putIn, takenOut}
 use Rattle.spec_grammar.specs.Tree.{Model}
+use Rattle.spec_machine.specs.Messages.{putAt, takeAt}
+use Rattle.spec_machine.proofs.Messages.{put-last, take-length-less, take-before, take-behind}
 use Rattle.spec_machine.specs.State.{Channel, State, noChannel}
 use Rattle.spec_machine.specs.Plain.{castAll, withChannel}
 use Rattle.state_encode.specs.Encode.{pad, rows, channelItem, messageRow, channelRow, encode}
-use Rattle.state_encode.proofs.Rows.{get-left, get-right, set-left, set-right, length-pad, pad-exact, pad-more, off, length-rows, set-rows, rows-more, rows-last, Cut, cut, get-channel, set-channel}
+use Rattle.state_encode.proofs.Rows.{get-left, get-right, set-left, set-right, length-pad, pad-exact, pad-more, off, length-rows, set-rows, rows-more, row-any, at-four, Cut, cut, get-channel, set-channel}
 use Rattle.state_encode.proofs.Numbers.{at-channel, G, P, Z, lg, lp, lc, waiting-is}
 
 -- ---- a walk inside of something larger
@@ -34,10 +37,6 @@ M held = rows messageRow fieldsMost capacityMost held
 
 long-m : (held : List (List ℤ)) → length (M held) ≡ (capacityMost * fieldsMost)
 long-m held = length-rows messageRow fieldsMost capacityMost held
-
-at-4 : (p : ℕ) → off messageRow fieldsMost p ≡ fieldsMost * p
-at-4 zero = refl
-at-4 (suc p) = let e = at-4 p in omega arith
 
 -- what is written field by field
 abbrev built : (ℕ → ℤ) → ℕ → ℕ → List ℤ → List ℤ
@@ -61,7 +60,7 @@ writes h held (suc n) j part l k g =
 
     step : set (M (held ++ part ∷ [])) (fieldsMost * length held + j) (h j) ≡ M (held ++ (part ++ h j ∷ []) ∷ [])
     step =
-        ap (λ i. set (M (held ++ part ∷ [])) (i + j) (h j)) (inv (at-4 (length held)))
+        ap (λ i. set (M (held ++ part ∷ [])) (i + j) (h j)) (inv (at-four messageRow (length held)))
         ∙ set-rows messageRow fieldsMost capacityMost (held ++ part ∷ []) [] (length held) j (h j) (part ++ h j ∷ []) here g (omega arith) row
         ∙ ap M (set-append-seam held part [] (part ++ h j ∷ []))
 
@@ -73,50 +72,93 @@ built-cast h (k ∷ ks) (v ∷ vs) j part l e =
     built-cast h ks vs (j + 1) (part ++ h j ∷ []) (omega arith) (λ i g. ap h (let z : j + 1 + i ≡ j + suc i = omega arith in z) ∙ e (suc i) (omega arith))
     ∙ append-assoc part (h j ∷ []) (castAll ks vs) ∙ ap (λ w. part ++ w ∷ castAll ks vs) (ap h (let z : j ≡ j + 0 = omega arith in z) ∙ e 0 (omega arith))
 
--- ---- the oldest goes, the others move up
--- a list as long as n, element by element
-abbrev tab : (ℕ → ℤ) → ℕ → ℕ → List ℤ
-tab g j zero = []
-tab g j (suc n) = g j ∷ tab g (suc j) n
+-- ---- a walk that sets the numbers from o on, one by one
+module _ (o : ℕ) (g : ℕ → List ℤ → ℤ) where
+  sets-long : (n j : ℕ) (x : List ℤ) → length (walk (λ k x. set x (o + k) (g k x)) j n x) ≡ length x
+  unfolding walk
+  sets-long zero j x = refl
+  sets-long (suc n) j x = sets-long n (j + 1) (set x (o + j) (g j x)) ∙ length-set x (o + j) (g j x)
 
-tab-of : (n j : ℕ) (l : List ℤ) (g : ℕ → ℤ) → length l ≡ n → ((i : ℕ) → g (j + i) ≡ getD l i (pos 0)) → l ≡ tab g j n
-tab-of zero j [] g h e = refl
-tab-of zero j (x ∷ l) g h e = absurd (omega arith)
-tab-of (suc n) j [] g h e = absurd (omega arith)
-tab-of (suc n) j (x ∷ l) g h e =
-    ap₂ (λ (a : ℤ) (b : List ℤ). a ∷ b) (inv (e 0) ∙ ap g (let z : j + 0 ≡ j = omega arith in z))
-    (tab-of n (suc j) l g (omega arith) (λ i. ap g (let z : suc j + i ≡ j + suc i = omega arith in z) ∙ e (suc i)))
+  -- a number that it does not come to stays
+  sets-others : (n j i : ℕ) (x : List ℤ) → ((k : ℕ) → j ≤ k → k < j + n → i ≡ o + k → ⊥) → getD (walk (λ k x. set x (o + k) (g k x)) j n x) i (pos 0) ≡ getD x i (pos 0)
+  unfolding walk
+  sets-others zero j i x h = refl
+  sets-others (suc n) j i x h =
+      sets-others n (j + 1) i (set x (o + j) (g j x)) (λ k a b. h k (omega arith) (omega arith)) ∙ getD-set-other x (o + j) i (g j x) (pos 0) (h j (omega arith) (omega arith))
 
-walk-long : (n j : ℕ) (x : List ℤ) → length x ≡ (capacityMost * fieldsMost) → length (walk (λ i x. set x (0 + i) (getD x (fieldsMost + i) (pos 0))) j n x) ≡ (capacityMost * fieldsMost)
-unfolding walk
-walk-long zero j x l = l
-walk-long (suc n) j x l = walk-long n (j + 1) (set x (0 + j) (getD x (fieldsMost + j) (pos 0))) (length-set x (0 + j) (getD x (fieldsMost + j) (pos 0)) ∙ l)
+  -- one that it comes to is what it was to become at first, if that lies behind all that is set before
+  sets-each : ((k j : ℕ) (x : List ℤ) (v : ℤ) → j < k → g k (set x (o + j) v) ≡ g k x)
+      → (n j k : ℕ) (x : List ℤ) → j ≤ k → k < j + n → o + k < length x → getD (walk (λ k x. set x (o + k) (g k x)) j n x) (o + k) (pos 0) ≡ g k x
+  unfolding walk
+  sets-each steady zero j k x a b l = absurd (omega arith)
+  sets-each steady (suc n) j k x a b l = go (λ h. sets-each steady n (j + 1) k (set x (o + j) (g j x)) h (omega arith) (lt-length-set x (o + j) (g j x) l)) (ℕ-discrete j k)
+    where
+      go : (j + 1 ≤ k → getD (walk (λ k x. set x (o + k) (g k x)) (j + 1) n (set x (o + j) (g j x))) (o + k) (pos 0) ≡ g k (set x (o + j) (g j x)))
+          → Dec (j ≡ k) → getD (walk (λ k x. set x (o + k) (g k x)) (j + 1) n (set x (o + j) (g j x))) (o + k) (pos 0) ≡ g k x
+      go rest (yes e) =
+          sets-others n (j + 1) (o + k) (set x (o + j) (g j x)) (λ i p q r. omega arith)
+          ∙ ap (λ i. getD (set x (o + i) (g i x)) (o + k) (pos 0)) e ∙ getD-set-same x (o + k) (g k x) (pos 0) l
+      go rest (no e) = rest (omega arith) ∙ steady k j x (g j x) (omega arith)
 
-abbrev up : List ℤ → List ℤ
-up x = walk (λ i x. set x ((fieldsMost * (capacityMost - 1)) + i) (pos 0)) 0 fieldsMost (walk (λ i x. set x (0 + i) (getD x (fieldsMost + i) (pos 0))) 0 (fieldsMost * (capacityMost - 1)) x)
+-- ---- message w goes, those behind it move up
+abbrev next : ℕ → ℕ → List ℤ → ℤ
+next w i x = getD x (fieldsMost * (w + 1) + i) (pos 0)
 
-up-tab : (a b : ℕ → ℤ) → up (tab a 0 fieldsMost ++ tab b 0 (fieldsMost * (capacityMost - 1))) ≡ tab b 0 (fieldsMost * (capacityMost - 1)) ++ replicate fieldsMost (pos 0)
-unfolding walk
-up-tab a b = refl
+abbrev shifted : ℕ → List ℤ → List ℤ
+shifted w x = walk (λ i x. set x (fieldsMost * w + i) (getD x (fieldsMost * (w + 1) + i) (pos 0))) 0 (fieldsMost * (capacityMost - 1 - w)) x
 
-pub moves-up : (msg : List ℤ) (held : List (List ℤ)) → length held ≤ (capacityMost - 1) → up (M (msg ∷ held)) ≡ M held
-unfolding rows pad
-moves-up msg held h =
-    ap up cells ∙ up-tab (λ i. getD (pad fieldsMost msg) i (pos 0)) (λ i. getD (rows messageRow fieldsMost (capacityMost - 1) held) i (pos 0)) ∙ ap₂ _++_ (inv rest) zeros ∙ inv (rows-last messageRow fieldsMost (capacityMost - 1) held h)
+abbrev up : ℕ → List ℤ → List ℤ
+up w x = walk (λ i x. set x ((fieldsMost * (capacityMost - 1)) + i) (pos 0)) 0 fieldsMost (shifted w x)
+
+-- number f of message p
+message-cell : (held : List (List ℤ)) (p f i : ℕ) → p < capacityMost → f < fieldsMost → i ≡ fieldsMost * p + f → getD (M held) i (pos 0) ≡ getD (getD held p []) f (pos 0)
+message-cell held p f i a b e =
+    ap (λ j. getD (M held) j (pos 0)) (let z = at-four messageRow p in let w : i ≡ off messageRow fieldsMost p + f = omega arith in w)
+    ∙ row-any messageRow fieldsMost capacityMost held p f a b ∙ ap (λ (l : List ℤ). getD l f (pos 0)) (List·getD-map messageRow held p [])
+
+pub moves-up : (w : ℕ) (held : List (List ℤ)) → w < length held → length held ≤ capacityMost → up w (M held) ≡ M (takeAt w held)
+moves-up w held h few = ext-getD (pos 0) (up w (M held)) (M (takeAt w held)) (long ∙ inv (long-m (takeAt w held))) (λ i l. each i (subst (i <_) long l))
   where
-    one : pad fieldsMost msg ≡ tab (λ i. getD (pad fieldsMost msg) i (pos 0)) 0 fieldsMost
-    one = tab-of fieldsMost 0 (pad fieldsMost msg) (λ i. getD (pad fieldsMost msg) i (pos 0)) (length-pad fieldsMost msg) (λ i. ap (λ j. getD (pad fieldsMost msg) j (pos 0)) (let z : 0 + i ≡ i = omega arith in z))
+    wide : length (shifted w (M held)) ≡ (capacityMost * fieldsMost)
+    wide = sets-long (fieldsMost * w) (next w) (fieldsMost * (capacityMost - 1 - w)) 0 (M held) ∙ long-m held
 
-    rest : rows messageRow fieldsMost (capacityMost - 1) held ≡ tab (λ i. getD (rows messageRow fieldsMost (capacityMost - 1) held) i (pos 0)) 0 (fieldsMost * (capacityMost - 1))
-    rest =
-        tab-of (fieldsMost * (capacityMost - 1)) 0 (rows messageRow fieldsMost (capacityMost - 1) held) (λ i. getD (rows messageRow fieldsMost (capacityMost - 1) held) i (pos 0)) (length-rows messageRow fieldsMost (capacityMost - 1) held)
-        (λ i. ap (λ j. getD (rows messageRow fieldsMost (capacityMost - 1) held) j (pos 0)) (let z : 0 + i ≡ i = omega arith in z))
+    long : length (up w (M held)) ≡ (capacityMost * fieldsMost)
+    long = sets-long (fieldsMost * (capacityMost - 1)) (λ i x. pos 0) fieldsMost 0 (shifted w (M held)) ∙ wide
 
-    cells : M (msg ∷ held) ≡ tab (λ i. getD (pad fieldsMost msg) i (pos 0)) 0 fieldsMost ++ tab (λ i. getD (rows messageRow fieldsMost (capacityMost - 1) held) i (pos 0)) 0 (fieldsMost * (capacityMost - 1))
-    cells = ap₂ _++_ one rest
+    -- the place that the last one leaves
+    last : (f : ℕ) → f < fieldsMost → getD (up w (M held)) (fieldsMost * (capacityMost - 1) + f) (pos 0) ≡ getD (M (takeAt w held)) (fieldsMost * (capacityMost - 1) + f) (pos 0)
+    last f l =
+        sets-each (fieldsMost * (capacityMost - 1)) (λ i x. pos 0) (λ k j x v b. refl) fieldsMost 0 f (shifted w (M held)) (omega arith) (omega arith) (subst (λ n. fieldsMost * (capacityMost - 1) + f < n) (inv wide) (omega arith))
+        ∙ inv (message-cell (takeAt w held) (capacityMost - 1) f (fieldsMost * (capacityMost - 1) + f) (omega arith) l refl
+        ∙ ap (λ (m : List ℤ). getD m f (pos 0)) (List·getD-eq-default (takeAt w held) [] (let z = take-length-less w held h in omega arith)))
 
-    zeros : replicate fieldsMost (pos 0) ≡ pad fieldsMost []
-    zeros = refl
+    stays : (i : ℕ) → i < fieldsMost * (capacityMost - 1) → getD (up w (M held)) i (pos 0) ≡ getD (shifted w (M held)) i (pos 0)
+    stays i l = sets-others (fieldsMost * (capacityMost - 1)) (λ i x. pos 0) fieldsMost 0 i (shifted w (M held)) (λ k a b e. omega arith)
+
+    front : (p f i : ℕ) → f < fieldsMost → p < w → i ≡ fieldsMost * p + f → getD (shifted w (M held)) i (pos 0) ≡ getD (M (takeAt w held)) i (pos 0)
+    front p f i l b e =
+        sets-others (fieldsMost * w) (next w) (fieldsMost * (capacityMost - 1 - w)) 0 i (M held) (λ k c d q. omega arith)
+        ∙ message-cell held p f i (omega arith) l e
+        ∙ ap (λ (m : List ℤ). getD m f (pos 0)) (inv (take-before w p held [] (omega arith) b)) ∙ inv (message-cell (takeAt w held) p f i (omega arith) l e)
+
+    back : (p f i : ℕ) → f < fieldsMost → w ≤ p → p < capacityMost - 1 → i ≡ fieldsMost * p + f → getD (shifted w (M held)) i (pos 0) ≡ getD (M (takeAt w held)) i (pos 0)
+    back p f i l a b e =
+        let k = fieldsMost * (p - w) + f in
+        ap (λ j. getD (shifted w (M held)) j (pos 0)) (let z : i ≡ fieldsMost * w + k = omega arith in z)
+        ∙ sets-each (fieldsMost * w) (next w) (λ k j x v c. getD-set-other x (fieldsMost * w + j) (fieldsMost * (w + 1) + k) v (pos 0) (λ e. omega arith)) (fieldsMost * (capacityMost - 1 - w)) 0 k (M held)
+        (omega arith) (omega arith) (subst (λ n. fieldsMost * w + k < n) (inv (long-m held)) (omega arith))
+        ∙ message-cell held (p + 1) f (fieldsMost * (w + 1) + k) (omega arith) l (omega arith)
+        ∙ ap (λ (m : List ℤ). getD m f (pos 0)) (inv (take-behind w p held [] (omega arith) a)) ∙ inv (message-cell (takeAt w held) p f i (omega arith) l e)
+
+    each : (i : ℕ) → i < (capacityMost * fieldsMost) → getD (up w (M held)) i (pos 0) ≡ getD (M (takeAt w held)) i (pos 0)
+    each i l = go (decLt i (fieldsMost * (capacityMost - 1))) (decLt (i / fieldsMost) w)
+      where
+        go : Dec (i < fieldsMost * (capacityMost - 1)) → Dec (i / fieldsMost < w) → getD (up w (M held)) i (pos 0) ≡ getD (M (takeAt w held)) i (pos 0)
+        go (no a) b =
+            let e : i ≡ fieldsMost * (capacityMost - 1) + i % fieldsMost = omega arith in
+            ap (λ j. getD (up w (M held)) j (pos 0)) e ∙ last (i % fieldsMost) (omega arith) ∙ ap (λ j. getD (M (takeAt w held)) j (pos 0)) (inv e)
+        go (yes a) (yes b) = stays i a ∙ front (i / fieldsMost) (i % fieldsMost) i (omega arith) b (omega arith)
+        go (yes a) (no b) = stays i a ∙ back (i / fieldsMost) (i % fieldsMost) i (omega arith) (omega arith) (omega arith) (omega arith)
 
 -- ---- in the whole
 module _ (m : Model) (t : List ℤ) (σ : State) (c : ℕ) (here : c < length (σ .channels)) (few : length (σ .channels) ≤ channelsMost) where
@@ -200,51 +242,49 @@ module _ (m : Model) (t : List ℤ) (σ : State) (c : ℕ) (here : c < length (�
       ap₂ (λ (n : ℕ) (i : List ℤ). (kept (length (σ .processes)) ∷ kept n ∷ G m t σ ++ (P m t σ ++ (i ++ Z m t σ))) ++ t) (inv (length-set (σ .channels) c y))
       (ap (λ (i : List ℤ). K .front ++ (i ++ K .back)) (inv (pad-exact channelSize (channelRow m y) (let l = long-m held in omega arith))) ∙ inv (K .is y))
 
-  -- TAKE: the oldest message goes
-  pub take-is : (msg : List ℤ) (rest : List (List ℤ)) → ch .held ≡ msg ∷ rest → length rest ≤ (capacityMost - 1) → removed c (encode m σ ++ t) ≡ encode m (withChannel c rest σ) ++ t
-  unfolding removed
-  take-is msg rest e h =
-      ap (λ n. set (lower (encode m σ ++ t)) (channelAt c + 1) (kept (n - 1))) (waiting-is m t σ c here few (let l = ap length e in omega arith) ∙ ap length e)
-      ∙ ap (λ x. set (lower x) (channelAt c + 1) (kept (suc (length rest) - 1))) (whole-was ∙ ap (λ l. wrap I (kept (length l)) (M l)) e)
-      ∙ ap (λ x. set x (channelAt c + 1) (kept (suc (length rest) - 1))) (inside ∙ ap (wrap I (kept (suc (length rest)))) (moves-up msg rest h))
-      ∙ wrap-set I (kept (suc (length rest))) (M rest) 1 (kept (suc (length rest) - 1)) (long-m rest) (omega arith)
-      ∙ ap (λ n. wrap I (kept n) (M rest)) (let z : suc (length rest) - 1 ≡ length rest = omega arith in z) ∙ whole-is rest
+  -- TAKE: message w goes
+  pub take-is : (w : ℕ) → w < length (ch .held) → length (ch .held) ≤ capacityMost → takenOut c w (encode m σ ++ t) ≡ encode m (withChannel c (takeAt w (ch .held)) σ) ++ t
+  unfolding takenOut
+  take-is w h g =
+      ap (λ n. set (lower (encode m σ ++ t)) (channelAt c + 1) (kept (n - 1))) (waiting-is m t σ c here few g)
+      ∙ ap (λ x. set (lower x) (channelAt c + 1) (kept (length (ch .held) - 1))) whole-was
+      ∙ ap (λ x. set x (channelAt c + 1) (kept (length (ch .held) - 1))) (inside ∙ ap (wrap I (kept (length (ch .held)))) (moves-up w (ch .held) h g))
+      ∙ wrap-set I (kept (length (ch .held))) (M (takeAt w (ch .held))) 1 (kept (length (ch .held) - 1)) (long-m (takeAt w (ch .held))) (omega arith)
+      ∙ ap (λ n. wrap I (kept n) (M (takeAt w (ch .held)))) (let e = take-length-less w (ch .held) h in let z : length (ch .held) - 1 ≡ length (takeAt w (ch .held)) = omega arith in z)
+      ∙ whole-is (takeAt w (ch .held))
     where
       lower : List ℤ → List ℤ
-      lower x = walk (λ i x. set x (fieldAt c (capacityMost - 1) i) (pos 0)) 0 fieldsMost (walk (λ i x. set x (fieldAt c 0 i) (cellOf x (fieldAt c 1 i))) 0 (fieldsMost * (capacityMost - 1)) x)
+      lower x = walk (λ i x. set x (fieldAt c (capacityMost - 1) i) (pos 0)) 0 fieldsMost (walk (λ i x. set x (fieldAt c w i) (cellOf x (fieldAt c (w + 1) i))) 0 (fieldsMost * (capacityMost - 1 - w)) x)
 
-      b : ℤ
-      b = kept (suc (length rest))
-
-      shifts : (x : List ℤ) → length x ≡ (capacityMost * fieldsMost) → walk (λ i x. set x (fieldAt c 0 i) (cellOf x (fieldAt c 1 i))) 0 (fieldsMost * (capacityMost - 1)) (wrap I (kept (suc (length rest))) x)
-          ≡ wrap I (kept (suc (length rest))) (walk (λ i x. set x (0 + i) (getD x (fieldsMost + i) (pos 0))) 0 (fieldsMost * (capacityMost - 1)) x)
+      shifts : (x : List ℤ) → length x ≡ (capacityMost * fieldsMost) → walk (λ i x. set x (fieldAt c w i) (cellOf x (fieldAt c (w + 1) i))) 0 (fieldsMost * (capacityMost - 1 - w)) (wrap I (kept (length (ch .held))) x)
+          ≡ wrap I (kept (length (ch .held))) (shifted w x)
       shifts x l =
-          walk-inside (λ i x. set x (fieldAt c 0 i) (cellOf x (fieldAt c 1 i))) (λ i x. set x (0 + i) (getD x (fieldsMost + i) (pos 0))) (wrap I (kept (suc (length rest)))) (capacityMost * fieldsMost) (fieldsMost * (capacityMost - 1)) 0 x l
+          walk-inside (λ i x. set x (fieldAt c w i) (cellOf x (fieldAt c (w + 1) i))) (λ i x. set x (fieldsMost * w + i) (getD x (fieldsMost * (w + 1) + i) (pos 0))) (wrap I (kept (length (ch .held)))) (capacityMost * fieldsMost)
+          (fieldsMost * (capacityMost - 1 - w)) 0 x l
           (λ i y p q k. (
-            ap (set (wrap I (kept (suc (length rest))) y) (fieldAt c 0 i)) (message-get I (kept (suc (length rest))) y (fieldAt c 1 i) (fieldsMost + i) k (omega arith) (omega arith))
-                ∙ message-set I (kept (suc (length rest))) y (fieldAt c 0 i) (0 + i) (getD y (fieldsMost + i) (pos 0)) k (omega arith) (omega arith),
-            length-set y (0 + i) (getD y (fieldsMost + i) (pos 0)) ∙ k,
+            ap (set (wrap I (kept (length (ch .held))) y) (fieldAt c w i)) (message-get I (kept (length (ch .held))) y (fieldAt c (w + 1) i) (fieldsMost * (w + 1) + i) k (omega arith) (omega arith))
+                ∙ message-set I (kept (length (ch .held))) y (fieldAt c w i) (fieldsMost * w + i) (getD y (fieldsMost * (w + 1) + i) (pos 0)) k (omega arith) (omega arith),
+            length-set y (fieldsMost * w + i) (getD y (fieldsMost * (w + 1) + i) (pos 0)) ∙ k,
           ))
 
-      clears : (x : List ℤ) → length x ≡ (capacityMost * fieldsMost) → walk (λ i x. set x (fieldAt c (capacityMost - 1) i) (pos 0)) 0 fieldsMost (wrap I (kept (suc (length rest))) x)
-          ≡ wrap I (kept (suc (length rest))) (walk (λ i x. set x ((fieldsMost * (capacityMost - 1)) + i) (pos 0)) 0 fieldsMost x)
+      clears : (x : List ℤ) → length x ≡ (capacityMost * fieldsMost) → walk (λ i x. set x (fieldAt c (capacityMost - 1) i) (pos 0)) 0 fieldsMost (wrap I (kept (length (ch .held))) x)
+          ≡ wrap I (kept (length (ch .held))) (walk (λ i x. set x ((fieldsMost * (capacityMost - 1)) + i) (pos 0)) 0 fieldsMost x)
       clears x l =
-          walk-inside (λ i x. set x (fieldAt c (capacityMost - 1) i) (pos 0)) (λ i x. set x ((fieldsMost * (capacityMost - 1)) + i) (pos 0)) (wrap I (kept (suc (length rest)))) (capacityMost * fieldsMost) fieldsMost 0 x l
-          (λ i y p q k. (message-set I (kept (suc (length rest))) y (fieldAt c (capacityMost - 1) i) ((fieldsMost * (capacityMost - 1)) + i) (pos 0) k (omega arith) (omega arith), length-set y ((fieldsMost * (capacityMost - 1)) + i) (pos 0) ∙ k))
+          walk-inside (λ i x. set x (fieldAt c (capacityMost - 1) i) (pos 0)) (λ i x. set x ((fieldsMost * (capacityMost - 1)) + i) (pos 0)) (wrap I (kept (length (ch .held)))) (capacityMost * fieldsMost) fieldsMost 0 x l
+          (λ i y p q k. (message-set I (kept (length (ch .held))) y (fieldAt c (capacityMost - 1) i) ((fieldsMost * (capacityMost - 1)) + i) (pos 0) k (omega arith) (omega arith), length-set y ((fieldsMost * (capacityMost - 1)) + i) (pos 0) ∙ k))
 
-      inside : lower (wrap I (kept (suc (length rest))) (M (msg ∷ rest))) ≡ wrap I (kept (suc (length rest))) (up (M (msg ∷ rest)))
+      inside : lower (wrap I (kept (length (ch .held))) (M (ch .held))) ≡ wrap I (kept (length (ch .held))) (up w (M (ch .held)))
       inside =
-          ap (walk (λ i x. set x (fieldAt c (capacityMost - 1) i) (pos 0)) 0 fieldsMost) (shifts (M (msg ∷ rest)) (long-m (msg ∷ rest)))
-          ∙ clears (walk (λ i x. set x (0 + i) (getD x (fieldsMost + i) (pos 0))) 0 (fieldsMost * (capacityMost - 1)) (M (msg ∷ rest))) (walk-long (fieldsMost * (capacityMost - 1)) 0 (M (msg ∷ rest)) (long-m (msg ∷ rest)))
+          ap (walk (λ i x. set x (fieldAt c (capacityMost - 1) i) (pos 0)) 0 fieldsMost) (shifts (M (ch .held)) (long-m (ch .held)))
+          ∙ clears (shifted w (M (ch .held))) (sets-long (fieldsMost * w) (next w) (fieldsMost * (capacityMost - 1 - w)) 0 (M (ch .held)) ∙ long-m (ch .held))
 
   -- PUT: one more message behind the others, its values cast to the types ks
   pub put-is : (T ks : List ℕ) (vs : List ℤ) → length vs ≡ length ks → length ks ≤ fieldsMost → length (ch .held) < capacityMost
       → fieldsOf T (declaredOf (encode m σ ++ t) c) ≡ length ks → ((i : ℕ) → i < length ks → fieldType T (declaredOf (encode m σ ++ t) c) i ≡ getD ks i 0)
-      → appended T c vs (encode m σ ++ t) ≡ encode m (withChannel c (ch .held ++ castAll ks vs ∷ []) σ) ++ t
-  unfolding appended
+      → putIn T c (length (ch .held)) vs (encode m σ ++ t) ≡ encode m (withChannel c (putAt (length (ch .held)) (castAll ks vs) (ch .held)) σ) ++ t
+  unfolding putIn
   put-is T ks vs l w h ef et =
-      ap (λ n. set (walk (λ f x. set x (fieldAt c n f) (value f)) 0 (fieldsOf T d) S) (channelAt c + 1) (kept (n + 1))) (waiting-is m t σ c here few (omega arith))
-      ∙ ap (λ n. set (walk (λ f x. set x (fieldAt c (length (ch .held)) f) (value f)) 0 n S) (channelAt c + 1) (kept (length (ch .held) + 1))) ef
+      ap (λ n. set (walk (λ f x. set x (fieldAt c (length (ch .held)) f) (value f)) 0 n S) (channelAt c + 1) (kept (length (ch .held) + 1))) ef
       ∙ ap (λ x. set (walk (λ f x. set x (fieldAt c (length (ch .held)) f) (value f)) 0 (length ks) x) (channelAt c + 1) (kept (length (ch .held) + 1))) whole-was
       ∙ ap (λ x. set x (channelAt c + 1) (kept (length (ch .held) + 1)))
       (walk-inside (λ f x. set x (fieldAt c (length (ch .held)) f) (value f)) (λ f x. set x (fieldsMost * length (ch .held) + f) (value f)) (wrap I (kept (length (ch .held)))) (capacityMost * fieldsMost) (length ks) 0 (M (ch .held))
@@ -259,6 +299,7 @@ module _ (m : Model) (t : List ℤ) (σ : State) (c : ℕ) (here : c < length (�
       (built-cast value ks vs 0 [] l (λ i g. ap value (let z : 0 + i ≡ i = omega arith in z) ∙ ap (λ k. castOf k (getD vs i (pos 0))) (et i g)))))
       ∙ wrap-set I (kept (length (ch .held))) (M (ch .held ++ castAll ks vs ∷ [])) 1 (kept (length (ch .held) + 1)) (long-m (ch .held ++ castAll ks vs ∷ [])) (omega arith)
       ∙ ap (λ n. wrap I (kept n) (M (ch .held ++ castAll ks vs ∷ []))) (inv (length-append (ch .held) (castAll ks vs ∷ []))) ∙ whole-is (ch .held ++ castAll ks vs ∷ [])
+      ∙ ap (λ (l : List (List ℤ)). encode m (withChannel c l σ) ++ t) (inv (put-last (castAll ks vs) (ch .held)))
     where
       S : List ℤ
       S = encode m σ ++ t

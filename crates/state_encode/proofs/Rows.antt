@@ -1,13 +1,13 @@
 -- READING AND WRITING the numbers of a plain state: padded lists, rows, lists laid end to end, and the parts of the whole.
-use Prim.Native.Nat.{ℕ, zero, suc, _+_, _<_, _≤_, _*_}
+use Prim.Native.Nat.{ℕ, zero, suc, _+_, _<_, _*_}
 use native.Mathlib.Omega.{arith}
 use mathlib.Core.Path.{_≡_, refl, sym as inv, ap, ap₂, _∙_, subst}
-use mathlib.Core.List.{List, [], _∷_, _++_, append-assoc, append-nil}
+use mathlib.Core.List.{List, [], _∷_, _++_, map, append-assoc}
 use lib.ListN.{length, getD, set, length-append, List·getD-append}
 use lib.Seq.{getD-append-add, set-append-left}
 use lib.IntN.{ℤ, pos}
 use Rattle.state_layout.specs.Layout.{channelAt, channelSize, processAt, processSize}
-use Rattle.base_ceilings.specs.Ceilings.{channelsMost, globalsMost, processesMost}
+use Rattle.base_ceilings.specs.Ceilings.{channelsMost, fieldsMost, globalsMost, processesMost}
 use Rattle.state_encode.specs.Encode.{pad, rows, flat}
 
 -- ---- two lists
@@ -106,14 +106,6 @@ module _ {A : Type 0} (f : A → List ℤ) (z : ℕ) where
   rows-more (suc n) [] y e h = ap (λ i. pad z i ++ rows f z n []) (inv e)
   rows-more (suc n) (x ∷ l) y e h = ap (λ (i : List ℤ). pad z (f x) ++ i) (rows-more n l y e (omega arith))
 
-  -- one row more that is empty, behind them all
-  pub rows-last : (n : ℕ) (l : List A) → length l ≤ n → rows f z (suc n) l ≡ rows f z n l ++ pad z []
-  unfolding rows
-  rows-last zero [] h = append-nil (pad z [])
-  rows-last zero (x ∷ l) h = absurd (omega arith)
-  rows-last (suc n) [] h = ap (λ (i : List ℤ). pad z [] ++ i) (rows-last n [] (omega arith)) ∙ inv (append-assoc (pad z []) (rows f z n []) (pad z []))
-  rows-last (suc n) (x ∷ l) h = ap (λ (i : List ℤ). pad z (f x) ++ i) (rows-last n l (omega arith)) ∙ inv (append-assoc (pad z (f x)) (rows f z n l) (pad z []))
-
   -- one row cut out, and another in its place
   pub record Cut (n : ℕ) (l : List A) (p : ℕ) (d : A) : Type 0 where
     pub front : List ℤ
@@ -136,6 +128,30 @@ module _ {A : Type 0} (f : A → List ℤ) (z : ℕ) where
         was = ap (λ (i : List ℤ). pad z (f x) ++ i) (r .was) ∙ inv (append-assoc (pad z (f x)) (r .front) (pad z (f (getD l p d)) ++ r .back));
         is = λ y. ap (λ (i : List ℤ). pad z (f x) ++ i) (r .is y) ∙ inv (append-assoc (pad z (f x)) (r .front) (pad z (f y) ++ r .back));
       }
+
+-- what is not there is 0
+pub row-any : {A : Type 0} (f : A → List ℤ) (z n : ℕ) (l : List A) (p k : ℕ) → p < n → k < z → getD (rows f z n l) (off f z p + k) (pos 0) ≡ getD (getD (map f l) p []) k (pos 0)
+unfolding rows
+row-any f z zero l p k h g = absurd (omega arith)
+row-any f z (suc n) [] zero k h g =
+    ap (λ i. getD (pad z [] ++ rows f z n []) i (pos 0)) (let w : 0 + k ≡ k = omega arith in w)
+    ∙ get-left (pad z []) (rows f z n []) (pos 0) k (subst (k <_) (inv (length-pad z [])) g) ∙ get-pad z [] k g
+row-any f z (suc n) [] (suc p) k h g =
+    get-right (pad z []) (rows f z n []) (pos 0) z (off f z p + k) (z + off f z p + k) (length-pad z []) (omega arith) ∙ row-any f z n [] p k (omega arith) g ∙ none p
+  where
+    none : (p : ℕ) → getD (getD [] p []) k (pos 0) ≡ getD [] k (pos 0)
+    none zero = refl
+    none (suc p) = refl
+row-any f z (suc n) (x ∷ l) zero k h g =
+    ap (λ i. getD (pad z (f x) ++ rows f z n l) i (pos 0)) (let w : 0 + k ≡ k = omega arith in w)
+    ∙ get-left (pad z (f x)) (rows f z n l) (pos 0) k (subst (k <_) (inv (length-pad z (f x))) g) ∙ get-pad z (f x) k g
+row-any f z (suc n) (x ∷ l) (suc p) k h g =
+    get-right (pad z (f x)) (rows f z n l) (pos 0) z (off f z p + k) (z + off f z p + k) (length-pad z (f x)) (omega arith) ∙ row-any f z n l p k (omega arith) g
+
+-- rows of four
+pub at-four : {A : Type 0} (f : A → List ℤ) (p : ℕ) → off f fieldsMost p ≡ fieldsMost * p
+at-four f zero = refl
+at-four f (suc p) = let e = at-four f p in omega arith
 
 -- ---- lists laid end to end
 -- how many numbers the first i have

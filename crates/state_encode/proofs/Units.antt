@@ -4,11 +4,10 @@ use native.Mathlib.Omega.{arith}
 use mathlib.Core.Path.{_≡_, refl, subst}
 use mathlib.Core.Bool.{true, false}
 use mathlib.Core.List.{[], _∷_, _++_}
-use lib.ListN.{length}
 use Rattle.base_bytes.specs.Choice.{both}
 use Rattle.base_bytes.proofs.Tests.{both-true}
-use Rattle.spec_grammar.specs.Tree.{Name, Body, body, Activity, idle, once, times, mtypes, global, process, init, Model}
-use Rattle.parse_code.specs.Code.{each, code-activity, code-group, code-part}
+use Rattle.spec_grammar.specs.Tree.{Body, body, Activity, idle, once, times, mtypes, global, process, init, Model}
+use Rattle.spec_machine.specs.Sizes.{sum, sizeActivity, sizeGroup, sizePart}
 use Rattle.spec_rules.specs.Senses.{Scope, fresh}
 use Rattle.spec_rules.specs.Statements.{labelsOf, apart, allowed}
 use Rattle.spec_rules.specs.Units.{scopeOfGroups, ofPart, declarations, joins, bodyLawful, partLawful, partsLawful}
@@ -18,10 +17,10 @@ use Rattle.spec_machine.specs.Begins.{itemsBefore, bodyIn, bodyOf}
 use Rattle.state_encode.specs.Encode.{headIn}
 use Rattle.spec_machine.specs.Places.{Bodied, settingBy, settingFrom}
 
-some-activity : (a : Activity) (w : Name) → 1 ≤ length (code-activity a w)
-some-activity idle w = omega arith
-some-activity once w = omega arith
-some-activity (times n) w = omega arith
+some-activity : (a : Activity) → 1 ≤ sizeActivity a
+some-activity idle = omega arith
+some-activity once = omega arith
+some-activity (times n) = omega arith
 
 -- the body of unit k is held by the item that begins it
 pub unit-holds : (m : Model) (k i j : ℕ) → j ≡ i + itemsBefore m k → Bodied (unitAt m k) → Holds m i (headIn (unitAt m k) j) (bodyOf (unitAt m k)) (bodyIn (unitAt m k) j)
@@ -29,9 +28,9 @@ unfolding itemsBefore
 unit-holds [] k i j e b = absurd b
 unit-holds (mtypes ws ∷ m) zero i j e b = absurd b
 unit-holds (global d ∷ m) zero i j e b = absurd b
-unit-holds (process a w gs x ∷ m) zero i j e b = let l = some-activity a w in in-process {x = a} {w = w} {gs = gs} {b = x} {m = m} {i = i} {u = j + length (code-activity a w) - 1} {k = j + length (code-activity a w) + length (each code-group gs)} (omega arith) (omega arith)
+unit-holds (process a w gs x ∷ m) zero i j e b = let l = some-activity a in in-process {x = a} {w = w} {gs = gs} {b = x} {m = m} {i = i} {u = j + sizeActivity a - 1} {k = j + sizeActivity a + sum sizeGroup gs} (omega arith) (omega arith)
 unit-holds (init x ∷ m) zero i j e b = let z : i ≡ j = omega arith in subst (λ n. Holds (init x ∷ m) i n x (j + 1)) z (in-init (omega arith))
-unit-holds (u ∷ m) (suc k) i j e b = later (unit-holds m k (i + length (code-part u)) j (omega arith) b)
+unit-holds (u ∷ m) (suc k) i j e b = later (unit-holds m k (i + sizePart u) j (omega arith) b)
 
 -- ---- lawful bodies
 body-allowed : (M g l : Scope) (b : Body) → bodyLawful M g l b ≡ true → allowed (settingBy M g l b) false false (sequenceOf b) ≡ true

@@ -1,5 +1,5 @@
--- Mechanism, held to the specification by `demand2` (crate `demands`).
--- A PLAIN STATE AS NUMBERS: the layout of docs/TABLES.md, "State", as a function. Units and channels are told by items of the tree's code.
+-- Bridge, for `demand2` (crate `demands`), which cites `encode` as what the numbers of a state mean: the layout of docs/TABLES.md.
+-- A PLAIN STATE AS NUMBERS: the layout of docs/TABLES.md, "State", as a function. Units and channels are told by numbers of the tree (specs/Sizes.antt of `spec_machine`).
 use Prim.Native.Nat.{ℕ, zero, suc, _+_, _-_}
 use mathlib.Core.List.{List, [], _∷_, _++_}
 use lib.ListN.{length, replicate}
@@ -9,8 +9,7 @@ use Rattle.base_ceilings.specs.Ceilings.{capacityMost, channelsMost, fieldsMost
 use Rattle.base_bytes.specs.Choice.{pick}
 use Rattle.state_layout.specs.Layout.{kept, processSize, channelSize, channelAt}
 use Rattle.spec_grammar.specs.Tree.{Variable, variable, Declaration, declare, Group, group, Body, body, Part, mtypes, global, process, init, Model}
-use Rattle.base_codes.specs.Items.{i-local}
-use Rattle.parse_code.specs.Code.{code-size, code-variable, code-declaration, code-activity}
+use Rattle.spec_machine.specs.Sizes.{sizeSize, sizeVariable, sizeDeclaration, sizeActivity}
 use Rattle.spec_machine.specs.State.{Channel, Process, State}
 use Rattle.spec_machine.specs.Names.{unitAt}
 use Rattle.spec_machine.specs.Begins.{itemsBefore, bodyIn}
@@ -31,31 +30,31 @@ abbrev pub flat : List (List ℤ) → List ℤ
 flat [] = []
 flat (x ∷ l) = x ++ flat l
 
--- ## the item that begins a unit, behind its name
+-- ## the number by which a unit is known: the last of its head
 abbrev pub headIn : Part → ℕ → ℕ
 headIn (mtypes ws) i = i
 headIn (global d) i = i
-headIn (process a w gs b) i = i + length (code-activity a w) - 1
+headIn (process a w gs b) i = i + sizeActivity a - 1
 headIn (init b) i = i
 
 abbrev pub headOf : Model → ℕ → ℕ
 headOf m k = headIn (unitAt m k) (itemsBefore m k)
 
--- ## the `channel` item of variable n, behind its name, its size and its capacity; the items begin at item i
+-- ## the number by which the channels of variable n are known, behind those of its name, its size and its capacity; the variables' numbers begin with i
 abbrev pub channelIn : Variable → ℕ → ℕ
-channelIn (variable w z v) i = i + 2 + length (code-size z) + 1
+channelIn (variable w z v) i = i + 2 + sizeSize z + 1
 
 unfoldable pub variableAt : List Variable → ℕ → ℕ → ℕ
 variableAt [] n i = i
 variableAt (x ∷ xs) zero i = channelIn x i
-variableAt (x ∷ xs) (suc n) i = variableAt xs n (i + length (code-variable x))
+variableAt (x ∷ xs) (suc n) i = variableAt xs n (i + sizeVariable x)
 
 abbrev pub variablesIn : Declaration → List Variable
 variablesIn (declare k xs) = xs
 
 unfoldable pub declaredAt : List Declaration → ℕ → ℕ → ℕ
 declaredAt [] n i = i
-declaredAt (d ∷ ds) n i = pick (ltb n (length (variablesIn d))) (variableAt (variablesIn d) n (i + 2)) (declaredAt ds (n - length (variablesIn d)) (i + length (code-declaration i-local d)))
+declaredAt (d ∷ ds) n i = pick (ltb n (length (variablesIn d))) (variableAt (variablesIn d) n (i + 2)) (declaredAt ds (n - length (variablesIn d)) (i + sizeDeclaration d))
 
 abbrev pub countGroup : Group → ℕ
 countGroup (group k ws) = length ws

@@ -1,4 +1,4 @@
--- Mechanism, held to the specification by `demand2` (crate `demands`).
+-- Mechanism, of proofs alone: what `stages-agree` (crate `agree_tables`) asks of tables, on the way to `demand2` (crate `demands`).
 -- WHAT TABLES MUST SAY OF A MODEL, so that the stage which they make agrees with the plain one: for the statements of unit u, where names stand for what `at` says, `decl` has for each name the
 -- item that declares it, and `head` for each proctype the item that begins it. These are the facts that remain to be proved of the tables of accepted texts.
 use Prim.Native.Nat.{ℕ, zero, suc, _+_, _≤_, _<_}

@@ -8,33 +8,36 @@ use native.Mathlib.Decide.{ℕ-discrete}
 use borrow.Author.Tests.{ne-eqb}
 use lib.ListN.{length}
 use lib.IntN.{ℤ}
+use Rattle.base_ceilings.specs.Ceilings.{itemsMost}
 use Rattle.base_codes.specs.Codes.{c-end-body}
 use Rattle.table_layout.specs.Access.{codeOf}
 use Rattle.state_layout.specs.Layout.{placeOf}
-use Rattle.step_offers.specs.Offers.{isSome, pickAt}
+use Rattle.step_offers.specs.Offers.{isSome, pickAt, offersOf}
 use Rattle.step_offers.specs.declared.Walk.{Walk}
 use Rattle.step_offers.specs.declared.Walk.the-variants.{Found, Left}
-use Rattle.step_all.specs.Moving.{processes, nthIn, machineIn, stepAs, verdictAs}
+use Rattle.step_all.specs.Moving.{processes, nthIn, machineIn, offerOf, stepIn, verdictAs}
 use Rattle.step_all.specs.declared.Offer.{Offer}
 use Rattle.step_all.specs.declared.Offer.the-variants.{Step, Beyond}
 use Rattle.step_all.specs.declared.Verdict.the-variants.{Finished, Blocked, Open}
 use mathlib.Core.Logic.{inl, inr}
 use Rattle.base_bytes.specs.Choice.{pick}
-use Rattle.spec_machine.specs.Machine.{Machine, numbered, anyFrom, late, listFrom, offered, asked, endedFrom, verdict}
-use Rattle.step_all.proofs.Asked.{none-asked, one-asked}
+use Rattle.spec_machine.specs.Machine.{Move, Machine, alone, numbered, anyFrom, late, listFrom, offered, asked, advance, endedFrom, verdict}
+use Rattle.step_all.proofs.Asked.{moveAt, stepAs, none-asked, one-asked}
+use Rattle.step_all.proofs.Few.{offers-few}
+use Rattle.step_take.proofs.Still.{Still, taken-still}
 use Rattle.spec_machine.specs.Machine as machine
 
 -- ---- lists of steps
 not-found : {m q : ℕ} → Left m ≡ Found q → ⊥
 not-found e = let v : _≡_ {A = ℕ} 0 1 = cc in omega arith
 
-nth-found : (p j k : ℕ) (xs : List ℕ) (ys : List machine.Step) (q : ℕ) → pickAt k xs ≡ Found q → nthIn k (numbered p j xs ++ ys) ≡ Step p (j + k) q
+nth-found : (p j k : ℕ) (xs : List ℕ) (ys : List machine.Step) (q : ℕ) → pickAt k xs ≡ Found q → nthIn k (numbered p j (alone xs) ++ ys) ≡ offerOf p (j + k) (Found q)
 unfolding pickAt nthIn
 nth-found p j k [] ys q e = absurd (not-found e)
 nth-found p j zero (x ∷ xs) ys q e = let f : x ≡ q = cc in let z : j ≡ j + 0 = omega arith in rw (f, ← z)
-nth-found p j (suc k) (x ∷ xs) ys q e = let z : j + 1 + k ≡ j + suc k = omega arith in nth-found p (j + 1) k xs ys q e ∙ ap (λ (i : ℕ). Step p i q) z
+nth-found p j (suc k) (x ∷ xs) ys q e = let z : j + 1 + k ≡ j + suc k = omega arith in nth-found p (j + 1) k xs ys q e ∙ ap (λ (i : ℕ). offerOf p i (Found q)) z
 
-nth-left : (p j k : ℕ) (xs : List ℕ) (ys : List machine.Step) (m : ℕ) → pickAt k xs ≡ Left m → nthIn k (numbered p j xs ++ ys) ≡ nthIn m ys
+nth-left : (p j k : ℕ) (xs : List ℕ) (ys : List machine.Step) (m : ℕ) → pickAt k xs ≡ Left m → nthIn k (numbered p j (alone xs) ++ ys) ≡ nthIn m ys
 unfolding pickAt nthIn
 nth-left p j k [] ys m e = let f : k ≡ m = cc in ap (λ (i : ℕ). nthIn i ys) f
 nth-left p j zero (x ∷ xs) ys m e = absurd (not-found (sym e))
@@ -46,17 +49,23 @@ unfolding nthIn
 beyond-rest n [] m e = let f : n ≡ m = cc in omega arith
 beyond-rest zero (x ∷ xs) m e = absurd (not-step e)
   where
-    not-step : {p k q m : ℕ} → Step p k q ≡ Beyond m → ⊥
+    not-step : {x : machine.Step} {m : ℕ} → Step x ≡ Beyond m → ⊥
     not-step e = let v : _≡_ {A = ℕ} 0 1 = cc in omega arith
 beyond-rest (suc n) (x ∷ xs) m e = let h : n ≡ m + length xs = beyond-rest n xs m e in omega arith
 
-left-most : (k : ℕ) (xs : List ℕ) (m : ℕ) → pickAt k xs ≡ Left m → m ≤ k
+found-within : (k : ℕ) (xs : List ℕ) (q : ℕ) → pickAt k xs ≡ Found q → k < length xs
 unfolding pickAt
-left-most k [] m e = let f : k ≡ m = cc in omega arith
-left-most zero (x ∷ xs) m e = absurd (not-found (sym e))
-left-most (suc k) (x ∷ xs) m e = let h : m ≤ k = left-most k xs m e in omega arith
+found-within k [] q e = absurd (not-found e)
+found-within zero (x ∷ xs) q e = omega arith
+found-within (suc k) (x ∷ xs) q e = let h : k < length xs = found-within k xs q e in omega arith
 
-some-same : (l : List ℕ) → isSome l ≡ machine.isSome l
+pick-move : (p k i : ℕ) (xs : List ℕ) → stepIn (offerOf p k (pickAt i xs)) ≡ stepAs p k (moveAt i (alone xs))
+unfolding pickAt moveAt
+pick-move p k i [] = refl
+pick-move p k zero (x ∷ xs) = refl
+pick-move p k (suc i) (x ∷ xs) = pick-move p k i xs
+
+some-same : (l : List ℕ) → isSome l ≡ machine.isSome (alone l)
 some-same [] = refl
 some-same (x ∷ l) = refl
 
@@ -65,10 +74,10 @@ someStep [] = false
 someStep (x ∷ l) = true
 
 -- what a search finds shows that there is something
-step-some : (n : ℕ) (xs : List machine.Step) (p k q : ℕ) → nthIn n xs ≡ Step p k q → someStep xs ≡ true
+step-some : (n : ℕ) (xs : List machine.Step) (x : machine.Step) → nthIn n xs ≡ Step x → someStep xs ≡ true
 unfolding nthIn
-step-some n [] p k q e = let v : _≡_ {A = ℕ} 0 1 = cc in absurd (omega arith)
-step-some n (x ∷ xs) p k q e = refl
+step-some n [] x e = let v : _≡_ {A = ℕ} 0 1 = cc in absurd (omega arith)
+step-some n (y ∷ xs) x e = refl
 
 long-some : (xs : List machine.Step) → (length xs ≡ 0 → ⊥) → someStep xs ≡ true
 long-some [] h = absurd (h refl)
@@ -78,7 +87,7 @@ short-none : (xs : List machine.Step) → length xs ≡ 0 → someStep xs ≡ fa
 short-none [] h = refl
 short-none (x ∷ xs) h = absurd (omega arith)
 
-found-some : (i : ℕ) (xs : List ℕ) (q : ℕ) → pickAt i xs ≡ Found q → machine.isSome xs ≡ true
+found-some : (i : ℕ) (xs : List ℕ) (q : ℕ) → pickAt i xs ≡ Found q → machine.isSome (alone xs) ≡ true
 unfolding pickAt
 found-some i [] q e = absurd (not-found e)
 found-some i (x ∷ xs) q e = refl
@@ -87,10 +96,10 @@ module _ (t : List ℕ) (s : List ℤ) where
   abbrev M : Machine (List ℤ)
   M = machineIn t
 
-  module _ (late : Bool) (p n : ℕ) {b : Bool} (h : p < n) (e : b ≡ isSome (machineIn t .steps s late p)) where
+  module _ (late : Bool) (p n : ℕ) {b : Bool} (h : p < n) (e : b ≡ isSome (offersOf t s p late (placeOf s p))) where
     any-next : anyFrom M s late p (n - p) ≡ pick b true (anyFrom M s late (p + 1) (n - (p + 1)))
     unfolding anyFrom
-    any-next = let z : n - p ≡ suc (n - (p + 1)) = omega arith in rw (z, e ∙ some-same (M .steps s late p))
+    any-next = let z : n - p ≡ suc (n - (p + 1)) = omega arith in rw (z, e ∙ some-same (offersOf t s p late (placeOf s p)))
 
     pub any-here : b ≡ true → true ≡ anyFrom (machineIn t) s late p (n - p)
     any-here q = sym (any-next ∙ rw q)
@@ -119,14 +128,16 @@ module _ (t : List ℕ) (s : List ℤ) where
   ended-end p n h = let z : n - p ≡ 0 = omega arith in rw z
 
   -- ---- a step
-  pub no-process : (n p k : ℕ) → n ≡ processes s → n ≤ p → stepAs p k (Left 0) ≡ asked (machineIn t) p k (offered (machineIn t) s)
+  pub no-process : (n p k : ℕ) → n ≡ processes s → n ≤ p → stepIn (Beyond 0) ≡ asked (machineIn t) p k (offered (machineIn t) s)
   no-process n p k e h = none-asked M s p k (inl (omega arith))
 
-  pub no-step : (p k : ℕ) → k ≡ 0 → stepAs p k (Left 0) ≡ asked (machineIn t) p k (offered (machineIn t) s)
+  pub no-step : (p k : ℕ) → k ≡ 0 → stepIn (Beyond 0) ≡ asked (machineIn t) p k (offered (machineIn t) s)
   no-step p k q = none-asked M s p k (inr q)
 
-  step-is : (p k : ℕ) {l : Bool} {w : Walk} → p < processes s → (k ≡ 0 → ⊥) → late M s ≡ l → w ≡ pickAt (k - 1) (M .steps s l p) → stepAs p k w ≡ asked M p k (offered M s)
-  step-is p k h q el ew = ap (stepAs p k) (ew ∙ ap (λ l. pickAt (k - 1) (M .steps s l p)) (sym el)) ∙ one-asked M s p k (k - 1) (omega arith) h
+  step-is : (p k : ℕ) {l : Bool} {w : Walk} → p < processes s → (k ≡ 0 → ⊥) → late M s ≡ l → w ≡ pickAt (k - 1) (offersOf t s p l (placeOf s p)) → stepIn (offerOf p k w) ≡ asked M p k (offered M s)
+  step-is p k {l} h q el ew =
+      ap (λ (v : Walk). stepIn (offerOf p k v)) ew ∙ pick-move p k (k - 1) (offersOf t s p l (placeOf s p)) ∙ ap (λ l. stepAs p k (moveAt (k - 1) (M .steps s l p))) (sym el)
+      ∙ one-asked M s p k (k - 1) (omega arith) h
 
   any-of : (l : Bool) (p q n : ℕ) → q ≤ p → p < q + n → machine.isSome (M .steps s l p) ≡ true → anyFrom M s l q n ≡ true
   unfolding anyFrom
@@ -146,34 +157,37 @@ module _ (t : List ℕ) (s : List ℤ) where
   late-by b e = rw e
 
   -- a process that is offered a step without `timeout` shows that `timeout` is not executable
-  module _ (n p k : ℕ) (e : n ≡ processes s) (h : p < n) (one : k ≡ 0 → ⊥) {w : Walk} (ew : w ≡ pickAt (k - 1) (machineIn t .steps s false p)) where
-    pub step-found : (q : ℕ) → w ≡ Found q → stepAs p k (Found q) ≡ asked (machineIn t) p k (offered (machineIn t) s)
-    step-found q f =
-        step-is p k (omega arith) one (late-by true (any-of false p 0 (processes s) (omega arith) (omega arith) (found-some (k - 1) (M .steps s false p) q (sym ew ∙ f)))) (sym f ∙ ew)
+  module _ (n p k : ℕ) (e : n ≡ processes s) (h : p < n) (one : k ≡ 0 → ⊥) {w : Walk} (ew : w ≡ pickAt (k - 1) (offersOf t s p false (placeOf s p))) where
+    pub step-found : (q : ℕ) → w ≡ Found q → {o : Offer} → o ≡ offerOf p k w → stepIn o ≡ asked (machineIn t) p k (offered (machineIn t) s)
+    step-found q f eo =
+        ap stepIn eo
+        ∙ step-is p k (omega arith) one (late-by true (any-of false p 0 (processes s) (omega arith) (omega arith) (found-some (k - 1) (offersOf t s p false (placeOf s p)) q (sym ew ∙ f)))) ew
 
     module _ (m : ℕ) (f : w ≡ Left m) {b : Bool} (eb : b ≡ anyFrom (machineIn t) s false 0 (processes s)) where
-      pub step-none : b ≡ true → stepAs p k (Left m) ≡ asked (machineIn t) p k (offered (machineIn t) s)
-      step-none z = step-is p k (omega arith) one (late-by true (sym eb ∙ z)) (sym f ∙ ew)
+      pub step-none : b ≡ true → stepIn (Beyond m) ≡ asked (machineIn t) p k (offered (machineIn t) s)
+      step-none z = step-is p k {w = Left m} (omega arith) one (late-by true (sym eb ∙ z)) (sym f ∙ ew)
 
-      pub step-late : b ≡ false → {v : Walk} → v ≡ pickAt (k - 1) (machineIn t .steps s true p) → stepAs p k v ≡ asked (machineIn t) p k (offered (machineIn t) s)
-      step-late z ev = step-is p k (omega arith) one (late-by false (sym eb ∙ z)) ev
+      pub step-late : b ≡ false → {v : Walk} {o : Offer} → v ≡ pickAt (k - 1) (offersOf t s p true (placeOf s p)) → o ≡ offerOf p k v → stepIn o ≡ asked (machineIn t) p k (offered (machineIn t) s)
+      step-late z ev eo = ap stepIn eo ∙ step-is p k (omega arith) one (late-by false (sym eb ∙ z)) ev
 
   -- ---- the n-th step of all
-  module _ (late : Bool) (p n k : ℕ) (h : p < n) {w : Walk} (e : w ≡ pickAt k (machineIn t .steps s late p)) where
+  module _ (late : Bool) (p n k : ℕ) (h : p < n) {w : Walk} (e : w ≡ pickAt k (offersOf t s p late (placeOf s p))) where
     list-more : listFrom M s late p (n - p) ≡ numbered p 1 (M .steps s late p) ++ listFrom M s late (p + 1) (n - (p + 1))
     unfolding listFrom
     list-more = let z : n - p ≡ suc (n - (p + 1)) = omega arith in rw z
 
-    pub nth-here : (q : ℕ) → w ≡ Found q → Step p (k + 1) q ≡ nthIn k (listFrom (machineIn t) s late p (n - p))
-    nth-here q f =
+    -- a step's number is no more than a place
+    pub found-few : (q : ℕ) → w ≡ Found q → k < itemsMost + 1
+    found-few q f = let h = found-within k (offersOf t s p late (placeOf s p)) q (sym e ∙ f) in let g = offers-few t s p late (placeOf s p) in omega arith
+
+    pub nth-here : (q : ℕ) → w ≡ Found q → {o : Offer} → o ≡ offerOf p (k + 1) w → o ≡ nthIn k (listFrom (machineIn t) s late p (n - p))
+    nth-here q f eo =
         let z : 1 + k ≡ k + 1 = omega arith in
-        ap (λ (j : ℕ). Step p j q) (sym z) ∙ (sym (nth-found p 1 k (M .steps s late p) (listFrom M s late (p + 1) (n - (p + 1))) q (sym e ∙ f)) ∙ ap (nthIn k) (sym list-more))
+        eo ∙ ap (offerOf p (k + 1)) f ∙ ap (λ (j : ℕ). offerOf p j (Found q)) (sym z)
+        ∙ (sym (nth-found p 1 k (offersOf t s p late (placeOf s p)) (listFrom M s late (p + 1) (n - (p + 1))) q (sym e ∙ f)) ∙ ap (nthIn k) (sym list-more))
 
     pub nth-more : (m : ℕ) → w ≡ Left m → nthIn m (listFrom (machineIn t) s late (p + 1) (n - (p + 1))) ≡ nthIn k (listFrom (machineIn t) s late p (n - p))
-    nth-more m f = sym (nth-left p 1 k (M .steps s late p) (listFrom M s late (p + 1) (n - (p + 1))) m (sym e ∙ f)) ∙ ap (nthIn k) (sym list-more)
-
-    pub left-less : (m : ℕ) → w ≡ Left m → m ≤ k
-    left-less m f = left-most k (M .steps s late p) m (sym e ∙ f)
+    nth-more m f = sym (nth-left p 1 k (offersOf t s p late (placeOf s p)) (listFrom M s late (p + 1) (n - (p + 1))) m (sym e ∙ f)) ∙ ap (nthIn k) (sym list-more)
 
   pub nth-start : (late : Bool) {c : ℕ} (n : ℕ) → c ≡ processes s → nthIn n (listFrom (machineIn t) s late 0 (c - 0)) ≡ nthIn n (listFrom (machineIn t) s late 0 (processes s))
   nth-start late {c} n ec = let z : c - 0 ≡ processes s = omega arith in rw z
@@ -182,13 +196,18 @@ module _ (t : List ℕ) (s : List ℤ) where
   unfolding listFrom nthIn
   nth-end late p n k h = let z : n - p ≡ 0 = omega arith in rw z
 
+  -- ---- what a step does: one that fails, or does nothing, leaves the state
+  pub advance-still : (x : machine.Step) → Still s (advance (machineIn t) s x .0) (advance (machineIn t) s x .1)
+  unfolding advance
+  advance-still x = taken-still s t (x .process) (x .place)
+
   -- ---- the verdict: a step is listed where some process has one
   any-some : (l : Bool) (p n : ℕ) → anyFrom M s l p n ≡ someStep (listFrom M s l p n)
   unfolding anyFrom listFrom
   any-some l p zero = refl
   any-some l p (suc n) = go (M .steps s l p) (any-some l (p + 1) n)
     where
-      go : (qs : List ℕ) → anyFrom M s l (p + 1) n ≡ someStep (listFrom M s l (p + 1) n) → pick (machine.isSome qs) true (anyFrom M s l (p + 1) n) ≡ someStep (numbered p 1 qs ++ listFrom M s l (p + 1) n)
+      go : (qs : List Move) → anyFrom M s l (p + 1) n ≡ someStep (listFrom M s l (p + 1) n) → pick (machine.isSome qs) true (anyFrom M s l (p + 1) n) ≡ someStep (numbered p 1 qs ++ listFrom M s l (p + 1) n)
       go [] h = h
       go (q ∷ qs) h = refl
 
@@ -198,8 +217,8 @@ module _ (t : List ℕ) (s : List ℤ) where
   listed-by b e = ap (λ l. listFrom M s l 0 (processes s)) (late-by b (any-some false 0 (processes s) ∙ e))
 
   module _ (n : ℕ) {o : Offer} (e : o ≡ nthIn n (listFrom (machineIn t) s false 0 (processes s))) where
-    pub nth-found-off : (p k q : ℕ) → o ≡ Step p k q → Step p k q ≡ nthIn n (offered (machineIn t) s)
-    nth-found-off p k q f = sym f ∙ e ∙ ap (nthIn n) (sym (listed-by true (step-some n (listFrom M s false 0 (processes s)) p k q (sym e ∙ f))))
+    pub nth-found-off : (x : machine.Step) → o ≡ Step x → Step x ≡ nthIn n (offered (machineIn t) s)
+    nth-found-off x f = sym f ∙ e ∙ ap (nthIn n) (sym (listed-by true (step-some n (listFrom M s false 0 (processes s)) x (sym e ∙ f))))
 
     module _ (l : ℕ) (f : o ≡ Beyond l) where
       rest : n ≡ l + length (listFrom M s false 0 (processes s))

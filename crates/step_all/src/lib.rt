@@ -1,10 +1,13 @@
-// The steps that are offered in a state, over all its processes, and its verdict.
+// The steps that are offered in a state, over all its processes; what a step does; and the verdict of a state.
 ghost use mathlib.Core.Path.{_≡_};
 ghost use Prim.Native.Nat.{_≤_};
 ghost use Rattle.step_all.specs.Moving.{machineIn};
 ghost use Rattle.base_ceilings.specs.Ceilings.{processesMost};
 ghost use Rattle.spec_machine.specs.Machine as machine;
 ghost use Rattle.step_all.specs.Moving as moving;
+use base_outcome::Partner;
+use base_outcome::Step;
+use base_outcome::Taken;
 use step_offers::Walk;
 
 pub enum Verdict {
@@ -13,9 +16,12 @@ pub enum Verdict {
     Open,
 }
 
-// An offered step: its process, its number k among the steps of that process, from 1, and its place; or how many steps are left to pass.
+// Past every place.
+const NOWHERE: u32 = 4294967295;
+
+// An offered step; or how many steps are left to pass.
 pub enum Offer {
-    Step(u8, u32, u32),
+    Step(Step),
     Beyond(u32),
 }
 
@@ -28,6 +34,38 @@ fn processes(s: &[i32]) -> u32
         base_ceilings::PROCESSES_MOST,
         state_layout::processes(s) as usize,
     ) as u32
+}
+
+// Does every process that stands at place q wait there, for a shared variable alone, whose value is 0?
+fn is_shut(t: &[u32], s: &[i32], q: usize) -> bool
+    ensures { λ r. ⌜ moving.Waits (now (t .entry)) (now (s .entry)) q r ⌝ }
+{
+    if table_layout::code(t, q) != base_codes::NAME {
+        return false;
+    }
+    let m = table_layout::link(t, q);
+    if m <= q {
+        return false;
+    }
+    if table_layout::code(t, m) != base_codes::EXPRESS {
+        return false;
+    }
+    if table_layout::code(t, m - 1) != base_codes::PLAIN {
+        return false;
+    }
+    let d = table_layout::link(t, m - 1);
+    let c = table_layout::code(t, d);
+    if c == base_codes::MESSAGE {
+        return false;
+    }
+    if c == base_codes::NAME {
+        return false;
+    }
+    let l = table_layout::link(t, d) as u32;
+    if l / 8 % 2 != 0 {
+        return false;
+    }
+    state_layout::cell(s, step_eval::slot(l, 0, 0)) == 0
 }
 
 // Is any process offered a step?
@@ -52,42 +90,71 @@ fn is_late(t: &[u32], s: &[i32]) -> bool
     if is_any(t, s, false) { false } else { true }
 }
 
-// The place of the k-th step, from 1, that a process is offered. It is asked without `timeout` first: what it is offered then shows that `timeout` is not executable, and the others need not be asked.
-pub fn step_at(t: &[u32], s: &[i32], process: u32, k: u32) -> Walk
-    ensures { λ r. ⌜ moving.stepAs process k r ≡ machine.asked (machineIn (now (t .entry))) process k (machine.offered (machineIn (now (t .entry))) (now (s .entry))) ⌝ }
+// The k-th step of process p, by what was found: no statement has a partner.
+fn offer_of(p: u8, k: u32, w: Walk) -> Offer
+    ensures { λ r. ⌜ r ≡ moving.offerOf p k w ⌝ }
+{
+    match w {
+        Walk::Found(q) => Offer::Step(Step {
+            process: p,
+            number: k,
+            place: q,
+            partner: Partner::Nobody,
+        }),
+        Walk::Left(n) => Offer::Beyond(n),
+    }
+}
+
+// The k-th step, from 1, that a process is offered. It is asked without `timeout` first: what it is offered then shows that `timeout` is not executable, and the others need not be asked.
+pub fn step_at(t: &[u32], s: &[i32], process: u32, k: u32) -> Offer
+    ensures { λ r. ⌜ moving.stepIn r ≡ machine.asked (machineIn (now (t .entry))) process k (machine.offered (machineIn (now (t .entry))) (now (s .entry))) ⌝ }
 {
     if processes(s) <= process {
-        return Walk::Left(0);
+        return Offer::Beyond(0);
     }
     if k == 0 {
-        return Walk::Left(0);
+        return Offer::Beyond(0);
     }
     let w = step_offers::offered(t, s, process as u8, false, k - 1);
     match w {
-        Walk::Found(q) => Walk::Found(q),
+        Walk::Found(_) => offer_of(process as u8, k, w),
         Walk::Left(l) => {
             if is_any(t, s, false) {
-                Walk::Left(l)
+                Offer::Beyond(l)
             } else {
-                step_offers::offered(t, s, process as u8, true, k - 1)
+                offer_of(
+                    process as u8,
+                    k,
+                    step_offers::offered(t, s, process as u8, true, k - 1),
+                )
             }
         }
     }
 }
 
-// The n-th step, from 0, of all processes, by process number, then text order, where `late` says whether `timeout` is executable.
+// The n-th step, from 0, of all processes, by process number, then text order, where `late` says whether `timeout` is executable. At a place where all wait, which is then shut, none is asked further.
 fn nth_by(t: &[u32], s: &[i32], late: bool, n: u32) -> Offer
-    requires { ⌜ n ≤ 65535 ⌝ }
     ensures { λ r. ⌜ r ≡ moving.nthIn n (machine.listFrom (machineIn (now (t .entry))) (now (s .entry)) late 0 (moving.processes (now (s .entry)))) ⌝ }
 {
     let count = processes(s);
+    let mut shut: u32 = NOWHERE;
     let mut left = n;
     let mut p: u32 = 0;
     while p < count {
+        let q = state_layout::place_of(s, p as u8);
+        if q == shut {
+            p += 1;
+            continue;
+        }
+        if is_shut(t, s, q as usize) {
+            shut = q;
+            p += 1;
+            continue;
+        }
         let w = step_offers::offered(t, s, p as u8, late, left);
         match w {
-            Walk::Found(q) => {
-                return Offer::Step(p as u8, left + 1, q);
+            Walk::Found(_) => {
+                return offer_of(p as u8, left + 1, w);
             }
             Walk::Left(m) => {
                 left = m;
@@ -99,20 +166,27 @@ fn nth_by(t: &[u32], s: &[i32], late: bool, n: u32) -> Offer
 }
 
 // The n-th step, from 0, of all that are offered. `timeout` is looked for only where nothing else is offered.
-pub fn nth(t: &[u32], s: &[i32], n: u16) -> Offer
+pub fn nth(t: &[u32], s: &[i32], n: u32) -> Offer
     ensures { λ r. ⌜ r ≡ moving.nthIn n (machine.offered (machineIn (now (t .entry))) (now (s .entry))) ⌝ }
 {
-    let o = nth_by(t, s, false, n as u32);
+    let o = nth_by(t, s, false, n);
     match o {
-        Offer::Step(p, k, q) => Offer::Step(p, k, q),
+        Offer::Step(x) => Offer::Step(x),
         Offer::Beyond(l) => {
-            if l == n as u32 {
-                nth_by(t, s, true, n as u32)
+            if l == n {
+                nth_by(t, s, true, n)
             } else {
                 Offer::Beyond(l)
             }
         }
     }
+}
+
+// A step is taken, and then comes what follows every step: nothing today.
+pub fn advance(t: &[u32], s: &mut [i32], x: Step) -> Taken
+    ensures { λ r. ⌜ (r, now (s .exit)) ≡ machine.advance (machineIn (now (t .entry))) (now (s .entry)) x ⌝ }
+{
+    step_take::take(t, s, x.process, x.place)
 }
 
 // Has every process ended?

@@ -12,24 +12,20 @@ use lib.Dec.{eqb}
 use Rattle.table_genuine.specs.Genuine.{written, genuine}
 use Rattle.state_start.specs.Starting.{initialOf}
 use Rattle.state_check.specs.Standing.{isStateOf}
-use Rattle.spec_machine.specs.Machine.{offered, verdict}
-use Rattle.step_all.specs.Moving.{machineIn, stepAs, nthIn, verdictAs}
-use Rattle.step_all.proofs.Asked.{asked-given}
+use Rattle.spec_machine.specs.Machine.{offered, advance, verdict}
+use Rattle.step_all.specs.Moving.{machineIn, stepIn, nthIn, verdictAs}
 use Rattle.step_all.specs.declared.Offer.{Offer}
 use Rattle.step_all.proofs.Laws.{beyond-rest}
 use Rattle.step_all.specs.declared.Verdict.{Verdict}
 use Rattle.base_bytes.specs.Choice.{pick}
-use Rattle.step_prints.specs.Printing.{Pen, pen, puts, printedAt}
-use Rattle.step_offers.specs.declared.Walk.{Walk}
-use Rattle.step_offers.specs.declared.Walk.the-variants.{Found, Left}
+use Rattle.step_prints.specs.Printing.{Pen, pen, puts}
 use Rattle.base_outcome.specs.declared.Taken.{Taken}
 use Rattle.step_statements.specs.Statements.{Result}
-use Rattle.step_take.specs.Effects.{takenOf}
 use Rattle.step_entry.specs.declared.Stepped.{Stepped}
 use Rattle.step_entry.specs.declared.Standing.{Standing}
 use Rattle.step_entry.specs.declared.Standing.the-variants.{Refused}
 use Rattle.step_entry.specs.Entries.{foreignOf, refusalOf, startLeft, standingOf, verdictFor, offerBy, offeredOf, tookBy, Outcome, refusedBy, tookAt, outcomeBy, askedIn, stepRefusal, outcomeOf}
-use Rattle.base_ceilings.specs.Ceilings.{printRoom, processesMost, stateRoom, tablesRoom}
+use Rattle.base_ceilings.specs.Ceilings.{printRoom, stateRoom, tablesRoom}
 use Rattle.spec_machine.specs.Machine as machine
 use Rattle.step_all.specs.declared.Offer.the-variants as offer
 use Rattle.step_entry.specs.declared.Listed.the-variants as listed
@@ -98,18 +94,11 @@ pub left-within : (t : List ℕ) (s : List ℤ) (n m : ℕ) {o : Offer} → o �
 left-within t s n m e f = let h : n ≡ m + length (offered (machineIn t) s) = beyond-rest n (offered (machineIn t) s) m (sym e ∙ f) in omega arith
 
 -- ---- taking a step
--- a step that was found is of a process that there is
-pub found-process : (t : List ℕ) (s : List ℤ) (p k q : ℕ) {w : Walk} → stepAs p k w ≡ askedIn t s p k → w ≡ Found q → p < processesMost
-found-process t s p k q ew f =
-    let r = asked-given (machineIn t) s p k (record { process = p; number = k; place = q }) (sym (ap (stepAs p k) (sym f) ∙ ew)) in
-    let h = r .there in
-    omega arith
-
-module _ (w : List ℕ) (s : List ℤ) (p q : ℕ) (out new : List ℕ) (n : ℕ) (e : pen new n ≡ puts (printedAt w s p q) (pen out 0)) (r : Taken) (s′ : List ℤ) (f : (r, s′) ≡ takenOf w p q s) where
-  taken-is : r ≡ takenOf w p q s .0
+module _ (w : List ℕ) (s : List ℤ) (x : machine.Step) (out new : List ℕ) (n : ℕ) (e : pen new n ≡ puts (machineIn w .printed s x) (pen out 0)) (r : Taken) (s′ : List ℤ) (f : (r, s′) ≡ advance (machineIn w) s x) where
+  taken-is : r ≡ advance (machineIn w) s x .0
   taken-is = ap (λ (z : Result). z .0) f
 
-  pub move-answer : (a : Stepped) → a ≡ tookBy r n → (a ≡ tookAt w s p q out .answer) × ((s′ ≡ tookAt w s p q out .state) × (new ≡ tookAt w s p q out .printed))
+  pub move-answer : (a : Stepped) → a ≡ tookBy r n → (a ≡ tookAt w s x out .answer) × ((s′ ≡ tookAt w s x out .state) × (new ≡ tookAt w s x out .printed))
   move-answer a h = (h ∙ ap₂ tookBy taken-is (ap (λ (z : Pen). z .at) e), (ap (λ (z : Result). z .1) f, ap (λ (z : Pen). z .bytes) e))
 
 -- the answer and what is left, by an outcome
@@ -133,14 +122,14 @@ module _ (ts : List ℕ) (s : List ℤ) (p k : ℕ) (out : List ℕ) where
     pub step-refused : (x ≡ 0 → ⊥) → Left-by (outcomeOf ts s p k out) (stepped.Refused x) s out
     step-refused n = let o : outcomeOf ts s p k out ≡ refusedBy x s out = by-refusal ∙ ap (λ (b : Bool). pick b (outcomeBy (askedIn (written ts) s p k) (written ts) s out) (refusedBy x s out)) (ne-eqb x 0 n) in rw o (refl, (refl, refl))
 
-    module _ {w : List ℕ} (z : x ≡ 0) (ew : w ≡ written ts) (v : Walk) (ev : stepAs p k v ≡ askedIn w s p k) where
-      outcome-is : outcomeOf ts s p k out ≡ outcomeBy (stepAs p k v) w s out
+    module _ {w : List ℕ} (z : x ≡ 0) (ew : w ≡ written ts) (v : Offer) (ev : stepIn v ≡ askedIn w s p k) where
+      outcome-is : outcomeOf ts s p k out ≡ outcomeBy (stepIn v) w s out
       outcome-is =
           by-refusal ∙ ap (λ (y : ℕ). pick (eqb y 0) (outcomeBy (askedIn (written ts) s p k) (written ts) s out) (refusedBy y s out)) z
           ∙ ap (λ (u : List ℕ). outcomeBy (askedIn u s p k) u s out) (sym ew) ∙ ap (λ (y : Option machine.Step). outcomeBy y w s out) (sym ev)
 
-      pub none-there : (n : ℕ) → v ≡ Left n → Left-by (outcomeOf ts s p k out) (stepped.Refused 11) s out
-      none-there n g = rw (outcome-is ∙ ap (λ (y : Walk). outcomeBy (stepAs p k y) w s out) g) (refl, (refl, refl))
+      pub none-there : (n : ℕ) → v ≡ offer.Beyond n → Left-by (outcomeOf ts s p k out) (stepped.Refused 11) s out
+      none-there n g = rw (outcome-is ∙ ap (λ (y : Offer). outcomeBy (stepIn y) w s out) g) (refl, (refl, refl))
 
-      pub one-there : (q : ℕ) (a : Stepped) (s′ : List ℤ) (out′ : List ℕ) → v ≡ Found q → Left-by (tookAt w s p q out) a s′ out′ → Left-by (outcomeOf ts s p k out) a s′ out′
-      one-there q a s′ out′ g h = rw (outcome-is ∙ ap (λ (y : Walk). outcomeBy (stepAs p k y) w s out) g) h
+      pub one-there : (x : machine.Step) (a : Stepped) (s′ : List ℤ) (out′ : List ℕ) → v ≡ offer.Step x → Left-by (tookAt w s x out) a s′ out′ → Left-by (outcomeOf ts s p k out) a s′ out′
+      one-there x a s′ out′ g h = rw (outcome-is ∙ ap (λ (y : Offer). outcomeBy (stepIn y) w s out) g) h

@@ -21,8 +21,6 @@ use Rattle.step_all.specs.declared.Verdict.{Verdict}
 use Rattle.step_all.specs.declared.Verdict.the-variants as verdict
 use Rattle.base_outcome.specs.declared.Taken.{Taken}
 use Rattle.base_outcome.specs.declared.Taken.the-variants as taken
-use Rattle.step_take.specs.Effects.{takenOf}
-use Rattle.step_prints.specs.Printing.{printedAt}
 use Rattle.step_entry.specs.declared.Listed.{Listed}
 use Rattle.step_entry.specs.declared.Listed.the-variants.{Step, Only}
 use Rattle.step_entry.specs.declared.Listed.the-variants as listed
@@ -58,7 +56,7 @@ verdictFor ts s = pick (eqb (refusalOf ts s) 0) (standingOf (verdictAs (machine.
 -- ## the n-th step of all that are offered
 -- where n is past the last, the rest of n is known, and so how many there are
 abbrev pub offerBy : Offer → ℕ → Listed
-offerBy (offer.Step p k q) n = Step p k q
+offerBy (offer.Step x) n = Step x
 offerBy (offer.Beyond left) n = Only (n - left)
 
 unfoldable pub offeredOf : List ℕ → List ℤ → ℕ → Listed
@@ -81,18 +79,18 @@ pub record Outcome : Type 0 where
 abbrev pub refusedBy : ℕ → List ℤ → List ℕ → Outcome
 refusedBy x s out = record { answer = stepped.Refused x; state = s; printed = out }
 
--- the step at place q: its text is worked out in the state before it
-abbrev pub tookAt : List ℕ → List ℤ → ℕ → ℕ → List ℕ → Outcome
-tookAt w s p q out =
+-- an offered step: its text is worked out in the state before it
+abbrev pub tookAt : List ℕ → List ℤ → machine.Step → List ℕ → Outcome
+tookAt w s x out =
     record {
-      answer = tookBy (takenOf w p q s .0) (puts (printedAt w s p q) (pen out 0) .at);
-      state = takenOf w p q s .1;
-      printed = puts (printedAt w s p q) (pen out 0) .bytes;
+      answer = tookBy (machine.advance (machineIn w) s x .0) (puts (machineIn w .printed s x) (pen out 0) .at);
+      state = machine.advance (machineIn w) s x .1;
+      printed = puts (machineIn w .printed s x) (pen out 0) .bytes;
     }
 
 abbrev pub outcomeBy : Option machine.Step → List ℕ → List ℤ → List ℕ → Outcome
 outcomeBy none w s out = refusedBy 11 s out
-outcomeBy (some x) w s out = tookAt w s (x .process) (x .place) out
+outcomeBy (some x) w s out = tookAt w s x out
 
 -- the k-th offered step of process p, if there is one
 abbrev pub askedIn : List ℕ → List ℤ → ℕ → ℕ → Option machine.Step

@@ -1,11 +1,11 @@
 // The entries of the stepper.
 ghost use mathlib.Core.Path.{_≡_};
 ghost use Rattle.step_entry.specs.Entries as entries;
+use base_outcome::Step;
 use base_outcome::Taken;
 use base_values::Fault;
 use step_all::Offer;
 use step_all::Verdict;
-use step_offers::Walk;
 
 // How a state stands, or the number of the refusal.
 pub enum Standing {
@@ -15,9 +15,9 @@ pub enum Standing {
     Refused(u8),
 }
 
-// A step that is offered: its process, its number k among the steps of that process, from 1, and its statement's place; or how many there are in all; or the number of the refusal.
+// A step that is offered; or how many there are in all; or the number of the refusal.
 pub enum Listed {
-    Step(u8, u32, u32),
+    Step(Step),
     Only(u32),
     Refused(u8),
 }
@@ -97,7 +97,7 @@ pub fn verdict(tables: &[u32], state: &[i32]) -> Standing
 }
 
 // The n-th step, from 0, of all that are offered, by process number, then text order; where there are no more than n, how many there are.
-pub fn offered(tables: &[u32], state: &[i32], n: u16) -> Listed
+pub fn offered(tables: &[u32], state: &[i32], n: u32) -> Listed
     ensures { λ r. ⌜ r ≡ entries.offeredOf (now (tables .entry)) (now (state .entry)) n ⌝ }
 {
     let x = refusal(tables, state);
@@ -106,19 +106,19 @@ pub fn offered(tables: &[u32], state: &[i32], n: u16) -> Listed
     }
     let o = step_all::nth(table_genuine::written(tables), state, n);
     match o {
-        Offer::Step(p, k, q) => Listed::Step(p, k, q),
-        Offer::Beyond(left) => Listed::Only(n as u32 - left),
+        Offer::Step(x) => Listed::Step(x),
+        Offer::Beyond(left) => Listed::Only(n - left),
     }
 }
 
-// The step at place q of process p.
-fn move_on(w: &[u32], state: &mut [i32], p: u8, q: u32, printed: &mut [u8]) -> Stepped
-    ensures { λ r. ⌜ r ≡ (entries.tookAt (now (w .entry)) (now (state .entry)) p q (now (printed .entry))) .answer ⌝ }
-    ensures { λ _. ⌜ now (state .exit) ≡ (entries.tookAt (now (w .entry)) (now (state .entry)) p q (now (printed .entry))) .state ⌝ }
-    ensures { λ _. ⌜ now (printed .exit) ≡ (entries.tookAt (now (w .entry)) (now (state .entry)) p q (now (printed .entry))) .printed ⌝ }
+// A step that is offered.
+fn move_on(w: &[u32], state: &mut [i32], x: Step, printed: &mut [u8]) -> Stepped
+    ensures { λ r. ⌜ r ≡ (entries.tookAt (now (w .entry)) (now (state .entry)) x (now (printed .entry))) .answer ⌝ }
+    ensures { λ _. ⌜ now (state .exit) ≡ (entries.tookAt (now (w .entry)) (now (state .entry)) x (now (printed .entry))) .state ⌝ }
+    ensures { λ _. ⌜ now (printed .exit) ≡ (entries.tookAt (now (w .entry)) (now (state .entry)) x (now (printed .entry))) .printed ⌝ }
 {
-    let n = step_prints::print_at(w, state, p, q, printed);
-    let r = step_take::take(w, state, p, q);
+    let n = step_prints::print_at(w, state, x.process, x.place, printed);
+    let r = step_all::advance(w, state, x);
     match r {
         Taken::Done => Stepped::Took(n),
         Taken::Refuted => Stepped::Assert,
@@ -143,7 +143,7 @@ pub fn step(tables: &[u32], state: &mut [i32], process: u32, k: u32, printed: &m
     let w = table_genuine::written(tables);
     let found = step_all::step_at(w, state, process, k);
     match found {
-        Walk::Found(q) => move_on(w, state, process as u8, q, printed),
-        Walk::Left(_) => Stepped::Refused(11),
+        Offer::Step(x) => move_on(w, state, x, printed),
+        Offer::Beyond(_) => Stepped::Refused(11),
     }
 }

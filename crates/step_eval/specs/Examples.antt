@@ -1,4 +1,4 @@
--- Mechanism, held to the specification by `demand2` (crate `demands`).
+-- Mechanism: worked examples, computed from its definitions; they are held to nothing else.
 -- Expressions of the sample sheet of document 01, P1 and P7, worked out over the tables of their items by the definitions.
 use Prim.Native.Nat.{ℕ}
 use mathlib.Core.Path.{_≡_, refl}

@@ -30,7 +30,7 @@ use Rattle.step_eval.specs.Expressions.{evalOf, locateOf}
 use Rattle.step_ready.specs.Channels.{comparedAt, fieldsOf}
 use Rattle.step_messages.specs.declared.Gathered.{Gathered}
 use Rattle.step_messages.specs.declared.Gathered.the-variants.{Upto, Failed}
-use Rattle.step_messages.specs.Messages.{fieldType, onValue, onPlace, gatherEnd, gatherList, aimOf, aimEnd, aimList, appended, removed, deliveredOne, delivered}
+use Rattle.step_messages.specs.Messages.{fieldType, onValue, onPlace, gatherEnd, gatherList, aimOf, aimEnd, aimList, putIn, takenOut, deliveredOne, delivered}
 
 -- ---- arguments
 module _ (t : List ℕ) (s : List ℤ) (p : ℕ) where
@@ -105,19 +105,20 @@ pub field-turn : (t : List ℕ) (s s′ : List ℤ) (d c w f : ℕ) (l : List �
     → s′ ≡ set s (fieldAt c w f) (castOf (fieldType t d f) (getD l f (pos 0)))
 field-turn t s s′ d c w f l h ev e = e ∙ ap (λ z. set s (fieldAt c w f) (castOf (fieldType t d f) z)) (back h ∙ ev)
 
-pub appended-all : (t : List ℕ) (c : ℕ) (l s s₁ s₂ : List ℤ) {d w n i : ℕ} → d ≡ declaredOf s c → w ≡ waitingOf s c → n ≡ fieldsOf t d
-    → s₁ ≡ walk (λ f x. set x (fieldAt c w f) (castOf (fieldType t d f) (getD l f (pos 0)))) 0 n s → i ≡ channelAt c → s₂ ≡ set s₁ (i + 1) (kept (w + 1)) → s₂ ≡ appended t c l s
-unfolding appended
-appended-all t c l s s₁ s₂ ed ew en e₁ ei e₂ =
-    e₂ ∙ (λ j. set ((e₁ ∙ (λ k. walk (λ f x. set x (fieldAt c (ew k) f) (castOf (fieldType t (ed k) f) (getD l f (pos 0)))) 0 ((en ∙ ap (fieldsOf t) ed) k) s)) j) (ei j + 1) (kept (ew j + 1)))
+pub put-all : (t : List ℕ) (c w : ℕ) (l s s₁ s₂ : List ℤ) {d n i : ℕ} → d ≡ declaredOf s c → n ≡ fieldsOf t d
+    → s₁ ≡ walk (λ f x. set x (fieldAt c w f) (castOf (fieldType t d f) (getD l f (pos 0)))) 0 n s → i ≡ channelAt c → s₂ ≡ set s₁ (i + 1) (kept (w + 1)) → s₂ ≡ putIn t c w l s
+unfolding putIn
+put-all t c w l s s₁ s₂ ed en e₁ ei e₂ =
+    e₂ ∙ (λ j. set ((e₁ ∙ (λ k. walk (λ f x. set x (fieldAt c w f) (castOf (fieldType t (ed k) f) (getD l f (pos 0)))) 0 ((en ∙ ap (fieldsOf t) ed) k) s)) j) (ei j + 1) (kept (w + 1)))
 
 pub copied : (s s′ : List ℤ) (to from : ℕ) {v : ℤ} → mag v < 2 ^ 31 → v ≡ cellOf s from → s′ ≡ set s to (toZ w32 (ofZ w32 v)) → s′ ≡ set s to (cellOf s from)
 copied s s′ to from h ev e = e ∙ ap (set s to) (back h ∙ ev)
 
-pub removed-all : (c : ℕ) (s s₁ s₂ s₃ : List ℤ) {w i n : ℕ} → w ≡ waitingOf s c → s₁ ≡ walk (λ i x. set x (fieldAt c 0 i) (cellOf x (fieldAt c 1 i))) 0 (fieldsMost * (capacityMost - 1)) s
-    → s₂ ≡ walk (λ i x. set x (fieldAt c (capacityMost - 1) i) (pos 0)) 0 fieldsMost s₁ → i ≡ channelAt c → n ≡ w - 1 → s₃ ≡ set s₂ (i + 1) (kept n) → s₃ ≡ removed c s
-unfolding removed
-removed-all c s s₁ s₂ s₃ ew e₁ e₂ ei en e₃ = e₃ ∙ (λ j. set ((e₂ ∙ ap (walk (λ i x. set x (fieldAt c (capacityMost - 1) i) (pos 0)) 0 fieldsMost) e₁) j) (ei j + 1) (kept ((en ∙ ap (λ w. w - 1) ew) j)))
+pub take-all : (c w : ℕ) (s s₁ s₂ s₃ : List ℤ) {k i n : ℕ} → k ≡ waitingOf s c
+    → s₁ ≡ walk (λ i x. set x (fieldAt c w i) (cellOf x (fieldAt c (w + 1) i))) 0 (fieldsMost * (capacityMost - 1 - w)) s
+    → s₂ ≡ walk (λ i x. set x (fieldAt c (capacityMost - 1) i) (pos 0)) 0 fieldsMost s₁ → i ≡ channelAt c → n ≡ k - 1 → s₃ ≡ set s₂ (i + 1) (kept n) → s₃ ≡ takenOut c w s
+unfolding takenOut
+take-all c w s s₁ s₂ s₃ ek e₁ e₂ ei en e₃ = e₃ ∙ (λ j. set ((e₂ ∙ ap (walk (λ i x. set x (fieldAt c (capacityMost - 1) i) (pos 0)) 0 fieldsMost) e₁) j) (ei j + 1) (kept ((en ∙ ap (λ k. k - 1) ek) j)))
 
 module _ (t : List ℕ) (m k : ℕ) (ps : List ℕ) (l s : List ℤ) {b : Bool} (eb : b ≡ comparedAt t m) where
   pub one-compared : b ≡ true → s ≡ deliveredOne t m k ps l s

@@ -63,16 +63,16 @@ module _ (t : List ℕ) (s : List ℤ) (p : ℕ) where
   aimList (suc n) a k l = pick (eqb (codeOf t a) c-end) l (onPlace (aimOf a (linkOf t a)) (λ i. aimList n (linkOf t a + 1) (k + 1) (set l k i)) (λ f. l))
 
 -- ## messages
--- one more message, of the values l, at the end
-unfoldable pub appended : List ℕ → ℕ → List ℤ → List ℤ → List ℤ
-appended t c l s =
-    set (walk (λ f x. set x (fieldAt c (waitingOf s c) f) (castOf (fieldType t (declaredOf s c) f) (getD l f (pos 0)))) 0 (fieldsOf t (declaredOf s c)) s)
-    (channelAt c + 1) (kept (waitingOf s c + 1))
+-- one more message, of the values l, behind the w that there are
+unfoldable pub putIn : List ℕ → ℕ → ℕ → List ℤ → List ℤ → List ℤ
+putIn t c w l s =
+    set (walk (λ f x. set x (fieldAt c w f) (castOf (fieldType t (declaredOf s c) f) (getD l f (pos 0)))) 0 (fieldsOf t (declaredOf s c)) s)
+    (channelAt c + 1) (kept (w + 1))
 
--- the oldest message goes, the others move up, and the last place is cleared
-unfoldable pub removed : ℕ → List ℤ → List ℤ
-removed c s =
-    set (walk (λ i x. set x (fieldAt c (capacityMost - 1) i) (pos 0)) 0 fieldsMost (walk (λ i x. set x (fieldAt c 0 i) (cellOf x (fieldAt c 1 i))) 0 (fieldsMost * (capacityMost - 1)) s))
+-- message w goes, those behind it move up, and the last place is cleared
+unfoldable pub takenOut : ℕ → ℕ → List ℤ → List ℤ
+takenOut c w s =
+    set (walk (λ i x. set x (fieldAt c (capacityMost - 1) i) (pos 0)) 0 fieldsMost (walk (λ i x. set x (fieldAt c w i) (cellOf x (fieldAt c (w + 1) i))) 0 (fieldsMost * (capacityMost - 1 - w)) s))
     (channelAt c + 1) (kept (waitingOf s c - 1))
 
 -- ## stores: the values l in the places ps, where the argument with the mark m is the k-th

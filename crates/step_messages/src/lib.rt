@@ -15,10 +15,8 @@ use step_eval::Located;
 // The fields of a message.
 const FIELDS_MOST: u32 = base_ceilings::FIELDS_MOST as u32;
 
-// The last message of a full channel, and the numbers that stand before it.
+// The last message of a full channel.
 const LAST: u32 = base_ceilings::CAPACITY_MOST as u32 - 1;
-
-const BEFORE_LAST: u32 = FIELDS_MOST * LAST;
 
 // The item where arguments end, or the first fault among them.
 pub enum Gathered {
@@ -119,12 +117,11 @@ fn put_field(t: &[u32], s: &mut [i32], d: u32, c: u32, w: u32, f: u32, v: i32)
     );
 }
 
-// One more message in channel c, of the values.
-pub fn append(t: &[u32], s: &mut [i32], c: u32, values: &[i32])
-    ensures { λ _. ⌜ now (s .exit) ≡ messages.appended (now (t .entry)) c (now (values .entry)) (now (s .entry)) ⌝ }
+// One more message in channel c, of the values, behind the w that it holds.
+pub fn put(t: &[u32], s: &mut [i32], c: u32, w: u32, values: &[i32])
+    ensures { λ _. ⌜ now (s .exit) ≡ messages.putIn (now (t .entry)) c w (now (values .entry)) (now (s .entry)) ⌝ }
 {
     let d = state_layout::declared_of(s, c);
-    let w = state_layout::waiting_of(s, c);
     let n = step_ready::fields(t, d);
     let mut f: u32 = 0;
     while f < n {
@@ -142,16 +139,28 @@ fn copy_cell(s: &mut [i32], to: usize, from: usize)
     state_layout::put(s, to, v);
 }
 
-// The messages of channel c behind the oldest move up.
-fn move_up(s: &mut [i32], c: u32)
-    ensures { λ _. ⌜ now (s .exit) ≡ walk (λ i x. set x (layout.fieldAt c 0 i) (layout.cellOf x (layout.fieldAt c 1 i))) 0 (fieldsMost * (capacityMost - 1)) (now (s .entry)) ⌝ }
+// How many numbers stand behind message w of a full channel.
+fn behind(w: u32) -> u32
+    ensures { λ r. ⌜ r ≡ fieldsMost * (capacityMost - 1 - w) ⌝ }
 {
+    if w < LAST {
+        FIELDS_MOST * (LAST - w)
+    } else {
+        0
+    }
+}
+
+// The messages of channel c behind message w move up.
+fn move_up(s: &mut [i32], c: u32, w: u32)
+    ensures { λ _. ⌜ now (s .exit) ≡ walk (λ i x. set x (layout.fieldAt c w i) (layout.cellOf x (layout.fieldAt c (w + 1) i))) 0 (fieldsMost * (capacityMost - 1 - w)) (now (s .entry)) ⌝ }
+{
+    let n = behind(w);
     let mut i: u32 = 0;
-    while i < BEFORE_LAST {
+    while i < n {
         copy_cell(
             s,
-            state_layout::field_at(c, 0, i),
-            state_layout::field_at(c, 1, i),
+            state_layout::field_at(c, w, i),
+            state_layout::field_at(c, w + 1, i),
         );
         i += 1;
     }
@@ -168,17 +177,17 @@ fn clear_last(s: &mut [i32], c: u32)
     }
 }
 
-// The oldest message of channel c goes.
-pub fn remove(s: &mut [i32], c: u32)
-    ensures { λ _. ⌜ now (s .exit) ≡ messages.removed c (now (s .entry)) ⌝ }
+// Message w of channel c goes.
+pub fn take(s: &mut [i32], c: u32, w: u32)
+    ensures { λ _. ⌜ now (s .exit) ≡ messages.takenOut c w (now (s .entry)) ⌝ }
 {
-    let w = state_layout::waiting_of(s, c);
-    move_up(s, c);
+    let n = state_layout::waiting_of(s, c);
+    move_up(s, c, w);
     clear_last(s, c);
     state_layout::put_count(
         s,
         state_layout::channel_at(c) + 1,
-        step_eval::minus_one(w as usize),
+        step_eval::minus_one(n as usize),
     );
 }
 

@@ -1,4 +1,4 @@
--- Mechanism, held to the specification by `demand2` (crate `demands`).
+-- Mechanism, held to the specification by `demand2` (crate `demands`), but for `pickAt`, `offersMost`, `countOf`, `isSome`, of contracts alone.
 -- Which steps a place offers, each by its own place, in text order: document 01, "How it moves", "`else` when no other option of its selection is; `if` and `do`, themselves
 -- no steps, when an option's first statement is". A selection that is an option's first statement gives its steps as the option's.
 -- `t` are tables, `s` a state, p the number of the process; `late` says whether `timeout` is executable.

@@ -1,4 +1,4 @@
--- Mechanism, held to the specification by `demand2` (crate `demands`).
+-- Mechanism, held to the specification by `demand2` (crate `demands`), but for `sizeOf`, of a contract alone.
 -- What a printf writes: document 01, "Strings", "a backslash must be followed by `n`, `t`, `"` or a backslash", and row 5, "`%` in a format not followed by `d` or `%`".
 -- A number is written in signed decimal, whatever its type. `l` holds the values of the arguments.
 use Prim.Native.Nat.{ℕ, zero, suc, _+_, _-_, _/_, _%_}

@@ -14,19 +14,23 @@ use mir.Val.{toZ, ofZ, SFits, boolByte}
 use Rattle.base_ceilings.specs.Ceilings.{channelsMost, fieldsMost, processesMost}
 use Rattle.base_codes.specs.Codes.{c-channel, c-end, c-express, c-into, c-message, c-receive, c-run, c-send, c-timeout}
 use Rattle.base_bytes.specs.Choice.{pick}
+use Rattle.base_bytes.proofs.Tests.{true-false}
 use Rattle.table_layout.specs.Access.{codeOf, linkOf}
 use Rattle.state_layout.proofs.Laws.{back}
 use Rattle.state_layout.specs.Layout.{processesOf, channelsOf, declaredOf, waitingOf, fieldOf}
-use Rattle.base_values.specs.Operators.{same, equalBy}
+use Rattle.base_values.specs.Operators.{isTrue, same, equalBy}
+use Rattle.base_values.specs.declared.Fault.{Fault}
 use Rattle.base_values.specs.declared.Fault.the-variants.{Fields}
 use Rattle.base_values.specs.declared.Answer.{Answer}
-use Rattle.base_values.specs.declared.Answer.the-variants.{Value}
+use Rattle.base_values.specs.declared.Answer.the-variants.{Value, Fails}
 use Rattle.step_eval.specs.declared.Located.{Located}
 use Rattle.step_eval.specs.declared.Reached.{Reached}
 use Rattle.step_eval.specs.declared.Reached.the-variants.{Record, Unmade}
 use Rattle.step_eval.specs.Variables.{loadOf, channelOf}
 use Rattle.step_eval.specs.Expressions.{holds, evalOf, locateOf}
-use Rattle.step_ready.specs.Channels.{capacityOf, fieldsOf, argumentsFrom, comparedAt, reachedOf, agreesOf, matchesFrom, matchesOf, addressedOf}
+use Rattle.step_ready.specs.Channels.{capacityOf, fieldsOf, argumentsFrom, comparedAt, reachedOf, agreesOf, matchesFrom, matchesOf, foundBy, finds, triedOf, foundFrom, addressedOf}
+use Rattle.step_ready.specs.declared.Found.{Found}
+use Rattle.step_ready.specs.declared.Found.the-variants.{Message, Nothing, Spoilt}
 use Rattle.step_ready.specs.Executing.{passes, isAlways, channelsFrom, channelsIn, fitsOf, sendable, receivable, messageOf, readyBy}
 use Rattle.base_values.proofs.Machine.{same-bits}
 use Rattle.step_eval.proofs.Laws.{one-if}
@@ -44,12 +48,12 @@ module _ (t : List ℕ) (m : ℕ) {c : ℕ} (ec : c ≡ codeOf t m) where
   unfolding comparedAt
   compared-else h = rw (← ec, ne-eqb c c-into h)
 
-module _ (t : List ℕ) (s : List ℤ) (p c a m f : ℕ) {b : Bool} (eb : b ≡ comparedAt t m) where
-  pub agrees-compared : b ≡ true → {x r : Answer} {w : ℤ} → x ≡ evalOf t s p a m → mag w < 2 ^ 31 → w ≡ fieldOf s c 0 f → r ≡ equalBy x (toZ w32 (ofZ w32 w)) → r ≡ agreesOf t s p c a m f
+module _ (t : List ℕ) (s : List ℤ) (p c w a m f : ℕ) {b : Bool} (eb : b ≡ comparedAt t m) where
+  pub agrees-compared : b ≡ true → {x r : Answer} {z : ℤ} → x ≡ evalOf t s p a m → mag z < 2 ^ 31 → z ≡ fieldOf s c w f → r ≡ equalBy x (toZ w32 (ofZ w32 z)) → r ≡ agreesOf t s p c w a m f
   unfolding agreesOf
-  agrees-compared e ex h ew er = rw (← eb, e) (er ∙ (λ i. equalBy (ex i) ((back h ∙ ew) i)))
+  agrees-compared e ex h ez er = rw (← eb, e) (er ∙ (λ i. equalBy (ex i) ((back h ∙ ez) i)))
 
-  pub agrees-stored : b ≡ false → Value (pos 1) ≡ agreesOf t s p c a m f
+  pub agrees-stored : b ≡ false → Value (pos 1) ≡ agreesOf t s p c w a m f
   unfolding agreesOf
   agrees-stored e = rw (← eb, e)
 
@@ -94,28 +98,77 @@ module _ (t : List ℕ) where
       pub arguments-turn : n < fieldsMost + 1 → (c ≡ c-end → ⊥) → {l : ℕ} → l ≡ linkOf t j → n + 1 + argumentsFrom t ((fieldsMost + 1) - (n + 1)) (l + 1) ≡ w
       arguments-turn g e {l} el = let q = arguments-more ((fieldsMost + 1) - n) ((fieldsMost + 1) - (n + 1)) j (omega arith) ec e el in omega arith
 
-module _ (t : List ℕ) (s : List ℤ) (p c : ℕ) where
-  pub matches-end : (n a f : ℕ) → n ≡ 0 → matchesFrom t s p n c a f ≡ Value (pos 1)
+module _ (t : List ℕ) (s : List ℤ) (p c w : ℕ) where
+  pub matches-end : (n a f : ℕ) → n ≡ 0 → matchesFrom t s p n c w a f ≡ Value (pos 1)
   unfolding matchesFrom
   matches-end n a f e = rw e
 
-  pub matches-over : (n a f : ℕ) {b : ℕ} → b ≡ codeOf t a → b ≡ c-end → matchesFrom t s p n c a f ≡ Value (pos 1)
+  pub matches-over : (n a f : ℕ) {b : ℕ} → b ≡ codeOf t a → b ≡ c-end → matchesFrom t s p n c w a f ≡ Value (pos 1)
   unfolding matchesFrom
   matches-over zero a f eb e = refl
   matches-over (suc n) a f eb e = rw (← eb, e)
 
-  module _ (n k a f : ℕ) (en : n ≡ suc k) {b m : ℕ} (eb : b ≡ codeOf t a) (h : b ≡ c-end → ⊥) (em : m ≡ linkOf t a) {x : Answer} (ex : x ≡ agreesOf t s p c a m f) {z : Bool} (ez : z ≡ holds x) where
-    turn : matchesFrom t s p n c a f ≡ pick (holds x) (matchesFrom t s p k c (m + 1) (f + 1)) x
+  module _ (n k a f : ℕ) (en : n ≡ suc k) {b m : ℕ} (eb : b ≡ codeOf t a) (h : b ≡ c-end → ⊥) (em : m ≡ linkOf t a) {x : Answer} (ex : x ≡ agreesOf t s p c w a m f) {z : Bool} (ez : z ≡ holds x) where
+    turn : matchesFrom t s p n c w a f ≡ pick (holds x) (matchesFrom t s p k c w (m + 1) (f + 1)) x
     unfolding matchesFrom
     turn =
         rw (en, ← eb, ne-eqb b c-end h)
-        (λ i. pick (holds (sym (ex ∙ ap (λ l. agreesOf t s p c a l f) em) i)) (matchesFrom t s p k c (sym em i + 1) (f + 1)) (sym (ex ∙ ap (λ l. agreesOf t s p c a l f) em) i))
+        (λ i. pick (holds (sym (ex ∙ ap (λ l. agreesOf t s p c w a l f) em) i)) (matchesFrom t s p k c w (sym em i + 1) (f + 1)) (sym (ex ∙ ap (λ l. agreesOf t s p c w a l f) em) i))
 
-    pub matches-more : z ≡ true → matchesFrom t s p n c a f ≡ matchesFrom t s p k c (m + 1) (f + 1)
-    matches-more e = turn ∙ ap (λ b. pick b (matchesFrom t s p k c (m + 1) (f + 1)) x) (sym ez ∙ e)
+    pub matches-more : z ≡ true → matchesFrom t s p n c w a f ≡ matchesFrom t s p k c w (m + 1) (f + 1)
+    matches-more e = turn ∙ ap (λ b. pick b (matchesFrom t s p k c w (m + 1) (f + 1)) x) (sym ez ∙ e)
 
-    pub matches-stop : z ≡ false → matchesFrom t s p n c a f ≡ x
-    matches-stop e = turn ∙ ap (λ b. pick b (matchesFrom t s p k c (m + 1) (f + 1)) x) (sym ez ∙ e)
+    pub matches-stop : z ≡ false → matchesFrom t s p n c w a f ≡ x
+    matches-stop e = turn ∙ ap (λ b. pick b (matchesFrom t s p k c w (m + 1) (f + 1)) x) (sym ez ∙ e)
+
+-- ---- what is found
+pub found-here : (w : ℕ) (x : Answer) {b : Bool} → b ≡ holds x → b ≡ true → Message w ≡ foundBy w x Nothing
+found-here w (Value v) eb e = rw (← eb, e)
+found-here w (Fails f) eb e = absurd (true-false (sym e ∙ eb))
+
+pub found-not : (w : ℕ) {x : Answer} {v : ℤ} {b : Bool} → x ≡ Value v → b ≡ holds x → b ≡ false → Nothing ≡ foundBy w x Nothing
+found-not w {x} {v} ex eb e = ap (λ z. pick z (Message w) Nothing) (sym e ∙ eb ∙ ap holds ex) ∙ ap (λ a. foundBy w a Nothing) (sym ex)
+
+pub found-spoilt : (w : ℕ) {x : Answer} {f : Fault} → x ≡ Fails f → Spoilt f ≡ foundBy w x Nothing
+found-spoilt w e = ap (λ a. foundBy w a Nothing) (sym e)
+
+module _ (t : List ℕ) (s : List ℤ) (p c a : ℕ) where
+  pub found-start : (n : ℕ) → foundFrom t s p (n - 0) c 0 a ≡ foundFrom t s p n c 0 a
+  found-start n = ap (λ k. foundFrom t s p k c 0 a) (omega arith)
+
+  pub found-end : (n w : ℕ) → n ≡ 0 → foundFrom t s p n c w a ≡ Nothing
+  unfolding foundFrom
+  found-end n w e = rw e
+
+  turned : (w : ℕ) (y : Answer) (rest : Found) → foundBy w y rest ≡ pick (finds (foundBy w y Nothing)) (foundBy w y Nothing) rest
+  turned w (Value v) rest = go (isTrue v)
+    where
+      go : (b : Bool) → pick b (Message w) rest ≡ pick (finds (pick b (Message w) Nothing)) (pick b (Message w) Nothing) rest
+      go true = refl
+      go false = refl
+  turned w (Fails f) rest = refl
+
+  module _ (n k w : ℕ) (en : n ≡ suc k) {y : Answer} (ey : y ≡ matchesOf t s p c w a) {x : Found} (ex : x ≡ foundBy w y Nothing) {b : Bool} (eb : b ≡ finds x) where
+    found-turn : foundFrom t s p n c w a ≡ pick b x (foundFrom t s p k c (w + 1) a)
+    unfolding foundFrom
+    found-turn =
+        rw en
+        (turned w (matchesOf t s p c w a) (foundFrom t s p k c (w + 1) a)
+        ∙ ap (λ (f : Found). pick (finds f) f (foundFrom t s p k c (w + 1) a)) (ap (λ z. foundBy w z Nothing) (sym ey) ∙ sym ex)
+        ∙ ap (λ z. pick z x (foundFrom t s p k c (w + 1) a)) (sym eb))
+
+    pub found-stop : b ≡ true → foundFrom t s p n c w a ≡ x
+    found-stop e = found-turn ∙ ap (λ z. pick z x (foundFrom t s p k c (w + 1) a)) e
+
+    pub found-more : b ≡ false → foundFrom t s p n c w a ≡ foundFrom t s p k c (w + 1) a
+    found-more e = found-turn ∙ ap (λ z. pick z x (foundFrom t s p k c (w + 1) a)) e
+
+module _ (s : List ℤ) (c : ℕ) {n : ℕ} (en : n ≡ waitingOf s c) where
+  pub tried-none : n ≡ 0 → 0 ≡ triedOf s c
+  tried-none e = omega (arith, en)
+
+  pub tried-one : (n ≡ 0 → ⊥) → 1 ≡ triedOf s c
+  tried-one e = omega (arith, en)
 
 -- ---- units
 module _ (t : List ℕ) where
@@ -153,12 +206,9 @@ module _ (t : List ℕ) (s : List ℤ) {x : Reached} {c : ℕ} (e : x ≡ Record
   pub sendable-by : {n m d : ℕ} → n ≡ waitingOf s c → d ≡ declaredOf s c → m ≡ capacityOf t d → ltb n m ≡ sendable t s x
   sendable-by en ed em = (λ i. ltb (en i) ((em ∙ ap (capacityOf t) ed) i)) ∙ ap (sendable t s) (sym e)
 
-  module _ (p a : ℕ) {n : ℕ} (en : n ≡ waitingOf s c) where
-    pub receivable-empty : n ≡ 0 → false ≡ receivable t s p a x
-    receivable-empty z = sym (ap (receivable t s p a) e ∙ ap (λ b. pick b false (passes (matchesOf t s p c a))) (eq-eqb _ 0 (sym en ∙ z)))
-
-    pub receivable-by : (n ≡ 0 → ⊥) → {y : Answer} {r : Bool} → y ≡ matchesOf t s p c a → r ≡ passes y → r ≡ receivable t s p a x
-    receivable-by z ey er = er ∙ ap passes ey ∙ sym (ap (receivable t s p a) e ∙ ap (λ b. pick b false (passes (matchesOf t s p c a))) (ne-eqb _ 0 (λ q. z (en ∙ q))))
+  module _ (p a : ℕ) {n : ℕ} (en : n ≡ triedOf s c) where
+    pub receivable-by : {y : Found} {r : Bool} → y ≡ foundFrom t s p n c 0 a → r ≡ finds y → r ≡ receivable t s p a x
+    receivable-by ey er = er ∙ ap finds (ey ∙ ap (λ k. foundFrom t s p k c 0 a) en) ∙ sym (ap (receivable t s p a) e)
 
 module _ (t : List ℕ) (s : List ℤ) (p : ℕ) (late : Bool) (q m : ℕ) {c : ℕ} (ec : c ≡ codeOf t m) where
   pub ready-express : c ≡ c-express → {x : Answer} {r : Bool} → x ≡ evalOf t s p q m → r ≡ passes x → r ≡ readyBy t s p late q m

@@ -17,7 +17,7 @@ use Rattle.step_eval.specs.declared.Reached.{Reached}
 use Rattle.step_eval.specs.declared.Reached.the-variants.{Record, Unmade}
 use Rattle.step_eval.specs.Expressions.{isFault, holds, evalOf}
 use Rattle.state_start.specs.Starting.{unitLength}
-use Rattle.step_ready.specs.Channels.{capacityOf, argumentsOf, reachedOf, matchesOf, addressedOf}
+use Rattle.step_ready.specs.Channels.{capacityOf, argumentsOf, reachedOf, finds, foundOf, addressedOf}
 use Rattle.base_codes.specs.Sets.{isAlone}
 
 -- "A statement whose test faults counts as executable"
@@ -63,7 +63,7 @@ module _ (t : List ℕ) where
 
   -- "a receive when it is not empty and each constant and `eval` equals its field"; a is its first argument
   abbrev pub receivable : List ℤ → ℕ → ℕ → Reached → Bool
-  receivable s p a (Record c) = pick (eqb (waitingOf s c) 0) false (passes (matchesOf t s p c a))
+  receivable s p a (Record c) = finds (foundOf t s p c a)
   receivable s p a (Unmade f) = true
 
   module _ (s : List ℤ) (p : ℕ) where

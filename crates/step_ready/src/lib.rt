@@ -7,6 +7,7 @@ ghost use Rattle.base_codes.specs.Codes.{c-channel};
 ghost use Rattle.base_bytes.specs.Choice.{pick};
 ghost use Rattle.table_layout.specs.Access.{codeOf};
 ghost use Rattle.base_values.specs.Operators.{equalBy};
+ghost use Rattle.step_ready.specs.declared.Found.the-variants.{Nothing};
 ghost use Rattle.step_ready.specs.Channels as channels;
 ghost use Rattle.step_ready.specs.Executing as executing;
 use base_values::Answer;
@@ -22,6 +23,13 @@ const CHANNELS_MOST: u32 = base_ceilings::CHANNELS_MOST as u32;
 
 // One argument more than a message has.
 const TOO_MANY: u32 = FIELDS_MOST + 1;
+
+// The number of the message that a receive can take, or none, or the fault of its test.
+pub enum Found {
+    Message(u32),
+    Nothing,
+    Spoilt(Fault),
+}
 
 // How many messages the channel that item d declares can hold.
 pub fn capacity(t: &[u32], d: u32) -> usize
@@ -109,23 +117,23 @@ pub fn addressed(t: &[u32], s: &[i32], c: Reached, n: u32) -> Reached
     }
 }
 
-// Does an argument agree with field f of the oldest message?
-fn agrees(t: &[u32], s: &[i32], p: u8, c: u32, a: usize, m: usize, f: u32) -> Answer
-    ensures { λ r. ⌜ r ≡ channels.agreesOf (now (t .entry)) (now (s .entry)) p c a m f ⌝ }
+// Does an argument agree with field f of message w in channel c?
+fn agrees(t: &[u32], s: &[i32], p: u8, c: u32, w: u32, a: usize, m: usize, f: u32) -> Answer
+    ensures { λ r. ⌜ r ≡ channels.agreesOf (now (t .entry)) (now (s .entry)) p c w a m f ⌝ }
 {
     if is_compared(t, m) {
         equal(
             step_eval::eval(t, s, p, a, m),
-            state_layout::field_of(s, c, 0, f),
+            state_layout::field_of(s, c, w, f),
         )
     } else {
         Answer::Value(1)
     }
 }
 
-// Do the arguments from a on agree with the oldest message in channel c?
-pub fn matches(t: &[u32], s: &[i32], p: u8, c: u32, a: usize) -> Answer
-    ensures { λ r. ⌜ r ≡ channels.matchesOf (now (t .entry)) (now (s .entry)) p c a ⌝ }
+// Do the arguments from a on agree with message w in channel c?
+fn matches(t: &[u32], s: &[i32], p: u8, c: u32, w: u32, a: usize) -> Answer
+    ensures { λ r. ⌜ r ≡ channels.matchesOf (now (t .entry)) (now (s .entry)) p c w a ⌝ }
 {
     let mut j = a;
     let mut f: u32 = 0;
@@ -134,7 +142,7 @@ pub fn matches(t: &[u32], s: &[i32], p: u8, c: u32, a: usize) -> Answer
             return Answer::Value(1);
         }
         let m = table_layout::link(t, j);
-        let x = agrees(t, s, p, c, j, m, f);
+        let x = agrees(t, s, p, c, w, j, m, f);
         if !step_eval::holds(x) {
             return x;
         }
@@ -142,6 +150,54 @@ pub fn matches(t: &[u32], s: &[i32], p: u8, c: u32, a: usize) -> Answer
         f += 1;
     }
     Answer::Value(1)
+}
+
+// What the test of message w says.
+fn found_by(w: u32, x: Answer) -> Found
+    ensures { λ r. ⌜ r ≡ channels.foundBy w x Nothing ⌝ }
+{
+    if step_eval::holds(x) {
+        return Found::Message(w);
+    }
+    match x {
+        Answer::Value(_) => Found::Nothing,
+        Answer::Fails(f) => Found::Spoilt(f),
+    }
+}
+
+fn finds(x: Found) -> bool
+    ensures { λ r. ⌜ r ≡ channels.finds x ⌝ }
+{
+    match x {
+        Found::Message(_) => true,
+        Found::Nothing => false,
+        Found::Spoilt(_) => true,
+    }
+}
+
+// The first of n messages in channel c with which the arguments from a on agree.
+pub fn find(t: &[u32], s: &[i32], p: u8, c: u32, a: usize, n: u32) -> Found
+    ensures { λ r. ⌜ r ≡ channels.foundFrom (now (t .entry)) (now (s .entry)) p n c 0 a ⌝ }
+{
+    let mut w: u32 = 0;
+    while w < n {
+        let x = found_by(w, matches(t, s, p, c, w, a));
+        if finds(x) {
+            return x;
+        }
+        w += 1;
+    }
+    Found::Nothing
+}
+
+// How many messages a receive tries: the oldest alone, where there is one.
+pub fn tried(s: &[i32], c: u32) -> u32
+    ensures { λ r. ⌜ r ≡ channels.triedOf (now (s .entry)) c ⌝ }
+{
+    if state_layout::waiting_of(s, c) == 0 {
+        return 0;
+    }
+    1
 }
 
 fn passes(x: Answer) -> bool
@@ -239,17 +295,12 @@ pub fn can_send(t: &[u32], s: &[i32], c: Reached) -> bool
     }
 }
 
-// Is it not empty, and does its oldest message agree with the arguments from item a on?
+// Is it not empty, and does a message that is tried agree with the arguments from item a on?
 pub fn can_receive(t: &[u32], s: &[i32], p: u8, a: usize, c: Reached) -> bool
     ensures { λ r. ⌜ r ≡ executing.receivable (now (t .entry)) (now (s .entry)) p a c ⌝ }
 {
     match c {
-        Reached::Record(k) => {
-            if state_layout::waiting_of(s, k) == 0 {
-                return false;
-            }
-            passes(matches(t, s, p, k, a))
-        }
+        Reached::Record(k) => finds(find(t, s, p, k, a, tried(s, k))),
         Reached::Unmade(_) => true,
     }
 }

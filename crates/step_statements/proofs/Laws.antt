@@ -21,21 +21,23 @@ use Rattle.base_values.specs.declared.Fault.{Fault}
 use Rattle.base_values.specs.declared.Answer.{Answer}
 use Rattle.base_values.specs.declared.Answer.the-variants.{Value, Fails}
 use Rattle.state_layout.proofs.Laws.{back}
-use Rattle.state_layout.specs.Layout.{kept, cellOf, processAt, fieldOf}
+use Rattle.state_layout.specs.Layout.{kept, cellOf, processAt, waitingOf, fieldOf}
 use Rattle.step_eval.specs.declared.Located.{Located}
 use Rattle.step_eval.specs.declared.Located.the-variants.{At, Astray}
 use Rattle.step_eval.specs.declared.Reached.{Reached}
 use Rattle.step_eval.specs.declared.Reached.the-variants.{Record, Unmade}
 use Rattle.step_eval.specs.Variables.{variableOf, typeOf}
 use Rattle.step_eval.specs.Expressions.{evalOf, locateOf}
-use Rattle.step_ready.specs.Channels.{matchesOf}
+use Rattle.step_ready.specs.declared.Found.{Found}
+use Rattle.step_ready.specs.declared.Found.the-variants.{Message, Nothing, Spoilt}
+use Rattle.step_ready.specs.Channels.{triedOf, foundFrom, foundOf}
 use Rattle.step_ready.specs.Executing.{messageOf}
 use Rattle.step_messages.specs.declared.Gathered.{Gathered}
 use Rattle.step_messages.specs.declared.Gathered.the-variants.{Upto, Failed}
-use Rattle.step_messages.specs.Messages.{onValue, onPlace, gatherEnd, gatherList, aimEnd, aimList, appended, removed, delivered}
+use Rattle.step_messages.specs.Messages.{onValue, onPlace, gatherEnd, gatherList, aimEnd, aimList, putIn, takenOut, delivered}
 use Rattle.base_outcome.specs.declared.Taken.{Taken}
-use Rattle.base_outcome.specs.declared.Taken.the-variants.{Done, Refuted, Faulted}
-use Rattle.step_statements.specs.Statements.{Result, fault, moved, onEnd, onChannel, blank, oldest, storedAt, passed, expressed, asserted, stepped, assigned, sent, receivedFrom, received, printed}
+use Rattle.base_outcome.specs.declared.Taken.the-variants.{Done, Refuted, Faulted, Idle}
+use Rattle.step_statements.specs.Statements.{Result, fault, moved, onEnd, onChannel, onFound, blank, fetched, storedAt, passed, expressed, asserted, stepped, assigned, sent, receivedFrom, received, printed}
 
 abbrev pub outcome : Taken → List ℤ → Result
 outcome r s = (r, s)
@@ -153,49 +155,54 @@ module _ (t : List ℕ) (p q m : ℕ) (s : List ℤ) where
   module _ {x : Reached} (ex : x ≡ messageOf t s p q m) where
     pub send-unmade : {f : Fault} → x ≡ Unmade f → outcome (Faulted f) s ≡ sent t p q m s
     unfolding sent
-    send-unmade k = on-unmade (λ c. onEnd (gatherEnd t s p numbersMost (m + 1)) (λ e. (Done, moved p (linkOf t e) (appended t c (gatherList t s p numbersMost (m + 1) 0 blank) s))) (fault s)) (fault s) ex k
+    send-unmade k = on-unmade (λ c. onEnd (gatherEnd t s p numbersMost (m + 1)) (λ e. (Done, moved p (linkOf t e) (putIn t c (waitingOf s c) (gatherList t s p numbersMost (m + 1) 0 blank) s))) (fault s)) (fault s) ex k
 
     module _ {c : ℕ} (k : x ≡ Record c) {g : Gathered} (eg : g ≡ gatherEnd t s p numbersMost (m + 1)) where
-      send-by : {r : Result} → r ≡ onEnd (gatherEnd t s p numbersMost (m + 1)) (λ e. (Done, moved p (linkOf t e) (appended t c (gatherList t s p numbersMost (m + 1) 0 blank) s))) (fault s) → r ≡ sent t p q m s
+      send-by : {r : Result} → r ≡ onEnd (gatherEnd t s p numbersMost (m + 1)) (λ e. (Done, moved p (linkOf t e) (putIn t c (waitingOf s c) (gatherList t s p numbersMost (m + 1) 0 blank) s))) (fault s) → r ≡ sent t p q m s
       unfolding sent
-      send-by er = er ∙ on-record (λ c. onEnd (gatherEnd t s p numbersMost (m + 1)) (λ e. (Done, moved p (linkOf t e) (appended t c (gatherList t s p numbersMost (m + 1) 0 blank) s))) (fault s)) (fault s) ex k
+      send-by er = er ∙ on-record (λ c. onEnd (gatherEnd t s p numbersMost (m + 1)) (λ e. (Done, moved p (linkOf t e) (putIn t c (waitingOf s c) (gatherList t s p numbersMost (m + 1) 0 blank) s))) (fault s)) (fault s) ex k
 
       pub send-fault : {f : Fault} → g ≡ Failed f → outcome (Faulted f) s ≡ sent t p q m s
-      send-fault z = send-by (on-failed (λ e. (Done, moved p (linkOf t e) (appended t c (gatherList t s p numbersMost (m + 1) 0 blank) s))) (fault s) eg z)
+      send-fault z = send-by (on-failed (λ e. (Done, moved p (linkOf t e) (putIn t c (waitingOf s c) (gatherList t s p numbersMost (m + 1) 0 blank) s))) (fault s) eg z)
 
-      pub send-done : {e l : ℕ} {v s₁ s₂ : List ℤ} → g ≡ Upto e → v ≡ gatherList t s p numbersMost (m + 1) 0 blank → s₁ ≡ appended t c v s → l ≡ linkOf t e → s₂ ≡ moved p l s₁ → outcome Done s₂ ≡ sent t p q m s
-      send-done {e} {l} {v} {s₁} {s₂} z ev e₁ el e₂ =
+      pub send-done : {e l w : ℕ} {v s₁ s₂ : List ℤ} → g ≡ Upto e → v ≡ gatherList t s p numbersMost (m + 1) 0 blank → w ≡ waitingOf s c → s₁ ≡ putIn t c w v s → l ≡ linkOf t e → s₂ ≡ moved p l s₁ → outcome Done s₂ ≡ sent t p q m s
+      send-done {e} {l} {w} {v} {s₁} {s₂} z ev ew e₁ el e₂ =
           send-by
-          (done-moved p (linkOf t e) s s₁ s₂ (e₁ ∙ ap (λ v. appended t c v s) ev) el e₂
-          ∙ on-upto (λ e. (Done, moved p (linkOf t e) (appended t c (gatherList t s p numbersMost (m + 1) 0 blank) s))) (fault s) eg z)
+          (done-moved p (linkOf t e) s s₁ s₂ (e₁ ∙ (λ i. putIn t c (ew i) (ev i) s)) el e₂
+          ∙ on-upto (λ e. (Done, moved p (linkOf t e) (putIn t c (waitingOf s c) (gatherList t s p numbersMost (m + 1) 0 blank) s))) (fault s) eg z)
 
     pub receive-unmade : {f : Fault} → x ≡ Unmade f → outcome (Faulted f) s ≡ received t p q m s
     unfolding received
-    receive-unmade k = on-unmade (λ c. onValue (matchesOf t s p c (m + 1)) (λ v. receivedFrom t p (m + 1) c s) (fault s)) (fault s) ex k
+    receive-unmade k = on-unmade (λ c. onFound (foundOf t s p c (m + 1)) (λ w. receivedFrom t p (m + 1) c w s) (Idle, s) (fault s)) (fault s) ex k
 
-    module _ {c : ℕ} (k : x ≡ Record c) {y : Answer} (ey : y ≡ matchesOf t s p c (m + 1)) where
-      pub receive-fault : {f : Fault} → y ≡ Fails f → outcome (Faulted f) s ≡ received t p q m s
+    module _ {c n : ℕ} (k : x ≡ Record c) (en : n ≡ triedOf s c) {y : Found} (ey : y ≡ foundFrom t s p n c 0 (m + 1)) where
+      receive-found : {z : Found} → y ≡ z → onFound z (λ w. receivedFrom t p (m + 1) c w s) (Idle, s) (fault s) ≡ received t p q m s
       unfolding received
-      receive-fault z =
-          on-fails (λ v. receivedFrom t p (m + 1) c s) (fault s) ey z ∙ on-record (λ c. onValue (matchesOf t s p c (m + 1)) (λ v. receivedFrom t p (m + 1) c s) (fault s)) (fault s) ex k
+      receive-found z =
+          ap (λ a. onFound a (λ w. receivedFrom t p (m + 1) c w s) (Idle, s) (fault s)) (sym z ∙ ey ∙ ap (λ i. foundFrom t s p i c 0 (m + 1)) en)
+          ∙ on-record (λ c. onFound (foundOf t s p c (m + 1)) (λ w. receivedFrom t p (m + 1) c w s) (Idle, s) (fault s)) (fault s) ex k
 
-      pub receive-by : {v : ℤ} {r : Result} → y ≡ Value v → r ≡ receivedFrom t p (m + 1) c s → r ≡ received t p q m s
-      unfolding received
-      receive-by z er =
-          er ∙ on-value (λ v. receivedFrom t p (m + 1) c s) (fault s) ey z ∙ on-record (λ c. onValue (matchesOf t s p c (m + 1)) (λ v. receivedFrom t p (m + 1) c s) (fault s)) (fault s) ex k
+      pub receive-fault : {f : Fault} → y ≡ Spoilt f → outcome (Faulted f) s ≡ received t p q m s
+      receive-fault z = receive-found z
+
+      pub receive-none : y ≡ Nothing → outcome Idle s ≡ received t p q m s
+      receive-none z = receive-found z
+
+      pub receive-by : {w : ℕ} {r : Result} → y ≡ Message w → r ≡ receivedFrom t p (m + 1) c w s → r ≡ received t p q m s
+      receive-by z er = er ∙ receive-found z
 
 -- the arguments' places are known, and none is at fault
-module _ (t : List ℕ) (p a c : ℕ) (s : List ℤ) {g : Gathered} (eg : g ≡ aimEnd t s p fieldsMost a) where
-  pub from-fault : {f : Fault} → g ≡ Failed f → outcome (Faulted f) s ≡ receivedFrom t p a c s
+module _ (t : List ℕ) (p a c w : ℕ) (s : List ℤ) {g : Gathered} (eg : g ≡ aimEnd t s p fieldsMost a) where
+  pub from-fault : {f : Fault} → g ≡ Failed f → outcome (Faulted f) s ≡ receivedFrom t p a c w s
   unfolding receivedFrom
-  from-fault z = on-failed (λ e. (Done, moved p (linkOf t e) (delivered t fieldsMost a 0 (aimList t s p fieldsMost a 0 (replicate fieldsMost 0)) (oldest s c (replicate fieldsMost (pos 0))) (removed c s)))) (fault s) eg z
+  from-fault z = on-failed (λ e. (Done, moved p (linkOf t e) (delivered t fieldsMost a 0 (aimList t s p fieldsMost a 0 (replicate fieldsMost 0)) (fetched s c w (replicate fieldsMost (pos 0))) (takenOut c w s)))) (fault s) eg z
 
-  pub from-done : {e l : ℕ} {ps : List ℕ} {v s₁ s₂ s₃ : List ℤ} → g ≡ Upto e → ps ≡ aimList t s p fieldsMost a 0 (replicate fieldsMost 0) → v ≡ oldest s c (replicate fieldsMost (pos 0)) → s₁ ≡ removed c s
-      → s₂ ≡ delivered t fieldsMost a 0 ps v s₁ → l ≡ linkOf t e → s₃ ≡ moved p l s₂ → outcome Done s₃ ≡ receivedFrom t p a c s
+  pub from-done : {e l : ℕ} {ps : List ℕ} {v s₁ s₂ s₃ : List ℤ} → g ≡ Upto e → ps ≡ aimList t s p fieldsMost a 0 (replicate fieldsMost 0) → v ≡ fetched s c w (replicate fieldsMost (pos 0)) → s₁ ≡ takenOut c w s
+      → s₂ ≡ delivered t fieldsMost a 0 ps v s₁ → l ≡ linkOf t e → s₃ ≡ moved p l s₂ → outcome Done s₃ ≡ receivedFrom t p a c w s
   unfolding receivedFrom
   from-done {e} {l} {ps} {v} {s₁} {s₂} {s₃} z ep ev e₁ e₂ el e₃ =
       done-moved p (linkOf t e) s s₂ s₃ (e₂ ∙ (λ i. delivered t fieldsMost a 0 (ep i) (ev i) (e₁ i))) el e₃
-      ∙ on-upto (λ e. (Done, moved p (linkOf t e) (delivered t fieldsMost a 0 (aimList t s p fieldsMost a 0 (replicate fieldsMost 0)) (oldest s c (replicate fieldsMost (pos 0))) (removed c s)))) (fault s) eg z
+      ∙ on-upto (λ e. (Done, moved p (linkOf t e) (delivered t fieldsMost a 0 (aimList t s p fieldsMost a 0 (replicate fieldsMost 0)) (fetched s c w (replicate fieldsMost (pos 0))) (takenOut c w s)))) (fault s) eg z
 
 module _ (t : List ℕ) (p m : ℕ) (s : List ℤ) where
   pub print-fault : {g : Gathered} {f : Fault} → g ≡ gatherEnd t s p numbersMost (m + 1) → g ≡ Failed f → outcome (Faulted f) s ≡ printed t p m s
@@ -206,6 +213,6 @@ module _ (t : List ℕ) (p m : ℕ) (s : List ℤ) where
   unfolding printed
   print-done {g} {e} {l} {s₁} eg z el e₁ = done-moved p (linkOf t e) s s s₁ refl el e₁ ∙ on-upto (λ e. (Done, moved p (linkOf t e) s)) (fault s) eg z
 
--- ---- the oldest message
-pub one-field : (s : List ℤ) (c k : ℕ) (l l′ x : List ℤ) {v : ℤ} → l ≡ x → mag v < 2 ^ 31 → v ≡ fieldOf s c 0 k → l′ ≡ set l k (toZ w32 (ofZ w32 v)) → l′ ≡ set x k (fieldOf s c 0 k)
-one-field s c k l l′ x e h ev q = q ∙ (λ i. set (e i) k ((back h ∙ ev) i))
+-- ---- a message
+pub one-field : (s : List ℤ) (c w k : ℕ) (l l′ x : List ℤ) {v : ℤ} → l ≡ x → mag v < 2 ^ 31 → v ≡ fieldOf s c w k → l′ ≡ set l k (toZ w32 (ofZ w32 v)) → l′ ≡ set x k (fieldOf s c w k)
+one-field s c w k l l′ x e h ev q = q ∙ (λ i. set (e i) k ((back h ∙ ev) i))

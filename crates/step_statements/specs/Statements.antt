@@ -13,18 +13,20 @@ use Rattle.base_values.specs.Bits.{wrap32}
 use Rattle.base_values.specs.Operators.{isTrue}
 use Rattle.base_values.specs.Types.{castOf}
 use Rattle.base_values.specs.declared.Fault.{Fault}
-use Rattle.state_layout.specs.Layout.{kept, cellOf, processAt, fieldOf}
+use Rattle.state_layout.specs.Layout.{kept, cellOf, processAt, waitingOf, fieldOf}
 use Rattle.step_eval.specs.declared.Reached.{Reached}
 use Rattle.step_eval.specs.declared.Reached.the-variants.{Record, Unmade}
 use Rattle.step_eval.specs.Variables.{variableOf, typeOf}
 use Rattle.step_eval.specs.Expressions.{evalOf, locateOf}
-use Rattle.step_ready.specs.Channels.{matchesOf}
+use Rattle.step_ready.specs.declared.Found.{Found}
+use Rattle.step_ready.specs.declared.Found.the-variants.{Message, Nothing, Spoilt}
+use Rattle.step_ready.specs.Channels.{foundOf}
 use Rattle.step_ready.specs.Executing.{messageOf}
 use Rattle.step_messages.specs.declared.Gathered.{Gathered}
 use Rattle.step_messages.specs.declared.Gathered.the-variants.{Upto, Failed}
-use Rattle.step_messages.specs.Messages.{onValue, onPlace, gatherEnd, gatherList, aimEnd, aimList, appended, removed, delivered}
+use Rattle.step_messages.specs.Messages.{onValue, onPlace, gatherEnd, gatherList, aimEnd, aimList, putIn, takenOut, delivered}
 use Rattle.base_outcome.specs.declared.Taken.{Taken}
-use Rattle.base_outcome.specs.declared.Taken.the-variants.{Done, Refuted, Faulted}
+use Rattle.base_outcome.specs.declared.Taken.the-variants.{Done, Refuted, Faulted, Idle}
 
 abbrev pub Result : Type 0
 Result = Taken × List ℤ
@@ -44,13 +46,18 @@ abbrev pub onChannel : {A : Type 0} → Reached → (ℕ → A) → (Fault → A
 onChannel (Record c) g h = g c
 onChannel (Unmade f) g h = h f
 
+abbrev pub onFound : {A : Type 0} → Found → (ℕ → A) → A → (Fault → A) → A
+onFound (Message w) g x h = g w
+onFound Nothing g x h = x
+onFound (Spoilt f) g x h = h f
+
 -- room for the values of arguments
 abbrev pub blank : List ℤ
 blank = replicate numbersMost (pos 0)
 
--- the fields of the oldest message of channel c
-abbrev pub oldest : List ℤ → ℕ → List ℤ → List ℤ
-oldest s c l = set (set (set (set l 0 (fieldOf s c 0 0)) 1 (fieldOf s c 0 1)) 2 (fieldOf s c 0 2)) 3 (fieldOf s c 0 3)
+-- the fields of message w of channel c
+abbrev pub fetched : List ℤ → ℕ → ℕ → List ℤ → List ℤ
+fetched s c w l = set (set (set (set l 0 (fieldOf s c w 0)) 1 (fieldOf s c w 1)) 2 (fieldOf s c w 2)) 3 (fieldOf s c w 3)
 
 module _ (t : List ℕ) where
   -- z stored in place i of the variable before mark m
@@ -80,17 +87,17 @@ module _ (t : List ℕ) where
     unfoldable pub sent : ℕ → ℕ → List ℤ → Result
     sent q m s =
         onChannel (messageOf t s p q m)
-        (λ c. onEnd (gatherEnd t s p numbersMost (m + 1)) (λ e. (Done, moved p (linkOf t e) (appended t c (gatherList t s p numbersMost (m + 1) 0 blank) s))) (fault s)) (fault s)
+        (λ c. onEnd (gatherEnd t s p numbersMost (m + 1)) (λ e. (Done, moved p (linkOf t e) (putIn t c (waitingOf s c) (gatherList t s p numbersMost (m + 1) 0 blank) s))) (fault s)) (fault s)
 
     -- the arguments begin at item a; "target indices are worked out in the state before the step, then stores go left to right"
-    unfoldable pub receivedFrom : ℕ → ℕ → List ℤ → Result
-    receivedFrom a c s =
+    unfoldable pub receivedFrom : ℕ → ℕ → ℕ → List ℤ → Result
+    receivedFrom a c w s =
         onEnd (aimEnd t s p fieldsMost a)
-        (λ e. (Done, moved p (linkOf t e) (delivered t fieldsMost a 0 (aimList t s p fieldsMost a 0 (replicate fieldsMost 0)) (oldest s c (replicate fieldsMost (pos 0))) (removed c s)))) (fault s)
+        (λ e. (Done, moved p (linkOf t e) (delivered t fieldsMost a 0 (aimList t s p fieldsMost a 0 (replicate fieldsMost 0)) (fetched s c w (replicate fieldsMost (pos 0))) (takenOut c w s)))) (fault s)
 
-    -- "a receive's tests come before its targets"
+    -- "a receive's tests come before its targets"; one that finds no message is no step
     unfoldable pub received : ℕ → ℕ → List ℤ → Result
-    received q m s = onChannel (messageOf t s p q m) (λ c. onValue (matchesOf t s p c (m + 1)) (λ v. receivedFrom (m + 1) c s) (fault s)) (fault s)
+    received q m s = onChannel (messageOf t s p q m) (λ c. onFound (foundOf t s p c (m + 1)) (λ w. receivedFrom (m + 1) c w s) (Idle, s) (fault s)) (fault s)
 
     -- what is printed is said elsewhere
     unfoldable pub printed : ℕ → List ℤ → Result

@@ -8,6 +8,7 @@ use base_values::Answer;
 use step_eval::Located;
 use step_eval::Reached;
 use step_messages::Gathered;
+use step_ready::Found;
 
 // Process p goes on at place q.
 pub fn move_to(s: &mut [i32], p: u8, q: usize)
@@ -101,7 +102,8 @@ pub fn send(t: &[u32], s: &mut [i32], p: u8, q: usize, m: u32) -> Taken
             let g = step_messages::gather(t, s, p, m as usize + 1, &mut values);
             match g {
                 Gathered::Upto(e) => {
-                    step_messages::append(t, s, c, &values);
+                    let w = state_layout::waiting_of(s, c);
+                    step_messages::put(t, s, c, w, &values);
                     move_to(s, p, table_layout::link(t, e));
                     Taken::Done
                 }
@@ -112,27 +114,27 @@ pub fn send(t: &[u32], s: &mut [i32], p: u8, q: usize, m: u32) -> Taken
     }
 }
 
-// The fields of the oldest message of channel c.
-fn fetch(s: &[i32], c: u32, values: &mut [i32])
-    ensures { λ _. ⌜ now (values .exit) ≡ statements.oldest (now (s .entry)) c (now (values .entry)) ⌝ }
+// The fields of message w of channel c.
+fn fetch(s: &[i32], c: u32, w: u32, values: &mut [i32])
+    ensures { λ _. ⌜ now (values .exit) ≡ statements.fetched (now (s .entry)) c w (now (values .entry)) ⌝ }
 {
-    state_layout::put(values, 0, state_layout::field_of(s, c, 0, 0));
-    state_layout::put(values, 1, state_layout::field_of(s, c, 0, 1));
-    state_layout::put(values, 2, state_layout::field_of(s, c, 0, 2));
-    state_layout::put(values, 3, state_layout::field_of(s, c, 0, 3));
+    state_layout::put(values, 0, state_layout::field_of(s, c, w, 0));
+    state_layout::put(values, 1, state_layout::field_of(s, c, w, 1));
+    state_layout::put(values, 2, state_layout::field_of(s, c, w, 2));
+    state_layout::put(values, 3, state_layout::field_of(s, c, w, 3));
 }
 
-// The oldest message of channel c goes where the arguments from item a on are stored.
-fn receive_from(t: &[u32], s: &mut [i32], p: u8, a: usize, c: u32) -> Taken
-    ensures { λ r. ⌜ (r, now (s .exit)) ≡ statements.receivedFrom (now (t .entry)) p a c (now (s .entry)) ⌝ }
+// Message w of channel c goes where the arguments from item a on are stored.
+fn receive_from(t: &[u32], s: &mut [i32], p: u8, a: usize, c: u32, w: u32) -> Taken
+    ensures { λ r. ⌜ (r, now (s .exit)) ≡ statements.receivedFrom (now (t .entry)) p a c w (now (s .entry)) ⌝ }
 {
     let mut places = [0usize; base_ceilings::FIELDS_MOST];
     let g = step_messages::aim(t, s, p, a, &mut places);
     match g {
         Gathered::Upto(e) => {
             let mut values = [0i32; base_ceilings::FIELDS_MOST];
-            fetch(s, c, &mut values);
-            step_messages::remove(s, c);
+            fetch(s, c, w, &mut values);
+            step_messages::take(s, c, w);
             step_messages::deliver(t, s, a, &places, &values);
             move_to(s, p, table_layout::link(t, e));
             Taken::Done
@@ -147,10 +149,11 @@ pub fn receive(t: &[u32], s: &mut [i32], p: u8, q: usize, m: u32) -> Taken
     let r = step_ready::message(t, s, p, q, m);
     match r {
         Reached::Record(c) => {
-            let x = step_ready::matches(t, s, p, c, m as usize + 1);
+            let x = step_ready::find(t, s, p, c, m as usize + 1, step_ready::tried(s, c));
             match x {
-                Answer::Value(_) => receive_from(t, s, p, m as usize + 1, c),
-                Answer::Fails(f) => Taken::Faulted(f),
+                Found::Message(w) => receive_from(t, s, p, m as usize + 1, c, w),
+                Found::Nothing => Taken::Idle,
+                Found::Spoilt(f) => Taken::Faulted(f),
             }
         }
         Reached::Unmade(f) => Taken::Faulted(f),

@@ -14,14 +14,16 @@ use Rattle.step_eval.specs.declared.Located.the-variants.{At, Astray}
 use Rattle.step_eval.specs.declared.Reached.{Reached}
 use Rattle.step_eval.specs.declared.Reached.the-variants.{Record, Unmade}
 use Rattle.step_eval.specs.Expressions.{evalOf, locateOf}
-use Rattle.step_ready.specs.Channels.{matchesOf}
+use Rattle.step_ready.specs.declared.Found.{Found}
+use Rattle.step_ready.specs.declared.Found.the-variants.{Message, Nothing, Spoilt}
+use Rattle.step_ready.specs.Channels.{foundOf}
 use Rattle.step_ready.specs.Executing.{markOf, messageOf, fitsOf}
 use Rattle.table_layout.specs.Access.{codeOf, linkOf}
 use Rattle.base_values.specs.Operators.{isTrue}
 use Rattle.step_messages.specs.declared.Gathered.{Gathered}
 use Rattle.step_messages.specs.declared.Gathered.the-variants.{Upto, Failed}
 use Rattle.step_messages.specs.Messages.{onValue, onPlace, gatherEnd, aimEnd}
-use Rattle.step_statements.specs.Statements.{Result, fault, onEnd, onChannel, expressed, asserted, stepped, assigned, sent, receivedFrom, received, printed}
+use Rattle.step_statements.specs.Statements.{Result, fault, onEnd, onChannel, onFound, expressed, asserted, stepped, assigned, sent, receivedFrom, received, printed}
 use Rattle.base_outcome.specs.declared.Taken.{Taken}
 use Rattle.base_outcome.specs.declared.Taken.the-variants.{Done, Refuted, Faulted, Idle}
 use Rattle.step_take.specs.Effects.{ran, setRunAt, setRan, targeted, takenAs, takenOf}
@@ -51,6 +53,11 @@ module _ (s : List ℤ) where
   on-channel : (v : Reached) (f : ℕ → Result) → ((z : ℕ) → Ok s (f z)) → Ok s (onChannel v f (fault s))
   on-channel (Record i) f h = h i
   on-channel (Unmade e) f h = refl
+
+  on-found : (v : Found) (f : ℕ → Result) → ((z : ℕ) → Ok s (f z)) → Ok s (onFound v f (Idle, s) (fault s))
+  on-found (Message w) f h = h w
+  on-found Nothing f h = refl
+  on-found (Spoilt e) f h = refl
 
   on-pick : (b : Bool) (x y : Result) → Ok s x → Ok s y → Ok s (pick b x y)
   on-pick true x y h g = h
@@ -83,7 +90,7 @@ module _ (s : List ℤ) where
 
     ok-received : (q m : ℕ) → Ok s (received t p q m s)
     unfolding received receivedFrom
-    ok-received q m = on-channel (messageOf t s p q m) _ (λ c. on-value (matchesOf t s p c (m + 1)) _ (λ v. on-end (aimEnd t s p 4 (m + 1)) _ (λ e. tt)))
+    ok-received q m = on-channel (messageOf t s p q m) _ (λ c. on-found (foundOf t s p c (m + 1)) _ (λ w. on-end (aimEnd t s p 4 (m + 1)) _ (λ e. tt)))
 
     ok-ran : (m : ℕ) → Ok s (ran t p m s)
     unfolding ran

@@ -8,12 +8,12 @@ use lib.ListN.{getD}
 use borrow.Author.Tests.{ne-eqb, lt-ltb, le-ltb}
 use Rattle.base_bytes.specs.Choice.{both}
 use Rattle.base_bytes.proofs.Tests.{both-true}
-use Rattle.base_codes.specs.Codes.{c-bit, c-complement, c-end-body, c-int, c-name, c-negate, c-not, c-number, c-or-else, c-plain, c-text}
-use Rattle.base_codes.specs.Items.{Item, i-name, i-text, i-number, i-type, i-binary, i-mark, codeOf}
-use Rattle.spec_grammar.specs.Grammar.{is-minus, is-not, is-flip}
-use Rattle.parse_tables.specs.Numbering.{item}
+use Rattle.base_codes.specs.Codes.{c-bit, c-complement, c-end-body, c-int, c-len, c-name, c-negate, c-not, c-number, c-or-else, c-plain, c-receive, c-send, c-text}
+use Rattle.base_codes.specs.Items.{Item, i-name, i-text, i-number, i-type, i-binary, codeOf}
+use Rattle.spec_grammar.specs.Grammar.{is-len, is-bang, is-ask, is-minus, is-not, is-flip}
+use Rattle.parse_tables.specs.Numbering.{mark, item}
 use Rattle.table_entries.specs.Entry.{Entry, entry, runs, nothing}
-use Rattle.table_entries.specs.Items.{entryOf, itemOf, Known, is-name, is-text, is-number, is-mark, AllKnown, is-type, is-unary, is-binary}
+use Rattle.table_entries.specs.Items.{entryOf, itemOf, Known, is-name, is-text, is-number, is-mark, is-operator, Operator, queries, sends, receives, AllKnown, is-type, is-unary, is-binary}
 use Rattle.table_entries.proofs.Runs.{runs-at}
 
 abbrev marked : ℕ → Entry
@@ -42,7 +42,7 @@ type-item k a b =
     let e : 130 + k - 130 ≡ k = omega arith in
     rw (le-ltb (130 + k) c-negate (omega arith), le-ltb (130 + k) c-bit (omega arith), lt-ltb (130 + k) c-plain (omega arith), e)
 
-mark-item : (c : ℕ) → c-plain ≤ c → item c ≡ i-mark c
+mark-item : (c : ℕ) → c-plain ≤ c → item c ≡ mark c
 mark-item c a = rw (le-ltb c c-negate (omega arith), le-ltb c c-bit (omega arith), le-ltb c c-plain (omega arith))
 
 mark-back : (x : ℕ) → c-or-else ≤ x → itemOf (entry x [] 0) ≡ item x
@@ -57,7 +57,16 @@ item-back (is-unary is-minus) = refl
 item-back (is-unary is-not) = refl
 item-back (is-unary is-flip) = refl
 item-back (is-binary {o} a b) = mark-back (146 + o) (omega arith) ∙ binary-item o b
-item-back (is-mark {c} a b) = mark-back c (omega arith) ∙ mark-item c a
+item-back (is-mark {c} a b e) = mark-back c (omega arith) ∙ mark-item c a ∙ e
+item-back (is-operator (queries is-len)) = refl
+item-back (is-operator (sends is-bang)) = refl
+item-back (is-operator (receives is-ask)) = refl
+
+-- ---- the code of an operator's mark
+pub operator-code : {c o : ℕ} → Operator c o → (c-plain ≤ c) × (c ≤ c-end-body)
+operator-code (queries x) = (omega arith, omega arith)
+operator-code (sends x) = (omega arith, omega arith)
+operator-code (receives x) = (omega arith, omega arith)
 
 -- ---- the code of a type
 pub type-code : {k : ℕ} → Known (i-type k) → (c-bit ≤ codeOf (i-type k)) × (codeOf (i-type k) ≤ c-int)
@@ -91,7 +100,10 @@ known-passes p a b c e (is-unary is-minus) = written-passes p e c-negate (omega 
 known-passes p a b c e (is-unary is-not) = written-passes p e c-not (omega arith) (omega arith) refl
 known-passes p a b c e (is-unary is-flip) = written-passes p e c-complement (omega arith) (omega arith) refl
 known-passes p a b c e (is-binary {o} g h) = written-passes p e (146 + o) (omega arith) (omega arith) (binary-item o h)
-known-passes p a b c e (is-mark {c = y} g h) = written-passes p e y (omega arith) (omega arith) (mark-item y g)
+known-passes p a b c e (is-mark {c = y} g h i) = written-passes p e y (omega arith) (omega arith) (mark-item y g ∙ i)
+known-passes p a b c e (is-operator (queries is-len)) = written-passes p e c-len (omega arith) (omega arith) refl
+known-passes p a b c e (is-operator (sends is-bang)) = written-passes p e c-send (omega arith) (omega arith) refl
+known-passes p a b c e (is-operator (receives is-ask)) = written-passes p e c-receive (omega arith) (omega arith) refl
 
 items-back : (l : List Item) → AllKnown l → map itemOf (map entryOf l) ≡ l
 items-back [] k = refl

@@ -1,4 +1,4 @@
--- Mechanism, held to the specification by `tree-tables`, `tables-tree` (crate `read_accepts_proof`).
+-- Mechanism, held to the specification by `tree-tables`, `tables-tree` (crate `read_accepts_proof`), but for `nothing`, of proofs alone.
 -- An entry: what one item of a model says, in numbers, and no place of a text in it.
 -- Its code is the number of its symbol; a name (70) and a string (72, without its quotes) have bytes, a number (71) has a value.
 use Prim.Native.Nat.{ℕ, zero, suc, _+_}

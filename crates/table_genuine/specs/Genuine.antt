@@ -1,4 +1,4 @@
--- Mechanism, held to the specification by `genuine-owned`, `owned-genuine` (crate `normal_proof`).
+-- Mechanism, held to the specification by `demand2` (crate `demands`); to the texts that are accepted, by themselves, by `genuine-owned`, `owned-genuine` (crate `normal_proof`).
 -- Are these the tables of an accepted text? Document 01, row 8: "tables are those of no accepted text"; "they are compared over their written part". It is found out by writing
 -- their normal text, reading that, and comparing; that this answers the question exactly is proved in `normal_proof`.
 use mathlib.Core.Bool.{Bool, false}

@@ -10,8 +10,8 @@ use Rattle.base_codes.specs.Items.{Item}
 use Rattle.parse_code.specs.Code.{code}
 use Rattle.parse_code.proofs.Built.{code-injective}
 use Rattle.table_entries.specs.Entry.{entry}
-use Rattle.table_entries.specs.Items.{entryOf, Known, is-name, is-text, is-number, is-mark, AllKnown, is-type, is-unary, is-binary}
-use Rattle.table_entries.proofs.Items.{entries-injective}
+use Rattle.table_entries.specs.Items.{entryOf, Known, is-name, is-text, is-number, is-mark, AllKnown, is-type, is-unary, is-binary, is-operator}
+use Rattle.table_entries.proofs.Items.{entries-injective, operator-code}
 use Rattle.table_layout.specs.Back.{Fair, AllFair, Small}
 use Rattle.table_layout.specs.Trees.{entriesIn, tablesIn}
 use Rattle.table_layout.proofs.Back.{tables-determine}
@@ -28,7 +28,8 @@ item-fair (is-unary is-minus) = mark-fair c-negate (omega arith) (omega arith)
 item-fair (is-unary is-not) = mark-fair c-not (omega arith) (omega arith)
 item-fair (is-unary is-flip) = mark-fair c-complement (omega arith) (omega arith)
 item-fair (is-binary {o} a b) = mark-fair (146 + o) (omega arith) (omega arith)
-item-fair (is-mark {c} a b) = mark-fair c (omega arith) (omega arith)
+item-fair (is-mark {c} a b e) = mark-fair c (omega arith) (omega arith)
+item-fair (is-operator {c} x) = let p = operator-code x in mark-fair c (omega arith) (omega arith)
 
 pub items-fair : (l : List Item) → AllKnown l → AllFair (map entryOf l)
 items-fair [] k = tt

@@ -1,4 +1,4 @@
--- Mechanism, held to the specification by `tree-tables`, `tables-tree` (crate `read_accepts_proof`).
+-- Mechanism, held to the specification by `demand2` (crate `demands`), but for `lengthOf`, of a contract alone.
 -- What tables say, each by a look at one or a few numbers; tables that end too soon are read as if zeros followed.
 use Prim.Native.Nat.{ℕ, _+_, _*_, _/_, _%_}
 use mathlib.Core.List.{List}

@@ -1,4 +1,4 @@
--- Mechanism, held to the specification by `tree-tables`, `tables-tree` (crate `read_accepts_proof`).
+-- Mechanism, of proofs alone (`tables-tree`, crate `read_accepts_proof`), but for `upto`, held to the specification by `text-normal` (crate `normal_proof`).
 -- Entries as tables can hold them, and all entries read back from tables.
 use Prim.Native.Nat.{ℕ, zero, suc, _+_, _≤_, _<_}
 use mathlib.Core.Path.{_≡_}

@@ -1,4 +1,4 @@
--- Mechanism, held to the specification by `tree-tables`, `tables-tree` (crate `read_accepts_proof`).
+-- Mechanism: worked examples, computed from its definitions; they are held to nothing else.
 -- The tables of a few entries, number by number, and what is read from them.
 use mathlib.Core.Path.{_≡_, refl}
 use mathlib.Core.List.{List, [], _∷_}

@@ -1,4 +1,4 @@
--- Mechanism, held to the specification by `tree-tables`, `tables-tree` (crate `read_accepts_proof`).
+-- Bridge: the tree's side of `text-tables` (crate `read_accepts_proof`), to which the tables of a text are held.
 -- The tables of a tree, with links beside it.
 use Prim.Native.Nat.{ℕ}
 use mathlib.Core.List.{List, map}

@@ -1,4 +1,4 @@
--- Mechanism, held to the specification by `tree-tables`, `tables-tree` (crate `read_accepts_proof`).
+-- Mechanism, of proofs alone: a stepping stone on the way to `tree-tables` (crate `read_accepts_proof`).
 -- When a parser's numbers are right for a list of tokens: a name, number or string stands at a token of its kind.
 use Prim.Native.Nat.{ℕ, _≤_, _<_}
 use mathlib.Core.Path.{_≡_}

@@ -18,10 +18,12 @@ use Rattle.base_values.specs.declared.Answer.the-variants.{Value, Fails}
 use Rattle.base_outcome.specs.declared.Taken.the-variants.{Done, Refuted, Faulted, Idle}
 use Rattle.step_statements.specs.Statements.{Result}
 use Rattle.spec_text.specs.Formats.{digitsBy, escaped, formatted, opened, counted}
-use Rattle.spec_grammar.specs.Tree.{Name, Expr, plain, indexed, num, get, len, unary, binary, choice, into, equal, exactly, exactly-true, exactly-false}
-use Rattle.spec_grammar.specs.Tree.{action, sequence, Tree, express, assign, increment, decrement, send, receive, assert, print, skip, goto, break, timeout, else, run, set-run, select, loop, bare, labelled, end, then, over, option}
+use Rattle.spec_grammar.specs.Marks.{k-len, k-ask, k-bang}
+use Rattle.spec_grammar.specs.Tree.{Name, Expr, plain, indexed, num, get, query, unary, binary, choice, into, equal, exactly, exactly-true, exactly-false}
+use Rattle.spec_grammar.specs.Tree.{action, sequence, Tree, leaf, express, assign, increment, decrement, send, receive, assert, print, skip, goto, break, timeout, else, run, set-run, select, loop, bare, labelled, end, then, over, option}
 use Rattle.spec_machine.specs.Eval.{eval}
 use Rattle.spec_machine.specs.Stage.{Stage, Ways}
+use Rattle.spec_machine.specs.Messages.{findFrom}
 use Rattle.spec_machine.specs.Arguments.{values, agrees, targets}
 use Rattle.spec_machine.specs.Ready.{ready}
 use Rattle.spec_machine.specs.Effect.{deliveries, effect, format, prints}
@@ -30,7 +32,7 @@ use Rattle.spec_machine.specs.Program.{Within, itself, in-if, in-do, unlabelled
 
 -- to unfold this is to unfold all that the examples compute with
 unfoldable moving : Unit {0}
-unfolding same applyOf unaryOf divideOf eval values agrees targets ready deliveries effect offers digitsBy escaped formatted opened counted format
+unfolding same applyOf unaryOf divideOf eval values agrees findFrom targets ready deliveries effect offers digitsBy escaped formatted opened counted format
 moving = tt
 
 -- ## the stage: a state has the place of the process, i, a[0], a[1], c, e, how many messages wait in channel 1, and how many processes there are. m is an mtype name, 7
@@ -77,12 +79,12 @@ stage fits s =
       constant = λ w. same w m;
       capacity = λ v. 2;
       fields = λ v. 2;
-      oldest = λ v f. pick (eqb f 0) (pos 1) (pos 7);
+      message = λ v k f. pick (eqb f 0) (pos 1) (pos 7);
       room = λ w. fits;
       newest = pos (count 7 s);
       store = λ w k v x. set x (slot w + k) v;
-      put = λ v l x. set x 6 (pos (count 6 x + 1));
-      take = λ v x. set x 6 (pos (count 6 x - 1));
+      put = λ v k l x. set x 6 (pos (count 6 x + 1));
+      take = λ v k x. set x 6 (pos (count 6 x - 1));
       begin = λ w l x. set x 7 (pos (count 7 x + 1));
       go = λ n x. set x 0 (pos n);
     }
@@ -156,163 +158,163 @@ index-ends : (worth (get (indexed a (num 0))) ≡ Value (pos 0)) × (worth (get 
 unfolding moving
 index-ends = (refl, refl, refl, refl)
 
-length : (worth (len (plain c)) ≡ Value (pos 1)) × (worth (len (plain e)) ≡ Fails Channel)
+length : (worth (query k-len (plain c)) ≡ Value (pos 1)) × (worth (query k-len (plain e)) ≡ Fails Channel)
 unfolding moving
 length = (refl, refl)
 
 -- ## "an expression when not 0"; "A statement whose test faults counts as executable (H)"; "all others always"
-expression : (can 0 (express (num 0)) ≡ false) × (can 0 (express (num 1)) ≡ true) × (can 0 (express minus-1) ≡ true) × (can 0 (express fault) ≡ true)
+expression : (can 0 (leaf (express (num 0))) ≡ false) × (can 0 (leaf (express (num 1))) ≡ true) × (can 0 (leaf (express minus-1)) ≡ true) × (can 0 (leaf (express fault)) ≡ true)
 unfolding moving
 expression = (refl, refl, refl, refl)
 
-expression-taken : (does 0 (express (num 1)) ≡ (Done, at 9 (with 0))) × (does 0 (express fault) ≡ (Faulted Divide, with 0))
+expression-taken : (does 0 (leaf (express (num 1))) ≡ (Done, at 9 (with 0))) × (does 0 (leaf (express fault)) ≡ (Faulted Divide, with 0))
 unfolding moving
 expression-taken = (refl, refl)
 
-always : (can 0 (assert (num 0)) ≡ true) × (can 0 (assign (plain i) (num 0)) ≡ true) × (can 0 skip ≡ true) × (can 0 (goto L) ≡ true) × (can 0 break ≡ true)
-    × (can 0 (print [] []) ≡ true)
+always : (can 0 (leaf (assert (num 0))) ≡ true) × (can 0 (leaf (assign (plain i) (num 0))) ≡ true) × (can 0 (leaf skip) ≡ true) × (can 0 (leaf (goto L)) ≡ true) × (can 0 (leaf break) ≡ true)
+    × (can 0 (leaf (print [] [])) ≡ true)
 unfolding moving
 always = (refl, refl, refl, refl, refl, refl)
 
 -- ## "a receive when it is not empty and each constant and `eval` equals its field, tried left to right to the first difference"; the oldest message is 1, 7
-receive-waits : (can 0 (receive (plain c) (into (plain i) ∷ into (plain i) ∷ [])) ≡ false) × (can 1 (receive (plain c) (into (plain i) ∷ into (plain i) ∷ [])) ≡ true)
-    × (can 2 (receive (plain c) (into (plain i) ∷ into (plain i) ∷ [])) ≡ true)
+receive-waits : (can 0 (leaf (receive k-ask (plain c) (into (plain i) ∷ into (plain i) ∷ []))) ≡ false) × (can 1 (leaf (receive k-ask (plain c) (into (plain i) ∷ into (plain i) ∷ []))) ≡ true)
+    × (can 2 (leaf (receive k-ask (plain c) (into (plain i) ∷ into (plain i) ∷ []))) ≡ true)
 unfolding moving
 receive-waits = (refl, refl, refl)
 
-constant-agrees : (can 1 (receive (plain c) (exactly 1 ∷ into (plain i) ∷ [])) ≡ true) × (can 1 (receive (plain c) (exactly 2 ∷ into (plain i) ∷ [])) ≡ false)
-    × (can 1 (receive (plain c) (exactly 1 ∷ exactly 7 ∷ [])) ≡ true) × (can 1 (receive (plain c) (exactly 1 ∷ exactly 8 ∷ [])) ≡ false)
-    × (can 1 (receive (plain c) (exactly-true ∷ into (plain i) ∷ [])) ≡ true) × (can 1 (receive (plain c) (exactly-false ∷ into (plain i) ∷ [])) ≡ false)
+constant-agrees : (can 1 (leaf (receive k-ask (plain c) (exactly 1 ∷ into (plain i) ∷ []))) ≡ true) × (can 1 (leaf (receive k-ask (plain c) (exactly 2 ∷ into (plain i) ∷ []))) ≡ false)
+    × (can 1 (leaf (receive k-ask (plain c) (exactly 1 ∷ exactly 7 ∷ []))) ≡ true) × (can 1 (leaf (receive k-ask (plain c) (exactly 1 ∷ exactly 8 ∷ []))) ≡ false)
+    × (can 1 (leaf (receive k-ask (plain c) (exactly-true ∷ into (plain i) ∷ []))) ≡ true) × (can 1 (leaf (receive k-ask (plain c) (exactly-false ∷ into (plain i) ∷ []))) ≡ false)
 unfolding moving
 constant-agrees = (refl, refl, refl, refl, refl, refl)
 
-eval-agrees : (can 1 (receive (plain c) (equal (binary 15 (var i) (num 4)) ∷ into (plain i) ∷ [])) ≡ true)
-    × (can 1 (receive (plain c) (equal (var i) ∷ into (plain i) ∷ [])) ≡ false) × (can 1 (receive (plain c) (into (plain i) ∷ equal (binary 14 (var i) (num 2)) ∷ [])) ≡ true)
+eval-agrees : (can 1 (leaf (receive k-ask (plain c) (equal (binary 15 (var i) (num 4)) ∷ into (plain i) ∷ []))) ≡ true)
+    × (can 1 (leaf (receive k-ask (plain c) (equal (var i) ∷ into (plain i) ∷ []))) ≡ false) × (can 1 (leaf (receive k-ask (plain c) (into (plain i) ∷ equal (binary 14 (var i) (num 2)) ∷ []))) ≡ true)
 unfolding moving
 eval-agrees = (refl, refl, refl)
 
-mtype-name-agrees : (can 1 (receive (plain c) (into (plain i) ∷ into (plain m) ∷ [])) ≡ true) × (can 1 (receive (plain c) (into (plain m) ∷ into (plain i) ∷ [])) ≡ false)
+mtype-name-agrees : (can 1 (leaf (receive k-ask (plain c) (into (plain i) ∷ into (plain m) ∷ []))) ≡ true) × (can 1 (leaf (receive k-ask (plain c) (into (plain m) ∷ into (plain i) ∷ []))) ≡ false)
 unfolding moving
 mtype-name-agrees = (refl, refl)
 
 -- a test at fault is met only where those before it agree
-to-the-first-difference : (can 1 (receive (plain c) (equal fault ∷ into (plain i) ∷ [])) ≡ true) × (can 1 (receive (plain c) (exactly 1 ∷ equal fault ∷ [])) ≡ true)
-    × (can 1 (receive (plain c) (exactly 2 ∷ equal fault ∷ [])) ≡ false) × (can 0 (receive (plain c) (equal fault ∷ into (plain i) ∷ [])) ≡ false)
+to-the-first-difference : (can 1 (leaf (receive k-ask (plain c) (equal fault ∷ into (plain i) ∷ []))) ≡ true) × (can 1 (leaf (receive k-ask (plain c) (exactly 1 ∷ equal fault ∷ []))) ≡ true)
+    × (can 1 (leaf (receive k-ask (plain c) (exactly 2 ∷ equal fault ∷ []))) ≡ false) × (can 0 (leaf (receive k-ask (plain c) (equal fault ∷ into (plain i) ∷ []))) ≡ false)
 unfolding moving
 to-the-first-difference = (refl, refl, refl, refl)
 
 -- the message goes out, what is compared is not stored
-receive-taken : (does 2 (receive (plain c) (exactly 1 ∷ into (plain i) ∷ [])) ≡ (Done, at 9 (state (pos 7) (pos 0) (pos 0) 1)))
-    × (does 1 (receive (plain c) (into (indexed a (num 1)) ∷ into (plain m) ∷ [])) ≡ (Done, at 9 (state (pos 5) (pos 0) (pos 1) 0)))
-    × (does 1 (receive (plain c) (into (plain i) ∷ into (plain i) ∷ [])) ≡ (Done, at 9 (state (pos 7) (pos 0) (pos 0) 0)))
+receive-taken : (does 2 (leaf (receive k-ask (plain c) (exactly 1 ∷ into (plain i) ∷ []))) ≡ (Done, at 9 (state (pos 7) (pos 0) (pos 0) 1)))
+    × (does 1 (leaf (receive k-ask (plain c) (into (indexed a (num 1)) ∷ into (plain m) ∷ []))) ≡ (Done, at 9 (state (pos 5) (pos 0) (pos 1) 0)))
+    × (does 1 (leaf (receive k-ask (plain c) (into (plain i) ∷ into (plain i) ∷ []))) ≡ (Done, at 9 (state (pos 7) (pos 0) (pos 0) 0)))
 unfolding moving
 receive-taken = (refl, refl, refl)
 
 -- "a receive's tests come before its targets", and those are met left to right
-receive-faults : (does 1 (receive (plain c) (into (indexed a (num 2)) ∷ equal fault ∷ [])) ≡ (Faulted Divide, with 1))
-    × (does 1 (receive (plain c) (into (indexed a (num 2)) ∷ into (indexed a fault) ∷ [])) ≡ (Faulted Index, with 1))
-    × (does 1 (receive (plain c) (into (indexed a fault) ∷ into (indexed a (num 2)) ∷ [])) ≡ (Faulted Divide, with 1))
+receive-faults : (does 1 (leaf (receive k-ask (plain c) (into (indexed a (num 2)) ∷ equal fault ∷ []))) ≡ (Faulted Divide, with 1))
+    × (does 1 (leaf (receive k-ask (plain c) (into (indexed a (num 2)) ∷ into (indexed a fault) ∷ []))) ≡ (Faulted Index, with 1))
+    × (does 1 (leaf (receive k-ask (plain c) (into (indexed a fault) ∷ into (indexed a (num 2)) ∷ []))) ≡ (Faulted Divide, with 1))
 unfolding moving
 receive-faults = (refl, refl, refl)
 
 -- ## "a channel's number and field count are tested first", on an empty and on a full channel too
-receive-one-of-two : (can 0 (receive (plain c) (into (plain i) ∷ [])) ≡ true) × (does 0 (receive (plain c) (into (plain i) ∷ [])) ≡ (Faulted Fields, with 0))
-    × (can 0 (receive (plain c) (into (plain i) ∷ into (plain i) ∷ into (plain i) ∷ [])) ≡ true)
+receive-one-of-two : (can 0 (leaf (receive k-ask (plain c) (into (plain i) ∷ []))) ≡ true) × (does 0 (leaf (receive k-ask (plain c) (into (plain i) ∷ []))) ≡ (Faulted Fields, with 0))
+    × (can 0 (leaf (receive k-ask (plain c) (into (plain i) ∷ into (plain i) ∷ into (plain i) ∷ []))) ≡ true)
 unfolding moving
 receive-one-of-two = (refl, refl, refl)
 
-receive-unmade : (can 0 (receive (plain e) (into (plain i) ∷ [])) ≡ true) × (does 0 (receive (plain e) (into (plain i) ∷ [])) ≡ (Faulted Channel, with 0))
+receive-unmade : (can 0 (leaf (receive k-ask (plain e) (into (plain i) ∷ []))) ≡ true) × (does 0 (leaf (receive k-ask (plain e) (into (plain i) ∷ []))) ≡ (Faulted Channel, with 0))
 unfolding moving
 receive-unmade = (refl, refl)
 
-send-unmade : (can 2 (send (plain e) (num 1 ∷ [])) ≡ true) × (does 2 (send (plain e) (fault ∷ [])) ≡ (Faulted Channel, with 2))
+send-unmade : (can 2 (leaf (send k-bang (plain e) (num 1 ∷ []))) ≡ true) × (does 2 (leaf (send k-bang (plain e) (fault ∷ []))) ≡ (Faulted Channel, with 2))
 unfolding moving
 send-unmade = (refl, refl)
 
-send-three-for-two : (can 2 (send (plain c) (num 1 ∷ num 1 ∷ fault ∷ [])) ≡ true) × (does 2 (send (plain c) (num 1 ∷ num 1 ∷ fault ∷ [])) ≡ (Faulted Fields, with 2))
+send-three-for-two : (can 2 (leaf (send k-bang (plain c) (num 1 ∷ num 1 ∷ fault ∷ []))) ≡ true) × (does 2 (leaf (send k-bang (plain c) (num 1 ∷ num 1 ∷ fault ∷ []))) ≡ (Faulted Fields, with 2))
 unfolding moving
 send-three-for-two = (refl, refl)
 
-operand-index-first : (can 2 (send (indexed a (num 2)) (num 1 ∷ [])) ≡ true) × (does 2 (send (indexed a (num 2)) (num 1 ∷ [])) ≡ (Faulted Index, with 2))
+operand-index-first : (can 2 (leaf (send k-bang (indexed a (num 2)) (num 1 ∷ []))) ≡ true) × (does 2 (leaf (send k-bang (indexed a (num 2)) (num 1 ∷ []))) ≡ (Faulted Index, with 2))
 unfolding moving
 operand-index-first = (refl, refl)
 
 -- ## "a send when the channel is not full"; "Arguments of a send or `run` are worked out only when there is room for it"
-send-room : (can 1 (send (plain c) (num 1 ∷ num 2 ∷ [])) ≡ true) × (can 2 (send (plain c) (num 1 ∷ num 2 ∷ [])) ≡ false) × (can 1 (send (plain c) (num 1 ∷ fault ∷ [])) ≡ true)
-    × (can 2 (send (plain c) (num 1 ∷ fault ∷ [])) ≡ false)
+send-room : (can 1 (leaf (send k-bang (plain c) (num 1 ∷ num 2 ∷ []))) ≡ true) × (can 2 (leaf (send k-bang (plain c) (num 1 ∷ num 2 ∷ []))) ≡ false) × (can 1 (leaf (send k-bang (plain c) (num 1 ∷ fault ∷ []))) ≡ true)
+    × (can 2 (leaf (send k-bang (plain c) (num 1 ∷ fault ∷ []))) ≡ false)
 unfolding moving
 send-room = (refl, refl, refl, refl)
 
-send-taken : (does 1 (send (plain c) (num 1 ∷ num 2 ∷ [])) ≡ (Done, at 9 (with 2))) × (does 1 (send (plain c) (num 1 ∷ fault ∷ [])) ≡ (Faulted Divide, with 1))
-    × (does 1 (send (plain c) (get (indexed a (num 2)) ∷ fault ∷ [])) ≡ (Faulted Index, with 1))
+send-taken : (does 1 (leaf (send k-bang (plain c) (num 1 ∷ num 2 ∷ []))) ≡ (Done, at 9 (with 2))) × (does 1 (leaf (send k-bang (plain c) (num 1 ∷ fault ∷ []))) ≡ (Faulted Divide, with 1))
+    × (does 1 (leaf (send k-bang (plain c) (get (indexed a (num 2)) ∷ fault ∷ []))) ≡ (Faulted Index, with 1))
 unfolding moving
 send-taken = (refl, refl, refl)
 
 -- ## "`run` when a process and its channels still fit"; "`v = run` stores 0 where nothing fits", and works no argument out there
-run-room : (can 0 (run p []) ≡ true) × (crowded (run p []) ≡ false) × (crowded (run p (fault ∷ [])) ≡ false) × (crowded (set-run (plain i) p []) ≡ true)
+run-room : (can 0 (leaf (run p [])) ≡ true) × (crowded (leaf (run p [])) ≡ false) × (crowded (leaf (run p (fault ∷ []))) ≡ false) × (crowded (leaf (set-run (plain i) p [])) ≡ true)
 unfolding moving
 run-room = (refl, refl, refl, refl)
 
-run-taken : (does 0 (run p []) ≡ (Done, set (at 9 (with 0)) 7 (pos 4))) × (does 0 (run p (fault ∷ [])) ≡ (Faulted Divide, with 0)) × (crowdedly (run p []) ≡ (Idle, with 0))
+run-taken : (does 0 (leaf (run p [])) ≡ (Done, set (at 9 (with 0)) 7 (pos 4))) × (does 0 (leaf (run p (fault ∷ []))) ≡ (Faulted Divide, with 0)) × (crowdedly (leaf (run p [])) ≡ (Idle, with 0))
 unfolding moving
 run-taken = (refl, refl, refl)
 
-set-run-taken : (does 0 (set-run (plain i) p []) ≡ (Done, set (at 9 (state (pos 3) (pos 0) (pos 0) 0)) 7 (pos 4)))
-    × (does 0 (set-run (plain i) p (fault ∷ [])) ≡ (Faulted Divide, with 0))
+set-run-taken : (does 0 (leaf (set-run (plain i) p [])) ≡ (Done, set (at 9 (state (pos 3) (pos 0) (pos 0) 0)) 7 (pos 4)))
+    × (does 0 (leaf (set-run (plain i) p (fault ∷ []))) ≡ (Faulted Divide, with 0))
 unfolding moving
 set-run-taken = (refl, refl)
 
-set-run-without-room : (crowdedly (set-run (plain i) p []) ≡ (Done, at 9 (state (pos 0) (pos 0) (pos 0) 0)))
-    × (crowdedly (set-run (plain i) p (fault ∷ [])) ≡ (Done, at 9 (state (pos 0) (pos 0) (pos 0) 0)))
+set-run-without-room : (crowdedly (leaf (set-run (plain i) p [])) ≡ (Done, at 9 (state (pos 0) (pos 0) (pos 0) 0)))
+    × (crowdedly (leaf (set-run (plain i) p (fault ∷ []))) ≡ (Done, at 9 (state (pos 0) (pos 0) (pos 0) 0)))
 unfolding moving
 set-run-without-room = (refl, refl)
 
 -- the target's index comes before the room
-set-run-index : (does 0 (set-run (indexed a (num 2)) p (fault ∷ [])) ≡ (Faulted Index, with 0)) × (crowdedly (set-run (indexed a (num 2)) p []) ≡ (Faulted Index, with 0))
+set-run-index : (does 0 (leaf (set-run (indexed a (num 2)) p (fault ∷ []))) ≡ (Faulted Index, with 0)) × (crowdedly (leaf (set-run (indexed a (num 2)) p [])) ≡ (Faulted Index, with 0))
 unfolding moving
 set-run-index = (refl, refl)
 
 -- ## "A failed assertion or fault changes no state and prints nothing"
-assertions : (does 0 (assert minus-1) ≡ (Done, at 9 (with 0))) × (does 0 (assert (num 0)) ≡ (Refuted, with 0)) × (does 0 (assert fault) ≡ (Faulted Divide, with 0))
+assertions : (does 0 (leaf (assert minus-1)) ≡ (Done, at 9 (with 0))) × (does 0 (leaf (assert (num 0))) ≡ (Refuted, with 0)) × (does 0 (leaf (assert fault)) ≡ (Faulted Divide, with 0))
 unfolding moving
 assertions = (refl, refl, refl)
 
-stores : (does 0 (assign (indexed a (num 0)) (num 4)) ≡ (Done, at 9 (state (pos 5) (pos 4) (pos 0) 0)))
-    × (does 0 (assign (indexed a (num 1)) (num 4)) ≡ (Done, at 9 (state (pos 5) (pos 0) (pos 4) 0))) × (does 0 (assign (indexed a (num 2)) (num 4)) ≡ (Faulted Index, with 0))
-    × (does 0 (assign (indexed a minus-1) (num 4)) ≡ (Faulted Index, with 0))
+stores : (does 0 (leaf (assign (indexed a (num 0)) (num 4))) ≡ (Done, at 9 (state (pos 5) (pos 4) (pos 0) 0)))
+    × (does 0 (leaf (assign (indexed a (num 1)) (num 4))) ≡ (Done, at 9 (state (pos 5) (pos 0) (pos 4) 0))) × (does 0 (leaf (assign (indexed a (num 2)) (num 4))) ≡ (Faulted Index, with 0))
+    × (does 0 (leaf (assign (indexed a minus-1) (num 4))) ≡ (Faulted Index, with 0))
 unfolding moving
 stores = (refl, refl, refl, refl)
 
 -- the target's index is ranged before the right side
-target-first : (does 0 (assign (indexed a (num 2)) fault) ≡ (Faulted Index, with 0)) × (does 0 (assign (indexed a fault) (get (indexed a (num 2)))) ≡ (Faulted Divide, with 0))
-    × (does 0 (assign (indexed a (num 1)) fault) ≡ (Faulted Divide, with 0))
+target-first : (does 0 (leaf (assign (indexed a (num 2)) fault)) ≡ (Faulted Index, with 0)) × (does 0 (leaf (assign (indexed a fault) (get (indexed a (num 2))))) ≡ (Faulted Divide, with 0))
+    × (does 0 (leaf (assign (indexed a (num 1)) fault)) ≡ (Faulted Divide, with 0))
 unfolding moving
 target-first = (refl, refl, refl)
 
-steps-by-one : (does 0 (increment (plain i)) ≡ (Done, at 9 (state (pos 6) (pos 0) (pos 0) 0)))
-    × (does 0 (decrement (indexed a (num 1))) ≡ (Done, at 9 (state (pos 5) (pos 0) (negsuc 0) 0))) × (does 0 (increment (indexed a (num 2))) ≡ (Faulted Index, with 0))
+steps-by-one : (does 0 (leaf (increment (plain i))) ≡ (Done, at 9 (state (pos 6) (pos 0) (pos 0) 0)))
+    × (does 0 (leaf (decrement (indexed a (num 1)))) ≡ (Done, at 9 (state (pos 5) (pos 0) (negsuc 0) 0))) × (does 0 (leaf (increment (indexed a (num 2)))) ≡ (Faulted Index, with 0))
 unfolding moving
 steps-by-one = (refl, refl, refl)
 
 -- "keep the low 32 bits": the most number and one more
 increment-wraps :
-    effect (stage true (state (pos 2147483647) (pos 0) (pos 0) 0)) ways (state (pos 2147483647) (pos 0) (pos 0) 0) (increment (plain i))
+    effect (stage true (state (pos 2147483647) (pos 0) (pos 0) 0)) ways (state (pos 2147483647) (pos 0) (pos 0) 0) (leaf (increment (plain i)))
     ≡ (Done, at 9 (state (negℤ (pos 2147483648)) (pos 0) (pos 0) 0))
 unfolding moving
 increment-wraps = refl
 
-prints-text : (prints (stage true (with 0)) (print (bytes "%d%%\\n") (minus-1 ∷ [])) ≡ bytes "-1%\n")
-    × (prints (stage true (with 0)) (print (bytes "%d%d") (num 1 ∷ fault ∷ [])) ≡ []) × (does 0 (print (bytes "%d") (fault ∷ [])) ≡ (Faulted Divide, with 0))
+prints-text : (prints (stage true (with 0)) (leaf (print (bytes "%d%%\\n") (minus-1 ∷ []))) ≡ bytes "-1%\n")
+    × (prints (stage true (with 0)) (leaf (print (bytes "%d%d") (num 1 ∷ fault ∷ []))) ≡ []) × (does 0 (leaf (print (bytes "%d") (fault ∷ []))) ≡ (Faulted Divide, with 0))
 unfolding moving
 prints-text = (refl, refl, refl)
 
 -- ## "`goto` and `break` are steps of their own (H)"; `timeout` where nothing else is executable
-leads : (does 0 skip ≡ (Done, at 9 (with 0))) × (does 0 (goto L) ≡ (Done, at 7 (with 0))) × (does 0 break ≡ (Done, at 8 (with 0))) × (does 0 timeout ≡ (Done, at 9 (with 0)))
-    × (does 0 else ≡ (Done, at 9 (with 0)))
+leads : (does 0 (leaf skip) ≡ (Done, at 9 (with 0))) × (does 0 (leaf (goto L)) ≡ (Done, at 7 (with 0))) × (does 0 (leaf break) ≡ (Done, at 8 (with 0))) × (does 0 (leaf timeout) ≡ (Done, at 9 (with 0)))
+    × (does 0 (leaf else) ≡ (Done, at 9 (with 0)))
 unfolding moving
 leads = (refl, refl, refl, refl, refl)
 
-timeout-early-and-late : (can 0 timeout ≡ false) × (ready (stage true (with 0)) true timeout ≡ true)
+timeout-early-and-late : (can 0 (leaf timeout) ≡ false) × (ready (stage true (with 0)) true (leaf timeout) ≡ true)
 unfolding moving
 timeout-early-and-late = (refl, refl)
 
@@ -322,16 +324,16 @@ one s = then (bare s) end
 
 -- `0` and `1`
 abbrev no : Tree sequence
-no = one (express (num 0))
+no = one (leaf (express (num 0)))
 
 abbrev yes : Tree sequence
-yes = one (express (num 1))
+yes = one (leaf (express (num 1)))
 
 abbrev offered : Tree action → List ℕ
 offered s = offers (λ x j. ready (stage true (with 0)) false x) s 10
 
 options-in-text-order : (offered (select (option yes (option no (option yes over)))) ≡ 12 ∷ 20 ∷ []) × (offered (loop (option no (option no over))) ≡ [])
-    × (offered (loop (option no (option (one else) over))) ≡ 16 ∷ [])
+    × (offered (loop (option no (option (one (leaf else)) over))) ≡ 16 ∷ [])
 unfolding moving
 options-in-text-order = (refl, refl, refl)
 
@@ -341,26 +343,26 @@ unfolding moving
 nested-flat = refl
 
 -- the inner `else` is judged in the inner selection and makes the outer option executable
-inner-else : (offered (select (option (one (select (option no (option (one else) over)))) (option (one else) over))) ≡ 18 ∷ [])
-    × (offered (select (option (one (select (option no (option (one else) over)))) (option yes over))) ≡ 18 ∷ 23 ∷ [])
+inner-else : (offered (select (option (one (select (option no (option (one (leaf else)) over)))) (option (one (leaf else)) over))) ≡ 18 ∷ [])
+    × (offered (select (option (one (select (option no (option (one (leaf else)) over)))) (option yes over))) ≡ 18 ∷ 23 ∷ [])
 unfolding moving
 inner-else = (refl, refl)
 
-outer-else : (offered (select (option (one (select (option no over))) (option (one else) over))) ≡ 20 ∷ [])
-    × (offered (select (option (one (select (option yes over))) (option (one else) over))) ≡ 14 ∷ [])
+outer-else : (offered (select (option (one (select (option no over))) (option (one (leaf else)) over))) ≡ 20 ∷ [])
+    × (offered (select (option (one (select (option yes over))) (option (one (leaf else)) over))) ≡ 14 ∷ [])
 unfolding moving
 outer-else = (refl, refl)
 
 -- "`else` and all the rest are judged with `timeout` not executable"; only the first statement of an option counts; its place is behind its label
-else-beside-timeout : (offered (select (option (one timeout) (option (one else) over))) ≡ 15 ∷ []) × (offered (select (option (one timeout) over)) ≡ [])
+else-beside-timeout : (offered (select (option (one (leaf timeout)) (option (one (leaf else)) over))) ≡ 15 ∷ []) × (offered (select (option (one (leaf timeout)) over)) ≡ [])
 unfolding moving
 else-beside-timeout = (refl, refl)
 
-first-statement-alone : offered (select (option (then (bare (express (num 0))) yes) (option (then (bare (express (num 1))) no) over))) ≡ 18 ∷ []
+first-statement-alone : offered (select (option (then (bare (leaf (express (num 0)))) yes) (option (then (bare (leaf (express (num 1)))) no) over))) ≡ 18 ∷ []
 unfolding moving
 first-statement-alone = refl
 
-behind-a-label : offered (select (option (then (labelled L skip) end) over)) ≡ 14 ∷ []
+behind-a-label : offered (select (option (then (labelled L (leaf skip)) end) over)) ≡ 14 ∷ []
 unfolding moving
 behind-a-label = refl
 
@@ -368,20 +370,20 @@ behind-a-label = refl
 --   2 do 3 option 4 number 5 express 6 break 7 end-option 8 option 9 else 10 end-option 11 od 12 name 13 label 14 if 15 option 16 skip 17 end-option 18 fi 19 end-body
 abbrev program : Tree sequence
 program =
-    then (bare (loop (option (then (bare (express (num 1))) (one break)) (option (one else) over))))
-    (then (labelled L (select (option (one skip) over))) end)
+    then (bare (loop (option (then (bare (leaf (express (num 1)))) (one (leaf break))) (option (one (leaf else)) over))))
+    (then (labelled L (select (option (one (leaf skip)) over))) end)
 
 -- the expression leads to `break`, that behind `od`, behind the label; `else` back to `do`; `skip` past `fi`, where the body ends
-to-break : Within sequence program 2 19 0 (express (num 1)) 4 6 14
+to-break : Within sequence program 2 19 0 (leaf (express (num 1))) 4 6 14
 to-break = in-first (unlabelled (in-do (in-option (in-first (unlabelled itself)))))
 
-past-od : Within sequence program 2 19 0 break 6 2 14
+past-od : Within sequence program 2 19 0 (leaf break) 6 2 14
 past-od = in-first (unlabelled (in-do (in-option (in-rest (in-first (unlabelled itself))))))
 
-back-to-do : Within sequence program 2 19 0 else 9 2 14
+back-to-do : Within sequence program 2 19 0 (leaf else) 9 2 14
 back-to-do = in-first (unlabelled (in-do (in-others (in-option (in-first (unlabelled itself))))))
 
-past-fi : Within sequence program 2 19 0 skip 16 19 0
+past-fi : Within sequence program 2 19 0 (leaf skip) 16 19 0
 past-fi = in-rest (in-first (behind-label (in-if (in-option (in-first (unlabelled itself))))))
 
 label-place : (labelIn L program 2 0 ≡ 14) × (labelIn p program 2 0 ≡ 0)

@@ -5,7 +5,7 @@ use Prim.Native.Nat.{ℕ}
 use mathlib.Core.Option.{none, some}
 use mathlib.Core.List.{List, [], _∷_}
 use lib.ListN.{getD, replicate}
-use lib.IntN.{ℤ, pos, negsuc}
+use lib.IntN.{pos, negsuc}
 use Rattle.base_kinds.specs.Kinds.{bytes}
 use Rattle.read_passes.specs.Judging.{tablesText}
 use Rattle.state_start.specs.Starting.{channelMade, initialOf}
@@ -16,16 +16,17 @@ use Rattle.step_statements.specs.Statements.{sent}
 use Rattle.step_take.specs.Effects.{parameterSet, called, setRunAt, setRan, takenOf}
 use Rattle.step_ready.specs.Executing.{channelsFrom, fitsOf}
 use Rattle.base_values.specs.Operators.{unaryOf}
-use Rattle.spec_grammar.specs.Tree.{num, get, unary, plain, send, set-run, bare, end, then, unset, set-number, set-channel, variable, declare, group, body, idle, mtypes, global, process, init, Model}
-use Rattle.step_messages.specs.Messages.{gatherEnd, gatherList, appended, removed}
+use Rattle.spec_grammar.specs.Marks.{k-bang}
+use Rattle.spec_grammar.specs.Tree.{num, get, unary, plain, leaf, send, set-run, bare, end, then, unset, set-number, set-channel, variable, declare, group, body, idle, mtypes, global, process, init, Model}
+use Rattle.step_messages.specs.Messages.{gatherEnd, gatherList, putIn, takenOut}
 use Rattle.step_ready.specs.Channels.{fieldsOf, argumentsFrom}
 use Rattle.test_samples.proofs.Opened.{reads, moves}
-use Rattle.spec_machine.specs.State.{Channel, Process, State, noProcess}
-use Rattle.spec_machine.specs.Machine.{Machine}
+use Rattle.spec_machine.specs.State.{State, noProcess}
+use Rattle.spec_machine.specs.Machine.{advance}
 use Rattle.spec_machine.specs.Steps.{machineOf}
 use Rattle.spec_machine.specs.Begins.{initial}
 use Rattle.state_encode.specs.Encode.{pad, rows, variableAt, declaredAt, encode}
-use Rattle.spec_machine.specs.Examples.{machine, zero, two, state}
+use Rattle.spec_machine.specs.Examples.{machine, zero, two, state, offer}
 
 zero-numbers : initialOf (tablesText (bytes "init{0}")) (replicate 2048 (pos 0)) ≡ encode zero (initial zero)
 unfolding reads moves machine pad rows variableAt declaredAt encode
@@ -40,7 +41,7 @@ two-numbers = refl
 two-sends :
     takenOf (tablesText (bytes "chan c=[1]of{byte};active proctype A(){c!300}active proctype B(){int x;c?x}")) 0 11 (encode two (initial two))
     ≡ (Done, encode two (state 17 25 (pos 0) ((pos 44 ∷ []) ∷ [])))
-unfolding reads moves machine pad rows variableAt declaredAt encode gatherEnd gatherList appended removed fieldsOf argumentsFrom sent
+unfolding reads moves machine pad rows variableAt declaredAt encode gatherEnd gatherList putIn takenOut fieldsOf argumentsFrom sent
 two-sends = refl
 
 -- ## mtype names, an array, parameters, a local channel, `_pid`'s type, and `v = run`
@@ -53,8 +54,8 @@ more =
     global (declare 40 (variable (bytes "g") (some 2) (set-number 7) ∷ [])) ∷
     process idle (bytes "P") (group 43 (bytes "k" ∷ []) ∷ group 45 (bytes "v" ∷ []) ∷ [])
     (body (declare 43 (variable (bytes "l") none (set-channel 2 (41 ∷ 45 ∷ [])) ∷ []) ∷ [])
-    (then (bare (send (plain (bytes "l")) (get (plain (bytes "B")) ∷ get (plain (bytes "v")) ∷ []))) end)) ∷
-    init (body (declare 42 (variable (bytes "q") none unset ∷ []) ∷ []) (then (bare (set-run (plain (bytes "q")) (bytes "P") (num 3 ∷ unary 15 (num 5) ∷ []))) end)) ∷ []
+    (then (bare (leaf (send k-bang (plain (bytes "l")) (get (plain (bytes "B")) ∷ get (plain (bytes "v")) ∷ [])))) end)) ∷
+    init (body (declare 42 (variable (bytes "q") none unset ∷ []) ∷ []) (then (bare (leaf (set-run (plain (bytes "q")) (bytes "P") (num 3 ∷ unary 15 (num 5) ∷ [])))) end)) ∷ []
 
 abbrev place : ℕ
 place = getD (initial more .processes) 0 noProcess .place
@@ -65,7 +66,7 @@ more-numbers = refl
 
 -- the process that is run: its parameters 3 and -5, its channel 1, and q is 1
 abbrev begun : State
-begun = machineOf more .take (initial more) 0 place .1
+begun = advance (machineOf more) (initial more) (offer 0 1 place) .1
 
 more-begun : (begun .processes ≡ record { unit = 3; place = 62; variables = (pos 1 ∷ []) ∷ [] } ∷ record { unit = 2; place = 34; variables = (pos 3 ∷ []) ∷ (negsuc 4 ∷ []) ∷ (pos 1 ∷ []) ∷ [] } ∷ [])
     × (begun .globals ≡ (pos 7 ∷ pos 7 ∷ []) ∷ []) × (begun .channels ≡ record { unit = 2; variable = 2; held = [] } ∷ [])

@@ -15,10 +15,10 @@ use Rattle.read_passes.specs.Judging.{tablesText}
 use Rattle.rule_item.specs.Rules.{globalOf, badRun, bodyOf, badPassing, badCount, badEnd}
 use Rattle.link_places.specs.Places.{shallower, openOf, pastOption, pastLoop}
 use Rattle.state_start.specs.Starting.{channelMade}
-use Rattle.step_ready.specs.Channels.{fieldsOf, argumentsFrom, comparedAt, agreesOf, matchesFrom}
+use Rattle.step_ready.specs.Channels.{fieldsOf, argumentsFrom, comparedAt, agreesOf, matchesFrom, foundFrom}
 use Rattle.step_ready.specs.Executing.{isAlways, channelsFrom, fitsOf}
 use Rattle.step_offers.specs.Offers.{firstOf, eachOption, pickAt}
-use Rattle.step_messages.specs.Messages.{gatherEnd, gatherList, aimEnd, aimList, appended, removed, delivered}
+use Rattle.step_messages.specs.Messages.{gatherEnd, gatherList, aimEnd, aimList, putIn, takenOut, delivered}
 use Rattle.step_statements.specs.Statements.{expressed, asserted, sent, receivedFrom, received}
 use Rattle.step_take.specs.Effects.{parameterSet, called, ran}
 use Rattle.trail_form.specs.Forms.{form, spoiled, formFrom, formOf}
@@ -52,7 +52,7 @@ replaying = tt
 unfoldable meeting : Unit {0}
 unfolding
     globalOf badRun bodyOf badPassing badCount badEnd
-    channelMade fieldsOf argumentsFrom comparedAt agreesOf matchesFrom channelsFrom fitsOf gatherEnd gatherList aimEnd aimList appended removed delivered
+    channelMade fieldsOf argumentsFrom comparedAt agreesOf matchesFrom foundFrom channelsFrom fitsOf gatherEnd gatherList aimEnd aimList putIn takenOut delivered
     sent receivedFrom received parameterSet called ran
 meeting = tt
 

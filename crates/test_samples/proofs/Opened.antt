@@ -86,7 +86,7 @@ unfolding
     startingStarting.startsOf startingStarting.unitStarted startingStarting.scanned startingStarting.initialOf startingValues.valueAt startingValues.valueOf
     executing.isOwnMark executing.isAlways executing.markOf executing.readyBy
     offering.firstOf offering.eachOption offering.offersFrom
-    machine.anyFrom machine.late machine.listFrom machine.offered machine.asked machine.endedFrom machine.verdict
+    machine.anyFrom machine.late machine.listFrom machine.offered machine.asked machine.advance machine.endedFrom machine.verdict
     offering.pickAt printing.puts printing.printedAt
     statements.assigned
     effects.targeted effects.takenAs

@@ -12,9 +12,9 @@ pub fn put(s: &[u8]) {
 }
 
 fn how_many(tables: &[u32], state: &[i32]) -> u32 {
-    match step_entry::offered(tables, state, 65535) {
+    match step_entry::offered(tables, state, 4294967295) {
         Listed::Only(n) => n,
-        Listed::Step(_, _, _) => 0,
+        Listed::Step(_) => 0,
         Listed::Refused(_) => 0,
     }
 }
@@ -47,13 +47,13 @@ pub fn show_step(r: Stepped, printed: &[u8]) -> bool {
 }
 
 // Takes the n-th offered step; does the walk go on?
-fn move_on(tables: &[u32], state: &mut [i32], n: u16) -> bool {
+fn move_on(tables: &[u32], state: &mut [i32], n: u32) -> bool {
     match step_entry::offered(tables, state, n) {
-        Listed::Step(p, k, _) => {
-            test_cases::number(b' ', p as usize);
-            test_cases::number(b'.', k as usize);
+        Listed::Step(x) => {
+            test_cases::number(b' ', x.process as usize);
+            test_cases::number(b'.', x.number as usize);
             let mut printed = [0u8; 128];
-            let r = step_entry::step(tables, state, p as u32, k, &mut printed);
+            let r = step_entry::step(tables, state, x.process as u32, x.number, &mut printed);
             show_step(r, &printed)
         }
         Listed::Only(_) => false,
@@ -62,11 +62,11 @@ fn move_on(tables: &[u32], state: &mut [i32], n: u16) -> bool {
 }
 
 // Which of n offered steps is taken at move i: now an early one, now a late one.
-fn choice(i: usize, n: u32) -> u16 {
+fn choice(i: usize, n: u32) -> u32 {
     if n == 0 {
         return 0;
     }
-    base_bytes::least(i % 7 * 5 % n as usize, 65535) as u16
+    (i % 7 * 5) as u32 % n
 }
 
 pub fn walk(tables: &[u32], state: &mut [i32]) {

@@ -1,4 +1,4 @@
--- Mechanism, held to the specification by `text-normal` (crate `normal_proof`).
+-- Mechanism, of contracts and proofs alone: no theorem holds it to the specification; proofs/After.antt holds it to `write` of `text_spacing_proof`.
 -- Tokens written one after the other, where all that is known of what stands before is a kind: document 01, "Normal text": "one space exactly where two tokens
 -- side by side would read otherwise". That this is `write` of `text_spacing_proof` is proved in proofs/After.antt.
 use mathlib.Core.Bool.{Bool}

@@ -1,4 +1,4 @@
--- Mechanism, held to the specification by `text-normal` (crate `normal_proof`).
+-- Mechanism, of contracts alone: no theorem holds it to the specification; proofs/Sheet.antt holds it to the fixed spellings. `padded` alone is held, by `text-normal` (crate `normal_proof`).
 -- Rows of numbers laid one after the other, each of the same width, and the fixed spellings so laid: document 01, "Marks" and "Keywords".
 use mathlib.Core.List.{List, [], _∷_, _++_, map}
 use Prim.Native.Nat.{ℕ, zero, suc, _-_}

@@ -1,4 +1,4 @@
--- Mechanism, held to the specification by `front-sound` (crate `text_spacing_proof`).
+-- Mechanism: worked examples, computed from its definitions; they are held to nothing else.
 -- Pieces of small texts, each side of every boundary that fits a line.
 use mathlib.Core.Path.{_≡_, refl}
 use mathlib.Core.List.{List, [], _∷_, _++_}

@@ -1,4 +1,4 @@
--- Mechanism, held to the specification by `front-sound` (crate `text_spacing_proof`).
+-- Mechanism, held by `reading-exact` (crate `text_spacing_proof`) and `front-sound` to what document 01 says of bytes (specs/ of that crate), as far as tokens go; what is refused, and by which number, is said here alone.
 -- One piece at the front of a text: a blank or a comment to skip, a token to take, or a refusal.
 -- Document 01, "The edition we read", Bytes and Keywords; "Ceilings"; rows 1 and 2 of "What is answered".
 use mathlib.Core.Bool.{Bool}

@@ -1,4 +1,4 @@
--- Mechanism, held to the specification by `front-sound` (crate `text_spacing_proof`).
+-- Mechanism, held by `reading-exact` (crate `text_spacing_proof`) and `front-sound` to what document 01 says of bytes (specs/ of that crate).
 -- Looking a spelling up in the tables of marks and keywords: document 01, "Keywords .. Each is compared byte for byte with the fixed spelling".
 use mathlib.Core.List.{List, [], _∷_}
 use Prim.Native.Nat.{ℕ, _+_}

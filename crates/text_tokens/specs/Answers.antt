@@ -1,4 +1,4 @@
--- Mechanism, held to the specification by `reading-exact` (crate `text_spacing_proof`).
+-- Mechanism, of contracts alone: no theorem holds it to the specification; `reading`, which it cites, is held by `reading-exact` (crate `text_spacing_proof`).
 -- What the entry answers, and what stays behind: document 01, "What is answered, and what stays behind".
 use mathlib.Core.Path.{_≡_}
 use mathlib.Core.Bool.{Bool}

@@ -1,4 +1,4 @@
--- Mechanism, held to the specification by `reading-exact` (crate `text_spacing_proof`).
+-- Mechanism: worked examples, computed from its definitions; they are held to nothing else.
 -- Readings of small texts, the sample sheet's P9 among them.
 use mathlib.Core.Path.{_≡_, refl}
 use mathlib.Core.List.{List, [], _∷_, _++_}

@@ -1,4 +1,4 @@
--- Mechanism, held to the specification by `reading-exact` (crate `text_spacing_proof`).
+-- Mechanism, of contracts alone: no theorem holds it to the specification; a line and a column are what is said here.
 -- A place of a text as a clerk counts it: lines end at LF, and lines and columns count from 1 (document 01, "Bytes count from 0, lines from 1").
 use mathlib.Core.List.{List, [], _∷_}
 use Prim.Native.Nat.{ℕ, _+_}

@@ -1,4 +1,4 @@
--- Mechanism, held to the specification by `reading-exact` (crate `text_spacing_proof`).
+-- Mechanism, held by `reading-exact` (crate `text_spacing_proof`) to what document 01 says of bytes (specs/ of that crate), as far as tokens go; what is refused, and by which number, is said here alone.
 -- The tokens of a whole text, or its refusal: document 01, "The edition we read", Bytes; "Ceilings"; rows 1 and 2 of "What is answered".
 -- The text is read from its front, piece by piece, so that the first refusal met is the one of the smallest place.
 use mathlib.Core.List.{List, [], _∷_}

@@ -1,4 +1,4 @@
--- Mechanism, held to the specification by `reading-exact` (crate `text_spacing_proof`).
+-- Mechanism, of contracts alone: no theorem holds it to the specification; what the arrays of the code hold.
 -- What the pass over the text leaves in the arrays that it works in.
 use mathlib.Core.Path.{_≡_}
 use mathlib.Core.List.{List, [], map}

@@ -1,4 +1,4 @@
--- Mechanism, held to the specification by `demand2` (crate `demands`).
+-- Mechanism: worked examples, computed from its definitions; they are held to nothing else.
 -- Forms of small trails: the scope's own, and each way to spoil it.
 use mathlib.Core.Path.{_≡_, refl}
 use mathlib.Core.List.{List, [], _∷_}

@@ -1,4 +1,4 @@
--- Mechanism, held to the specification by `demand2` (crate `demands`).
+-- Mechanism, held to the specification by `form-exact` (crate `trail_form`), `demand2` (crate `demands`), but for `answerOf`, of contracts alone.
 -- The form of a whole trail: document 01, "Trail lines", "Ceilings" ("Trail 32,768 bytes and 2,048 steps") and the order of replay's refusals
 -- ("length, .. form (10, or 2 at the first well-formed step record past 2,048, the smaller line first)").
 use mathlib.Core.Bool.{Bool}

@@ -14,7 +14,7 @@ use Rattle.base_bytes.specs.Choice.{pick}
 use Rattle.base_outcome.specs.declared.Taken.{Taken}
 use Rattle.base_outcome.specs.declared.Taken.the-variants.{Done, Refuted, Faulted, Idle}
 use Rattle.spec_machine.specs.Effect.{Outcome}
-use Rattle.spec_machine.specs.Machine.{Machine, finished, blocked, «open»}
+use Rattle.spec_machine.specs.Machine.{Machine, finished, blocked, «open», advance}
 use Rattle.spec_trails.specs.Replays.{assertion, fault, standing, claimed, claimBy, accepted, refused, recorded, replayFrom}
 use Rattle.spec_trails.specs.Texts.{TextOf}
 use Rattle.spec_trails.specs.Trails.{Recorded, trailOf, Small, one-more}
@@ -28,12 +28,11 @@ use Rattle.trail_form.specs.declared.Formed.{Formed}
 use Rattle.trail_form.specs.declared.Formed.the-variants.{Well, Spoiled}
 use Rattle.trail_form.proofs.Exact.{verdict-claimed, form-exact}
 use Rattle.trail_form.proofs.Written.{First, first-line}
-use Rattle.step_all.specs.Moving.{machineIn, stepAs, verdictAs}
+use Rattle.step_all.specs.Moving.{machineIn, stepIn, verdictAs}
 use Rattle.step_all.specs.declared.Verdict.{Verdict}
-use Rattle.step_offers.specs.declared.Walk.{Walk}
-use Rattle.step_offers.specs.declared.Walk.the-variants.{Found, Left}
-use Rattle.step_take.specs.Effects.{takenOf}
-use Rattle.step_take.proofs.Still.{Still, taken-still}
+use Rattle.step_all.specs.declared.Offer.{Offer}
+use Rattle.step_take.proofs.Still.{Still}
+use Rattle.step_all.proofs.Laws.{advance-still}
 use Rattle.step_entry.specs.Entries.{foreignOf, askedIn}
 use Rattle.trail_replay.specs.Replay.{Replay, replayedAs, told, replayIn, numberOf, failureOf, judged, reachedOf, recordedBy, recordedIn}
 use Rattle.trail_replay.specs.Entries.{replayedBy, replayedOf}
@@ -41,19 +40,20 @@ use Rattle.trail_replay.specs.declared.Replayed.{Replayed}
 use Rattle.trail_replay.specs.declared.Replayed.the-variants.{Accepted, Refused}
 use Rattle.base_ceilings.specs.Ceilings.{stepsMost, trailMost}
 use Rattle.spec_machine.specs.Machine as machine
+use Rattle.step_all.specs.declared.Offer.the-variants as offer
 use Rattle.spec_trails.specs.Replays as replays
 use Rattle.trail_form.proofs.Scans as scans
 
 -- ---- one recorded step
-module _ (t : List ℕ) (p k : ℕ) (s : List ℤ) (w : Walk) (e : stepAs p k w ≡ askedIn t s p k) where
-  recorded-is : (x : Walk) → w ≡ x → recordedBy t (stepAs p k x) s ≡ recordedIn t p k s
-  recorded-is x f = ap (λ (y : Option machine.Step). recordedBy t y s) (ap (stepAs p k) (sym f) ∙ e)
+module _ (t : List ℕ) (p k : ℕ) (s : List ℤ) (o : Offer) (e : stepIn o ≡ askedIn t s p k) where
+  recorded-is : (x : Offer) → o ≡ x → recordedBy t (stepIn x) s ≡ recordedIn t p k s
+  recorded-is x f = ap (λ (y : Option machine.Step). recordedBy t y s) (ap stepIn (sym f) ∙ e)
 
-  pub step-there : (q : ℕ) → w ≡ Found q → {r : Outcome (List ℤ)} → r ≡ takenOf t p q s → r ≡ recordedIn t p k s
-  step-there q f g = g ∙ recorded-is (Found q) f
+  pub step-there : (x : machine.Step) → o ≡ offer.Step x → {r : Outcome (List ℤ)} → r ≡ advance (machineIn t) s x → r ≡ recordedIn t p k s
+  step-there x f g = g ∙ recorded-is (offer.Step x) f
 
-  pub no-such-step : (n : ℕ) → w ≡ Left n → (Idle, s) ≡ recordedIn t p k s
-  no-such-step n f = recorded-is (Left n) f
+  pub no-such-step : (n : ℕ) → o ≡ offer.Beyond n → (Idle, s) ≡ recordedIn t p k s
+  no-such-step n f = recorded-is (offer.Beyond n) f
 
 -- ---- the verdict
 verdict-number : (v : machine.Verdict) → numberOf (verdictAs v) ≡ claimed (standing v)
@@ -224,7 +224,7 @@ module _ {t trail : List ℕ} {n claim : ℕ} {s₀ : List ℤ} {failed at i : �
 
         recorded-still : (o : Option machine.Step) → Still s (recordedBy t o s .0) (recordedBy t o s .1)
         recorded-still none = refl
-        recorded-still (some x) = taken-still s t (x .process) (x .place)
+        recorded-still (some x) = advance-still t s x
 
         module _ (f : failed ≡ 0) {x : Taken} {s′ : List ℤ} (ex : (x, s′) ≡ recordedIn t p k s) {y : ℕ} (ey : y ≡ failureOf x) where
           taken-is : told claim (replays.followed M (i + 1) s x s′ others) ≡ replayIn t (formOf trail) s₀

@@ -1,4 +1,4 @@
--- Mechanism, held to the specification by `demand2` (crate `demands`).
+-- Mechanism, held to the specification by `demand2` (crate `demands`), but for `numberOf`, `failureOf`, `judged`, `reachedOf`, `recordedBy`, `recordedIn`, of contracts alone.
 -- Replay is that of `spec_trails`, over the machine of the tables: mechanism, held to the replay of the model by `demand2` (crate `demands`). Its answers, each by the case that it stands for, and
 -- the verdicts of a trail by their numbers: assert 1, fault 2, finished 3, blocked 4, open 5. `t` are tables, `s` a state.
 use Prim.Native.Nat.{ℕ}
@@ -10,14 +10,13 @@ use Rattle.base_bytes.specs.Choice.{pick}
 use Rattle.base_outcome.specs.declared.Taken.{Taken}
 use Rattle.base_outcome.specs.declared.Taken.the-variants.{Done, Refuted, Faulted, Idle}
 use Rattle.spec_machine.specs.Effect.{Outcome}
-use Rattle.spec_machine.specs.Machine.{Step, verdict}
+use Rattle.spec_machine.specs.Machine.{Step, advance, verdict}
 use Rattle.spec_trails.specs.Replays as replays
 use Rattle.spec_trails.specs.Replays.{standing, claimed, claimBy, accepted, refused, replayFrom}
 use Rattle.trail_form.specs.Forms.{Form, form, spoiled}
 use Rattle.step_all.specs.Moving.{machineIn}
 use Rattle.step_all.specs.declared.Verdict.{Verdict}
 use Rattle.step_all.specs.declared.Verdict.the-variants.{Finished, Blocked, Open}
-use Rattle.step_take.specs.Effects.{takenOf}
 use Rattle.step_entry.specs.Entries.{askedIn}
 use Rattle.trail_replay.specs.declared.Replayed.{Replayed}
 use Rattle.trail_replay.specs.declared.Replayed.the-variants.{Accepted, Refused}
@@ -63,7 +62,7 @@ module _ (t : List ℕ) where
   -- the recorded step is taken; idle where there is none
   abbrev pub recordedBy : Option Step → List ℤ → Outcome (List ℤ)
   recordedBy none s = (Idle, s)
-  recordedBy (some x) s = takenOf t (x .process) (x .place) s
+  recordedBy (some x) s = advance (machineIn t) s x
 
   abbrev pub recordedIn : ℕ → ℕ → List ℤ → Outcome (List ℤ)
   recordedIn p k s = recordedBy (askedIn t s p k) s

@@ -5,8 +5,8 @@ ghost use Rattle.trail_form.specs.declared.Formed.the-variants.{Well};
 ghost use Rattle.trail_replay.specs.Replay as replay;
 ghost use Rattle.trail_replay.specs.Entries as entries;
 use base_outcome::Taken;
+use step_all::Offer;
 use step_all::Verdict;
-use step_offers::Walk;
 use trail_form::Formed;
 use trail_form::Record;
 
@@ -20,10 +20,10 @@ pub enum Replayed {
 fn take_recorded(t: &[u32], s: &mut [i32], process: u32, k: u32) -> Taken
     ensures { λ r. ⌜ (r, now (s .exit)) ≡ replay.recordedIn (now (t .entry)) process k (now (s .entry)) ⌝ }
 {
-    let w = step_all::step_at(t, s, process, k);
-    match w {
-        Walk::Found(q) => step_take::take(t, s, process as u8, q),
-        Walk::Left(_) => Taken::Idle,
+    let o = step_all::step_at(t, s, process, k);
+    match o {
+        Offer::Step(x) => step_all::advance(t, s, x),
+        Offer::Beyond(_) => Taken::Idle,
     }
 }
 

@@ -14,7 +14,7 @@ returns-2 c = rw (c .before .before .match .keys2, ← c .before .minus .ensures
 
 returns-3 : tie.Need-returns-3
 unfolding linkBy
-returns-3 c = rw (c .before .before .match .keys3, ← c .before .minus2 .ensures) (c .global .ensures)
+returns-3 c = rw (c .before .before .match .keys3, ← c .before .minus2 .ensures) (c .global .ensures (c .before .before .before .before .before .before .before .before .before .pre .2))
 
 returns-4 : tie.Need-returns-4
 unfolding linkBy

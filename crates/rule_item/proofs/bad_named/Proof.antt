@@ -5,7 +5,7 @@ use Rattle.rule_item.proofs.bad_named.Tie as tie
 
 returns : tie.Need-returns
 unfolding rules.badNamed
-returns c = rw (c .choose .ensures, c .before .byte-at .ensures, c .before .before .lookup .ensures, c .before .before .before .word-at2 .ensures .0, c .before .before .before .before .word-at .ensures .0, c .before .before .before .before .before .minus .ensures)
+returns c = λ k. rw (c .choose .ensures, c .before .byte-at .ensures, c .before .before .lookup .ensures k, c .before .before .before .word-at2 .ensures .0, c .before .before .before .before .word-at .ensures .0, c .before .before .before .before .before .minus .ensures)
 
 pub bad-named-spec : {M : Type 1} → statement M
 bad-named-spec =

@@ -1,13 +1,14 @@
-use Prim.Native.Nat.{_≤_, _-_}
+use Prim.Native.Nat.{_≤_, _-_, _*_}
+use Rattle.base_ceilings.specs.Ceilings.{itemsMost, processesMost}
 use borrow.Author.Needs.{needs}
 use Rattle.show_commands.proofs.list_offers.Statement.{statement}
 use Rattle.show_commands.proofs.list_offers.Tie as tie
 
 abbrev Inv-loop : tie.InvT-loop
-Inv-loop t s text kinds starts ends toks n₀ t13 t14 t15 t16 n = n ≤ 65535
+Inv-loop t s text kinds starts ends toks n₀ n = n ≤ processesMost * itemsMost
 
 abbrev μ-loop : tie.MeasureT-loop
-μ-loop t s text kinds starts ends toks n₀ t13 t14 t15 t16 n = 65535 - n
+μ-loop t s text kinds starts ends toks n₀ n = processesMost * itemsMost - n
 
 pub list-offers-spec : {M : Type 1} → statement M
 list-offers-spec =
@@ -16,24 +17,6 @@ list-offers-spec =
     Inv-loop
     μ-loop
     (λ c. search needs)
-    (λ c κs. search needs)
-    (λ c. search needs)
-    (λ c. search needs)
-    (λ c κs. search needs)
-    (λ c. search needs)
-    (λ c κs. search needs)
-    (λ c. search needs)
-    (λ c κs. search needs)
-    (λ c. search needs)
-    (λ c κs. search needs)
-    (λ c κs. search needs)
-    (λ c. search needs)
-    (λ c κs. search needs)
-    (λ c. search needs)
-    (λ c κs. search needs)
-    (λ c. search needs)
-    (λ c κs. search needs)
-    (λ c κs. search needs)
     (λ c κs. search needs)
     (λ c. search needs)
     (λ c κs. search needs)

@@ -7,10 +7,10 @@ use Rattle.base_ceilings.specs.Ceilings.{stateRoom}
 use Rattle.show_trails.proofs.step_aloud.Tie as tie
 
 abbrev Inv-loop : tie.InvT-loop
-Inv-loop t s p q before₀ i₀ t11 t12 t13 before i = (i ≤ stateRoom) × (length before ≡ stateRoom)
+Inv-loop t s x before₀ i₀ t11 t12 t13 before i = (i ≤ stateRoom) × (length before ≡ stateRoom)
 
 abbrev μ-loop : tie.MeasureT-loop
-μ-loop t s p q before₀ i₀ t11 t12 t13 before i = stateRoom - i
+μ-loop t s x before₀ i₀ t11 t12 t13 before i = stateRoom - i
 
 pub step-aloud-spec : {M : Type 1} → statement M
 step-aloud-spec =

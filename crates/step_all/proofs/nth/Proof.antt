@@ -1,11 +1,11 @@
-use Rattle.step_all.proofs.Laws as laws
 use denote.Ref.{now}
+use Rattle.step_all.proofs.Laws as laws
 use borrow.Author.Needs.{needs}
 use Rattle.step_all.proofs.nth.Statement.{statement}
 use Rattle.step_all.proofs.nth.Tie as tie
 
 returns : tie.Need-returns
-returns c = laws.nth-found-off (now (c .before .before .before .before .before .args .t)) (now (c .before .before .before .before .before .args .s)) (c .before .before .before .before .before .args .n) (c .before .before .before .nth-by .ensures) _ _ _ (c .before .o .given .1)
+returns c = laws.nth-found-off (now (c .before .before .before .before .before .args .t)) (now (c .before .before .before .before .before .args .s)) (c .before .before .before .before .before .args .n) (c .before .before .before .nth-by .ensures) _ (c .before .o .given .1)
 
 returns-2 : tie.Need-returns-2
 returns-2 c = laws.nth-late (now (c .before .before .before .before .before .before .before .args .t)) (now (c .before .before .before .before .before .before .before .args .s)) (c .before .before .before .before .before .before .before .args .n) (c .before .before .before .before .before .nth-by .ensures) _ (c .before .before .before .o2 .given .1) (c .before .if1 .taken) (c .nth-by2 .ensures)

@@ -4,7 +4,7 @@ use Rattle.step_statements.proofs.send.Statement.{statement}
 use Rattle.step_statements.proofs.send.Tie as tie
 
 returns : tie.Need-returns
-returns c = send-done (c .before .before .before .before .before .before .before .before .before .before .before .before .before .before .before .before .before .before .before .before .before .args .t .now) (c .before .before .before .before .before .before .before .before .before .before .before .before .before .before .before .before .before .before .before .before .before .args .p) (c .before .before .before .before .before .before .before .before .before .before .before .before .before .before .before .before .before .before .before .before .before .args .q) (c .before .before .before .before .before .before .before .before .before .before .before .before .before .before .before .before .before .before .before .before .before .args .m) (c .before .before .before .before .before .before .before .before .before .before .before .before .before .before .before .before .before .before .before .before .before .args .s .now) (c .before .before .before .before .before .before .before .before .before .before .before .before .before .before .before .before .before .before .message .ensures) (c .before .before .before .before .before .before .before .before .before .before .before .before .before .before .before .before .r .given .1) (c .before .before .before .before .before .before .before .before .before .before .before .before .gather .ensures .0) (c .before .before .before .before .before .before .before .before .before .g .given .1) (c .before .before .before .before .before .before .before .before .before .before .before .before .gather .ensures .1) (c .before .before .before .before .before .append .ensures) (c .before .before .link .ensures .0) (c .before .move-to .ensures)
+returns c = send-done (c .before .before .before .before .before .before .before .before .before .before .before .before .before .before .before .before .before .before .before .before .before .before .before .args .t .now) (c .before .before .before .before .before .before .before .before .before .before .before .before .before .before .before .before .before .before .before .before .before .before .before .args .p) (c .before .before .before .before .before .before .before .before .before .before .before .before .before .before .before .before .before .before .before .before .before .before .before .args .q) (c .before .before .before .before .before .before .before .before .before .before .before .before .before .before .before .before .before .before .before .before .before .before .before .args .m) (c .before .before .before .before .before .before .before .before .before .before .before .before .before .before .before .before .before .before .before .before .before .before .before .args .s .now) (c .before .before .before .before .before .before .before .before .before .before .before .before .before .before .before .before .before .before .before .before .message .ensures) (c .before .before .before .before .before .before .before .before .before .before .before .before .before .before .before .before .before .before .r .given .1) (c .before .before .before .before .before .before .before .before .before .before .before .before .before .before .gather .ensures .0) (c .before .before .before .before .before .before .before .before .before .before .before .g .given .1) (c .before .before .before .before .before .before .before .before .before .before .before .before .before .before .gather .ensures .1) (c .before .before .before .before .before .before .before .before .waiting-of .ensures .0) (c .before .before .before .before .before .put .ensures) (c .before .before .link .ensures .0) (c .before .move-to .ensures)
 
 returns-2 : tie.Need-returns-2
 returns-2 c = send-fault (c .before .before .before .before .before .before .before .before .before .before .before .before .before .args .t .now) (c .before .before .before .before .before .before .before .before .before .before .before .before .before .args .p) (c .before .before .before .before .before .before .before .before .before .before .before .before .before .args .q) (c .before .before .before .before .before .before .before .before .before .before .before .before .before .args .m) (c .before .before .before .before .before .before .before .before .before .before .before .before .before .args .s .now) (c .before .before .before .before .before .before .before .before .before .before .message .ensures) (c .before .before .before .before .before .before .before .before .r .given .1) (c .before .before .before .before .gather .ensures .0) (c .before .g2 .given .1)
@@ -22,6 +22,7 @@ send-spec =
     (λ c. search needs)
     (λ c κs. search needs)
     (λ c. search needs)
+    (λ c κs. search needs)
     (λ c. search needs)
     (λ c κs. search needs)
     (λ c κs. search needs)
