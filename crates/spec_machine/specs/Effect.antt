@@ -108,6 +108,7 @@ module _ {S : Type 0} (c : Stage S) where
   setRunBy n s x w vs (hit k) = pick (c .room w) (setBy n s x k w vs) (goOn n (c .store x k (pos 0) s))
   setRunBy n s x w vs (miss f) = fault s f
 
+  -- ## statements that hold no other; a `run` that finds no room or a receive that finds no message is no step
   abbrev pub leafEffect : Ways → S → Leaf → Outcome S
   leafEffect h s (express e) = expressedBy (h .next) s (eval (c .scene) e)
   leafEffect h s (assign r e) = assignedBy (h .next) s (nameOf r) (eval (c .scene) e) (aim (c .scene) r)
@@ -125,7 +126,7 @@ module _ {S : Type 0} (c : Stage S) where
   leafEffect h s (run w es) = pick (c .room w) (ranBy (h .next) s w (values (c .scene) es)) (Idle, s)
   leafEffect h s (set-run r w es) = setRunBy (h .next) s (nameOf r) w (values (c .scene) es) (aim (c .scene) r)
 
-  -- ## statements; `if` and `do` are "themselves no steps", and a `run` that finds no room or a receive that finds no message is none
+  -- ## statements; `if` and `do` are "themselves no steps"
   -- It is asked of offered steps alone (specs/Machine.antt); of a statement that is not executable it says what the statement would do, which nothing depends on.
   unfoldable pub effect : Ways → S → Tree action → Outcome S
   effect h s (leaf l) = leafEffect h s l
@@ -142,6 +143,7 @@ abbrev pub textBy : List ℕ → WorkedOut → List ℕ
 textBy w (all vs) = format vs 0 0 w
 textBy w (stopped f) = []
 
+-- a printf its text, any other statement nothing
 abbrev pub leafPrints : {S : Type 0} → Stage S → Leaf → List ℕ
 leafPrints c (express e) = []
 leafPrints c (assign r e) = []
@@ -159,7 +161,6 @@ leafPrints c else = []
 leafPrints c (run w es) = []
 leafPrints c (set-run r w es) = []
 
--- a printf its text, any other statement nothing
 abbrev pub prints : {S : Type 0} → Stage S → Tree action → List ℕ
 prints c (leaf l) = leafPrints c l
 prints c (select os) = []

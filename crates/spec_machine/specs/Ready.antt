@@ -33,6 +33,7 @@ abbrev pub receivable : {S : Type 0} → Stage S → List Received → Reach →
 receivable c xs (channel v) = finds (finding c v xs)
 receivable c xs (astray f) = true
 
+-- of a statement that holds no other; `late` says whether `timeout` is executable
 abbrev pub leafReady : {S : Type 0} → Stage S → Bool → Leaf → Bool
 leafReady c late (express e) = passes (eval (c .scene) e)
 leafReady c late (assign r e) = true
@@ -50,7 +51,6 @@ leafReady c late else = false
 leafReady c late (run w es) = c .room w
 leafReady c late (set-run r w es) = true
 
--- `late` says whether `timeout` is executable
 unfoldable pub ready : {S : Type 0} → Stage S → Bool → Tree action → Bool
 ready c late (leaf l) = leafReady c late l
 ready c late (select os) = false

@@ -25,6 +25,7 @@ statementsIn (then s q) = statementsIn s + statementsIn q
 statementsIn over = 0
 statementsIn (option q os) = statementsIn q + statementsIn os
 
+-- "printf arguments 4"
 abbrev pub leafNarrow : Leaf → Bool
 leafNarrow (express e) = true
 leafNarrow (assign r e) = true
@@ -42,7 +43,6 @@ leafNarrow else = true
 leafNarrow (run w es) = true
 leafNarrow (set-run r w es) = true
 
--- "printf arguments 4"
 abbrev pub narrow : {k : Sort} → Tree k → Bool
 narrow (leaf l) = leafNarrow l
 narrow (select os) = narrow os

@@ -85,11 +85,13 @@ module _ (at : Place) where
   unfoldable pub formats : List ℕ → ℕ → Bool
   formats w n = both (eqb (formatOf w % 2) 0) (eqb n (formatOf w / 2))
 
+  -- `loops` says that the statement is in a `do`; `first` that it is an option's first statement, unlabelled
   abbrev pub leafAllowed : Bool → Bool → Leaf → Bool
   leafAllowed loops first (express e) = whole sense e
   leafAllowed loops first (assign r e) = both (lawful sense target r) (whole sense e)
   leafAllowed loops first (increment r) = lawful sense target r
   leafAllowed loops first (decrement r) = lawful sense target r
+  -- "more than 4 message arguments"
   leafAllowed loops first (send o r es) = both (lawful sense channel r) (both (leb (length es) fieldsMost) (all (whole sense) es))
   leafAllowed loops first (receive o r xs) = both (lawful sense channel r) (both (leb (length xs) fieldsMost) (all receives xs))
   leafAllowed loops first (assert e) = whole sense e
@@ -102,10 +104,8 @@ module _ (at : Place) where
   leafAllowed loops first (run w es) = both (runs w (length es)) (all (whole sense) es)
   leafAllowed loops first (set-run r w es) = both (lawful sense target r) (both (runs w (length es)) (all (whole sense) es))
 
-  -- `loops` says that the statement is in a `do`; `first` that it is an option's first statement, unlabelled
   unfoldable pub allowed : {k : Sort} → Bool → Bool → Tree k → Bool
   allowed loops first (leaf l) = leafAllowed loops first l
-  -- "more than 4 message arguments"
   -- "once per selection"
   allowed loops first (select os) = both (leb (isElse os) 1) (allowed loops false os)
   allowed loops first (loop os) = both (leb (isElse os) 1) (allowed true false os)
