@@ -3,3 +3,4 @@ pub mod Scans
 pub mod Numbers
 pub mod Written
 pub mod Exact
+pub mod Quick

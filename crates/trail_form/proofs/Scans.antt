@@ -1,5 +1,5 @@
 -- The laws that the pass over a whole trail cites: what has been read so far, and one line more.
-use mathlib.Core.Path.{_≡_, refl, sym, ap, _∙_}
+use mathlib.Core.Path.{_≡_, refl, sym, ap, ap₂, _∙_}
 use mathlib.Core.List.{List, [], _∷_, _++_}
 use Prim.Native.Nat.{ℕ, zero, suc, _+_, _-_, _≤_, _<_}
 use native.Mathlib.Omega.{arith}
@@ -79,11 +79,9 @@ module _ {t : List ℕ} {at line n : ℕ} (z : SoFar t at line n) where
     pub unended : at + m ≡ length t → Spoiled 10 line ≡ answerOf (formFrom 1 stepsMost 0 t)
     unended e = spoiled-at 10 line (whole-line ∙ rw (le-ltb m (length t - at) (omega arith)))
 
-    module _ (d : at + m ≡ length t → ⊥) (r : Record) (er : r ≡ recordOf (take (at + m - at) (drop at t))) where
+    module _ (d : at + m ≡ length t → ⊥) (r : Record) (er : r ≡ recordOf (take m (drop at t))) where
       lined : formFrom line (stepsMost - n) 0 (drop at t) ≡ follow r line (stepsMost - n) (length t - at - (m + 1)) (λ l. formFrom (line + 1) l m (drop (suc at) t))
-      lined =
-          let q : at + m - at ≡ m = omega arith in
-          whole-line ∙ rw (lt-ltb m (length t - at) (omega (arith, within)), ← q, ← er)
+      lined = whole-line ∙ rw (lt-ltb m (length t - at) (omega (arith, within)), ← er)
 
       pub malformed : r ≡ Malformed → Spoiled 10 line ≡ answerOf (formFrom 1 stepsMost 0 t)
       malformed e = spoiled-at 10 line (lined ∙ rw e)
@@ -125,6 +123,10 @@ in-room t h = rw (le-ltb trailMost (length t) h)
 pub no-room : (t : List ℕ) → trailMost < length t → Spoiled 2 0 ≡ answerOf (formOf t)
 no-room t h = rw (lt-ltb trailMost (length t) h)
 
--- the length of a line that a call gave
-pub line-is : (t : List ℕ) (at m : ℕ) → m ≡ lineOf (take (length t - at) (drop at t)) → m ≡ lineOf (drop at t)
-line-is t at m e = rw (tail-part at t) at e
+-- the length and the record of a line that a call gave
+module _ (t : List ℕ) (at m : ℕ) (e : m ≡ lineOf (take (length t - at) (drop at t))) where
+  pub line-is : m ≡ lineOf (drop at t)
+  line-is = rw (tail-part at t) at e
+
+  pub record-is : {r : Record} → r ≡ recordOf (take (lineOf (take (length t - at) (drop at t))) (take (length t - at) (drop at t))) → r ≡ recordOf (take m (drop at t))
+  record-is f = f ∙ ap₂ (λ (n : ℕ) (x : List ℕ). recordOf (take n x)) (sym e) (tail-part at t)

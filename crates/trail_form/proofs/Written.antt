@@ -66,6 +66,7 @@ step-plain a =
     (all-not line-end (omega arith) (digitsOf (a .choice)) (digits-all 10 (a .choice)))
 
 pub record First (a : Recorded) (rest x : List ℕ) : Type 0 where
+  pub long : lineOf x ≡ length (stepLine a)
   pub ended : lineOf x < length x
   pub here : recordOf (take (lineOf x) x) ≡ Step (a .process) (a .choice)
   pub others : drop (lineOf x + 1) x ≡ rest
@@ -75,6 +76,7 @@ first-line a rest hp hk =
     let y = tab ∷ (digitsOf (a .process) ++ tab ∷ digitsOf (a .choice)) in
     let n = line-length 83 y rest (step-plain a) in
     record {
+      long = n;
       ended = omega (arith, n, whole-length 83 y rest (step-plain a));
       here = ap (λ (m : ℕ). recordOf (take m (stepLine a ++ line-end ∷ rest))) n ∙ (ap recordOf (take-append-seam (stepLine a) (line-end ∷ rest)) ∙ line-read (a .process) (a .choice) hp hk);
       others = ap (λ (m : ℕ). drop (m + 1) (stepLine a ++ line-end ∷ rest)) n ∙ drop-append-add (stepLine a) (line-end ∷ rest) 1;

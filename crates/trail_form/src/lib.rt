@@ -1,7 +1,9 @@
 // The records of a trail, and the form of a whole one (document 01, "Trail lines").
 ghost use mathlib.Core.Path.{_≡_};
-ghost use Prim.Native.Nat.{_+_, min};
-ghost use lib.ListN.{getD};
+ghost use mathlib.Core.Bool.{not};
+ghost use mathlib.Core.List.{[], _∷_};
+ghost use Prim.Native.Nat.{_+_, _≤_, min};
+ghost use lib.ListN.{getD, take};
 ghost use lib.Dec.{eqb};
 ghost use Rattle.base_ceilings.specs.Ceilings.{numberMost};
 ghost use Rattle.base_bytes.specs.Choice.{both};
@@ -19,6 +21,18 @@ pub enum Record {
     Malformed,
 }
 
+// A line: how many bytes it has before its line end, or before the end of the trail, and its record.
+pub struct Line {
+    pub length: usize,
+    pub record: Record,
+}
+
+// A number of one or two digits: how many they are, 0 where there is no such number, and what they write.
+struct Number {
+    count: usize,
+    value: u32,
+}
+
 // The form of a trail.
 pub enum Formed {
     // How many steps, and the claimed verdict.
@@ -29,6 +43,9 @@ pub enum Formed {
 
 // The most digits of a number.
 const DIGITS_MOST: usize = 5;
+
+// The most bytes of a step's line with numbers of one or two digits, its line end among them.
+const SHORT_LINE: usize = 8;
 
 // How many bytes at the front are not this one.
 fn up_to(s: &[u8], c: u8) -> usize
@@ -130,11 +147,74 @@ pub fn record_of(x: &[u8]) -> Record
     Record::Malformed
 }
 
-// How many bytes a line has before its line end, or before the end of the trail.
-pub fn line_length(s: &[u8]) -> usize
-    ensures { λ r. ⌜ r ≡ lineOf (now (s .entry)) ⌝ }
+// The number of one or two digits that these two bytes begin with.
+fn short_number(a: u8, b: u8) -> Number
+    ensures { λ r. ⌜ r .count ≤ 2 ⌝ }
+    ensures { λ r. ⌜ not (eqb (r .count) 0) ≡ wellFormed (take (r .count) (a ∷ b ∷ [])) ⌝ }
+    ensures { λ r. ⌜ r .value ≡ decimal (take (r .count) (a ∷ b ∷ [])) ⌝ }
 {
-    up_to(s, b'\n')
+    if !text_pieces::is_digit(a) {
+        return Number { count: 0, value: 0 };
+    }
+    let first = (a - 48) as u32;
+    if !text_pieces::is_digit(b) {
+        return Number {
+            count: 1,
+            value: first,
+        };
+    }
+    if first == 0 {
+        return Number { count: 0, value: 0 };
+    }
+    Number {
+        count: 2,
+        value: first * 10 + (b - 48) as u32,
+    }
+}
+
+// The line at the front, whatever it is.
+fn any_line(s: &[u8]) -> Line
+    ensures { λ r. ⌜ r .length ≡ lineOf (now (s .entry)) ⌝ }
+    ensures { λ r. ⌜ r .record ≡ recordOf (take (lineOf (now (s .entry))) (now (s .entry))) ⌝ }
+{
+    let n = up_to(s, b'\n');
+    Line {
+        length: n,
+        record: record_of(&s[..n]),
+    }
+}
+
+// The line at the front; a step with numbers of one or two digits, which nearly every line is, in one pass over its bytes.
+pub fn line_of(s: &[u8]) -> Line
+    ensures { λ r. ⌜ r .length ≡ lineOf (now (s .entry)) ⌝ }
+    ensures { λ r. ⌜ r .record ≡ recordOf (take (lineOf (now (s .entry))) (now (s .entry))) ⌝ }
+{
+    if s.len() < SHORT_LINE {
+        return any_line(s);
+    }
+    if !begins(s, b'S') {
+        return any_line(s);
+    }
+    let a = short_number(s[2], s[3]);
+    if a.count == 0 {
+        return any_line(s);
+    }
+    let m = 2 + a.count;
+    if s[m] != b'\t' {
+        return any_line(s);
+    }
+    let b = short_number(s[m + 1], s[m + 2]);
+    if b.count == 0 {
+        return any_line(s);
+    }
+    let e = m + 1 + b.count;
+    if s[e] != b'\n' {
+        return any_line(s);
+    }
+    Line {
+        length: e,
+        record: Record::Step(a.value, b.value),
+    }
 }
 
 // The form of a whole trail.
@@ -148,12 +228,12 @@ pub fn form(trail: &[u8]) -> Formed
     let mut line: usize = 1;
     let mut steps: usize = 0;
     while at < trail.len() {
-        let n = line_length(&trail[at..]);
-        let end = at + n;
+        let here = line_of(&trail[at..]);
+        let end = at + here.length;
         if end == trail.len() {
             return Formed::Spoiled(10, line);
         }
-        let r = record_of(&trail[at..end]);
+        let r = here.record;
         match r {
             Record::Malformed => {
                 return Formed::Spoiled(10, line);

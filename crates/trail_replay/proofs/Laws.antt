@@ -42,7 +42,6 @@ use Rattle.base_ceilings.specs.Ceilings.{stepsMost, trailMost}
 use Rattle.spec_machine.specs.Machine as machine
 use Rattle.step_all.specs.declared.Offer.the-variants as offer
 use Rattle.spec_trails.specs.Replays as replays
-use Rattle.trail_form.proofs.Scans as scans
 
 -- ---- one recorded step
 module _ (t : List ℕ) (p k : ℕ) (s : List ℤ) (o : Offer) (e : stepIn o ≡ askedIn t s p k) where
@@ -173,11 +172,9 @@ module _ {t trail : List ℕ} {n claim : ℕ} {s₀ : List ℤ} {failed at i : �
     pub line-within : at + m < length trail
     line-within = omega (arith, ahead .first .ended, length-drop at trail, g .place)
 
-    module _ (r : Record) (er : r ≡ recordOf (take (at + m - at) (drop at trail))) where
+    module _ (r : Record) (er : r ≡ recordOf (take m (drop at trail))) where
       record-is : r ≡ Step (ahead .a .process) (ahead .a .choice)
-      record-is =
-          let z : at + m - at ≡ lineOf (drop at trail) = omega arith in
-          er ∙ (ap (λ (k : ℕ). recordOf (take k (drop at trail))) z ∙ ahead .first .here)
+      record-is = er ∙ (ap (λ (k : ℕ). recordOf (take k (drop at trail))) em ∙ ahead .first .here)
 
       pub no-claim : (v : ℕ) → r ≡ Claim v → ⊥
       no-claim v e = not-claim (sym record-is ∙ e)
@@ -276,10 +273,6 @@ module _ {t trail : List ℕ} {n claim : ℕ} {s₀ : List ℤ} {failed at i : �
               go Refuted e q = going (some assertion) e q
               go (Faulted _) e q = going (some fault) e q
               go Idle e q = absurd (o e)
-
--- the length of a line that a call gave, and where the line ends
-pub line-is : (trail : List ℕ) (at m : ℕ) → m ≡ lineOf (take (length trail - at) (drop at trail)) → m ≡ lineOf (drop at trail)
-line-is = scans.line-is
 
 -- ---- the entry
 module _ (ts trail : List ℕ) (s : List ℤ) {x : ℕ} (e : x ≡ foreignOf ts s) where

@@ -80,8 +80,9 @@ fn follow(t: &[u32], s: &mut [i32], trail: &[u8], n: usize, claim: u8) -> Replay
     let mut at: usize = 0;
     let mut i: usize = 0;
     while i < n {
-        let m = trail_form::line_length(&trail[at..]);
-        let r = trail_form::record_of(&trail[at..at + m]);
+        let here = trail_form::line_of(&trail[at..]);
+        let m = here.length;
+        let r = here.record;
         match r {
             Record::Step(process, k) => {
                 if failed != 0 {

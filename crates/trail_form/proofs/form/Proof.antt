@@ -1,9 +1,9 @@
-use Rattle.trail_form.proofs.Scans as scans
-use denote.Ref.{now}
-use native.Mathlib.Omega.{arith}
-use lib.ListN.{length}
-use mathlib.Core.Path.{_∙_}
 use Prim.Native.Nat.{_-_}
+use mathlib.Core.Path.{_∙_}
+use lib.ListN.{length}
+use native.Mathlib.Omega.{arith}
+use denote.Ref.{now}
+use Rattle.trail_form.proofs.Scans as scans
 use borrow.Author.Needs.{needs}
 use Rattle.trail_form.proofs.form.Statement.{statement}
 use Rattle.trail_form.proofs.form.Tie as tie
@@ -21,34 +21,31 @@ loop-holds : tie.Need-loop-holds Inv-loop μ-loop
 loop-holds c = scans.at-start (now (c .before .before .args .trail))
 
 add-end : tie.Need-add-end Inv-loop μ-loop
-add-end c = omega (arith, scans.within (c .before .before .before .loop .inv) (search needs) (c .line-length .result) (scans.line-is (now (c .before .before .before .before .before .before .args .trail)) (c .before .before .before .loop .at) (c .line-length .result) (c .line-length .ensures)))
+add-end c = omega (arith, scans.within (c .before .before .before .before .loop .inv) (search needs) (c .before .line-of .result .length) (scans.line-is (now (c .before .before .before .before .before .before .before .args .trail)) (c .before .before .before .before .loop .at) (c .before .line-of .result .length) (c .before .line-of .ensures .0)))
 
 returns-2 : tie.Need-returns-2 Inv-loop μ-loop
-returns-2 c = scans.unended (c .before .before .before .before .loop .inv) (search needs) (c .before .line-length .result) (scans.line-is (now (c .before .before .before .before .before .before .before .args .trail)) (c .before .before .before .before .loop .at) (c .before .line-length .result) (c .before .line-length .ensures)) (c .if2 .taken) ∙ scans.in-room (now (c .before .before .before .before .before .before .before .args .trail)) (c .before .before .before .before .before .if1 .left)
-
-part-record-of-end : tie.Need-part-record-of-end Inv-loop μ-loop
-part-record-of-end c = scans.within (c .before .before .before .before .loop .inv) (search needs) (c .before .line-length .result) (scans.line-is (now (c .before .before .before .before .before .before .before .args .trail)) (c .before .before .before .before .loop .at) (c .before .line-length .result) (c .before .line-length .ensures))
+returns-2 c = scans.unended (c .before .before .before .before .before .loop .inv) (search needs) (c .before .before .line-of .result .length) (scans.line-is (now (c .before .before .before .before .before .before .before .before .args .trail)) (c .before .before .before .before .before .loop .at) (c .before .before .line-of .result .length) (c .before .before .line-of .ensures .0)) (c .if2 .taken) ∙ scans.in-room (now (c .before .before .before .before .before .before .before .before .args .trail)) (c .before .before .before .before .before .before .if1 .left)
 
 returns-3 : tie.Need-returns-3 Inv-loop μ-loop
-returns-3 c = scans.malformed (c .before .before .before .before .before .before .before .before .loop .inv) (search needs) (c .before .before .before .before .before .line-length .result) (scans.line-is (now (c .before .before .before .before .before .before .before .before .before .before .before .args .trail)) (c .before .before .before .before .before .before .before .before .loop .at) (c .before .before .before .before .before .line-length .result) (c .before .before .before .before .before .line-length .ensures)) (c .before .before .before .before .if2 .left) (c .before .before .record-of .result) (c .before .before .record-of .ensures) (c .enum-told .given .1) ∙ scans.in-room (now (c .before .before .before .before .before .before .before .before .before .before .before .args .trail)) (c .before .before .before .before .before .before .before .before .before .if1 .left)
+returns-3 c = scans.malformed (c .before .before .before .before .before .before .before .loop .inv) (search needs) (c .before .before .before .before .line-of .result .length) (scans.line-is (now (c .before .before .before .before .before .before .before .before .before .before .args .trail)) (c .before .before .before .before .before .before .before .loop .at) (c .before .before .before .before .line-of .result .length) (c .before .before .before .before .line-of .ensures .0)) (c .before .before .if2 .left) (c .before .before .before .before .line-of .result .record) (scans.record-is (now (c .before .before .before .before .before .before .before .before .before .before .args .trail)) (c .before .before .before .before .before .before .before .loop .at) (c .before .before .before .before .line-of .result .length) (c .before .before .before .before .line-of .ensures .0) (c .before .before .before .before .line-of .ensures .1)) (c .enum-told .given .1) ∙ scans.in-room (now (c .before .before .before .before .before .before .before .before .before .before .args .trail)) (c .before .before .before .before .before .before .before .before .if1 .left)
 
 add-if3 : tie.Need-add-if3 Inv-loop μ-loop
-add-if3 c = omega (arith, scans.within (c .before .before .before .before .before .before .before .before .before .loop .inv) (search needs) (c .before .before .before .before .before .before .line-length .result) (scans.line-is (now (c .before .before .before .before .before .before .before .before .before .before .before .before .args .trail)) (c .before .before .before .before .before .before .before .before .before .loop .at) (c .before .before .before .before .before .before .line-length .result) (c .before .before .before .before .before .before .line-length .ensures)))
+add-if3 c = omega (arith, scans.within (c .before .before .before .before .before .before .before .before .loop .inv) (search needs) (c .before .before .before .before .before .line-of .result .length) (scans.line-is (now (c .before .before .before .before .before .before .before .before .before .before .before .args .trail)) (c .before .before .before .before .before .before .before .before .loop .at) (c .before .before .before .before .before .line-of .result .length) (c .before .before .before .before .before .line-of .ensures .0)))
 
 returns-4 : tie.Need-returns-4 Inv-loop μ-loop
-returns-4 c = scans.claimed (c .before .before .before .before .before .before .before .before .before .before .loop .inv) (search needs) (c .before .before .before .before .before .before .before .line-length .result) (scans.line-is (now (c .before .before .before .before .before .before .before .before .before .before .before .before .before .args .trail)) (c .before .before .before .before .before .before .before .before .before .before .loop .at) (c .before .before .before .before .before .before .before .line-length .result) (c .before .before .before .before .before .before .before .line-length .ensures)) (c .before .before .before .before .before .before .if2 .left) (c .before .before .before .before .record-of .result) (c .before .before .before .before .record-of .ensures) (c .before .before .r .given .0 .0) (c .before .before .r .given .1) (c .if3 .taken) ∙ scans.in-room (now (c .before .before .before .before .before .before .before .before .before .before .before .before .before .args .trail)) (c .before .before .before .before .before .before .before .before .before .before .before .if1 .left)
+returns-4 c = scans.claimed (c .before .before .before .before .before .before .before .before .before .loop .inv) (search needs) (c .before .before .before .before .before .before .line-of .result .length) (scans.line-is (now (c .before .before .before .before .before .before .before .before .before .before .before .before .args .trail)) (c .before .before .before .before .before .before .before .before .before .loop .at) (c .before .before .before .before .before .before .line-of .result .length) (c .before .before .before .before .before .before .line-of .ensures .0)) (c .before .before .before .before .if2 .left) (c .before .before .before .before .before .before .line-of .result .record) (scans.record-is (now (c .before .before .before .before .before .before .before .before .before .before .before .before .args .trail)) (c .before .before .before .before .before .before .before .before .before .loop .at) (c .before .before .before .before .before .before .line-of .result .length) (c .before .before .before .before .before .before .line-of .ensures .0) (c .before .before .before .before .before .before .line-of .ensures .1)) (c .before .before .r .given .0 .0) (c .before .before .r .given .1) (c .if3 .taken) ∙ scans.in-room (now (c .before .before .before .before .before .before .before .before .before .before .before .before .args .trail)) (c .before .before .before .before .before .before .before .before .before .before .if1 .left)
 
 returns-5 : tie.Need-returns-5 Inv-loop μ-loop
-returns-5 c = scans.more-behind (c .before .before .before .before .before .before .before .before .before .before .loop .inv) (search needs) (c .before .before .before .before .before .before .before .line-length .result) (scans.line-is (now (c .before .before .before .before .before .before .before .before .before .before .before .before .before .args .trail)) (c .before .before .before .before .before .before .before .before .before .before .loop .at) (c .before .before .before .before .before .before .before .line-length .result) (c .before .before .before .before .before .before .before .line-length .ensures)) (c .before .before .before .before .before .before .if2 .left) (c .before .before .before .before .record-of .result) (c .before .before .before .before .record-of .ensures) (c .before .before .r .given .0 .0) (c .before .before .r .given .1) (c .if3 .left) ∙ scans.in-room (now (c .before .before .before .before .before .before .before .before .before .before .before .before .before .args .trail)) (c .before .before .before .before .before .before .before .before .before .before .before .if1 .left)
+returns-5 c = scans.more-behind (c .before .before .before .before .before .before .before .before .before .loop .inv) (search needs) (c .before .before .before .before .before .before .line-of .result .length) (scans.line-is (now (c .before .before .before .before .before .before .before .before .before .before .before .before .args .trail)) (c .before .before .before .before .before .before .before .before .before .loop .at) (c .before .before .before .before .before .before .line-of .result .length) (c .before .before .before .before .before .before .line-of .ensures .0)) (c .before .before .before .before .if2 .left) (c .before .before .before .before .before .before .line-of .result .record) (scans.record-is (now (c .before .before .before .before .before .before .before .before .before .before .before .before .args .trail)) (c .before .before .before .before .before .before .before .before .before .loop .at) (c .before .before .before .before .before .before .line-of .result .length) (c .before .before .before .before .before .before .line-of .ensures .0) (c .before .before .before .before .before .before .line-of .ensures .1)) (c .before .before .r .given .0 .0) (c .before .before .r .given .1) (c .if3 .left) ∙ scans.in-room (now (c .before .before .before .before .before .before .before .before .before .before .before .before .args .trail)) (c .before .before .before .before .before .before .before .before .before .before .if1 .left)
 
 returns-6 : tie.Need-returns-6 Inv-loop μ-loop
-returns-6 c = scans.too-many (c .before .before .before .before .before .before .before .before .before .loop .inv) (search needs) (c .before .before .before .before .before .before .line-length .result) (scans.line-is (now (c .before .before .before .before .before .before .before .before .before .before .before .before .args .trail)) (c .before .before .before .before .before .before .before .before .before .loop .at) (c .before .before .before .before .before .before .line-length .result) (c .before .before .before .before .before .before .line-length .ensures)) (c .before .before .before .before .before .if2 .left) (c .before .before .before .record-of .result) (c .before .before .before .record-of .ensures) (c .before .enum-told2 .given .0 .0) (c .before .enum-told2 .given .0 .1 .0) (c .before .enum-told2 .given .1) (c .if4 .taken) ∙ scans.in-room (now (c .before .before .before .before .before .before .before .before .before .before .before .before .args .trail)) (c .before .before .before .before .before .before .before .before .before .before .if1 .left)
+returns-6 c = scans.too-many (c .before .before .before .before .before .before .before .before .loop .inv) (search needs) (c .before .before .before .before .before .line-of .result .length) (scans.line-is (now (c .before .before .before .before .before .before .before .before .before .before .before .args .trail)) (c .before .before .before .before .before .before .before .before .loop .at) (c .before .before .before .before .before .line-of .result .length) (c .before .before .before .before .before .line-of .ensures .0)) (c .before .before .before .if2 .left) (c .before .before .before .before .before .line-of .result .record) (scans.record-is (now (c .before .before .before .before .before .before .before .before .before .before .before .args .trail)) (c .before .before .before .before .before .before .before .before .loop .at) (c .before .before .before .before .before .line-of .result .length) (c .before .before .before .before .before .line-of .ensures .0) (c .before .before .before .before .before .line-of .ensures .1)) (c .before .enum-told2 .given .0 .0) (c .before .enum-told2 .given .0 .1 .0) (c .before .enum-told2 .given .1) (c .if4 .taken) ∙ scans.in-room (now (c .before .before .before .before .before .before .before .before .before .before .before .args .trail)) (c .before .before .before .before .before .before .before .before .before .if1 .left)
 
 add-at : tie.Need-add-at Inv-loop μ-loop
-add-at c = omega (arith, scans.within (c .before .before .before .before .before .before .before .before .before .loop .inv) (search needs) (c .before .before .before .before .before .before .line-length .result) (scans.line-is (now (c .before .before .before .before .before .before .before .before .before .before .before .before .args .trail)) (c .before .before .before .before .before .before .before .before .before .loop .at) (c .before .before .before .before .before .before .line-length .result) (c .before .before .before .before .before .before .line-length .ensures)))
+add-at c = omega (arith, scans.within (c .before .before .before .before .before .before .before .before .loop .inv) (search needs) (c .before .before .before .before .before .line-of .result .length) (scans.line-is (now (c .before .before .before .before .before .before .before .before .before .before .before .args .trail)) (c .before .before .before .before .before .before .before .before .loop .at) (c .before .before .before .before .before .line-of .result .length) (c .before .before .before .before .before .line-of .ensures .0)))
 
 loop-again : tie.Need-loop-again Inv-loop μ-loop
-loop-again c = scans.one-more (c .before .before .before .before .before .before .before .before .before .loop .inv) (search needs) (c .before .before .before .before .before .before .line-length .result) (scans.line-is (now (c .before .before .before .before .before .before .before .before .before .before .before .before .args .trail)) (c .before .before .before .before .before .before .before .before .before .loop .at) (c .before .before .before .before .before .before .line-length .result) (c .before .before .before .before .before .before .line-length .ensures)) (c .before .before .before .before .before .if2 .left) (c .before .before .before .record-of .result) (c .before .before .before .record-of .ensures) (c .before .enum-told2 .given .0 .0) (c .before .enum-told2 .given .0 .1 .0) (c .before .enum-told2 .given .1) (c .if4 .left)
+loop-again c = scans.one-more (c .before .before .before .before .before .before .before .before .loop .inv) (search needs) (c .before .before .before .before .before .line-of .result .length) (scans.line-is (now (c .before .before .before .before .before .before .before .before .before .before .before .args .trail)) (c .before .before .before .before .before .before .before .before .loop .at) (c .before .before .before .before .before .line-of .result .length) (c .before .before .before .before .before .line-of .ensures .0)) (c .before .before .before .if2 .left) (c .before .before .before .before .before .line-of .result .record) (scans.record-is (now (c .before .before .before .before .before .before .before .before .before .before .before .args .trail)) (c .before .before .before .before .before .before .before .before .loop .at) (c .before .before .before .before .before .line-of .result .length) (c .before .before .before .before .before .line-of .ensures .0) (c .before .before .before .before .before .line-of .ensures .1)) (c .before .enum-told2 .given .0 .0) (c .before .enum-told2 .given .0 .1 .0) (c .before .enum-told2 .given .1) (c .if4 .left)
 
 returns-7 : tie.Need-returns-7 Inv-loop μ-loop
 returns-7 c = scans.no-line (c .before .loop .inv) (c .loop-test .left) ∙ scans.in-room (now (c .before .before .before .before .args .trail)) (c .before .before .if1 .left)
@@ -67,10 +64,6 @@ form-spec =
     (λ c κs. search needs)
     add-end
     returns-2
-    (λ c. search needs)
-    (λ c. search needs)
-    part-record-of-end
-    (λ c κs. search needs)
     (λ c. search needs)
     returns-3
     (λ c. search needs)
