@@ -6,7 +6,7 @@ use mathlib.Core.List.{List, [], map, append-nil}
 use lib.ListN.{length, getD, length-map}
 use lib.Seq.{ext-getD}
 use Rattle.base_ceilings.specs.Ceilings.{itemsMost}
-use Rattle.text_tokens.specs.Reading.{Placed}
+use Rattle.spec_text.specs.Placed.{Placed}
 use Rattle.text_spacing_proof.proofs.Exact.{reading-exact}
 use Rattle.base_codes.specs.Items.{codeOf, i-plain}
 use Rattle.parse_code.specs.Code.{code}

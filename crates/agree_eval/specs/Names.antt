@@ -9,7 +9,7 @@ use lib.Dec.{eqb, ltb}
 use Rattle.base_ceilings.specs.Ceilings.{itemsMost}
 use Rattle.base_bytes.specs.Choice.{pick}
 use Rattle.base_bytes.specs.Lists.{same}
-use Rattle.text_tokens.specs.Reading.{Placed}
+use Rattle.spec_text.specs.Placed.{Placed}
 use Rattle.spec_grammar.specs.Tree.{Name, Shape, Exp, plain, indexed, num, tru, fls, get, query, unary, binary, choice}
 use Rattle.parse_machine_proof.specs.Machine.{symbol-of, place-of}
 use Rattle.rule_sheets.specs.Homes.{insideOf, homesOf}

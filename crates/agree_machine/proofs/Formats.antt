@@ -11,8 +11,8 @@ use borrow.Author.Tests.{eqb-true}
 use Rattle.base_ceilings.specs.Ceilings.{printedMost}
 use Rattle.base_bytes.specs.Choice.{pick}
 use Rattle.base_bytes.proofs.Tests.{true-false, both-true}
-use Rattle.text_pieces.specs.Bytes.{isEscape}
-use Rattle.text_spacing_proof.specs.Spelled.{Between, empty, plain, escape}
+use Rattle.spec_text.specs.Bytes.{isEscape}
+use Rattle.spec_text.specs.Spelled.{Between, empty, plain, escape}
 use Rattle.spec_text.specs.Formats.{moveOf, formatFrom, formatOf}
 use Rattle.spec_grammar.specs.Tree.{action, Tree, leaf, express, assign, increment, decrement, send, receive, assert, print, skip, goto, break, timeout, else, run, set-run, select, loop}
 use Rattle.spec_text.specs.Formats.{decimalOf, escaped, formatted, opened, counted}

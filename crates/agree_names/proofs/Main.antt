@@ -480,7 +480,9 @@ module _ (t : List ℕ) (a : Accepts t) (legal : modelLawful (a .tree) ≡ true)
     unfolding runs
     taken =
         ap (λ (s : Scope). takes (senseIn s w) n) (inv (setting-model (ofModel m) [] m k b))
-        ∙ both-true (isUnknown (senseIn (settingOf m k .locals) w)) (takes (senseIn (settingOf m k .model) w) n) h .1
+        ∙ both-true (isUnknown (senseIn (settingOf m k .locals) w)) (takes (senseIn (settingOf m k .model) w) n)
+        (both-true (not (same w pid)) (both (isUnknown (senseIn (settingOf m k .locals) w)) (takes (senseIn (settingOf m k .model) w) n)) h .1)
+        .1
 
     pub text-run : Run w
     text-run = run-found w (takes-kind (senseIn (ofModel m) w) n taken)

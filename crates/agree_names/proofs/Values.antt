@@ -30,7 +30,7 @@ use Rattle.agree_eval.specs.Names.{codesAt, saidAt, homesAt}
 use Rattle.agree_eval.proofs.Lookups.{lookup-most}
 use Rattle.legal_declarations.proofs.Standing.{long, code-is}
 use Rattle.legal_declarations.proofs.Scopes.{lookup-pid}
-use Rattle.legal_declarations.proofs.Judging.{rule-named}
+use Rattle.legal_declarations.proofs.Judging.{named-sound}
 use Rattle.legal_declarations.proofs.Bodies.{home-in}
 use Rattle.spec_machine.specs.Names.{variablesOf, globalsOf, messagesOf, unitAt, variableFrom, messageFrom, numberOf}
 use Rattle.spec_machine.specs.Names as names
@@ -81,7 +81,7 @@ module _ (t : List ℕ) (a : Accepts t) (legal : modelLawful (a .tree) ≡ true)
     message-there : (h : ℕ) → getD hs (suc j) 0 ≡ h → getD C (lookup C W hs v h j) 0 ≡ c-message
     message-there h e =
         eqb-true (getD C (lookup C W hs v h j) 0) c-message
-        (rule-named m C W says j h c e .sound (λ i x y. K t a legal .ruled i (omega arith)))
+        (named-sound m C W says j h c e (K t a legal .ruled (suc j) (omega arith)))
 
     -- it is declared before
     before : (h : ℕ) → getD hs (suc j) 0 ≡ h → lookup C W hs v h j < j

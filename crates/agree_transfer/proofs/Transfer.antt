@@ -24,7 +24,7 @@ use Rattle.spec_grammar.specs.Tree.{Received, into, equal, exactly, exactly-tru
 use Rattle.spec_grammar.specs.Tree.{Name, Shape, Exp, Expr, Ref, plain, indexed, num, tru, fls, get, query, unary, binary, choice}
 use Rattle.spec_rules.specs.Senses.{Sense, variable, constant, procedure, unknown, isConstant}
 use Rattle.spec_rules.specs.Expressions.{Role, operand, channel, target, received, forConstant, forPid, forChan, alike, suits, usable, named, lawful, whole}
-use Rattle.spec_rules.specs.Statements.{Place, all, isElse, sense, runs, receives, formats, allowed}
+use Rattle.spec_rules.specs.Statements.{Place, all, has, isElse, sense, runs, receives, formats, allowed}
 use Rattle.spec_machine.specs.Eval.{elementBy, lengthBy, signBy, operateBy, chooseBy, eval}
 use Rattle.spec_machine.specs.Stage.{Message, Stage, Ways}
 use Rattle.spec_machine.specs.Messages.{Finding, found, none, spoilt, findFrom}
@@ -588,7 +588,7 @@ module _ {S T : Type 0} (R : S → T → Type 0) (P : ℕ → Type 0) (at : Plac
         subst (λ z. Related R (printedBy c (h .next) x (values (c .scene) es)) (printedBy d (h .next) y z))
         (values-same es (both-true (formats at w (length es)) (all (whole (sense at)) es) g .1)) (printed-same (values (c .scene) es))
     effect-same (leaf skip) g k = on (a .together)
-    effect-same (leaf (goto w)) g k = (refl, a .go (a .together) (h .label w) (way .label w g))
+    effect-same (leaf (goto w)) g k = (refl, a .go (a .together) (h .label w) (way .label w (both-true (not (same w pid)) (has (at .labels) w) g .1)))
     effect-same (leaf break) g k = (refl, a .go (a .together) (h .out) (way .out g))
     effect-same (leaf timeout) g k = on (a .together)
     effect-same (leaf else) g k = on (a .together)

@@ -27,11 +27,12 @@ use Rattle.spec_trails.specs.Replays.{claimBy, replayFrom}
 use Rattle.spec_trails.specs.Runs.{runFrom}
 use Rattle.spec_machine.specs.Steps.{machineOf}
 use Rattle.agree_machine.proofs.Step.{step-still, step-none, step-some, advance-silent}
-use Rattle.demands.specs.Lent.{Rooms, Tables, of-text, Numbers, Lent, no-room, no-model, no-state, a-state}
+use Rattle.demands.proofs.Owned.{Own, of-text, owned}
+use Rattle.demands.specs.Lent.{Rooms, Tables, Numbers, Lent, no-room, no-model, no-state, a-state}
 use Rattle.demands.specs.Answers.{standingBy, listedBy, doneBy}
 use Rattle.demands.specs.Entries.{leaves, takenBy, ranBy, formedBy, startBy, offeredBy, verdictBy, steppedBy, stepBy, runBy, replayBy}
 use Rattle.demands.specs.Demand2.{Demand2}
-use Rattle.demands.proofs.Lent.{tables-genuine, foreign-room, foreign-is, foreign-none, refusal-is, cases}
+use Rattle.demands.proofs.Lent.{own-genuine, tables-genuine, foreign-room, foreign-is, foreign-none, refusal-is, cases}
 use Rattle.demands.proofs.Answers.{as-standing, as-listed, as-done}
 use Rattle.base_ceilings.specs.Ceilings.{printRoom, stateRoom, stepsMost, trailMost}
 use Rattle.step_entry.specs.declared.Listed.the-variants as listed
@@ -78,52 +79,73 @@ module _ (ts : List ℕ) (s : List ℤ) where
       ap (λ j. pick (eqb j 7) (replayed.Refused 7 0, s) (pick (ltb trailMost (length trail)) (replayed.Refused 2 0, s) (pick (eqb j 0) (trails.replayedBy (formOf trail) (written ts) s) (replayed.Refused 8 0, s)))) e
 
   -- ---- where nothing is refused
-  starts : (m : Model) → Rooms ts s → Tables ts m → startLeft ts s ≡ leaves s m (initial m)
+  starts-own : (m : Model) → Rooms ts s → Own ts m → startLeft ts s ≡ leaves s m (initial m)
   unfolding leaves
-  starts m r (of-text t a e) = entries.starts ts (r .tables) (tables-genuine ts (a .tree) (of-text t a e)) t a e s (r .state)
+  starts-own m r (of-text t a e) = entries.starts ts (r .tables) (own-genuine ts (a .tree) (of-text t a e)) t a e s (r .state)
 
-  lists : (m : Model) (σ : State) → Rooms ts s → Tables ts m → Numbers m s σ → (n : ℕ) → offeredOf ts s n ≡ listedBy (length (offered (machineOf m) σ)) n (offered (machineOf m) σ)
-  lists m σ r (of-text t a e) h n =
-      ap (λ x. offeredOf ts x n) (h .are) ∙ entries.lists ts (r .tables) (tables-genuine ts (a .tree) (of-text t a e)) t a e σ (drop stateRoom s) (h .fits) n
+  starts : (m : Model) → Rooms ts s → Tables ts m → startLeft ts s ≡ leaves s m (initial m)
+  starts m r o = starts-own m r (owned ts m o)
+
+  lists-own : (m : Model) (σ : State) → Rooms ts s → Own ts m → Numbers m s σ → (n : ℕ) → offeredOf ts s n ≡ listedBy (length (offered (machineOf m) σ)) n (offered (machineOf m) σ)
+  lists-own m σ r (of-text t a e) h n =
+      ap (λ x. offeredOf ts x n) (h .are) ∙ entries.lists ts (r .tables) (own-genuine ts (a .tree) (of-text t a e)) t a e σ (drop stateRoom s) (h .fits) n
       ∙ as-listed (offered (machineOf (a .tree)) σ) n
 
-  judges : (m : Model) (σ : State) → Rooms ts s → Tables ts m → Numbers m s σ → verdictFor ts s ≡ standingBy (verdict (machineOf m) σ)
-  judges m σ r (of-text t a e) h =
-      ap (verdictFor ts) (h .are) ∙ entries.judges ts (r .tables) (tables-genuine ts (a .tree) (of-text t a e)) t a e σ (drop stateRoom s) (h .fits)
+  lists : (m : Model) (σ : State) → Rooms ts s → Tables ts m → Numbers m s σ → (n : ℕ) → offeredOf ts s n ≡ listedBy (length (offered (machineOf m) σ)) n (offered (machineOf m) σ)
+  lists m σ r o h n = lists-own m σ r (owned ts m o) h n
+
+  judges-own : (m : Model) (σ : State) → Rooms ts s → Own ts m → Numbers m s σ → verdictFor ts s ≡ standingBy (verdict (machineOf m) σ)
+  judges-own m σ r (of-text t a e) h =
+      ap (verdictFor ts) (h .are) ∙ entries.judges ts (r .tables) (own-genuine ts (a .tree) (of-text t a e)) t a e σ (drop stateRoom s) (h .fits)
       ∙ as-standing (verdict (machineOf (a .tree)) σ)
 
-  takes : (m : Model) (σ : State) → Rooms ts s → Tables ts m → Numbers m s σ → (p k : ℕ) (out : List ℕ) → printRoom ≤ length out
+  judges : (m : Model) (σ : State) → Rooms ts s → Tables ts m → Numbers m s σ → verdictFor ts s ≡ standingBy (verdict (machineOf m) σ)
+  judges m σ r o h = judges-own m σ r (owned ts m o) h
+
+  takes-own : (m : Model) (σ : State) → Rooms ts s → Own ts m → Numbers m s σ → (p k : ℕ) (out : List ℕ) → printRoom ≤ length out
       → outcomeOf ts s p k out ≡ takenBy s m σ out (asked (machineOf m) p k (offered (machineOf m) σ))
   unfolding leaves
-  takes m σ r (of-text t a e) h p k out long = go (asked M p k (offered M σ)) refl
+  takes-own m σ r (of-text t a e) h p k out long = go (asked M p k (offered M σ)) refl
     where
       M : Machine State
       M = machineOf (a .tree)
 
       go : (o : Option Step) → asked (machineOf (a .tree)) p k (offered (machineOf (a .tree)) σ) ≡ o → outcomeOf ts s p k out ≡ takenBy s (a .tree) σ out o
       go none q =
-          ap (λ x. outcomeOf ts x p k out) (h .are) ∙ step-none ts (r .tables) (tables-genuine ts (a .tree) (of-text t a e)) t a e σ (drop stateRoom s) (h .fits) p k out long q
+          ap (λ x. outcomeOf ts x p k out) (h .are) ∙ step-none ts (r .tables) (own-genuine ts (a .tree) (of-text t a e)) t a e σ (drop stateRoom s) (h .fits) p k out long q
           ∙ ap (λ x. refusedBy 11 x out) (inv (h .are))
       go (some x) q =
           let N = machineOf (a .tree) in
-          let real = tables-genuine ts (a .tree) (of-text t a e) in
+          let real = own-genuine ts (a .tree) (of-text t a e) in
           let after = advance N σ x in
           ap (λ y. outcomeOf ts y p k out) (h .are) ∙ step-some ts (r .tables) real t a e σ (drop stateRoom s) (h .fits) p k out long x q
           ∙ as-done (leaves s (a .tree)) σ out (after .0) (after .1) (N .printed σ x)
           (step-still ts (r .tables) real t a e σ (drop stateRoom s) (h .fits) p k x q) (advance-silent (a .tree) σ x)
           ∙ ap (λ y. doneBy y out (after .0) (leaves s (a .tree) (after .1)) (N .printed σ x)) (inv (h .are))
 
-  runs-so : (m : Model) (σ : State) → Rooms ts s → Tables ts m → Numbers m s σ → (n : ℕ) → ranOf ts s n ≡ ranBy s m (runFrom (machineOf m) n σ)
+  takes : (m : Model) (σ : State) → Rooms ts s → Tables ts m → Numbers m s σ → (p k : ℕ) (out : List ℕ) → printRoom ≤ length out
+      → outcomeOf ts s p k out ≡ takenBy s m σ out (asked (machineOf m) p k (offered (machineOf m) σ))
+  takes m σ r o h p k out long = takes-own m σ r (owned ts m o) h p k out long
+
+  runs-so-own : (m : Model) (σ : State) → Rooms ts s → Own ts m → Numbers m s σ → (n : ℕ) → ranOf ts s n ≡ ranBy s m (runFrom (machineOf m) n σ)
   unfolding leaves
-  runs-so m σ r (of-text t a e) h n =
-      ap (λ x. ranOf ts x n) (h .are) ∙ entries.runs-so ts (r .tables) (tables-genuine ts (a .tree) (of-text t a e)) t a e σ (drop stateRoom s) (h .fits) n
+  runs-so-own m σ r (of-text t a e) h n =
+      ap (λ x. ranOf ts x n) (h .are) ∙ entries.runs-so ts (r .tables) (own-genuine ts (a .tree) (of-text t a e)) t a e σ (drop stateRoom s) (h .fits) n
+
+  runs-so : (m : Model) (σ : State) → Rooms ts s → Tables ts m → Numbers m s σ → (n : ℕ) → ranOf ts s n ≡ ranBy s m (runFrom (machineOf m) n σ)
+  runs-so m σ r o h n = runs-so-own m σ r (owned ts m o) h n
+
+  replays-records-own : (m : Model) → Rooms ts s → Own ts m → (trail : List ℕ) (l : List Recorded) (v : ℕ) → length trail ≤ trailMost → formOf trail ≡ form l v
+      → replayedOf ts trail s
+      ≡ (replayedAs v (replayFrom (machineOf m) (claimBy v) l 1 none (initial m) .0), leaves s m (replayFrom (machineOf m) (claimBy v) l 1 none (initial m) .1))
+  unfolding leaves
+  replays-records-own m r (of-text t a e) trail l v h q =
+      entries.replays ts (r .tables) (own-genuine ts (a .tree) (of-text t a e)) t a e s (r .state) trail l v h q
 
   replays-records : (m : Model) → Rooms ts s → Tables ts m → (trail : List ℕ) (l : List Recorded) (v : ℕ) → length trail ≤ trailMost → formOf trail ≡ form l v
       → replayedOf ts trail s
       ≡ (replayedAs v (replayFrom (machineOf m) (claimBy v) l 1 none (initial m) .0), leaves s m (replayFrom (machineOf m) (claimBy v) l 1 none (initial m) .1))
-  unfolding leaves
-  replays-records m r (of-text t a e) trail l v h q =
-      entries.replays ts (r .tables) (tables-genuine ts (a .tree) (of-text t a e)) t a e s (r .state) trail l v h q
+  replays-records m r o trail l v h q = replays-records-own m r (owned ts m o) trail l v h q
 
   pub replays : (m : Model) → Rooms ts s → Tables ts m → (trail : List ℕ) → replayedOf ts trail s ≡ formedBy s m (formOf trail)
   replays m r h trail = by-length (ltb trailMost (length trail)) refl

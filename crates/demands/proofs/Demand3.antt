@@ -11,8 +11,9 @@ use Rattle.base_bytes.specs.Choice.{pick}
 use Rattle.base_ceilings.specs.Ceilings.{tablesRoom}
 use Rattle.spec_grammar.specs.Tree.{Model}
 use Rattle.spec_grammar.specs.Grammar.{Gram}
-use Rattle.text_tokens.specs.Reading.{Placed, Reading, tokens, refused, reading}
-use Rattle.text_spacing_proof.specs.Writing.{tokensIn}
+use Rattle.text_tokens.specs.Reading.{Reading, tokens, refused, reading}
+use Rattle.spec_text.specs.Placed.{Placed}
+use Rattle.spec_text.specs.Writing.{tokensIn}
 use Rattle.parse_proof.proofs.Main.{one-tree}
 use Rattle.read_passes.specs.declared.Judged.{Judged}
 use Rattle.read_passes.specs.declared.Judged.the-variants as judged
@@ -23,7 +24,7 @@ use Rattle.read_entry.specs.Entries as reader
 use Rattle.read_entry.specs.Entries.{readOf, stays}
 use Rattle.table_genuine.specs.Genuine.{written, genuine}
 use Rattle.table_genuine.proofs.Laws.{counted, written-front, some-numbers}
-use Rattle.legal_items.specs.Legal.{Legal}
+use Rattle.spec_refusals.specs.Legal.{Legal}
 use Rattle.legal_texts.proofs.Main.{read-legal, legal-read}
 use Rattle.normal_shortest_proof.specs.Normal.{normal}
 use Rattle.normal_shortest_proof.proofs.Main.{normal-tree}
@@ -37,47 +38,8 @@ use Rattle.normal_entry.specs.declared.Written.{Written}
 use Rattle.normal_entry.specs.declared.Written.the-variants.{Text, Refused}
 use Rattle.normal_writer.specs.Normal.{normalOf}
 use Rattle.demands.specs.Demand3.{laidOver, Demand3}
+use Rattle.demands.proofs.Owned.{blank, judged-by, legal-judged, legal-accepts, tree-is, left-roomy, left-wrote}
 use Rattle.demands.proofs.Alike.{same-alike}
-
--- ---- a legal text is accepted, and its tree is the one that the reader finds
-abbrev blank : List ℕ
-blank = replicate tablesRoom 0
-
-judged-by : (t old : List ℕ) → tablesRoom ≤ length old → readOf t old ≡ judgeOf t
-unfolding readOf
-judged-by t old h = ap (λ (b : Bool). pick b (judged.Refused 7 0 0) (judgeOf t)) (le-ltb (length old) tablesRoom h)
-
-legal-judged : (t : List ℕ) → Legal t → judgeOf t ≡ judged.Accepted
-legal-judged t l = let h : tablesRoom ≤ length blank = omega (arith, length-replicate {A = ℕ} tablesRoom 0) in sym (judged-by t blank h) ∙ legal-read t blank h l
-
-legal-accepts : (t : List ℕ) → Legal t → Accepts t
-legal-accepts t l = accepted-means t (legal-judged t l)
-
-abbrev partsOf : Reading → List Placed
-partsOf (tokens ps) = ps
-partsOf (refused x i n) = []
-
-tree-is : (t : List ℕ) (l : Legal t) → legal-accepts t l .tree ≡ l .tree
-tree-is t l =
-    let a = legal-accepts t l in
-    let p : a .parts ≡ l .parts = ap partsOf (sym (a .reads) ∙ l .reads) in
-    one-tree (tokensIn t (l .parts)) (a .tree) (l .tree) (subst (λ (ps : List Placed). Gram (tokensIn t ps) (a .tree)) p (a .gram)) (l .gram)
-
--- ---- what an accepted text leaves in lent tables that have the room
-module _ (t old : List ℕ) (ok : judgeOf t ≡ judged.Accepted) (r : tablesRoom ≤ length old) where
-  left-is : reader.leftOf t old ≡ tablesText t ++ drop (length (tablesText t)) old
-  unfolding reader.leftOf
-  left-is = ap (λ (j : Judged). stays j (tablesText t) old) (judged-by t old r ∙ ok)
-
-  left-roomy : ltb (length (reader.leftOf t old)) tablesRoom ≡ false
-  left-roomy =
-      le-ltb (length (reader.leftOf t old)) tablesRoom
-      (omega (arith, ap length left-is, length-append (tablesText t) (drop (length (tablesText t)) old), length-drop (length (tablesText t)) old))
-
-  left-wrote : written (reader.leftOf t old) ≡ tablesText t
-  left-wrote =
-      let a = accepted-means t ok in
-      ap written left-is ∙ written-front (tablesText t) (drop (length (tablesText t)) old) (counted t a) (some-numbers t a)
 
 -- a text written where there is room for it, or not
 written-over : (u old : List ℕ) → (roomy u old, put (roomy u old) u old) ≡ laidOver u old
@@ -94,7 +56,7 @@ module _ (t : List ℕ) (l : Legal t) where
   abbrev a : Accepts t
   a = legal-accepts t l
 
-  normal-is : normalText t ≡ normal (l .tree)
+  pub normal-is : normalText t ≡ normal (l .tree)
   normal-is = text-normal t a ∙ ap normal (tree-is t l)
 
   again : judgeOf (normal (l .tree)) ≡ judged.Accepted

@@ -30,10 +30,11 @@ use Rattle.agree_names.proofs.Texts.{text-lawful}
 use Rattle.agree_machine.proofs.Prints.{text-busy}
 use Rattle.agree_machine.proofs.Entries as entries
 use Rattle.agree_machine.proofs.Step.{step-still}
-use Rattle.demands.specs.Lent.{Rooms, Tables, of-text}
+use Rattle.demands.proofs.Owned.{Own, of-text, owned}
+use Rattle.demands.specs.Lent.{Rooms, Tables}
 use Rattle.demands.specs.Walks as walks
 use Rattle.demands.specs.Walks.{Nth, here, later, chosen, Offers, asserted, faulty, Walks, fails, goes-on}
-use Rattle.demands.proofs.Lent.{tables-genuine}
+use Rattle.demands.proofs.Lent.{own-genuine, tables-genuine}
 use Rattle.demands.proofs.Offers.{offers-asked}
 use Rattle.demands.proofs.TextOrder.{Ascends, offers-ascend, nth-alone}
 use Rattle.demands.proofs.Walks.{Good}
@@ -42,20 +43,24 @@ nth-in : {A : Type 0} {y : A} {k : ℕ} {l : List A} → Nth y k l → In y l
 nth-in here = first
 nth-in (later h) = behind (nth-in h)
 
-pub good-step : (ts : List ℕ) (s : List ℤ) (m : Model) → Rooms ts s → Tables ts m → (σ : State) → Fits (Belongs m) m σ → (x : Step) → Offers (machineOf m) σ x
+good-step-own : (ts : List ℕ) (s : List ℤ) (m : Model) → Rooms ts s → Own ts m → (σ : State) → Fits (Belongs m) m σ → (x : Step) → Offers (machineOf m) σ x
     → Good (machineOf m) (Fits (Belongs m) m) σ x
 unfolding advance
-good-step ts s m r (of-text t a e) σ f x h =
+good-step-own ts s m r (of-text t a e) σ f x h =
     let p = x .process in
     let k = x .number in
     let l = late (machineOf (a .tree)) σ in
-    let real = tables-genuine ts (a .tree) (of-text t a e) in
+    let real = own-genuine ts (a .tree) (of-text t a e) in
     let z = offers-asked (machineOf (a .tree)) σ x h in
     record {
       busy = text-busy t a [] σ f p (h .there) l (x .place) (nth-in (nth-alone (stepsOf (a .tree) σ p l) (h .listed)));
       still = step-still ts (r .tables) real t a e σ [] f p k x z;
       kept = entries.keeps ts (r .tables) real t a e σ [] f p k x z;
     }
+
+pub good-step : (ts : List ℕ) (s : List ℤ) (m : Model) → Rooms ts s → Tables ts m → (σ : State) → Fits (Belongs m) m σ → (x : Step) → Offers (machineOf m) σ x
+    → Good (machineOf m) (Fits (Belongs m) m) σ x
+good-step ts s m r o σ f x h = good-step-own ts s m r (owned ts m o) σ f x h
 
 end-most : (b : Body) (i : ℕ) → startIn b i + sizeIn (sequenceOf b) ≤ endIn b i
 end-most (body ds q) i = omega arith
@@ -105,8 +110,11 @@ module _ (m : Model) (few : (u j : ℕ) → Belongs m u j → j ≤ 8192) (σ : 
           let r = offers-there (plainStage m p (unitAt m u) σ) l x j next out q (nth-in n′) in
           omega (arith, nth-number n′ j (j + sizeIn x) (offers-ascend (λ y i. ready (stageOf m σ p) l y) x j), few u q (stands b (within-within w (r .within))))
 
+few-places-own : (ts : List ℕ) (m : Model) → Own ts m → (u j : ℕ) → Belongs m u j → j ≤ 8192
+few-places-own ts m (of-text t a e) u j b = text-belongs t a (text-lawful t a) u j b
+
 few-places : (ts : List ℕ) (m : Model) → Tables ts m → (u j : ℕ) → Belongs m u j → j ≤ 8192
-few-places ts m (of-text t a e) u j b = text-belongs t a (text-lawful t a) u j b
+few-places ts m o u j b = few-places-own ts m (owned ts m o) u j b
 
 module _ (ts : List ℕ) (s : List ℤ) (m : Model) (r : Rooms ts s) (h : Tables ts m) where
   one-small : (σ : State) (x : Recorded) (more : List Recorded) (q : Move) → Fits (Belongs m) m σ → Offers (machineOf m) σ (chosen x q) → Small more → Small (x ∷ more)

@@ -30,11 +30,12 @@ use Rattle.spec_trails.specs.Trails.{Recorded}
 use Rattle.spec_trails.specs.Runs.{runFrom}
 use Rattle.spec_machine.specs.Steps.{machineOf}
 use Rattle.agree_machine.proofs.Entries as entries
-use Rattle.demands.specs.Lent.{Rooms, Tables, of-text, Holds, Lent, no-room, no-model, no-state, a-state}
+use Rattle.demands.proofs.Owned.{Own, of-text, owned}
+use Rattle.demands.specs.Lent.{Rooms, Tables, Holds, Lent, no-room, no-model, no-state, a-state}
 use Rattle.demands.specs.Answers.{doneBy}
 use Rattle.demands.specs.Entries.{leaves, takenBy, formedBy, refusalBy, steppedBy}
 use Rattle.demands.specs.InWords.{Unchanged, Leaves}
-use Rattle.demands.proofs.Lent.{tables-genuine, numbers-state, state-is, foreign-room, foreign-is}
+use Rattle.demands.proofs.Lent.{own-genuine, tables-genuine, numbers-state, state-is, foreign-room, foreign-is}
 use Rattle.demands.proofs.Demand2.{demand2}
 
 -- ---- what a step that was not taken leaves
@@ -79,18 +80,31 @@ module _ (ts : List ℕ) (s : List ℤ) where
   unfolding leaves
   left m h τ f = numbers-state ts m τ (drop stateRoom s) h f
 
+  initial-fits-own : (m : Model) → Rooms ts s → Own ts m → Fits (Belongs m) m (initial m)
+  initial-fits-own m r (of-text t a e) = entries.initially ts (r .tables) (own-genuine ts (a .tree) (of-text t a e)) t a e
+
   pub initial-fits : (m : Model) → Rooms ts s → Tables ts m → Fits (Belongs m) m (initial m)
-  initial-fits m r (of-text t a e) = entries.initially ts (r .tables) (tables-genuine ts (a .tree) (of-text t a e)) t a e
+  initial-fits m r o = initial-fits-own m r (owned ts m o)
+
+  step-fits-own : (m : Model) (σ : State) → Rooms ts s → Own ts m → Fits (Belongs m) m σ → (p k : ℕ) (x : Step) → asked (machineOf m) p k (offered (machineOf m) σ) ≡ some x
+      → Fits (Belongs m) m (advance (machineOf m) σ x .1)
+  step-fits-own m σ r (of-text t a e) f p k x q = entries.keeps ts (r .tables) (own-genuine ts (a .tree) (of-text t a e)) t a e σ [] f p k x q
 
   step-fits : (m : Model) (σ : State) → Rooms ts s → Tables ts m → Fits (Belongs m) m σ → (p k : ℕ) (x : Step) → asked (machineOf m) p k (offered (machineOf m) σ) ≡ some x
       → Fits (Belongs m) m (advance (machineOf m) σ x .1)
-  step-fits m σ r (of-text t a e) f p k x q = entries.keeps ts (r .tables) (tables-genuine ts (a .tree) (of-text t a e)) t a e σ [] f p k x q
+  step-fits m σ r o f p k x q = step-fits-own m σ r (owned ts m o) f p k x q
+
+  run-fits-own : (m : Model) (σ : State) → Rooms ts s → Own ts m → Fits (Belongs m) m σ → (n : ℕ) → Fits (Belongs m) m (runFrom (machineOf m) n σ .state)
+  run-fits-own m σ r (of-text t a e) f n = entries.run-fits ts (r .tables) (own-genuine ts (a .tree) (of-text t a e)) t a e σ [] f n
 
   run-fits : (m : Model) (σ : State) → Rooms ts s → Tables ts m → Fits (Belongs m) m σ → (n : ℕ) → Fits (Belongs m) m (runFrom (machineOf m) n σ .state)
-  run-fits m σ r (of-text t a e) f n = entries.run-fits ts (r .tables) (tables-genuine ts (a .tree) (of-text t a e)) t a e σ [] f n
+  run-fits m σ r o f n = run-fits-own m σ r (owned ts m o) f n
+
+  replay-fits-own : (m : Model) → Rooms ts s → Own ts m → (c : Claim) (l : List Recorded) → Fits (Belongs m) m (replayFrom (machineOf m) c l 1 none (initial m) .1)
+  replay-fits-own m r (of-text t a e) c l = entries.replay-fits ts (r .tables) (own-genuine ts (a .tree) (of-text t a e)) t a e c l
 
   replay-fits : (m : Model) → Rooms ts s → Tables ts m → (c : Claim) (l : List Recorded) → Fits (Belongs m) m (replayFrom (machineOf m) c l 1 none (initial m) .1)
-  replay-fits m r (of-text t a e) c l = entries.replay-fits ts (r .tables) (tables-genuine ts (a .tree) (of-text t a e)) t a e c l
+  replay-fits m r o c l = replay-fits-own m r (owned ts m o) c l
 
   module _ (m : Model) (σ : State) (h : Holds ts s m σ) where
     same : LetThrough s

@@ -26,46 +26,62 @@ use Rattle.spec_machine.specs.Places.{Belongs}
 use Rattle.spec_machine.specs.Fits.{Fits}
 use Rattle.agree_states.proofs.Texts.{text-holds, text-held-state, text-single}
 use Rattle.agree_machine.proofs.Survey.{text-modest, text-surveyed}
-use Rattle.demands.specs.Lent.{Rooms, Tables, of-text, Numbers, Lent, no-room, no-model, no-state, a-state, nine, holds, caseOf}
+use Rattle.demands.specs.Lent.{Rooms, Tables, Numbers, Lent, no-room, no-model, no-state, a-state, nine, holds, caseOf}
+use Rattle.demands.proofs.Owned.{Own, of-text, owned, own-tables}
 use Rattle.demands.specs.Entries.{refusalBy}
 use Rattle.demands.specs.Demand2.{OneCase}
 
 -- ---- 8: exactly when no accepted text has these tables
+pub own-genuine : (ts : List ℕ) (m : Model) → Own ts m → genuine ts ≡ true
+own-genuine ts m (of-text t a e) = owned-genuine ts (record { text = t; accepted = means-accepted t a; own = inv e })
+
 pub tables-genuine : (ts : List ℕ) (m : Model) → Tables ts m → genuine ts ≡ true
-tables-genuine ts m (of-text t a e) = owned-genuine ts (record { text = t; accepted = means-accepted t a; own = inv e })
+tables-genuine ts m h = own-genuine ts m (owned ts m h)
 
-record Owner (ts : List ℕ) : Type 0 where
-  tree : Model
-  tables : Tables ts tree
+pub record Owner (ts : List ℕ) : Type 0 where
+  pub tree : Model
+  pub tables : Tables ts tree
 
-owner : (ts : List ℕ) → genuine ts ≡ true → Owner ts
+pub owner : (ts : List ℕ) → genuine ts ≡ true → Owner ts
 owner ts e =
     let o = genuine-owned ts e in
     let a : Accepts (o .text) = accepted-means (o .text) (o .accepted) in
-    record { tree = a .tree; tables = of-text (o .text) a (inv (o .own)) }
+    record { tree = a .tree; tables = own-tables ts (o .text) a (inv (o .own)) }
+
+one-own : (ts : List ℕ) (m n : Model) → Own ts m → Own ts n → m ≡ n
+one-own ts m n (of-text t a e) (of-text u b f) = tables-tree t u a b (inv e ∙ f)
 
 pub one-model : (ts : List ℕ) (m n : Model) → Tables ts m → Tables ts n → m ≡ n
-one-model ts m n (of-text t a e) (of-text u b f) = tables-tree t u a b (inv e ∙ f)
+one-model ts m n h g = one-own ts m n (owned ts m h) (owned ts n g)
 
 -- ---- 9: exactly when the numbers are those of no state that fits
 record Found (m : Model) (s : List ℤ) : Type 0 where
   state : State
   numbers : Numbers m s state
 
-found : (ts : List ℕ) (m : Model) (s : List ℤ) → Tables ts m → isStateOf (written ts) s ≡ true → Found m s
-found ts m s (of-text t a e) h =
+found-own : (ts : List ℕ) (m : Model) (s : List ℤ) → Own ts m → isStateOf (written ts) s ≡ true → Found m s
+found-own ts m s (of-text t a e) h =
     let r = text-holds t a (text-modest t a) (text-surveyed t a) s (ap (λ w. isStateOf w s) (inv e) ∙ h) in
     record { state = r .0; numbers = record { fits = r .1 .0; are = r .1 .1 } }
 
+found : (ts : List ℕ) (m : Model) (s : List ℤ) → Tables ts m → isStateOf (written ts) s ≡ true → Found m s
+found ts m s o h = found-own ts m s (owned ts m o) h
+
+numbers-state-own : (ts : List ℕ) (m : Model) (σ : State) (rest : List ℤ) → Own ts m → Fits (Belongs m) m σ → isStateOf (written ts) (encode m σ ++ rest) ≡ true
+numbers-state-own ts m σ rest (of-text t a e) f = ap (λ w. isStateOf w (encode (a .tree) σ ++ rest)) e ∙ text-held-state t a (text-modest t a) (text-surveyed t a) σ rest f
+
 pub numbers-state : (ts : List ℕ) (m : Model) (σ : State) (rest : List ℤ) → Tables ts m → Fits (Belongs m) m σ → isStateOf (written ts) (encode m σ ++ rest) ≡ true
-numbers-state ts m σ rest (of-text t a e) f = ap (λ w. isStateOf w (encode (a .tree) σ ++ rest)) e ∙ text-held-state t a (text-modest t a) (text-surveyed t a) σ rest f
+numbers-state ts m σ rest o f = numbers-state-own ts m σ rest (owned ts m o) f
 
 pub state-is : (ts : List ℕ) (m : Model) (s : List ℤ) (σ : State) → Tables ts m → Numbers m s σ → isStateOf (written ts) s ≡ true
 state-is ts m s σ h n = ap (isStateOf (written ts)) (n .are) ∙ numbers-state ts m σ (drop stateRoom s) h (n .fits)
 
-one-state : (ts : List ℕ) (m : Model) (s : List ℤ) (σ τ : State) → Tables ts m → Numbers m s σ → Numbers m s τ → σ ≡ τ
-one-state ts m s σ τ (of-text t a e) p q =
+one-state-own : (ts : List ℕ) (m : Model) (s : List ℤ) (σ τ : State) → Own ts m → Numbers m s σ → Numbers m s τ → σ ≡ τ
+one-state-own ts m s σ τ (of-text t a e) p q =
     text-single t a (text-modest t a) (text-surveyed t a) s σ τ (drop stateRoom s) (drop stateRoom s) (p .fits) (q .fits) (p .are) (q .are)
+
+one-state : (ts : List ℕ) (m : Model) (s : List ℤ) (σ τ : State) → Tables ts m → Numbers m s σ → Numbers m s τ → σ ≡ τ
+one-state ts m s σ τ o p q = one-state-own ts m s σ τ (owned ts m o) p q
 
 -- ---- every pair is in some case
 module _ (ts : List ℕ) (s : List ℤ) where

@@ -1,3 +1,4 @@
+pub mod Owned
 pub mod Lent
 pub mod Answers
 pub mod Demand2
@@ -11,3 +12,7 @@ pub mod InWords
 pub mod Trails
 pub mod Alike
 pub mod Demand3
+pub mod Reading
+pub mod Stepper
+pub mod Replayed
+pub mod Demand1

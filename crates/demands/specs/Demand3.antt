@@ -10,7 +10,7 @@ use lib.ListN.{length, drop}
 use Rattle.base_bytes.specs.Choice.{pick}
 use Rattle.base_ceilings.specs.Ceilings.{tablesRoom}
 use Rattle.spec_grammar.specs.Tree.{Model}
-use Rattle.legal_items.specs.Legal.{Legal}
+use Rattle.spec_refusals.specs.Legal.{Legal}
 use Rattle.read_entry.specs.Entries as reader
 use Rattle.read_entry.specs.Entries.{readOf}
 use Rattle.normal_shortest_proof.specs.Normal.{normal}

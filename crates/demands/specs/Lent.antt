@@ -8,8 +8,8 @@ use lib.ListN.{length, drop}
 use lib.IntN.{ℤ}
 use Rattle.base_ceilings.specs.Ceilings.{stateRoom, tablesRoom}
 use Rattle.spec_grammar.specs.Tree.{Model}
-use Rattle.read_passes.specs.Judging.{tablesText}
-use Rattle.read_accepts_proof.specs.Meaning.{Accepts}
+use Rattle.spec_refusals.specs.Legal.{Legal}
+use Rattle.read_entry.specs.Entries.{leftOf}
 use Rattle.table_genuine.specs.Genuine.{written}
 use Rattle.spec_machine.specs.State.{State}
 use Rattle.state_encode.specs.Encode.{encode}
@@ -21,9 +21,14 @@ pub record Rooms (ts : List ℕ) (s : List ℤ) : Type 0 where
   pub tables : tablesRoom ≤ length ts
   pub state : stateRoom ≤ length s
 
--- the tables are those of an accepted text, and this is its tree; "they are compared over their written part"
-pub data Tables (ts : List ℕ) : Model → Type 0 where
-  of-text : (t : List ℕ) (a : Accepts t) → written ts ≡ tablesText t → Tables ts (a .tree)
+-- the tables are what the reader leaves of a legal text, and this is its tree; "they are compared over their written part"
+pub record Tables (ts : List ℕ) (m : Model) : Type 0 where
+  pub text : List ℕ
+  pub legal : Legal text
+  pub tree : legal .tree ≡ m
+  pub lent : List ℕ
+  pub room : tablesRoom ≤ length lent
+  pub wrote : written ts ≡ written (leftOf text lent)
 
 -- the numbers are those of σ, which is a state of the model; anything may lie behind them
 pub record Numbers (m : Model) (s : List ℤ) (σ : State) : Type 0 where

@@ -6,3 +6,5 @@ pub mod Walks
 pub mod InWords
 pub mod Trails
 pub mod Demand3
+pub mod Said
+pub mod Demand1

@@ -10,7 +10,7 @@ use lib.Dec.{eqb, ltb}
 use borrow.Author.Tests.{eqb-true, le-ltb}
 use Rattle.base_ceilings.specs.Ceilings.{itemsMost}
 use Rattle.base_bytes.specs.Choice.{pick}
-use Rattle.text_spacing_proof.specs.Writing.{tokensIn}
+use Rattle.spec_text.specs.Writing.{tokensIn}
 use Rattle.parse_code.specs.Code.{code}
 use Rattle.table_entries.specs.Entry.{nothing}
 use Rattle.table_entries.specs.Items.{entryOf}

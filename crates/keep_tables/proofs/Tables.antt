@@ -10,7 +10,7 @@ use borrow.Author.Tests.{le-ltb, ltb-false}
 use Rattle.base_ceilings.specs.Ceilings.{itemsMost, textMost}
 use Rattle.base_bytes.specs.Choice.{pick}
 use Rattle.base_bytes.proofs.Tests.{true-false}
-use Rattle.text_tokens.specs.Reading.{Placed}
+use Rattle.spec_text.specs.Placed.{Placed}
 use Rattle.text_spacing_proof.proofs.Exact.{reading-exact}
 use Rattle.parse_machine_proof.specs.Machine.{symbol-of, place-of}
 use Rattle.rule_sheets.specs.Homes.{homesOf}

@@ -1,18 +1,17 @@
--- Units with a body: which items are in the body, how many parameters it has, what searches find for the names of its statements (`Setting`), and that its items are free of
--- faults exactly where it is lawful.
+-- Units with a body: which items are in the body, how many parameters it has, what searches find for the names of its statements (`Setting`), and the faults of its items.
 use Prim.Native.Nat.{ℕ, suc, _+_, _-_, _≤_, _<_}
 use native.Mathlib.Omega.{arith}
 use native.Mathlib.Decide.{ℕ-discrete, decLt}
-use mathlib.Core.Path.{_≡_, refl, sym, ap, _∙_}
+use mathlib.Core.Path.{_≡_, refl, sym, ap, _∙_, subst}
 use mathlib.Core.Bool.{Bool, true, false}
 use mathlib.Core.Logic.{_⊎_, inl, inr}
-use mathlib.Core.List.{List, [], _∷_, _++_}
+use mathlib.Core.List.{List, [], _∷_, _++_, append-nil}
 use lib.ListN.{length, getD, length-append, length-map}
 use borrow.Author.Tests.{ne-eqb, eq-eqb, lt-ltb, lt-leb}
 use Rattle.base_codes.specs.Codes.{c-argument, c-body, c-declared, c-end-body, c-end-option, c-field, c-len, c-local, c-message, c-name, c-option, c-parameter, c-proctype, c-size}
-use Rattle.base_bytes.specs.Choice.{pick, both}
+use Rattle.base_bytes.specs.Choice.{pick}
 use Rattle.base_bytes.proofs.Tests.{true-false}
-use Rattle.spec_text.specs.Names.{pid}
+use Rattle.base_kinds.specs.Kinds.{Token}
 use Rattle.rule_sheets.specs.Walks.{sum}
 use Rattle.rule_sheets.specs.Homes.{insideOf}
 use Rattle.rule_search.specs.Sets.{among}
@@ -22,20 +21,26 @@ use Rattle.spec_grammar.specs.Tree.{Name, Model, sequence, Tree, Declaration, G
 use Rattle.base_codes.specs.Items.{Item, i-body, i-end-body, i-group, i-local, i-name, i-parameter, i-type}
 use Rattle.base_codes.specs.Sets.{ruleOf, isUnit}
 use Rattle.parse_code.specs.Code.{each, code-tree, code-declaration, code-parameter, code-group, code-body, code}
-use Rattle.spec_rules.specs.Senses.{Sense, variable, constant, procedure, unknown, Scope, senseIn}
-use Rattle.spec_rules.specs.Statements.{Place, labelsOf, apart, allowed}
-use Rattle.spec_rules.specs.Units.{senseOfParameter, scopeOfGroup, scopeOfGroups, scopeOfDeclarations, declarations, bodyLawful}
+use Rattle.spec_grammar.specs.Grammar.{Items, statements, declared, A-body, a-body}
+use Rattle.spec_rules.specs.Senses.{Sense, variable, constant, procedure, unknown, Scope, senseIn, senseOf}
+use Rattle.spec_rules.specs.Statements.{Place, labelsOf}
+use Rattle.spec_rules.specs.Units.{senseOfParameter, scopeOfGroup, scopeOfGroups, scopeOfDeclaration}
+use Rattle.spec_faults.specs.Faults.{inTree, inItems, inBody}
+use Rattle.parse_spots.specs.Spots.{spots-tree, spots-declaration, spots-items, spots-body}
+use Rattle.parse_spots.proofs.Coded.{declaration-code, items-code}
+use Rattle.table_entries.specs.Items.{Known}
+use Rattle.table_entries.proofs.Items.{type-code}
 use Rattle.legal_terms.specs.Says.{itemAt, Says}
 use Rattle.legal_terms.specs.Setting.{Runs, Setting}
-use Rattle.agree_stage.proofs.Stands.{Lying}
+use Rattle.legal_terms.specs.Faulted.{faultsFrom, Statements}
 use Rattle.keep_tables.proofs.Sums.{sum-split, sum-nones}
 use Rattle.legal_declarations.proofs.Items.{spoken, settled, declaring, Calm, all-tree, all-declarations, all-groups}
-use Rattle.legal_declarations.proofs.Standing.{Lies, lies-front, lies-back, lies-all, long, code-is, spoken-at, declaring-at, settled-at}
+use Rattle.legal_declarations.proofs.Standing.{Lies, lies-front, lies-back, lies-all, long, known-at, code-is, spoken-at, declaring-at, settled-at, Span, items-long, span-front, span-back, span-tail, span-lies}
 use Rattle.legal_declarations.proofs.Homes.{inside-head, inside-end, inside-over, home-inside, home-most, home-later}
-use Rattle.legal_declarations.proofs.Scopes.{Out, Scoped, out-known, scoped-over, lookup-finds}
-use Rattle.legal_declarations.proofs.Judging.{hs, fault-mark, Clean, Judges, clean-one, judges-both, judges-skip, judges-trail}
-use Rattle.legal_declarations.proofs.Variables.{Pidless, is-unknown, After}
-use Rattle.legal_declarations.proofs.Declarations.{type-low, declarations-judged}
+use Rattle.legal_declarations.proofs.Scopes.{Out, Scoped, out-known, scoped-next, scoped-over, lookup-finds}
+use Rattle.legal_declarations.proofs.Judging.{hs, Gives, gives-join, gives-to, gives-none, gives-skip}
+use Rattle.legal_declarations.proofs.Variables.{After}
+use Rattle.legal_declarations.proofs.Declarations.{after-declarations, named-local, local-passed}
 use Rattle.rule_sheets.proofs.Meaning.{no-head}
 
 spoken-one : (c : ℕ) → c ≤ c-end-option → among 1 c ≡ false
@@ -82,9 +87,6 @@ module _ (m : Model) (cs vs : List ℕ) (S : Says m cs vs) where
   abbrev H : List ℕ
   H = hs m cs vs S
 
-  abbrev J : ℕ → ℕ → Bool → Type 0
-  J = Judges m cs vs S
-
   abbrev Sc : Scope → ℕ → ℕ → Type 0
   Sc = Scoped m cs vs H S
 
@@ -118,7 +120,7 @@ module _ (m : Model) (cs vs : List ℕ) (S : Says m cs vs) where
     inside-unit j g h = inside-over cs (suc u) j g (λ i x y. plain-in i x (omega arith)) ∙ inside-head cs u (F .head)
 
     pub home-in : (j : ℕ) → suc u ≤ j → j ≤ t → getD H j 0 ≡ suc u
-    home-in j g h = let a = F .top in home-inside cs (S .few) j (omega arith) (go (ℕ-discrete j t)) ∙ inside-unit j g h
+    home-in j g h = home-inside cs (S .few) j (omega arith) (go (ℕ-discrete j t)) ∙ inside-unit j g h
       where
         go : Dec (j ≡ t) → isUnit (getD cs j 0) ≡ false
         go (yes z) = let c : getD cs j 0 ≡ c-end-body = ap (λ n. getD cs n 0) z ∙ F .ends in rw c refl
@@ -136,7 +138,7 @@ module _ (m : Model) (cs vs : List ℕ) (S : Says m cs vs) where
 
         later : (getD (hs m cs vs S) j 0 ≡ 0) ⊎ (suc t < getD (hs m cs vs S) j 0) → ⊥
         later (inl z) = omega arith
-        later (inr z) = let a = F .parts in let c = F .inner in let d = F .last in omega arith
+        later (inr z) = omega arith
 
         above : Dec (t < j) → j ≤ t
         above (yes z) = absurd (later (home-later cs (S .few) (suc t) j inside-after (omega arith) g))
@@ -179,8 +181,6 @@ module _ (m : Model) (cs vs : List ℕ) (S : Says m cs vs) where
     count-parameters (w ∷ ws) k y g h =
         let c = code-is m cs vs S k (i-name w) (y .0) (y .1) in
         let d = code-is m cs vs S (suc k) i-parameter (y .2 .0) (y .2 .1) in
-        let e = F .inner in
-        let i = F .last in
         let a0 = unit-none k (not-six (getD cs k 0) (λ z. omega arith)) in
         let a1 : unit (k + 1) ≡ 1 = ap unit (let z : k + 1 ≡ suc k = omega arith in z) ∙ unit-one (suc k) d (home-in (suc k) (omega arith) (omega arith) ∙
         (let z : suc u ≡ u + 1 = omega arith in z)) in
@@ -200,8 +200,8 @@ module _ (m : Model) (cs vs : List ℕ) (S : Says m cs vs) where
         let k3 = suc (suc k) + length P in
         let front = lies-front xs k (i-type n ∷ i-group ∷ P) G y in
         let back = lies-back xs (i-type n ∷ i-group ∷ P) G k k3 (omega arith) y in
-        let low = type-low m cs vs S k n (y .0) (y .1) in
-        let lm = low .most in
+        let low = type-code (subst Known (y .1) (known-at m cs vs S k (y .0))) .1 in
+        let ct = code-is m cs vs S k (i-type n) (y .0) (y .1) in
         let d = code-is m cs vs S (suc k) i-group (y .2 .0) (y .2 .1) in
         let a0 = unit-none k (not-six (getD cs k 0) (λ z. omega arith)) in
         let a1 : unit (k + 1) ≡ 0 = ap unit (let z : k + 1 ≡ suc k = omega arith in z) ∙ unit-none (suc k) (not-six (getD cs (suc k) 0) (λ z. omega arith)) in
@@ -220,9 +220,6 @@ module _ (m : Model) (cs vs : List ℕ) (S : Says m cs vs) where
     parameters-counted gs y e =
         let n = length cs in
         let g = length (each code-group gs) in
-        let top = F .top in
-        let i1 = F .inner in
-        let i2 = F .last in
         let cut1 : sum unit 0 (n - 0) ≡ sum unit 0 (suc u) + sum unit (0 + suc u) (n - suc u) =
         ap (sum unit 0) (let z : n - 0 ≡ suc u + (n - suc u) = omega arith in z) ∙ sum-split unit (suc u) (n - suc u) 0 in
         let cut2 : sum unit (0 + suc u) (n - suc u) ≡ sum unit (suc u) g + sum unit (suc u + g) (n - b) =
@@ -247,18 +244,14 @@ module _ (m : Model) (cs vs : List ℕ) (S : Says m cs vs) where
     out-runs : (d : ℕ) (s : Sense) → Out cs H d (length cs) s → Runs cs H d s
     unfolding bodyOf
     out-runs d (variable c a) o = let z = fourteen (getD cs d 0) (o .1) in thirteen (getD cs d 0) z
-    out-runs d constant o = let z = o .1 in thirteen (getD cs d 0) (omega arith)
+    out-runs d constant o = thirteen (getD cs d 0) (omega arith)
     out-runs d (procedure n) o = (o .1, rw (lt-ltb d (length cs) (o .0)) (o .2))
     out-runs d unknown o = let z : getD cs d 0 ≡ 0 = ap (λ i. getD cs i 0) o ∙ end-none cs in thirteen (getD cs d 0) (omega arith)
 
-    pub setting : (l g M : Scope) (ls : List Name) → Sc l (suc u) f → Sc g 0 (suc u) → Sc M 0 (length cs) → Pidless l → Pidless M
+    pub setting : (l g M : Scope) (ls : List Name) → Sc l (suc u) f → Sc g 0 (suc u) → Sc M 0 (length cs)
         → Setting xs cs vs H (suc u) f t (record { locals = l; globals = g; model = M; labels = ls })
     unfolding globalOf
-    setting l g M ls sl sg sm nl nm =
-        let i0 = F .parts in
-        let i1 = F .inner in
-        let i2 = F .last in
-        let top = F .top in
+    setting l g M ls sl sg sm =
         record {
           home = λ j x y. home-in j (omega arith) (omega arith);
           string-inside = λ j x h c. inner-only j x h (λ q. q .string c) (λ q. omega arith) (λ q. omega arith);
@@ -266,7 +259,6 @@ module _ (m : Model) (cs vs : List ℕ) (S : Says m cs vs) where
           finds = λ j w x y q n. lookup-finds m cs vs H S l g (suc u) j w (locals j x y) (globals j x y) (omega arith) q (name j w (omega arith) q) n;
           hidden = λ j w x y q n. out-known cs H (find cs vs H 1 (getD vs j 0) (suc u) j) j (senseIn l w) (locals j x y .gives j w (omega arith) q n);
           runs = λ j w x y q n. out-runs (find cs vs H 1 (getD vs j 0) 0 (length cs)) (senseIn M w) (sm .gives j w (omega arith) q n);
-          pidless = (is-unknown (senseIn l pid) nl, is-unknown (senseIn M pid) nm);
         }
       where
         after-mark : (c : ℕ) → (c-len ≤ c → c-local ≤ c) → c-argument ≤ c → c ≤ c-end-option → ⊥
@@ -280,8 +272,6 @@ module _ (m : Model) (cs vs : List ℕ) (S : Says m cs vs) where
 
         globals : (j : ℕ) → f ≤ j → j < t → Scoped m cs vs (hs m cs vs S) S g 0 j
         globals j x y =
-            let i0 = F .parts in
-            let i1 = F .inner in
             scoped-over m cs vs H S g 0 (suc u) j (omega arith) (λ i a c. inr (λ z. (let q = home-in i a (omega arith) in omega arith))) sg
 
     low-end : (getD cs (suc t) 0 ≡ c-size → ⊥) → (j : ℕ) → f ≤ j → j ≤ suc t → getD cs j 0 ≡ c-size → ⊥
@@ -294,14 +284,7 @@ module _ (m : Model) (cs vs : List ℕ) (S : Says m cs vs) where
 
     -- no size stands where the statements begin
     pub frame-behind : (getD cs (suc t) 0 ≡ c-size → ⊥) → After m cs vs S f
-    frame-behind after = let i2 = F .last in (low-end after f (omega arith) (omega arith), low-end after (suc f) (omega arith) (omega arith))
-
-  -- what is known of the statements of a body: crate `legal_statements`
-  abbrev pub Statements : Type 0
-  Statements =
-      (q : Tree sequence) (from to h : ℕ) (at : Place) → Lying xs 0 (code-tree q) from → to ≡ from + length (code-tree q) → Setting xs cs vs H h from to at → at .labels ≡ labelsOf q →
-      (getD cs (from - 1) 0 ≡ c-option → ⊥)
-      → (Clean m cs vs S from to → both (apart (labelsOf q)) (allowed at false false q) ≡ true) × (both (apart (labelsOf q)) (allowed at false false q) ≡ true → Clean m cs vs S from to)
+    frame-behind after = (low-end after f (omega arith) (omega arith), low-end after (suc f) (omega arith) (omega arith))
 
   -- the frame of a unit, by its items
   pub frame-made : (gs : List Group) (ds : List Declaration) (q : Tree sequence) (u b f t : ℕ) → isUnit (getD cs u 0) ≡ true → b ≡ suc u + length (each code-group gs)
@@ -313,7 +296,6 @@ module _ (m : Model) (cs vs : List ℕ) (S : Says m cs vs) where
       let yt = lies-back xs (i-body ∷ D) T b f (omega arith) (lies-front xs b (i-body ∷ D ++ T) (i-end-body ∷ []) yb) in
       let n : length (i-body ∷ D ++ T) ≡ suc (length D) + length T = length-append (i-body ∷ D) T in
       let ye = lies-back xs (i-body ∷ D ++ T) (i-end-body ∷ []) b t (omega arith) yb in
-      let top = ye .0 in
       let lg = long m cs vs S in
       record {
         head = h;
@@ -328,36 +310,53 @@ module _ (m : Model) (cs vs : List ℕ) (S : Says m cs vs) where
         ends = code-is m cs vs S t i-end-body (ye .0) (ye .1);
       }
 
-  module _ (ruled : Statements) (u b f t : ℕ) (F : Frame u b f t) where
-    pub body-judged : (ds : List Declaration) (q : Tree sequence) (l g M : Scope) → Lying xs 0 (code-tree q) f → t ≡ f + length (code-tree q) → f ≡ suc b + length (each (code-declaration i-local) ds)
-        → Lies xs (suc b) (each (code-declaration i-local) ds) → (getD cs (suc t) 0 ≡ c-size → ⊥) → Sc l (suc u) b → Sc g 0 (suc u) → Sc M 0 (length cs) → Pidless l → Pidless g → Pidless M
-        → J b (suc t) (bodyLawful M g l (body ds q))
-    unfolding bodyLawful
-    body-judged ds q l g M lying et ef y after sl sg sm nl ng nm =
-        let i0 = F .parts in
-        let i1 = F .inner in
-        let i2 = F .last in
-        let top = F .top in
-        let D = declarations-judged m cs vs S g (suc u) (suc u) (suc t) (λ j x z. home-in u b f t F j x (omega arith)) (omega arith) (λ j x z. globals j x (omega arith)) ng ds l
-        (suc b) f ef (omega arith) (omega arith) y (frame-behind u b f t F after) sl2 in
-        let W : Place = record { locals = l ++ scopeOfDeclarations ds; globals = g; model = M; labels = labelsOf q } in
-        let B = both (apart (labelsOf q)) (allowed W false false q) in
-        judges-skip m cs vs S b (suc b) (suc t) (both (declarations g l ds) B) (omega arith) (omega arith) (clean-one m cs vs S b (fault-mark m cs vs S b c-body (marks .0) (F .begin)))
-        (judges-both m cs vs S (suc b) f (suc t) (declarations g l ds) B (omega arith) (omega arith) (D .judged nl)
-        (λ e. (let R = ruled q f t (suc u) W lying et (setting u b f t F (l ++ scopeOfDeclarations ds) g M (labelsOf q) (D .scope) sg sm (D .pidless nl e) nm) refl before in
-        judges-trail m cs vs S f t (suc t) B (omega arith) (omega arith) (record { sound = R .0; complete = R .1 })
-        (clean-one m cs vs S t (fault-mark m cs vs S t c-end-body (marks .1) (F .ends))))))
-      where
-        sl2 : Scoped m cs vs (hs m cs vs S) S l (suc u) (suc b)
-        sl2 = scoped-over m cs vs H S l (suc u) b (suc b) (omega arith) (λ j x z. inl (ap (λ n. among 1 (getD cs n 0)) (let w : j ≡ b = omega arith in w) ∙ ap (among 1) (F .begin)
-            ∙ body-one)) sl
+module _ (m : Model) (cs vs toks : List ℕ) (S : Says m cs vs) (ruled : Statements m cs vs toks) (u b f t : ℕ) (F : Frame m cs vs S u b f t) (after : getD cs (suc t) 0 ≡ c-size → ⊥)
+    (g M : Scope) (sg : Scoped m cs vs (hs m cs vs S) S g 0 (suc u)) (sm : Scoped m cs vs (hs m cs vs S) S M 0 (length cs)) where
+  items-give : {ts : List Token} {ds : List Declaration} {q : Tree sequence} (x : Items ts (body ds q)) (i k : ℕ) (l : Scope) → Span (code m) toks k t (spots-items x i)
+      → f ≡ k + length (each (code-declaration i-local) ds) → suc b ≤ k → Scoped m cs vs (hs m cs vs S) S l (suc u) k → Gives cs vs toks k t (inItems M g l x i)
+  unfolding inItems
+  items-give (statements {ts = ts} {q = q} x) i k l y e n sc =
+      let z : f ≡ k = omega arith in
+      let w = subst (λ j. Span (code m) toks j t (spots-tree x i)) (sym z) y in
+      let W : Place = record { locals = l; globals = g; model = M; labels = labelsOf q } in
+      subst (λ j. Gives cs vs toks j t (inTree W [] false false x i)) z
+      (record {
+        order = F .last;
+        are = ap (faultsFrom cs vs toks f) (let r : t - f ≡ length (spots-tree x i) = omega arith in r) ∙ ruled ts q x i f t (suc u) W (w .stand) (w .ends) (omega arith)
+            (setting m cs vs S u b f t F l g M (labelsOf q) (subst (Scoped m cs vs (hs m cs vs S) S l (suc u)) (sym z) sc) sg sm) refl before;
+      })
+    where
+      before : getD cs (f - 1) 0 ≡ c-option → ⊥
+      before e = go (ℕ-discrete f (suc b))
+        where
+          go : Dec (f ≡ suc b) → ⊥
+          go (yes z) = let c : getD cs (f - 1) 0 ≡ c-body = ap (λ n. getD cs n 0) (let w : f - 1 ≡ b = omega arith in w) ∙ F .begin in omega arith
+          go (no z) = let c = F .own (f - 1) (omega arith) (omega arith) .1 .high (omega arith) in omega arith
+  items-give (declared {ts = ts} {us = us} {d = d} {ds = ds} {q = q} x v z) i k l y e n sc =
+      let X = spots-declaration i-local x i in
+      let i2 = i + length ts + length us in
+      let D = each (code-declaration i-local) ds in
+      let k2 = k + length X in
+      let back = span-back X (spots-items z i2) y in
+      let size = items-long X (code-declaration i-local d) (declaration-code i-local x i) in
+      let sizes : length (code-declaration i-local d ++ D) ≡ length (code-declaration i-local d) + length D = length-append (code-declaration i-local d) D in
+      let af = after-declarations m cs vs S ds k2 (lies-front (code m) k2 D (code-tree q) (span-lies (spots-items z i2) (D ++ code-tree q) back (items-code z i2)))
+      (subst (After m cs vs S) (let r : f ≡ k2 + length D = omega arith in r) (frame-behind m cs vs S u b f t F after)) in
+      let one = local-passed m cs vs toks S (suc u) (suc u) t (λ l. senseOf l g) (λ j a c. home-in m cs vs S u b f t F j a (omega arith))
+      (λ l j w a c r s. named-local m cs vs toks S g l (suc u) j w (omega arith) r s (globals j a (omega arith))) x i k k2 l (span-front X (spots-items z i2) y) (omega arith) (omega arith) af sc in
+      gives-join (one .gives) (items-give z i2 k2 (l ++ scopeOfDeclaration d) back (omega arith) (omega arith) (one .scope))
+    where
+      globals : (j : ℕ) → suc u ≤ j → j ≤ t → Scoped m cs vs (hs m cs vs S) S g 0 j
+      globals j x z = scoped-over m cs vs (hs m cs vs S) S g 0 (suc u) j x (λ i a c. inr (λ w. (let r = home-in m cs vs S u b f t F i a (omega arith) in omega arith))) sg
 
-        globals : (j : ℕ) → suc u ≤ j → j ≤ t → Scoped m cs vs (hs m cs vs S) S g 0 j
-        globals j x z = scoped-over m cs vs H S g 0 (suc u) j x (λ i a c. inr (λ w. (let r = home-in u b f t F i a (omega arith) in omega arith))) sg
-
-        before : getD cs (f - 1) 0 ≡ c-option → ⊥
-        before e = let i1 = F .inner in go (ℕ-discrete f (suc b))
-          where
-            go : Dec (f ≡ suc b) → ⊥
-            go (yes z) = let c : getD cs (f - 1) 0 ≡ c-body = ap (λ n. getD cs n 0) (let w : f - 1 ≡ b = omega arith in w) ∙ F .begin in omega arith
-            go (no z) = let i1 = F .inner in let c = F .own (f - 1) (omega arith) (omega arith) .1 .high (omega arith) in omega arith
+  pub body-gives : {ts : List Token} {ds : List Declaration} {q : Tree sequence} (x : A-body ts (body ds q)) (i : ℕ) (l : Scope) → Span (code m) toks b (suc t) (spots-body x i)
+      → f ≡ suc b + length (each (code-declaration i-local) ds) → Scoped m cs vs (hs m cs vs S) S l (suc u) b → Gives cs vs toks b (suc t) (inBody M g l x i)
+  body-gives (a-body x) i l y e sc =
+      let X = spots-items x (i + 1) in
+      let z = span-tail y in
+      let size = length-append X ((i-end-body, i) ∷ []) in
+      gives-to (suc t) refl (append-nil (inItems M g l x (i + 1)))
+      (gives-skip S y (marks .0)
+      (gives-join (items-give x (i + 1) (suc b) l (subst (λ n. Span (code m) toks (suc b) n X) (let r : suc b + length X ≡ t = omega arith in r) (span-front X ((i-end-body, i) ∷ []) z))
+      e (omega arith) (scoped-next m cs vs (hs m cs vs S) S l (suc u) b (ap (among 1) (F .begin) ∙ body-one) sc))
+      (gives-none S t (ap ruleOf (F .ends) ∙ marks .1))))

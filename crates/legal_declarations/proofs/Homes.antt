@@ -7,9 +7,9 @@ use mathlib.Core.Logic.{_⊎_, inl, inr}
 use mathlib.Core.List.{List}
 use lib.ListN.{length, getD, replicate, length-replicate}
 use lib.Dec.{eqb}
-use borrow.Author.Tests.{ne-eqb, lt-leb}
+use borrow.Author.Tests.{ne-eqb}
 use Rattle.base_ceilings.specs.Ceilings.{itemsMost}
-use Rattle.base_codes.specs.Codes.{c-end-body, c-proctype}
+use Rattle.base_codes.specs.Codes.{c-end-body}
 use Rattle.base_bytes.specs.Choice.{pick}
 use Rattle.rule_sheets.specs.Homes.{insideOf, homeOf, homesOf}
 use Rattle.rule_sheets.proofs.Meaning.{home-at}

@@ -41,7 +41,7 @@ hides-known constant t e = refl
 hides-known (procedure n) t e = refl
 hides-known unknown t e = absurd (true-false e)
 
-pub sense-more : (l : Scope) (d : Declared) (w : Name) → Sure l → senseIn (l ++ d ∷ []) w ≡ hides (senseIn l w) (pick (same (d .name) w) (d .sense) unknown)
+sense-more : (l : Scope) (d : Declared) (w : Name) → Sure l → senseIn (l ++ d ∷ []) w ≡ hides (senseIn l w) (pick (same (d .name) w) (d .sense) unknown)
 unfolding senseIn
 sense-more [] d w u = refl
 sense-more (x ∷ l) d w u = go (same (x .name) w) (sense-more l d w (u .1))
@@ -135,15 +135,13 @@ module _ (m : Model) (cs vs hs : List ℕ) (S : Says m cs vs) where
   pub record Scoped (l : Scope) (h j : ℕ) : Type 0 where
     pub sure : Sure l
     pub gives : (k : ℕ) (w : Name) → k < length cs → itemAt (code m) k ≡ i-name w → same w pid ≡ false → Out cs hs (find cs vs hs 1 (getD vs k 0) h j) j (senseIn l w)
-    -- a `_pid` among them is declared by an item
-    pub pids : isUnknown (senseIn l pid) ≡ false → (d : ℕ) × ((d < j) × (among 1 (getD cs d 0) ≡ true) × (eqb (getD vs (d - 1) 0) 0 ≡ true))
 
   no-zero : (k : ℕ) (w : Name) → k < length cs → itemAt (code m) k ≡ i-name w → same w pid ≡ false → eqb (getD vs k 0) 0 ≡ false
   no-zero k w h e n = S .pids k w h e ∙ n
 
   pub scoped-start : (h : ℕ) → Scoped [] h 0
   unfolding senseIn
-  scoped-start h = record { sure = tt; gives = λ k w a b c. find-start cs vs hs (getD vs k 0) h; pids = λ e. absurd (true-false e) }
+  scoped-start h = record { sure = tt; gives = λ k w a b c. find-start cs vs hs (getD vs k 0) h }
 
   -- an item that declares nothing in this body
   scoped-skip : (l : Scope) (h j : ℕ) → (among 1 (getD cs j 0) ≡ false) ⊎ (getD hs j 0 ≡ h → ⊥) → Scoped l h j → Scoped l h (suc j)
@@ -152,7 +150,6 @@ module _ (m : Model) (cs vs hs : List ℕ) (S : Says m cs vs) where
         sure = s .sure;
         gives = λ k w a b c. (let v = getD vs k 0 in let o = s .gives k w a b c in
             on k w (senseIn l w) o (out-known cs hs (find cs vs hs 1 v h j) j (senseIn l w) o) (find-more cs vs hs v h j (no-zero k w a b c)) (skipped v n));
-        pids = λ e. (let p = s .pids e in (p .0, (let z = p .1 .0 in omega arith, p .1 .1, p .1 .2)));
       }
     where
       skipped : (v : ℕ) → (among 1 (getD cs j 0) ≡ false) ⊎ (getD hs j 0 ≡ h → ⊥) → declares cs vs hs 1 v h j ≡ false
@@ -177,6 +174,10 @@ module _ (m : Model) (cs vs hs : List ℕ) (S : Says m cs vs) where
   pub scoped-over : (l : Scope) (h i e : ℕ) → i ≤ e → ((j : ℕ) → i ≤ j → j < e → (among 1 (getD cs j 0) ≡ false) ⊎ (getD hs j 0 ≡ h → ⊥)) → Scoped l h i → Scoped l h e
   scoped-over l h i e b p s = subst (Scoped l h) (let z : i + (e - i) ≡ e = omega arith in z) (scoped-far (e - i) l h i (λ j c d. p j c (omega arith)) s)
 
+  -- one item
+  pub scoped-next : (l : Scope) (h j : ℕ) → among 1 (getD cs j 0) ≡ false → Scoped l h j → Scoped l h (suc j)
+  scoped-next l h j e s = scoped-skip l h j (inl e) s
+
   -- an item that declares a name, which stands before it
   pub scoped-more : (l : Scope) (h k : ℕ) (w : Name) (t : Sense) → suc k < length cs → itemAt (code m) k ≡ i-name w → among 1 (getD cs (suc k) 0) ≡ true → getD hs (suc k) 0 ≡ h
       → isUnknown t ≡ false → Out cs hs (suc k) (suc (suc k)) t → Scoped l h (suc k) → Scoped (l ++ declared w t ∷ []) h (suc (suc k))
@@ -190,7 +191,6 @@ module _ (m : Model) (cs vs hs : List ℕ) (S : Says m cs vs) where
             subst (Out cs hs (find cs vs hs 1 v h (suc j)) (suc j)) (sym (sense-more l (declared w t) x (s .sure)))
             (on i (senseIn l x) (same w x) o (out-known cs hs (find cs vs hs 1 v h j) j (senseIn l x) o) (find-more cs vs hs v h j (no-zero i x c d n))
             (declares-is cs vs hs v h j a g ∙ ap (λ y. eqb (getD vs y 0) v) (let z : suc k - 1 ≡ k = omega arith in z) ∙ S .names k i w x (omega arith) c q d)));
-        pids = λ e. pid-there (same w pid) refl (senseIn l pid) refl (ap isUnknown (sym (sense-more l (declared w t) pid (s .sure))) ∙ e);
       }
     where
       on : (i : ℕ) (y : Sense) (r : Bool) → Out cs hs (find cs vs hs 1 (getD vs i 0) h (suc k)) (suc k) y → ltb (find cs vs hs 1 (getD vs i 0) h (suc k)) (suc k) ≡ not (isUnknown y)
@@ -202,14 +202,6 @@ module _ (m : Model) (cs vs hs : List ℕ) (S : Says m cs vs) where
       on i (procedure n) r o e p d = out-further cs hs _ _ (suc k) (procedure n) refl (p ∙ rw e refl) o
       on i unknown true o e p d = subst (λ x. Out cs hs x (suc (suc k)) t) (sym (p ∙ rw (e, d) refl)) f
       on i unknown false o e p d = p ∙ rw (e, d) refl
-
-      pid-there : (r : Bool) → same w pid ≡ r → (y : Sense) → senseIn l pid ≡ y → isUnknown (hides y (pick r t unknown)) ≡ false
-          → (d : ℕ) × ((d < suc (suc k)) × (among 1 (getD cs d 0) ≡ true) × (eqb (getD vs (d - 1) 0) 0 ≡ true))
-      pid-there true e y z p = (suc k, (omega arith, a, ap (λ n. eqb (getD vs n 0) 0) (let z : suc k - 1 ≡ k = omega arith in z) ∙ S .pids k w (omega arith) q ∙ e))
-      pid-there false e (variable c x) z p = let r = s .pids (ap isUnknown z) in (r .0, (let z = r .1 .0 in omega arith, r .1 .1, r .1 .2))
-      pid-there false e constant z p = let r = s .pids (ap isUnknown z) in (r .0, (let z = r .1 .0 in omega arith, r .1 .1, r .1 .2))
-      pid-there false e (procedure n) z p = let r = s .pids (ap isUnknown z) in (r .0, (let z = r .1 .0 in omega arith, r .1 .1, r .1 .2))
-      pid-there false e unknown z p = absurd (true-false p)
 
   -- ---- what a name means, in body h with the locals l behind the globals g
   out-finds : (d j : ℕ) (s : Sense) → getD cs j 0 ≡ c-name → Out cs hs d j s → Finds cs d s

@@ -1,4 +1,4 @@
--- Items that stand at places of a model's code, and their codes.
+-- Items that stand at places of a model's code, and their codes; and items with their tokens (`Span`).
 use Prim.Native.Nat.{ℕ, zero, suc, _+_, _≤_, _<_}
 use native.Mathlib.Omega.{arith}
 use native.Mathlib.Decide.{ℕ-discrete}
@@ -12,7 +12,9 @@ use Rattle.spec_grammar.specs.Tree.{Model}
 use Rattle.base_codes.specs.Items.{Item, codeOf, i-plain}
 use Rattle.parse_code.specs.Code.{code}
 use Rattle.table_entries.specs.Items.{Known, AllKnown}
+use Rattle.parse_spots.specs.Spots.{Spot, items}
 use Rattle.legal_terms.specs.Says.{itemAt, Says}
+use Rattle.legal_terms.specs.Faulted.{Stand}
 use Rattle.legal_declarations.proofs.Items.{spoken, valued, settled, declaring, Low, Calm, spoken-code, valued-code, settled-code, declaring-code, settled-declaring, All}
 
 -- the items l stand in the items xs from item k on
@@ -82,3 +84,45 @@ module _ (m : Model) (cs vs : List ℕ) (S : Says m cs vs) where
   pub settled-at : (j : ℕ) → j < length (code m) → settled (itemAt (code m) j) ≡ true → (getD cs j 0 ≤ c-field) × Calm (getD cs j 0)
   settled-at j h e =
       (let a = settled-code (itemAt (code m) j) (known-at j h) e in let b = code-at j h in omega arith, declaring-at j h (settled-declaring (itemAt (code m) j) e))
+
+-- ---- items with their tokens, from item k to before item e
+pub record Span (xs : List Item) (toks : List ℕ) (k e : ℕ) (s : List Spot) : Type 0 where
+  pub ends : e ≡ k + length s
+  pub room : e ≤ length xs
+  pub stand : Stand xs toks k s
+
+pub items-long : (s : List Spot) (l : List Item) → items s ≡ l → length s ≡ length l
+items-long s l e = sym (length-map s (λ (x : Spot). x .0)) ∙ ap length e
+
+module _ (xs : List Item) (toks : List ℕ) where
+  stand-front : (x y : List Spot) (k : ℕ) → Stand xs toks k (x ++ y) → Stand xs toks k x
+  stand-front [] y k h = tt
+  stand-front (a ∷ x) y k h = (h .0, h .1, stand-front x y (suc k) (h .2))
+
+  stand-back : (x y : List Spot) (k j : ℕ) → j ≡ k + length x → Stand xs toks k (x ++ y) → Stand xs toks j y
+  stand-back [] y k j e h = subst (λ n. Stand xs toks n y) (let z : k ≡ j = omega arith in z) h
+  stand-back (a ∷ x) y k j e h = stand-back x y (suc k) j (omega arith) (h .2)
+
+module _ {xs : List Item} {toks : List ℕ} where
+  pub span-front : {k e : ℕ} (x y : List Spot) → Span xs toks k e (x ++ y) → Span xs toks k (k + length x) x
+  span-front {k} x y h = record { ends = refl; room = omega (arith, h .ends, h .room, length-append x y); stand = stand-front xs toks x y k (h .stand) }
+
+  pub span-back : {k e : ℕ} (x y : List Spot) → Span xs toks k e (x ++ y) → Span xs toks (k + length x) e y
+  span-back {k} x y h = record { ends = omega (arith, h .ends, length-append x y); room = h .room; stand = stand-back xs toks x y k (k + length x) refl (h .stand) }
+
+  pub span-tail : {k e : ℕ} {x : Spot} {s : List Spot} → Span xs toks k e (x ∷ s) → Span xs toks (suc k) e s
+  span-tail h = record { ends = omega (arith, h .ends); room = h .room; stand = h .stand .2 }
+
+  pub span-lies : {k e : ℕ} (s : List Spot) (l : List Item) → Span xs toks k e s → items s ≡ l → Lies xs k l
+  span-lies {k} s l h q = subst (Lies xs k) q (go s k (omega arith) (h .stand))
+    where
+      go : (s : List Spot) (k : ℕ) → k + length s ≤ length xs → Stand xs toks k s → Lies xs k (items s)
+      go [] k b y = tt
+      go (x ∷ s) k b y = (omega arith, y .0, go s (suc k) (omega arith) (y .2))
+
+module _ {m : Model} {cs vs toks : List ℕ} (S : Says m cs vs) {k e : ℕ} {x : Item} {n : ℕ} {s : List Spot} (y : Span (code m) toks k e ((x, n) ∷ s)) where
+  pub span-room : (k < length (code m)) × (k < length cs)
+  span-room = let l = long m cs vs S in (omega arith, omega arith)
+
+  pub span-code : getD cs k 0 ≡ codeOf x
+  span-code = code-is m cs vs S k x (span-room .0) (y .stand .0)

@@ -1,1 +1,1 @@
-// That the rules on the items of a model are those of its tree is theorems alone (proofs/).
+// That the faults of the items of a model are those of its derivation is theorems alone (proofs/).

@@ -2,6 +2,7 @@
 use Prim.Native.Nat.{ℕ, _≤_}
 use native.Mathlib.Omega.{arith}
 use mathlib.Core.Path.{_≡_, refl, sym as inv, ap, _∙_}
+use mathlib.Core.Option.{none}
 use mathlib.Core.Bool.{Bool, true, false, not}
 use mathlib.Core.List.{List, map}
 use lib.ListN.{length}
@@ -13,7 +14,7 @@ use Rattle.base_bytes.proofs.Tests.{true-false}
 use Rattle.base_kinds.specs.Kinds.{Token}
 use Rattle.spec_grammar.specs.Tree.{Model}
 use Rattle.spec_grammar.specs.Grammar.{Gram}
-use Rattle.text_spacing_proof.specs.Writing.{tokensIn}
+use Rattle.spec_text.specs.Writing.{tokensIn}
 use Rattle.parse_machine_proof.specs.Machine.{place-of}
 use Rattle.parse_machine_proof.specs.Answer.{parsed}
 use Rattle.parse_machine_proof.proofs.Main.{accepts}
@@ -27,7 +28,12 @@ use Rattle.read_entry.specs.Entries.{readOf}
 use Rattle.spec_rules.specs.Units.{modelLawful}
 use Rattle.spec_rules.specs.Ceilings as ceilings
 use Rattle.legal_terms.specs.Says.{Says}
-use Rattle.legal_items.specs.Legal.{Legal}
+use Rattle.spec_text.specs.Placed.{Placed}
+use Rattle.text_tokens.specs.Reading.{tokens, reading}
+use Rattle.text_spacing_proof.proofs.Exact.{reading-exact}
+use Rattle.spec_grammar.specs.Depth.{too-deep}
+use Rattle.spec_refusals.specs.Texts.{Tokens}
+use Rattle.spec_refusals.specs.Legal.{Legal}
 use Rattle.legal_items.proofs.Says.{text-says}
 use Rattle.legal_items.proofs.Modest.{passed-modest}
 
@@ -35,25 +41,27 @@ denied : (b : Bool) → not b ≡ false → b ≡ true
 denied true e = refl
 denied false e = absurd (true-false e)
 
+-- the tokens of a text are those of its layout
+pub laid-tokens : (t : List ℕ) (ps : List Placed) → reading t ≡ tokens ps → Tokens t ps
+laid-tokens t ps e = let (l, h, k) = reading-exact t ps .0 e in record { laid = l; short = h; few = k }
+
+pub tokens-read : (t : List ℕ) (ps : List Placed) → Tokens t ps → reading t ≡ tokens ps
+tokens-read t ps l = reading-exact t ps .1 (l .laid, l .short, l .few)
+
 -- the first half of what acceptance means
 pub accepted-parses : (t : List ℕ) → Accepts t → Grammatical t
 accepted-parses t a = record { parts = a .parts; reads = a .reads; tree = a .tree; gram = a .gram; shallow = a .shallow; numbers = a .numbers; written = a .written; coded = a .coded }
 
 -- a text with a tree that is not too deep has its items
+unfoldable pub text-parses : (t : List ℕ) (ps : List Placed) (m : Model) → Tokens t ps → Gram (tokensIn t ps) m → too-deep (tokensIn t ps) ≡ none → Grammatical t
+text-parses t ps m l g d =
+    let ts = tokensIn t ps in
+    let r = tokens-read t ps l in
+    let (o, h, c) = accepts ts (all-proper t ps) (short t ps r) itemsMost (omega arith) m g d in
+    record { parts = ps; reads = r; tree = m; gram = g; shallow = d; numbers = o; written = ap (λ (ks : List ℕ). parsed ks itemsMost) (inv (kinds-are t ps)) ∙ h; coded = c }
+
 pub legal-parses : (t : List ℕ) → Legal t → Grammatical t
-legal-parses t l =
-    let ts = tokensIn t (l .parts) in
-    let (o, h, c) = accepts ts (all-proper t (l .parts)) (short t (l .parts) (l .reads)) itemsMost (omega arith) (l .tree) (l .gram) (l .shallow) in
-    record {
-      parts = l .parts;
-      reads = l .reads;
-      tree = l .tree;
-      gram = l .gram;
-      shallow = l .shallow;
-      numbers = o;
-      written = ap (λ (ks : List ℕ). parsed ks itemsMost) (inv (kinds-are t (l .parts))) ∙ h;
-      coded = c;
-    }
+legal-parses t l = text-parses t (l .parts) (l .tree) (l .reads) (l .gram) (l .shallow)
 
 -- what the rules say of every tree
 module _ (rules : (m : Model) (ts : List Token) → Gram ts m → (cs vs toks : List ℕ) → Says m cs vs
@@ -66,7 +74,7 @@ module _ (rules : (m : Model) (ts : List Token) → Gram ts m → (cs vs toks : 
       let s = text-says t p in
       record {
         parts = a .parts;
-        reads = a .reads;
+        reads = laid-tokens t (a .parts) (a .reads);
         tree = a .tree;
         gram = a .gram;
         shallow = a .shallow;
@@ -75,7 +83,7 @@ module _ (rules : (m : Model) (ts : List Token) → Gram ts m → (cs vs toks : 
       }
 
   pub lawful-accepted : (t : List ℕ) → Legal t → judgeOf t ≡ Accepted
-  unfolding legal-parses
+  unfolding legal-parses text-parses
   lawful-accepted t l =
       let p = legal-parses t l in
       let s = text-says t p in

@@ -1,38 +1,45 @@
--- LISTS OF ARGUMENTS have no fault exactly where each argument is lawful, and the item that ends them where there are as many as what began them asks for.
+-- LISTS OF ARGUMENTS have the faults of each argument, and the item that ends them has one where there are not as many as what began them asks for.
 use Prim.Native.Nat.{ℕ, suc, _+_, _-_, _<_}
 use native.Mathlib.Omega.{arith}
 use native.Mathlib.Decide.{decLt}
-use mathlib.Core.Path.{_≡_, refl, sym, ap, ap₂, _∙_}
+use mathlib.Core.Path.{_≡_, refl, sym, ap, ap₂, subst, _∙_}
 use mathlib.Core.Bool.{Bool, true, false}
-use mathlib.Core.List.{List, [], _∷_, _++_}
-use lib.ListN.{length, getD}
+use mathlib.Core.List.{List, [], _∷_, _++_, append-nil, map-append}
+use lib.ListN.{length, getD, length-map}
 use lib.Dec.{eqb}
 use borrow.Author.Tests.{ne-eqb, eq-eqb, lt-leb}
-use Rattle.base_codes.specs.Codes.{c-argument, c-constant, c-end, c-equal, c-false, c-into, c-number, c-run, c-send, c-text, c-true}
-use Rattle.base_bytes.specs.Choice.{pick, both}
+use Rattle.base_codes.specs.Codes.{c-argument, c-constant, c-end, c-equal, c-false, c-into, c-number, c-run, c-send, c-set-run, c-text, c-true}
+use Rattle.base_bytes.specs.Choice.{pick}
 use Rattle.base_bytes.proofs.Tests.{true-false}
+use Rattle.base_kinds.specs.Kinds.{Token}
 use Rattle.rule_sheets.specs.Walks.{after, sum}
 use Rattle.rule_search.specs.Sets.{among}
 use Rattle.rule_search.specs.Search.{last, opener, one, count}
-use Rattle.rule_item.specs.Rules.{roleOf, badHeight, badCount, badEnd, badBy}
+use Rattle.rule_item.specs.Rules.{roleOf, badCount, badEnd, badBy}
+use Rattle.rule_least.specs.Faults.{placeBy}
 use Rattle.link_phrases_proof.proofs.Inside.{all-inside, phrase-inside, mark-outside, text-outside}
 use Rattle.spec_grammar.specs.Tree.{Shape, Exp, Expr, Received, into, equal, exactly, exactly-true, exactly-false}
+use Rattle.spec_grammar.specs.Grammar as gram
+use Rattle.spec_grammar.specs.Grammar.{Listed, more, Maybe-listed, no-list, a-list, Message, commas, call, An-expression, A-received, r-into, r-eval, r-number, r-true, r-false}
 use Rattle.base_codes.specs.Items.{Item, codeOf, i-argument, i-constant, i-end, i-equal, i-false, i-into, i-number, i-true}
 use Rattle.base_codes.specs.Sets.{ruleOf, isPart}
 use Rattle.parse_code.specs.Code.{each, code-exp, code-argument, code-received}
-use Rattle.spec_rules.specs.Expressions.{operand, received, whole}
-use Rattle.spec_rules.specs.Statements.{all, sense, receives}
-use Rattle.legal_statements.specs.Scene.{Scene, homes, starts, heights, clean, StandsIn}
-use Rattle.legal_statements.proofs.Tests.{both-last}
-use Rattle.legal_statements.proofs.Stands.{front, back, next, code-at, proper, home, clean-append, clean-one, clean-none, fine-by, fine-free}
-use Rattle.legal_statements.proofs.Phrases.{marked-fault, rules-none}
+use Rattle.parse_spots.specs.Spots.{Spot, items, spots-listed, spots-maybe, spots-message, spots-argument, spots-received}
+use Rattle.parse_spots.proofs.Coded.{exp-code, listed-code, maybe-code, message-code}
+use Rattle.spec_rules.specs.Senses.{Scope}
+use Rattle.spec_rules.specs.Expressions.{operand, received}
+use Rattle.spec_rules.specs.Statements.{sense}
+use Rattle.spec_faults.specs.Faults.{Faults, faultAt, inList, inMaybe, inMessage, nothing, inArgument, inReceived}
+use Rattle.legal_statements.specs.Scene.{Scene, homes, faults, StandsIn, SpotsIn}
+use Rattle.legal_statements.proofs.Stands.{front, back, next, home, erased, code-at, code-of, proper, faults-none, faults-both, faults-last, fault-by, free-first, free-one}
+use Rattle.legal_statements.proofs.Phrases.{marked-fault, marked-behind, rules-none}
 
 -- ---- items that begin no arguments, and how many mark one
-abbrev pub Unopened : List Item → Type 0
+abbrev Unopened : List Item → Type 0
 Unopened [] = Unit {0}
 Unopened (x ∷ l) = (among 4 (codeOf x) ≡ false) × Unopened l
 
-unfoldable pub marks : List Item → ℕ
+unfoldable marks : List Item → ℕ
 marks [] = 0
 marks (x ∷ l) = pick (among 5 (codeOf x)) 1 0 + marks l
 
@@ -77,11 +84,11 @@ argument-marks : ((among 4 c-argument ≡ false) × (among 4 c-into ≡ false) �
 unfolding among
 argument-marks = ((refl, refl, refl, refl), (refl, refl, refl, refl), (refl, refl, refl), (refl, refl, refl))
 
-pub mark-rules : (ruleOf c-argument ≡ 2) × (ruleOf c-into ≡ 2) × (ruleOf c-equal ≡ 17) × (ruleOf c-constant ≡ 0) × (ruleOf c-end ≡ 16)
+mark-rules : (ruleOf c-argument ≡ 2) × (ruleOf c-into ≡ 2) × (ruleOf c-equal ≡ 17) × (ruleOf c-constant ≡ 0) × (ruleOf c-end ≡ 16)
 unfolding ruleOf
 mark-rules = (refl, refl, refl, refl, refl)
 
-pub mark-roles : (roleOf c-argument ≡ 0) × (roleOf c-into ≡ 3) × (roleOf c-equal ≡ 0)
+mark-roles : (roleOf c-argument ≡ 0) × (roleOf c-into ≡ 3) × (roleOf c-equal ≡ 0)
 unfolding roleOf
 mark-roles = (refl, refl, refl)
 
@@ -97,16 +104,18 @@ marked-two : (y x : Item) → among 4 (codeOf y) ≡ false → among 5 (codeOf y
 unfolding marks
 marked-two y x a b c d = ((a, (c, tt)), rw (b, d) refl)
 
+-- ---- the items of arguments without their tokens
+argument-code : (ts : List Token) (e : Expr) (x : An-expression ts e) (n : ℕ) → items (spots-argument ts e x n) ≡ code-argument e
+argument-code ts e x n = simp (map-append, exp-code x n)
+
+received-code : (ts : List Token) (r : Received) (x : A-received ts r) (n : ℕ) → items (spots-received ts r x n) ≡ code-received r
+received-code _ _ (r-into x) n = simp (map-append, exp-code x n)
+received-code _ _ (r-eval x) n = simp (map-append, exp-code x (n + 2))
+received-code _ _ r-number n = refl
+received-code _ _ r-true n = refl
+received-code _ _ r-false n = refl
+
 module _ (S : Scene) where
-  -- the rules that judge heights
-  pub height-rule : (j : ℕ) → badBy (S .cs) (S .vs) (homes S) (starts S) (heights S) 2 j ≡ badHeight (heights S) j
-  unfolding badBy
-  height-rule j = refl
-
-  pub height-rule-behind : (j : ℕ) → badBy (S .cs) (S .vs) (homes S) (starts S) (heights S) 17 j ≡ badHeight (heights S) j
-  unfolding badBy
-  height-rule-behind j = refl
-
   -- ---- walks over items
   last-step : (i : ℕ) → last (S .cs) 4 (suc i) ≡ pick (among 4 (getD (S .cs) i 0)) (suc i) (last (S .cs) 4 i)
   unfolding last after
@@ -133,24 +142,26 @@ module _ (S : Scene) where
   count-marks x l k j e s = ap (sum (one (S .cs) (homes S) 5 (S .h)) k) (let z : j - k ≡ suc (length l) = omega arith in z) ∙ sum-marks (x ∷ l) k s
 
   -- ---- one argument
-  pub argument-fault : (e : Expr) (i : ℕ) → StandsIn S i (code-argument e) → clean S i (code-argument e) ≡ whole (sense (S .at)) e
-  argument-fault e i s = marked-fault S e operand i-argument i 2 s refl (mark-roles .0) (mark-rules .0) height-rule
+  argument-fault : (scope : Scope) (ts : List Token) (e : Expr) (x : An-expression ts e) (i n : ℕ) → SpotsIn S i (spots-argument ts e x n)
+      → faults S i (spots-argument ts e x n) ≡ inArgument (sense (S .at)) scope ts e x n
+  argument-fault scope ts e x i n s = marked-fault S x operand i-argument i n s (mark-roles .0) (mark-rules .0)
 
   argument-one : (e : Expr) (i : ℕ) → StandsIn S i (code-argument e) → Unopened (code-argument e) × (marks (code-argument e) ≡ 1)
   argument-one e i s = marked-one e i-argument (phrase-inside e (proper S e i (front S (code-exp e) (i-argument ∷ []) i s))) (argument-marks .0 .0) (argument-marks .1 .0)
 
-  constant-fault : (x : Item) (c i : ℕ) → codeOf x ≡ c → ruleOf c ≡ 0 → StandsIn S i (x ∷ i-constant ∷ []) → clean S i (x ∷ i-constant ∷ []) ≡ true
-  constant-fault x c i e r s =
-      clean-one S x (i-constant ∷ []) i
-      ∙ ap₂ both (fine-free S i c (code-at S x (i-constant ∷ []) i s ∙ e) r)
-      (clean-one S i-constant [] (suc i) ∙ ap₂ both (fine-free S (suc i) c-constant (code-at S i-constant [] (suc i) (next S x (i-constant ∷ []) i s)) (mark-rules .3)) (clean-none S (suc (suc i))))
+  constant-fault : (x : Item) (i n : ℕ) → ruleOf (codeOf x) ≡ 0 → SpotsIn S i ((x, n) ∷ (i-constant, n) ∷ []) → faults S i ((x, n) ∷ (i-constant, n) ∷ []) ≡ []
+  constant-fault x i n r s =
+      let a : Spot = (x, n) in
+      let c : Spot = (i-constant, n) in
+      free-first S a (c ∷ []) i s r ∙ free-one S c (suc i) (next S a (c ∷ []) i s) (mark-rules .3)
 
-  pub received-fault : (x : Received) (i : ℕ) → StandsIn S i (code-received x) → clean S i (code-received x) ≡ receives (S .at) x
-  received-fault (into r) i s = marked-fault S r received i-into i 2 s tt (mark-roles .1) (mark-rules .1) height-rule
-  received-fault (equal e) i s = marked-fault S e operand i-equal i 17 s refl (mark-roles .2) (mark-rules .2) height-rule-behind
-  received-fault (exactly n) i s = constant-fault (i-number n) c-number i refl (rules-none .1) s
-  received-fault exactly-true i s = constant-fault i-true c-true i refl (rules-none .2) s
-  received-fault exactly-false i s = constant-fault i-false c-false i refl (rules-none .3) s
+  received-fault : (scope : Scope) (ts : List Token) (r : Received) (x : A-received ts r) (i n : ℕ) → SpotsIn S i (spots-received ts r x n)
+      → faults S i (spots-received ts r x n) ≡ inReceived (sense (S .at)) scope ts r x n
+  received-fault scope _ _ (r-into x) i n s = marked-fault S x received i-into i n s (mark-roles .1) (mark-rules .1)
+  received-fault scope _ _ (r-eval x) i n s = marked-behind S x i-equal i n s (mark-roles .2) (mark-rules .2)
+  received-fault scope _ _ (r-number {n = v}) i n s = constant-fault (i-number v) i n (rules-none .1) s
+  received-fault scope _ _ r-true i n s = constant-fault i-true i n (rules-none .2) s
+  received-fault scope _ _ r-false i n s = constant-fault i-false i n (rules-none .3) s
 
   received-one : (x : Received) (i : ℕ) → StandsIn S i (code-received x) → Unopened (code-received x) × (marks (code-received x) ≡ 1)
   received-one (into r) i s = marked-one r i-into (phrase-inside r (proper S r i (front S (code-exp r) (i-into ∷ []) i s))) (argument-marks .0 .1) (argument-marks .1 .1)
@@ -160,14 +171,38 @@ module _ (S : Scene) where
   received-one exactly-false i s = marked-two i-false i-constant (argument-marks .2 .2) (argument-marks .3 .2) (argument-marks .0 .3) (argument-marks .1 .3)
 
   -- ---- lists of them
-  module _ {A : Type 0} (f : A → List Item) (good : A → Bool) (judged : (a : A) (i : ℕ) → StandsIn S i (f a) → clean S i (f a) ≡ good a)
-      (single : (a : A) (i : ℕ) → StandsIn S i (f a) → Unopened (f a) × (marks (f a) ≡ 1)) where
-    each-fault : (l : List A) (i : ℕ) → StandsIn S i (each f l) → clean S i (each f l) ≡ all good l
-    each-fault [] i s = clean-none S i
-    each-fault (a ∷ l) i s =
-        clean-append S (f a) (each f l) i (i + length (f a)) refl
-        ∙ ap₂ both (judged a i (front S (f a) (each f l) i s)) (each-fault l (i + length (f a)) (back S (f a) (each f l) i (i + length (f a)) refl s))
+  module _ {A : Type 0} (X : List Token → A → Type 0) (f : (ts : List Token) (a : A) → X ts a → ℕ → List Spot) (g : Scope → (ts : List Token) (a : A) → X ts a → ℕ → Faults)
+      (judged : (scope : Scope) (ts : List Token) (a : A) (x : X ts a) (i n : ℕ) → SpotsIn S i (f ts a x n) → faults S i (f ts a x n) ≡ g scope ts a x n) where
+    two-faults : {ts : List Token} {a : A} (x : X ts a) (r : List Spot) (scope : Scope) (i n : ℕ) {h : Faults} → SpotsIn S i (f ts a x n ++ r) → ((k : ℕ) → SpotsIn S k r → faults S k r ≡ h)
+        → faults S i (f ts a x n ++ r) ≡ g scope ts a x n ++ h
+    two-faults {ts} {a} x r scope i n s h =
+        let F = f ts a x n in
+        let k = i + length F in
+        faults-both S F r i k refl (judged scope ts a x i n (front S F r i s)) (h k (back S F r i k refl s))
 
+    listed-fault : {s : Token} {ts : List Token} {l : List A} (x : Listed s X ts l) (scope : Scope) (i n : ℕ) → SpotsIn S i (spots-listed X f x n)
+        → faults S i (spots-listed X f x n) ≡ inList X g nothing scope x n
+    unfolding inList
+    listed-fault (gram.one {ts = ts} {a = a} x) scope i n s = ap (faults S i) (append-nil (f ts a x n)) ∙ judged scope ts a x i n (front S (f ts a x n) [] i s)
+    listed-fault (more {ts = ts} {a = a} x y) scope i n s = two-faults x (spots-listed X f y (n + length ts + 1)) scope i n s (λ k t. listed-fault y (scope ++ []) k (n + length ts + 1) t)
+
+    maybe-fault : {s : Token} {ts : List Token} {l : List A} (x : Maybe-listed s X ts l) (scope : Scope) (i n : ℕ) → SpotsIn S i (spots-maybe X f x n)
+        → faults S i (spots-maybe X f x n) ≡ inMaybe X g nothing scope x n
+    unfolding inMaybe
+    maybe-fault no-list scope i n s = faults-none S i
+    maybe-fault (a-list x) scope i n s = listed-fault x scope i n s
+
+    message-fault : {ts : List Token} {l : List A} (x : Message X ts l) (scope : Scope) (i n : ℕ) → SpotsIn S i (spots-message X f x n)
+        → faults S i (spots-message X f x n) ≡ inMessage X g nothing scope x n
+    unfolding inMessage
+    message-fault (commas x) scope i n s = listed-fault x scope i n s
+    message-fault (call {ts = ts} {a = a} x y) scope i n s = two-faults x (spots-listed X f y (n + length ts + 1)) scope i n s (λ k t. listed-fault y (scope ++ []) k (n + length ts + 1) t)
+
+  -- these are the items of such a list, and wherever they stand they have these faults
+  abbrev pub Told : {A : Type 0} → (A → List Item) → List Spot → List A → Faults → Type 0
+  Told f M l g = (items M ≡ each f l) × ((i : ℕ) → SpotsIn S i M → faults S i M ≡ g)
+
+  module _ {A : Type 0} (f : A → List Item) (single : (a : A) (i : ℕ) → StandsIn S i (f a) → Unopened (f a) × (marks (f a) ≡ 1)) where
     each-unopened : (l : List A) (i : ℕ) → StandsIn S i (each f l) → Unopened (each f l)
     each-unopened [] i s = tt
     each-unopened (a ∷ l) i s =
@@ -180,33 +215,60 @@ module _ (S : Scene) where
         marks-append (f a) (each f l)
         ∙ ap₂ _+_ (single a i (front S (f a) (each f l) i s) .1) (each-marks l (i + length (f a)) (back S (f a) (each f l) i (i + length (f a)) refl s)) ∙ omega arith
 
-    pub list-fault : (x : Item) (l : List A) (k : ℕ) → StandsIn S k (x ∷ (each f l ++ i-end ∷ [])) → among 4 (codeOf x) ≡ true → among 5 (codeOf x) ≡ false
-        → clean S (suc k) (each f l ++ i-end ∷ []) ≡ both (all good l) (eqb (badCount (S .cs) (S .vs) (homes S) k (length l)) 0)
-    unfolding badBy badEnd opener marks
-    list-fault x l k s o n =
+    -- the item that ends them, behind what began them
+    end-fault : (x : Spot) (M : List Spot) (l : List A) (t k b p : ℕ) {g : Faults} → SpotsIn S k (x ∷ (M ++ (i-end, t) ∷ [])) → Told f M l g → among 4 (codeOf (x .0)) ≡ true
+        → among 5 (codeOf (x .0)) ≡ false → badCount (S .cs) (S .vs) (homes S) k (length l) ≡ b
+        → pick (eqb (codeOf (x .0)) c-set-run) (getD (S .toks) (k - 2) 0) t ≡ p → faults S (suc k) (M ++ (i-end, t) ∷ []) ≡ g ++ faultAt b p
+    unfolding badBy badEnd opener marks placeBy
+    end-fault x M l t k b p s told o n c q =
         let L = each f l in
-        let j = suc k + length L in
-        let after-x = next S x (L ++ i-end ∷ []) k s in
-        let L-stands = front S L (i-end ∷ []) (suc k) after-x in
-        let ends = back S L (i-end ∷ []) (suc k) j refl after-x in
-        let u = each-unopened l (suc k) L-stands in
+        let y = x .0 in
+        let m : Spot = (i-end, t) in
+        let j = suc k + length M in
+        let e = told .0 in
+        let z : items (M ++ m ∷ []) ≡ L ++ i-end ∷ [] = simp (map-append, e) in
+        let many : length M ≡ length L = sym (length-map M (λ (x : Spot). x .0)) ∙ ap length e in
+        let stands : StandsIn S k (y ∷ (L ++ i-end ∷ [])) = subst (λ (l : List Item). StandsIn S k (y ∷ l)) z (erased S (x ∷ (M ++ m ∷ [])) k s) in
+        let L-stands = front S L (i-end ∷ []) (suc k) (next S y (L ++ i-end ∷ []) k stands) in
+        let after-x = next S x (M ++ m ∷ []) k s in
+        let ends = back S M (m ∷ []) (suc k) j refl after-x in
+        let it = code-at S y (L ++ i-end ∷ []) k stands in
         let open′ : last (S .cs) 4 j - 1 ≡ k =
-        ap (_- 1) (last-over L (suc k) j refl L-stands u ∙ last-step k ∙ ap (λ (b : Bool). pick b (suc k) (last (S .cs) 4 k)) (ap (among 4) (code-at S x (L ++ i-end ∷ []) k s) ∙ o))
+        ap (_- 1) (last-over L (suc k) j (omega arith) L-stands (each-unopened l (suc k) L-stands) ∙ last-step k ∙ ap (λ (b : Bool). pick b (suc k) (last (S .cs) 4 k)) (ap (among 4) it ∙ o))
         ∙ omega arith in
-        let many : count (S .cs) (homes S) 5 (S .h) k j ≡ length l =
-        count-marks x L k j refl (front S (x ∷ L) (i-end ∷ []) k s) ∙ ap₂ _+_ (ap (λ (b : Bool). pick b 1 0) n) (each-marks l (suc k) L-stands) ∙ omega arith in
-        let judged-end : eqb (badBy (S .cs) (S .vs) (homes S) (starts S) (heights S) 16 j) 0 ≡ eqb (badCount (S .cs) (S .vs) (homes S) k (length l)) 0 =
-        rw (open′, home S i-end [] j ends, many) refl in
-        clean-append S L (i-end ∷ []) (suc k) j refl
-        ∙ ap₂ both (each-fault l (suc k) L-stands)
-        (clean-one S i-end [] j
-        ∙ ap₂ both (fine-by S j c-end 16 (code-at S i-end [] j ends) (mark-rules .4) ∙ judged-end) (clean-none S (suc j)) ∙ both-last (eqb (badCount (S .cs) (S .vs) (homes S) k (length l)) 0))
+        let counted : count (S .cs) (homes S) 5 (S .h) k j ≡ length l =
+        count-marks y L k j (omega arith) (front S (y ∷ L) (i-end ∷ []) k stands) ∙ rw (n, each-marks l (suc k) L-stands) (omega arith) in
+        faults-last S M m (suc k) j refl (told .1 (suc k) (front S M (m ∷ []) (suc k) after-x))
+        (fault-by S j c-end 16 b p (code-of S m [] j ends) (mark-rules .4) (rw (open′, home S m [] j ends, counted) c) (rw (open′, it, ends .items .0 .1) q))
 
   -- arguments, and received ones
-  pub arguments-fault : (x : Item) (l : List Expr) (k : ℕ) → StandsIn S k (x ∷ (each code-argument l ++ i-end ∷ [])) → among 4 (codeOf x) ≡ true → among 5 (codeOf x) ≡ false
-      → clean S (suc k) (each code-argument l ++ i-end ∷ []) ≡ both (all (whole (sense (S .at))) l) (eqb (badCount (S .cs) (S .vs) (homes S) k (length l)) 0)
-  arguments-fault x l k s o n = list-fault code-argument (whole (sense (S .at))) argument-fault argument-one x l k s o n
+  module _ (x : Spot) (M : List Spot) where
+    pub arguments-fault : (l : List Expr) (t k b p : ℕ) {g : Faults} → SpotsIn S k (x ∷ (M ++ (i-end, t) ∷ [])) → Told code-argument M l g → among 4 (codeOf (x .0)) ≡ true
+        → among 5 (codeOf (x .0)) ≡ false → badCount (S .cs) (S .vs) (homes S) k (length l) ≡ b
+        → pick (eqb (codeOf (x .0)) c-set-run) (getD (S .toks) (k - 2) 0) t ≡ p → faults S (suc k) (M ++ (i-end, t) ∷ []) ≡ g ++ faultAt b p
+    arguments-fault = end-fault code-argument argument-one x M
 
-  pub receiveds-fault : (x : Item) (l : List Received) (k : ℕ) → StandsIn S k (x ∷ (each code-received l ++ i-end ∷ [])) → among 4 (codeOf x) ≡ true → among 5 (codeOf x) ≡ false
-      → clean S (suc k) (each code-received l ++ i-end ∷ []) ≡ both (all (receives (S .at)) l) (eqb (badCount (S .cs) (S .vs) (homes S) k (length l)) 0)
-  receiveds-fault x l k s o n = list-fault code-received (receives (S .at)) received-fault received-one x l k s o n
+    pub receiveds-fault : (l : List Received) (t k b p : ℕ) {g : Faults} → SpotsIn S k (x ∷ (M ++ (i-end, t) ∷ [])) → Told code-received M l g → among 4 (codeOf (x .0)) ≡ true
+        → among 5 (codeOf (x .0)) ≡ false → badCount (S .cs) (S .vs) (homes S) k (length l) ≡ b
+        → pick (eqb (codeOf (x .0)) c-set-run) (getD (S .toks) (k - 2) 0) t ≡ p → faults S (suc k) (M ++ (i-end, t) ∷ []) ≡ g ++ faultAt b p
+    receiveds-fault = end-fault code-received received-one x M
+
+  pub listed-arguments : {s : Token} {ts : List Token} {es : List Expr} (x : Listed s An-expression ts es) (n : ℕ)
+      → Told code-argument (spots-listed An-expression spots-argument x n) es (inList An-expression (inArgument (sense (S .at))) nothing [] x n)
+  listed-arguments x n =
+      (listed-code An-expression spots-argument code-argument argument-code x n, λ i s. listed-fault An-expression spots-argument (inArgument (sense (S .at))) argument-fault x [] i n s)
+
+  pub maybe-arguments : {s : Token} {ts : List Token} {es : List Expr} (x : Maybe-listed s An-expression ts es) (n : ℕ)
+      → Told code-argument (spots-maybe An-expression spots-argument x n) es (inMaybe An-expression (inArgument (sense (S .at))) nothing [] x n)
+  maybe-arguments x n =
+      (maybe-code An-expression spots-argument code-argument argument-code x n, λ i s. maybe-fault An-expression spots-argument (inArgument (sense (S .at))) argument-fault x [] i n s)
+
+  pub message-arguments : {ts : List Token} {es : List Expr} (x : Message An-expression ts es) (n : ℕ)
+      → Told code-argument (spots-message An-expression spots-argument x n) es (inMessage An-expression (inArgument (sense (S .at))) nothing [] x n)
+  message-arguments x n =
+      (message-code An-expression spots-argument code-argument argument-code x n, λ i s. message-fault An-expression spots-argument (inArgument (sense (S .at))) argument-fault x [] i n s)
+
+  pub message-receiveds : {ts : List Token} {rs : List Received} (x : Message A-received ts rs) (n : ℕ)
+      → Told code-received (spots-message A-received spots-received x n) rs (inMessage A-received (inReceived (sense (S .at))) nothing [] x n)
+  message-receiveds x n =
+      (message-code A-received spots-received code-received received-code x n, λ i s. message-fault A-received spots-received (inReceived (sense (S .at))) received-fault x [] i n s)

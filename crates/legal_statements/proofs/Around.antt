@@ -1,13 +1,13 @@
--- What stands around a statement: the labels before it, the loops that it is in, whether it begins an option, and whether an earlier option of the selection begins with `else`.
+-- What stands around a statement: the labels before it, the loops that it is in, and whether an `else` may stand there.
 use Prim.Native.Nat.{ℕ, suc, _+_, _-_, _≤_, _<_}
 use native.Mathlib.Omega.{arith}
 use mathlib.Core.Path.{_≡_, refl, sym, ap, ap₂, _∙_}
 use mathlib.Core.Bool.{Bool, true, false, not}
 use mathlib.Core.List.{List, [], _∷_, _++_}
 use lib.ListN.{length, getD, length-append}
-use lib.Dec.{eqb, ltb, leb}
-use borrow.Author.Tests.{lt-ltb, le-ltb, ltb-true, ltb-false, le-leb, lt-leb, leb-true, leb-false, ne-eqb, eqb-true, eqb-false}
-use Rattle.base_codes.specs.Codes.{c-break, c-do, c-else, c-end-option, c-fi, c-goto, c-if, c-label, c-name, c-od, c-option, c-skip, c-timeout}
+use lib.Dec.{eqb, ltb}
+use borrow.Author.Tests.{lt-ltb, le-ltb, ltb-true, ltb-false, ne-eqb}
+use Rattle.base_codes.specs.Codes.{c-break, c-do, c-else, c-end-option, c-fi, c-goto, c-if, c-label, c-od, c-option, c-skip, c-timeout}
 use Rattle.base_bytes.specs.Choice.{pick, both, either}
 use Rattle.base_bytes.specs.Lists.{same}
 use Rattle.spec_text.specs.Names.{pid}
@@ -20,43 +20,17 @@ use Rattle.spec_grammar.specs.Tree.{Name, Shape, Exp, Sort, action, statement, 
 use Rattle.base_codes.specs.Items.{Item, codeOf, i-assert, i-assign, i-break, i-decrement, i-do, i-else, i-end, i-end-option, i-express, i-fi, i-goto, i-if, i-increment, i-label, i-name, i-od, i-option, i-receive, i-run, i-send, i-set-run, i-skip, i-target, i-text, i-timeout}
 use Rattle.base_codes.specs.Sets.{ruleOf}
 use Rattle.parse_code.specs.Code.{each, code-exp, code-argument, code-received, code-tree}
+use Rattle.parse_spots.specs.Spots.{Spot, items}
 use Rattle.spec_rules.specs.Statements.{has, isElse}
+use Rattle.spec_faults.specs.Faults.{unless}
 use Rattle.legal_terms.specs.Says.{itemAt}
-use Rattle.legal_statements.specs.Scene.{Scene, xs, homes, starts, heights, fine, clean, StandsIn}
-use Rattle.legal_statements.proofs.Tests.{both-last, told-five}
-use Rattle.legal_statements.proofs.Stands.{front, back, next, inside, code-at, proper, home, clean-one, clean-none, fine-by, fine-free}
+use Rattle.legal_statements.specs.Scene.{Scene, xs, homes, starts, heights, fault, faults, StandsIn, SpotsIn}
+use Rattle.legal_statements.proofs.Stands.{front, back, next, inside, home, erased, code-at, code-of, proper, faults-one, fault-by, place-own, place-before, free-first}
 use Rattle.legal_statements.proofs.Uses.{pid-told}
 use Rattle.legal_statements.proofs.Phrases.{rules-none}
 use Rattle.legal_statements.proofs.Arguments.{inner-code}
 use Rattle.legal_statements.proofs.Walks.{find-any, twin-option}
 use Rattle.legal_statements.proofs.Passing.{codes-sets, has-append, before, label, Passing, one-no, one-yes, label-no, pass-dull, passing}
-
--- ---- how many options may begin with `else`: none behind one that does
-abbrev pub quota : Bool → Bool → ℕ → Bool
-quota first twinned n = pick first (leb n (pick twinned 0 1)) true
-
-pub quota-zero : (first twinned : Bool) → quota first twinned 0 ≡ true
-quota-zero true true = refl
-quota-zero true false = refl
-quota-zero false twinned = refl
-
--- of two options, where the first may begin with it
-pub quota-two : (twinned : Bool) (x y : ℕ) → both (leb x (pick twinned 0 1)) (leb y (pick (either twinned (eqb x 1)) 0 1)) ≡ leb (x + y) (pick twinned 0 1)
-quota-two true x y = go (leb x 0) refl
-  where
-    go : (b : Bool) → leb x 0 ≡ b → both b (leb y 0) ≡ leb (x + y) 0
-    go true e = ap (λ n. leb n 0) (let z = leb-true x 0 e in let q : y ≡ x + y = omega arith in q)
-    go false e = sym (lt-leb (x + y) 0 (let z = leb-false x 0 e in omega arith))
-quota-two false x y = go (leb x 1) refl (eqb x 1) refl
-  where
-    go : (b : Bool) → leb x 1 ≡ b → (c : Bool) → eqb x 1 ≡ c → both b (leb y (pick c 0 1)) ≡ leb (x + y) 1
-    go false e c f = sym (lt-leb (x + y) 1 (let z = leb-false x 1 e in omega arith))
-    go true e false f = ap (λ n. leb n 1) (let z = leb-true x 1 e in let q = eqb-false x 1 f in let r : y ≡ x + y = omega arith in r)
-    go true e true f = one (leb y 0) refl
-      where
-        one : (d : Bool) → leb y 0 ≡ d → d ≡ leb (x + y) 1
-        one true g = sym (le-leb (x + y) 1 (let z = leb-true y 0 g in let q = eqb-true x 1 f in omega arith))
-        one false g = sym (lt-leb (x + y) 1 (let z = leb-false y 0 g in let q = eqb-true x 1 f in omega arith))
 
 -- ---- rules
 pub silent : (ruleOf c-skip ≡ 0) × (ruleOf c-timeout ≡ 0) × (ruleOf c-if ≡ 0) × (ruleOf c-fi ≡ 0) × (ruleOf c-do ≡ 0) × (ruleOf c-od ≡ 0) × (ruleOf c-option ≡ 0) × (ruleOf c-end-option ≡ 0)
@@ -68,21 +42,13 @@ unfolding ruleOf
 judged = (refl, refl, refl, refl)
 
 -- ---- tests
-goto-told : (b : Bool) → eqb (pick b 0 4) 0 ≡ b
-goto-told true = refl
-goto-told false = refl
-
-label-told : (b : Bool) → eqb (pick b 4 0) 0 ≡ not b
+label-told : (b : Bool) → pick {A = ℕ} b 4 0 ≡ pick (not b) 0 4
 label-told true = refl
 label-told false = refl
 
-else-told : (first twinned t : Bool) → (first ≡ true → t ≡ twinned) → eqb (pick first (pick t 5 0) 5) 0 ≡ both (quota first twinned 1) first
-else-told true twinned t f = ap (λ (b : Bool). eqb (pick b 5 0) 0) (f refl) ∙ go twinned
-  where
-    go : (b : Bool) → eqb (pick b 5 0) 0 ≡ both (leb 1 (pick b 0 1)) true
-    go true = refl
-    go false = refl
-else-told false twinned t f = refl
+else-told : (b : Bool) → pick {A = ℕ} (not b) 5 0 ≡ pick b 0 5
+else-told true = refl
+else-told false = refl
 
 less-told : (a d : ℕ) (b : Bool) → ltb 0 d ≡ b → ltb a (a + d) ≡ b
 less-told a d true e = lt-ltb a (a + d) (let z = ltb-true 0 d e in omega arith)
@@ -100,15 +66,21 @@ module _ (S : Scene) where
     pub opened : before S 7 i ≡ before S 8 i + depth
     pub told : ltb 0 depth ≡ loops
 
-  -- whether it begins an option, and then, whether an earlier one of the selection begins with `else`
-  abbrev pub Here : ℕ → Bool → Bool → Type 0
-  Here i first twinned = (eqb (getD (S .cs) (i - 1) 0) c-option ≡ first) × (first ≡ true → twin (S .cs) (i - 1) 1 ≡ twinned)
+  -- whether an `else` may stand there; of options, whether no earlier one of the selection begins with it
+  abbrev pub Around : Sort → ℕ → Bool → Type 0
+  Around action i may = badElse (S .cs) i ≡ pick may 0 5
+  Around statement i may = badElse (S .cs) i ≡ pick may 0 5
+  Around sequence i may = badElse (S .cs) i ≡ pick may 0 5
+  Around options i may = twin (S .cs) i 1 ≡ not may
 
-  abbrev pub Around : Sort → ℕ → Bool → Bool → Type 0
-  Around action i first twinned = Here i first twinned
-  Around statement i first twinned = Here i first twinned
-  Around sequence i first twinned = Here i first twinned
-  Around options i first twinned = (first ≡ true) × (twin (S .cs) i 1 ≡ twinned)
+  -- behind another item than `option` it may not, behind `option` where the options say so
+  pub else-never : (i : ℕ) → eqb (getD (S .cs) (i - 1) 0) c-option ≡ false → badElse (S .cs) i ≡ 5
+  unfolding badElse
+  else-never i e = rw e refl
+
+  pub else-first : (i : ℕ) (may : Bool) → getD (S .cs) i 0 ≡ c-option → twin (S .cs) i 1 ≡ not may → badElse (S .cs) (suc i) ≡ pick may 0 5
+  unfolding badElse
+  else-first i may e f = let z : suc i - 1 ≡ i = omega arith in rw (z, e, f) (else-told may)
 
   -- ---- behind one item
   pub prior-next : (x : Item) (l : List Item) (i : ℕ) (ls : List Name) → StandsIn S i (x ∷ l) → eqb (codeOf x) c-label ≡ false → Prior i ls → Prior (suc i) ls
@@ -183,7 +155,7 @@ module _ (S : Scene) where
   begins-with : (x : Item) (l : List Item) (i : ℕ) (b : Bool) → StandsIn S i (x ∷ l) → eqb (codeOf x) c-else ≡ b → eqb (getD (S .cs) i 0) c-else ≡ b
   begins-with x l i b s e = ap (λ n. eqb n c-else) (code-at S x l i s) ∙ e
 
-  action-begins : (a : Tree action) (i : ℕ) → StandsIn S i (code-tree a) → eqb (getD (S .cs) i 0) c-else ≡ eqb (isElse a) 1
+  action-begins : (a : Tree action) (i : ℕ) → StandsIn S i (code-tree a) → eqb (getD (S .cs) i 0) c-else ≡ not (eqb (isElse a) 0)
   action-begins (leaf (express e)) i s = begins-exp e (i-express ∷ []) i s
   action-begins (leaf (assign r e)) i s = begins-exp r (i-target ∷ code-exp e) i (front S (code-exp r ++ i-target ∷ code-exp e) (i-assign ∷ []) i s)
   action-begins (leaf (increment r)) i s = begins-exp r (i-increment ∷ []) i s
@@ -203,106 +175,89 @@ module _ (S : Scene) where
   action-begins (select os) i s = begins-with i-if (code-tree os ++ i-fi ∷ []) i false s refl
   action-begins (loop os) i s = begins-with i-do (code-tree os ++ i-od ∷ []) i false s refl
 
-  option-begins : (q : Tree sequence) (l : List Item) (i : ℕ) → StandsIn S i (code-tree q ++ (i-end-option ∷ l)) → eqb (getD (S .cs) i 0) c-else ≡ eqb (isElse q) 1
+  option-begins : (q : Tree sequence) (l : List Item) (i : ℕ) → StandsIn S i (code-tree q ++ (i-end-option ∷ l)) → eqb (getD (S .cs) i 0) c-else ≡ not (eqb (isElse q) 0)
   option-begins end l i s = begins-with i-end-option l i false s refl
   option-begins (then (bare a) q) l i s = action-begins a i (front S (code-tree a) (code-tree q) i (front S (code-tree a ++ code-tree q) (i-end-option ∷ l) i s))
   option-begins (then (labelled w a) q) l i s = begins-with (i-name w) (i-label ∷ ((code-tree a ++ code-tree q) ++ (i-end-option ∷ l))) i false s refl
 
   -- ---- behind an option the walk back finds it, where it begins with `else`, or what it found before it
-  pub option-seen : (q : Tree sequence) (l : List Item) (i k : ℕ) (twinned : Bool) → k ≡ suc i + length (code-tree q) → StandsIn S i (i-option ∷ (code-tree q ++ (i-end-option ∷ l)))
-      → twin (S .cs) i 1 ≡ twinned
-      → twin (S .cs) (suc k) 1 ≡ either twinned (eqb (isElse q) 1)
-  option-seen q l i k twinned e s t =
+  pub option-seen : (q : Tree sequence) (l : List Item) (i k : ℕ) (may : Bool) → k ≡ suc i + length (code-tree q) → StandsIn S i (i-option ∷ (code-tree q ++ (i-end-option ∷ l)))
+      → twin (S .cs) i 1 ≡ not may → twin (S .cs) (suc k) 1 ≡ not (both may (eqb (isElse q) 0))
+  option-seen q l i k may e s t =
       let Q = code-tree q in
       let n = next S i-option (Q ++ (i-end-option ∷ l)) i s in
       let z : i + 1 ≡ suc i = omega arith in
       pass-dull S i-end-option l k (back S Q (i-end-option ∷ l) (suc i) k e n) refl .walk 1 (omega arith)
       ∙ passing S q (suc i) k e (front S Q (i-end-option ∷ l) (suc i) n) .walk 1 (omega arith)
       ∙ twin-option (S .cs) i (code-at S i-option (Q ++ (i-end-option ∷ l)) i s)
-      ∙ ap₂ (λ (a b : Bool). pick a true b) (ap (λ m. eqb (getD (S .cs) m 0) c-else) z ∙ option-begins q l (suc i) n) t ∙ turn (eqb (isElse q) 1) twinned
+      ∙ ap₂ (λ (a b : Bool). pick a true b) (ap (λ m. eqb (getD (S .cs) m 0) c-else) z ∙ option-begins q l (suc i) n) t ∙ turn (eqb (isElse q) 0) may
     where
-      turn : (a b : Bool) → pick a true b ≡ either b a
+      turn : (a b : Bool) → pick (not a) true (not b) ≡ not (both b a)
       turn true true = refl
       turn true false = refl
       turn false true = refl
       turn false false = refl
 
   -- ---- one item each: label, goto, break, else
-  goto-rule : (j : ℕ) → badBy (S .cs) (S .vs) (homes S) (starts S) (heights S) 9 j ≡ badGoto (S .cs) (S .vs) (homes S) j
-  unfolding badBy
-  goto-rule j = refl
+  -- the name of a goto is found among the labels of the body
+  abbrev pub Goes : Type 0
+  Goes =
+      (x : ℕ) (w : Name) → S .from ≤ x → x < S .to → itemAt (xs S) x ≡ i-name w
+      → ltb (find (S .cs) (S .vs) (homes S) 2 (getD (S .vs) x 0) (S .h) (length (S .cs))) (length (S .cs)) ≡ both (not (same w pid)) (has (S .at .labels) w)
 
-  break-rule : (j : ℕ) → badBy (S .cs) (S .vs) (homes S) (starts S) (heights S) 3 j ≡ badBreak (S .cs) (homes S) j
-  unfolding badBy
-  break-rule j = refl
+  goto-is : (i : ℕ) (b : Bool) → getD (homes S) (suc i) 0 ≡ S .h → ltb (find (S .cs) (S .vs) (homes S) 2 (getD (S .vs) i 0) (S .h) (length (S .cs))) (length (S .cs)) ≡ b
+      → badBy (S .cs) (S .vs) (homes S) (starts S) (heights S) 9 (suc i) ≡ pick b 0 4
+  unfolding badBy badGoto
+  goto-is i b g e = let z : suc i - 1 ≡ i = omega arith in rw (z, g, e) refl
+
+  pub goto-fault : (w : Name) (i n : ℕ) → SpotsIn S i ((i-name w, n + 1) ∷ (i-goto, n) ∷ []) → Goes
+      → faults S i ((i-name w, n + 1) ∷ (i-goto, n) ∷ []) ≡ unless (both (not (same w pid)) (has (S .at .labels) w)) 4 (n + 1)
+  goto-fault w i n s goes =
+      let a : Spot = (i-name w, n + 1) in
+      let m : Spot = (i-goto, n) in
+      let t = next S a (m ∷ []) i s in
+      let b = both (not (same w pid)) (has (S .at .labels) w) in
+      free-first S a (m ∷ []) i s (rules-none .0)
+      ∙ faults-one S m (suc i)
+      (fault-by S (suc i) c-goto 9 (pick b 0 4) (n + 1) (code-of S m [] (suc i) t) (judged .1)
+      (goto-is i b (home S m [] (suc i) t) (goes i w (s .low) (inside S a (m ∷ []) i s) (s .items .0 .0))) (place-before S 9 i (n + 1) refl refl (s .items .0 .1)))
+
+  break-is : (i : ℕ) (b : Bool) → getD (homes S) i 0 ≡ S .h → ltb (before S 8 i) (before S 7 i) ≡ b → badBy (S .cs) (S .vs) (homes S) (starts S) (heights S) 3 i ≡ pick b 0 5
+  unfolding badBy badBreak
+  break-is i b g e = rw (g, e) refl
+
+  pub break-fault : (i n : ℕ) (loops : Bool) → SpotsIn S i ((i-break, n) ∷ []) → Deep i loops → faults S i ((i-break, n) ∷ []) ≡ unless loops 5 n
+  break-fault i n loops s p =
+      let m : Spot = (i-break, n) in
+      faults-one S m i
+      (fault-by S i c-break 3 (pick loops 0 5) n (code-of S m [] i s) (judged .2)
+      (break-is i loops (home S m [] i s) (ap (ltb (before S 8 i)) (p .opened) ∙ less-told (before S 8 i) (p .depth) loops (p .told))) (place-own S 3 i n refl (s .items .0 .1)))
 
   else-rule : (j : ℕ) → badBy (S .cs) (S .vs) (homes S) (starts S) (heights S) 4 j ≡ badElse (S .cs) j
   unfolding badBy
   else-rule j = refl
 
-  label-rule : (j : ℕ) → badBy (S .cs) (S .vs) (homes S) (starts S) (heights S) 7 j ≡ badTwice (S .cs) (S .vs) (homes S) 2 j
-  unfolding badBy
-  label-rule j = refl
+  pub else-fault : (i n : ℕ) (may : Bool) → SpotsIn S i ((i-else, n) ∷ []) → badElse (S .cs) i ≡ pick may 0 5 → faults S i ((i-else, n) ∷ []) ≡ unless may 5 n
+  else-fault i n may s p =
+      let m : Spot = (i-else, n) in
+      faults-one S m i (fault-by S i c-else 4 (pick may 0 5) n (code-of S m [] i s) (judged .3) (else-rule i ∙ p) (place-own S 4 i n refl (s .items .0 .1)))
 
-  -- the name of a goto is found among the labels of the body
-  abbrev pub Goes : List Name → Type 0
-  Goes ls =
-      (x : ℕ) (w : Name) → S .from ≤ x → x < S .to → itemAt (xs S) x ≡ i-name w → ltb (find (S .cs) (S .vs) (homes S) 2 (getD (S .vs) x 0) (S .h) (length (S .cs))) (length (S .cs)) ≡ has ls w
-
-  goto-is : (i : ℕ) → getD (homes S) (suc i) 0 ≡ S .h
-      → badGoto (S .cs) (S .vs) (homes S) (suc i) ≡ pick (ltb (find (S .cs) (S .vs) (homes S) 2 (getD (S .vs) i 0) (S .h) (length (S .cs))) (length (S .cs))) 0 4
-  unfolding badGoto
-  goto-is i g = let z : suc i - 1 ≡ i = omega arith in rw (z, g) refl
-
-  pub goto-fault : (w : Name) (i : ℕ) (ls : List Name) → StandsIn S i (code-tree (leaf (goto w))) → Goes ls → clean S i (code-tree (leaf (goto w))) ≡ has ls w
-  goto-fault w i ls s goes =
-      let n = next S (i-name w) (i-goto ∷ []) i s in
-      clean-one S (i-name w) (i-goto ∷ []) i
-      ∙ ap₂ both (fine-free S i c-name (code-at S (i-name w) (i-goto ∷ []) i s) (rules-none .0))
-      (clean-one S i-goto [] (suc i)
-      ∙ ap₂ both
-      (fine-by S (suc i) c-goto 9 (code-at S i-goto [] (suc i) n) (judged .1) ∙ ap (λ k. eqb k 0) (goto-rule (suc i) ∙ goto-is i (home S i-goto [] (suc i) n))
-      ∙ goto-told (ltb (find (S .cs) (S .vs) (homes S) 2 (getD (S .vs) i 0) (S .h) (length (S .cs))) (length (S .cs))) ∙ goes i w (s .low) (inside S (i-name w) (i-goto ∷ []) i s) (s .items .0))
-      (clean-none S (suc (suc i)))
-      ∙ both-last (has ls w))
-
-  break-is : (i : ℕ) → getD (homes S) i 0 ≡ S .h → badBreak (S .cs) (homes S) i ≡ pick (ltb (before S 8 i) (before S 7 i)) 0 5
-  unfolding badBreak
-  break-is i g = rw g refl
-
-  pub break-fault : (i : ℕ) (loops : Bool) → StandsIn S i (i-break ∷ []) → Deep i loops → clean S i (i-break ∷ []) ≡ loops
-  break-fault i loops s p =
-      clean-one S i-break [] i
-      ∙ ap₂ both
-      (fine-by S i c-break 3 (code-at S i-break [] i s) (judged .2) ∙ ap (λ k. eqb k 0) (break-rule i ∙ break-is i (home S i-break [] i s)) ∙ told-five (ltb (before S 8 i) (before S 7 i))
-      ∙ ap (ltb (before S 8 i)) (p .opened) ∙ less-told (before S 8 i) (p .depth) loops (p .told))
-      (clean-none S (suc i))
-      ∙ both-last loops
-
-  else-is : (i : ℕ) (first : Bool) → eqb (getD (S .cs) (i - 1) 0) c-option ≡ first → badElse (S .cs) i ≡ pick first (pick (twin (S .cs) (i - 1) 1) 5 0) 5
-  unfolding badElse
-  else-is i first e = rw e refl
-
-  pub else-fault : (i : ℕ) (first twinned : Bool) → StandsIn S i (i-else ∷ []) → Here i first twinned → clean S i (i-else ∷ []) ≡ both (quota first twinned 1) first
-  else-fault i first twinned s p =
-      clean-one S i-else [] i
-      ∙ ap₂ both
-      (fine-by S i c-else 4 (code-at S i-else [] i s) (judged .3) ∙ ap (λ k. eqb k 0) (else-rule i ∙ else-is i first (p .0)) ∙ else-told first twinned (twin (S .cs) (i - 1) 1) (p .1))
-      (clean-none S (suc i))
-      ∙ both-last (both (quota first twinned 1) first)
-
-  label-is : (i : ℕ) → getD (homes S) (suc i) 0 ≡ S .h
-      → badTwice (S .cs) (S .vs) (homes S) 2 (suc i) ≡ pick (either (eqb (getD (S .vs) i 0) 0) (ltb (find (S .cs) (S .vs) (homes S) 2 (getD (S .vs) i 0) (S .h) (suc i)) (suc i))) 4 0
-  unfolding badTwice
-  label-is i g = let z : suc i - 1 ≡ i = omega arith in rw (z, g) refl
+  label-is : (i : ℕ) (b : Bool) → getD (homes S) (suc i) 0 ≡ S .h
+      → either (eqb (getD (S .vs) i 0) 0) (ltb (find (S .cs) (S .vs) (homes S) 2 (getD (S .vs) i 0) (S .h) (suc i)) (suc i)) ≡ b
+      → badBy (S .cs) (S .vs) (homes S) (starts S) (heights S) 7 (suc i) ≡ pick (not b) 0 4
+  unfolding badBy badTwice
+  label-is i b g e = let z : suc i - 1 ≡ i = omega arith in rw (z, g, e) (label-told b)
 
   -- a label is none of those before it
-  pub label-fault : (w : Name) (l : List Item) (i : ℕ) (ls : List Name) → StandsIn S i (i-name w ∷ i-label ∷ l) → Prior i ls → fine S (suc i) ≡ not (either (same w pid) (has ls w))
-  label-fault w l i ls s p =
-      let n = next S (i-name w) (i-label ∷ l) i s in
-      fine-by S (suc i) c-label 7 (code-at S i-label l (suc i) n) (judged .0) ∙ ap (λ k. eqb k 0) (label-rule (suc i) ∙ label-is i (home S i-label l (suc i) n))
-      ∙ label-told (either (eqb (getD (S .vs) i 0) 0) (ltb (find (S .cs) (S .vs) (homes S) 2 (getD (S .vs) i 0) (S .h) (suc i)) (suc i)))
-      ∙ ap not (go (same w pid) (pid-told S i w (s .items .0) (s .low) (inside S (i-name w) (i-label ∷ l) i s)))
+  pub label-fault : (w : Name) (l : List Spot) (i n : ℕ) (ls : List Name) → SpotsIn S i ((i-name w, n) ∷ (i-label, n) ∷ l) → Prior i ls
+      → fault S (suc i) ≡ unless (not (either (same w pid) (has ls w))) 4 n
+  label-fault w l i n ls s p =
+      let a : Spot = (i-name w, n) in
+      let m : Spot = (i-label, n) in
+      let t = next S a (m ∷ l) i s in
+      fault-by S (suc i) c-label 7 (pick (not (either (same w pid) (has ls w))) 0 4) n (code-of S m l (suc i) t) (judged .0)
+      (label-is i (either (same w pid) (has ls w)) (home S m l (suc i) t) (go (same w pid) (pid-told S i w (s .items .0 .0) (s .low) (inside S a (m ∷ l) i s))))
+      (place-before S 7 i n refl refl (s .items .0 .1))
     where
       go : (b : Bool) → eqb (getD (S .vs) i 0) 0 ≡ b
           → either (eqb (getD (S .vs) i 0) 0) (ltb (find (S .cs) (S .vs) (homes S) 2 (getD (S .vs) i 0) (S .h) (suc i)) (suc i)) ≡ either b (has ls w)
@@ -310,4 +265,4 @@ module _ (S : Scene) where
       go false e =
           ap₂ either e
           (find-any (S .cs) (S .vs) (homes S) 2 (getD (S .vs) i 0) (S .h) (suc i) e
-          ∙ prior-next (i-name w) (i-label ∷ l) i ls s refl p i w (let a = s .high in let b = S .within in omega arith) (s .items .0))
+          ∙ prior-next (i-name w) (i-label ∷ items l) i ls (erased S ((i-name w, n) ∷ (i-label, n) ∷ l) i s) refl p i w (let a = s .high in let b = S .within in omega arith) (s .items .0 .0))

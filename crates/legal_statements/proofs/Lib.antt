@@ -1,12 +1,10 @@
-pub mod Tests
 pub mod Stands
 pub mod Uses
 pub mod Phrases
 pub mod Arguments
 pub mod Walks
 pub mod Passing
-pub mod Statements
-pub mod Labels
 pub mod Around
+pub mod Statements
 pub mod Trees
 pub mod Main

@@ -1,36 +1,34 @@
--- EXPRESSIONS have no fault exactly where their names are usable, and with the mark behind them where they are lawful.
+-- EXPRESSIONS have the faults of their names, and with the mark behind them that of their height.
 use Prim.Native.Nat.{ℕ, suc, _+_, _-_, _≤_, min}
 use native.Mathlib.Omega.{arith}
-use mathlib.Core.Path.{_≡_, refl, sym, ap, ap₂, subst, _∙_}
+use mathlib.Core.Path.{_≡_, refl, sym, ap, subst, _∙_}
 use mathlib.Core.Bool.{Bool, true, false}
 use mathlib.Core.List.{List, [], _∷_, _++_, append-nil}
-use lib.ListN.{length, getD, length-append, length-replicate}
+use lib.ListN.{length, getD, length-append, length-map, length-replicate}
 use lib.Dec.{eqb, ltb, leb}
 use borrow.Author.Tests.{lt-ltb, le-ltb, lt-leb, leb-true, leb-false, ne-eqb}
 use Rattle.base_ceilings.specs.Ceilings.{heightMost, itemsMost}
 use Rattle.base_codes.specs.Codes.{c-argument, c-assert, c-break, c-channel, c-choice, c-declared, c-else, c-end, c-equal, c-express, c-false, c-field, c-goto, c-increment, c-index, c-init, c-into, c-label, c-len, c-message, c-mtypes, c-named, c-negate, c-otherwise, c-parameter, c-plain, c-run, c-send, c-size, c-target, c-true, c-name, c-number, c-text}
-use Rattle.base_bytes.specs.Choice.{pick, both}
-use Rattle.rule_least.specs.Faults.{blank}
+use Rattle.base_bytes.specs.Choice.{pick}
+use Rattle.rule_least.specs.Faults.{blank, placeBy}
 use Rattle.rule_item.specs.Rules.{roleOf, badHeight, badBy}
 use Rattle.spec_rules.specs.Heights.{height}
 use Rattle.link_phrases_proof.proofs.Starts.{phrase-starts}
 use Rattle.link_phrases_proof.proofs.Heights.{phrase-heights}
-use Rattle.spec_grammar.specs.Tree.{Shape, expression, reference, Exp, plain, indexed, num, tru, fls, get, query, unary, binary, choice}
-use Rattle.spec_grammar.specs.Grammar.{Is-unary, is-minus, is-not, is-flip}
-use Rattle.spec_rules.specs.Expressions.{Role, operand, channel, usable, named, lawful}
+use Rattle.spec_grammar.specs.Tree.{Shape, Exp, Expr, plain, indexed, num, tru, fls, get, query, unary, binary, choice}
+use Rattle.spec_grammar.specs.Grammar.{Is-unary, is-minus, is-not, is-flip, E, e-plain, e-index, e-number, e-true, e-false, e-query, e-group, e-choice, e-unary, e-binary, e-up}
+use Rattle.spec_rules.specs.Expressions.{Role, operand, channel}
 use Rattle.spec_rules.specs.Statements.{sense}
-use Rattle.legal_statements.specs.Scene.{Scene, homes, starts, heights, fine, clean, StandsIn}
-use Rattle.legal_statements.proofs.Tests.{both-turn, both-group, both-last}
-use Rattle.legal_statements.proofs.Stands.{front, back, next, inside, code-at, codes-at, proper, home, clean-append, clean-one, clean-none, fine-by, fine-free}
+use Rattle.spec_faults.specs.Faults.{inExpr, inWhole}
+use Rattle.legal_statements.specs.Scene.{Scene, homes, starts, heights, faults, StandsIn, SpotsIn}
+use Rattle.legal_statements.proofs.Stands.{front, back, next, inside, home, erased, code-at, code-of, codes-at, proper, faults-both, faults-one, faults-last, fault-by, free-first, free-one, free-last}
 use Rattle.legal_statements.proofs.Uses.{number, reference-fault}
 use Rattle.base_codes.specs.Items.{Item, codeOf, i-binary, i-choice, i-false, i-index, i-query, i-name, i-number, i-otherwise, i-plain, i-true, i-unary}
 use Rattle.base_codes.specs.Sets.{ruleOf}
 use Rattle.parse_code.specs.Code.{code-exp}
-
--- an expression is an operand; a reference is what the item behind it says
-abbrev pub Stood : Shape → Role → Type 0
-Stood expression role = role ≡ operand
-Stood reference role = Unit {0}
+use Rattle.base_kinds.specs.Kinds.{Token}
+use Rattle.parse_spots.specs.Spots.{Spot, spots-exp}
+use Rattle.parse_spots.proofs.Coded.{exp-code}
 
 -- ---- items with no rule, and the roles that they give what stands before them
 pub rules-none : (ruleOf c-name ≡ 0) × (ruleOf c-number ≡ 0) × (ruleOf c-true ≡ 0) × (ruleOf c-false ≡ 0) × (ruleOf c-len ≡ 0) × (ruleOf c-otherwise ≡ 0) × (ruleOf c-choice ≡ 0)
@@ -89,10 +87,10 @@ unfolding roleOf
 roles = (refl, refl, refl, refl, refl, refl, refl, refl)
 
 -- ---- heights
-height-told : (n k : ℕ) → n ≡ min (heightMost + 1) k → eqb (pick (ltb heightMost n) 2 0) 0 ≡ leb k heightMost
+height-told : (n k : ℕ) → n ≡ min (heightMost + 1) k → pick {A = ℕ} (ltb heightMost n) 2 0 ≡ pick (leb k heightMost) 0 2
 height-told n k e = go (leb k heightMost) refl
   where
-    go : (b : Bool) → leb k heightMost ≡ b → eqb (pick (ltb heightMost n) 2 0) 0 ≡ b
+    go : (b : Bool) → leb k heightMost ≡ b → pick {A = ℕ} (ltb heightMost n) 2 0 ≡ pick b 0 2
     go true f = rw (le-ltb heightMost n (omega (arith, leb-true k heightMost f))) refl
     go false f = rw (lt-ltb heightMost n (omega (arith, leb-false k heightMost f))) refl
 
@@ -116,15 +114,7 @@ module _ (S : Scene) where
       (front S (code-exp a ++ code-exp b ++ i-otherwise ∷ code-exp c ++ i-choice ∷ []) l i s)))
 
   first-role-alone : {s : Shape} (e : Exp s) (i : ℕ) → StandsIn S i (code-exp e) → roleOf (getD (S .cs) i 0) ≡ 0
-  first-role-alone e i s = first-role e [] i (subst (StandsIn S i) (sym (append-nil (code-exp e))) s)
-
-  -- one item with no rule
-  free : (x : Item) (l : List Item) (i c : ℕ) → StandsIn S i (x ∷ l) → codeOf x ≡ c → ruleOf c ≡ 0 → fine S i ≡ true
-  free x l i c s e r = fine-free S i c (code-at S x l i s ∙ e) r
-
-  -- behind an expression one last item
-  last-item : (l : List Item) (x : Item) (i k : ℕ) (a b : Bool) → k ≡ i + length l → clean S i l ≡ a → fine S k ≡ b → clean S i (l ++ x ∷ []) ≡ both a b
-  last-item l x i k a b e f g = clean-append S l (x ∷ []) i k e ∙ ap₂ both f (clean-one S x [] k ∙ ap₂ both g (clean-none S (suc k)) ∙ both-last b)
+  first-role-alone e i s = first-role e [] i (subst (λ (l : List Item). StandsIn S i l) (sym (append-nil (code-exp e))) s)
 
   started : {s : Shape} (e : Exp s) (i j : ℕ) → StandsIn S i (code-exp e) → j ≡ i + length (code-exp e) - 1 → getD (starts S) j 0 ≡ i
   started e i j s q =
@@ -137,107 +127,115 @@ module _ (S : Scene) where
       (omega (arith, S .says .few, length-replicate {A = ℕ} itemsMost 0))
       (omega (arith, s .high, S .within)) q
 
-  pub phrase-fault : {s : Shape} (e : Exp s) (role : Role) (i k : ℕ) → StandsIn S i (code-exp e) → k ≡ i + length (code-exp e) → Stood s role → roleOf (getD (S .cs) k 0) ≡ number role
-      → clean S i (code-exp e) ≡ named (sense (S .at)) role e
-  unfolding named
-  phrase-fault (plain w) role i k s q o r =
+  -- the items of an expression without their tokens
+  coded : {l : ℕ} {ts : List Token} {e : Expr} (x : E l ts e) (i n : ℕ) → SpotsIn S i (spots-exp x n) → StandsIn S i (code-exp e)
+  coded x i n s = subst (λ (l : List Item). StandsIn S i l) (exp-code x n) (erased S (spots-exp x n) i s)
+
+  as-long : {l : ℕ} {ts : List Token} {e : Expr} (x : E l ts e) (n : ℕ) → length (spots-exp x n) ≡ length (code-exp e)
+  as-long x n = sym (length-map (spots-exp x n) (λ (x : Spot). x .0)) ∙ ap length (exp-code x n)
+
+  phrase-fault : {l : ℕ} {ts : List Token} {e : Expr} (x : E l ts e) (role : Role) (i n k : ℕ) → SpotsIn S i (spots-exp x n) → k ≡ i + length (spots-exp x n)
+      → roleOf (getD (S .cs) k 0) ≡ number role → faults S i (spots-exp x n) ≡ inExpr (sense (S .at)) role x n
+  unfolding inExpr
+  phrase-fault (e-plain {w = w}) role i n k s q r =
       let z : suc i + 1 ≡ k = omega arith in
-      clean-one S (i-name w) (i-plain ∷ []) i
-      ∙ ap₂ both (free (i-name w) (i-plain ∷ []) i c-name s refl (rules-none .0))
-      (clean-one S i-plain [] (suc i) ∙ ap₂ both
-      (reference-fault S i w (s .items .0) (s .low) (inside S (i-name w) (i-plain ∷ []) i s) (suc i) c-plain role false (code-at S i-plain [] (suc i) (next S (i-name w) (i-plain ∷ []) i s))
-      (rules-used .0) refl
-      (started (plain w) i (suc i) s (omega arith)) (home S i-plain [] (suc i) (next S (i-name w) (i-plain ∷ []) i s)) (ap (λ n. roleOf (getD (S .cs) n 0)) z ∙ r))
-      (clean-none S (suc (suc i))) ∙ both-last (usable (sense (S .at)) role false w))
-  phrase-fault (indexed w e) role i k s q o r =
-      let E = code-exp e in
-      let j = suc i + length E in
-      let t : length (E ++ i-index ∷ []) ≡ length E + 1 = length-append E (i-index ∷ []) in
-      let z : j + 1 ≡ k = omega arith in
-      let n = next S (i-name w) (E ++ i-index ∷ []) i s in
-      let b = back S E (i-index ∷ []) (suc i) j refl n in
-      let c = code-at S i-index [] j b in
-      clean-one S (i-name w) (E ++ i-index ∷ []) i
-      ∙ ap₂ both (free (i-name w) (E ++ i-index ∷ []) i c-name s refl (rules-none .0))
-      (last-item E i-index (suc i) j (named (sense (S .at)) operand e) (usable (sense (S .at)) role true w) refl
-      (phrase-fault e operand (suc i) j (front S E (i-index ∷ []) (suc i) n) refl refl (ap roleOf c ∙ roles .4))
-      (reference-fault S i w (s .items .0) (s .low) (inside S (i-name w) (E ++ i-index ∷ []) i s) j c-index role true c (rules-used .1) refl
-      (started (indexed w e) i j s (omega arith)) (home S i-index [] j b) (ap (λ n. roleOf (getD (S .cs) n 0)) z ∙ r)))
-      ∙ both-turn (named (sense (S .at)) operand e) (usable (sense (S .at)) role true w)
-  phrase-fault (num n) role i k s q o r = clean-one S (i-number n) [] i ∙ ap₂ both (free (i-number n) [] i c-number s refl (rules-none .1)) (clean-none S (suc i))
-  phrase-fault tru role i k s q o r = clean-one S i-true [] i ∙ ap₂ both (free i-true [] i c-true s refl (rules-none .2)) (clean-none S (suc i))
-  phrase-fault fls role i k s q o r = clean-one S i-false [] i ∙ ap₂ both (free i-false [] i c-false s refl (rules-none .3)) (clean-none S (suc i))
-  phrase-fault (get v) role i k s q o r = phrase-fault v operand i k s q tt (r ∙ ap number o)
-  phrase-fault (query mk v) role i k s q o r =
-      let R = code-exp v in
-      let b = back S R (i-query mk ∷ []) i (i + length R) refl s in
-      last-item R (i-query mk) i (i + length R) (named (sense (S .at)) channel v) true refl
-      (phrase-fault v channel i (i + length R) (front S R (i-query mk ∷ []) i s) refl tt (ap roleOf (code-at S (i-query mk) [] (i + length R) b) ∙ roles .5))
-      (free (i-query mk) [] (i + length R) c-len b refl (rules-none .4))
-      ∙ both-last (named (sense (S .at)) channel v)
-  phrase-fault (unary u e) role i k s q o r =
-      let E = code-exp e in
-      let p = proper S (unary u e) i s in
-      let b = back S E (i-unary u ∷ []) i (i + length E) refl s in
-      last-item E (i-unary u) i (i + length E) (named (sense (S .at)) operand e) true refl
-      (phrase-fault e operand i (i + length E) (front S E (i-unary u ∷ []) i s) refl refl (ap roleOf (code-at S (i-unary u) [] (i + length E) b) ∙ unary-free (p .0) .1))
-      (fine-free S (i + length E) (codeOf (i-unary u)) (code-at S (i-unary u) [] (i + length E) b) (unary-free (p .0) .0))
-      ∙ both-last (named (sense (S .at)) operand e)
-  phrase-fault (binary u a b) role i k s q o r =
-      let A = code-exp a in
-      let B = code-exp b in
-      let p = proper S (binary u a b) i s in
-      let j = i + length A in
-      let d = i + length (A ++ B) in
-      let e : d ≡ j + length B = omega (arith, length-append A B) in
-      let ab = front S (A ++ B) (i-binary u ∷ []) i s in
-      let l = back S (A ++ B) (i-binary u ∷ []) i d refl s in
-      let sb = back S A B i j refl ab in
-      last-item (A ++ B) (i-binary u) i d (both (named (sense (S .at)) operand a) (named (sense (S .at)) operand b)) true refl
-      (clean-append S A B i j refl
-      ∙ ap₂ both (phrase-fault a operand i j (front S A B i ab) refl refl (first-role-alone b j sb))
-      (phrase-fault b operand j d sb e refl (ap roleOf (code-at S (i-binary u) [] d l) ∙ binary-role u (p .0) (p .1))))
-      (fine-free S d (codeOf (i-binary u)) (code-at S (i-binary u) [] d l) (binary-rule u (p .0) (p .1)))
-      ∙ both-last (both (named (sense (S .at)) operand a) (named (sense (S .at)) operand b))
-  phrase-fault (choice a b c) role i k s q o r =
-      let A = code-exp a in
-      let B = code-exp b in
-      let C = code-exp c in
-      let na = named (sense (S .at)) operand a in
-      let nb = named (sense (S .at)) operand b in
-      let nc = named (sense (S .at)) operand c in
-      let j = i + length A in
-      let d = i + length (A ++ B) in
-      let m = i + length (A ++ B ++ i-otherwise ∷ C) in
-      let e : d ≡ j + length B = omega (arith, length-append A B) in
-      let f : m ≡ suc d + length C = omega (arith, length-append (A ++ B) (i-otherwise ∷ C)) in
-      let abc = front S (A ++ B ++ i-otherwise ∷ C) (i-choice ∷ []) i s in
-      let ab = front S (A ++ B) (i-otherwise ∷ C) i abc in
-      let l = back S (A ++ B ++ i-otherwise ∷ C) (i-choice ∷ []) i m refl s in
-      let sb = back S A B i j refl ab in
-      let so = back S (A ++ B) (i-otherwise ∷ C) i d refl abc in
-      let sc = next S i-otherwise C d so in
-      last-item (A ++ B ++ i-otherwise ∷ C) i-choice i m (both (both na nb) nc) true refl
-      (clean-append S (A ++ B) (i-otherwise ∷ C) i d refl
-      ∙ ap₂ both
-      (clean-append S A B i j refl
-      ∙ ap₂ both (phrase-fault a operand i j (front S A B i ab) refl refl (first-role-alone b j sb))
-      (phrase-fault b operand j d sb e refl (ap roleOf (code-at S i-otherwise C d so) ∙ roles .6)))
-      (clean-one S i-otherwise C d
-      ∙ ap₂ both (free i-otherwise C d c-otherwise so refl (rules-none .5)) (phrase-fault c operand (suc d) m sc f refl (ap roleOf (code-at S i-choice [] m l) ∙ roles .7))))
-      (free i-choice [] m c-choice l refl (rules-none .6))
-      ∙ both-last (both (both na nb) nc) ∙ both-group na nb nc
+      let a : Spot = (i-name w, n) in
+      let m : Spot = (i-plain, n + 1) in
+      let t = next S a (m ∷ []) i s in
+      free-first S a (m ∷ []) i s (rules-none .0)
+      ∙ faults-one S m (suc i)
+      (reference-fault S i w (s .items .0 .0) (s .low) (inside S a (m ∷ []) i s) (suc i) c-plain n role false (s .items .0 .1) (code-of S m [] (suc i) t) (rules-used .0) refl
+      (started (plain w) i (suc i) (coded (e-plain {w = w}) i n s) (omega arith)) (home S m [] (suc i) t) (ap (λ m. roleOf (getD (S .cs) m 0)) z ∙ r))
+  phrase-fault (e-index {w = w} {e = e} x) role i n k s q r =
+      let X = spots-exp x (n + 2) in
+      let a : Spot = (i-name w, n) in
+      let m : Spot = (i-index, n + 1) in
+      let j = suc i + length X in
+      let t = next S a (X ++ m ∷ []) i s in
+      let b = back S X (m ∷ []) (suc i) j refl t in
+      let c = code-of S m [] j b in
+      let z : j + 1 ≡ k = omega (arith, length-append X (m ∷ [])) in
+      free-first S a (X ++ m ∷ []) i s (rules-none .0)
+      ∙ faults-last S X m (suc i) j refl (phrase-fault x operand (suc i) (n + 2) j (front S X (m ∷ []) (suc i) t) refl (ap roleOf c ∙ roles .4))
+      (reference-fault S i w (s .items .0 .0) (s .low) (inside S a (X ++ m ∷ []) i s) j c-index n role true (s .items .0 .1) c (rules-used .1) refl
+      (started (indexed w e) i j (coded (e-index {w = w} x) i n s) (omega (arith, as-long x (n + 2), length-append (code-exp e) (i-index ∷ [])))) (home S m [] j b)
+      (ap (λ m. roleOf (getD (S .cs) m 0)) z ∙ r))
+  phrase-fault (e-number {n = v}) role i n k s q r = free-one S (i-number v, n) i s (rules-none .1)
+  phrase-fault e-true role i n k s q r = free-one S (i-true, n) i s (rules-none .2)
+  phrase-fault e-false role i n k s q r = free-one S (i-false, n) i s (rules-none .3)
+  phrase-fault (e-query {o = o} u x) role i n k s q r =
+      let X = spots-exp x (n + 2) in
+      let m : Spot = (i-query o, n) in
+      let j = i + length X in
+      free-last S X m i j refl s (rules-none .4)
+      (phrase-fault x channel i (n + 2) j (front S X (m ∷ []) i s) refl (ap roleOf (code-of S m [] j (back S X (m ∷ []) i j refl s)) ∙ roles .5))
+  phrase-fault (e-group x) role i n k s q r = phrase-fault x role i (n + 1) k s q r
+  phrase-fault (e-choice {xs = xs} {ys = ys} {b = b} x y z) role i n k s q r =
+      let X = spots-exp x (n + 1) in
+      let Y = spots-exp y (n + length xs + 2) in
+      let Z = spots-exp z (n + length xs + length ys + 3) in
+      let o : Spot = (i-otherwise, n + length xs + 1) in
+      let m : Spot = (i-choice, n + length xs + 1) in
+      let j = i + length X in
+      let d = i + length (X ++ Y) in
+      let g = i + length (X ++ Y ++ o ∷ Z) in
+      let e : d ≡ j + length Y = omega (arith, length-append X Y) in
+      let f : g ≡ suc d + length Z = omega (arith, length-append (X ++ Y) (o ∷ Z)) in
+      let xyz = front S (X ++ Y ++ o ∷ Z) (m ∷ []) i s in
+      let xy = front S (X ++ Y) (o ∷ Z) i xyz in
+      let sy = back S X Y i j refl xy in
+      let so = back S (X ++ Y) (o ∷ Z) i d refl xyz in
+      free-last S (X ++ Y ++ o ∷ Z) m i g refl s (rules-none .6)
+      (faults-both S (X ++ Y) (o ∷ Z) i d refl
+      (faults-both S X Y i j refl (phrase-fault x operand i (n + 1) j (front S X Y i xy) refl (first-role-alone b j (coded y j (n + length xs + 2) sy)))
+      (phrase-fault y operand j (n + length xs + 2) d sy e (ap roleOf (code-of S o Z d so) ∙ roles .6)))
+      (free-first S o Z d so (rules-none .5)
+      ∙ phrase-fault z operand (suc d) (n + length xs + length ys + 3) g (next S o Z d so) f (ap roleOf (code-of S m [] g (back S (X ++ Y ++ o ∷ Z) (m ∷ []) i g refl s)) ∙ roles .7)))
+  phrase-fault (e-unary {o = o} u x) role i n k s q r =
+      let X = spots-exp x (n + 1) in
+      let m : Spot = (i-unary o, n) in
+      let j = i + length X in
+      free-last S X m i j refl s (unary-free u .0)
+      (phrase-fault x operand i (n + 1) j (front S X (m ∷ []) i s) refl (ap roleOf (code-of S m [] j (back S X (m ∷ []) i j refl s)) ∙ unary-free u .1))
+  phrase-fault (e-binary {l = l} {o = o} {xs = xs} {a = a} {b = b} u x y) role i n k s q r =
+      let X = spots-exp x n in
+      let Y = spots-exp y (n + length xs + 1) in
+      let m : Spot = (i-binary o, n + length xs) in
+      let p = proper S (binary o a b) i (coded (e-binary {l = l} {o = o} u x y) i n s) in
+      let j = i + length X in
+      let d = i + length (X ++ Y) in
+      let e : d ≡ j + length Y = omega (arith, length-append X Y) in
+      let xy = front S (X ++ Y) (m ∷ []) i s in
+      let sy = back S X Y i j refl xy in
+      free-last S (X ++ Y) m i d refl s (binary-rule o (p .0) (p .1))
+      (faults-both S X Y i j refl (phrase-fault x operand i n j (front S X Y i xy) refl (first-role-alone b j (coded y j (n + length xs + 1) sy)))
+      (phrase-fault y operand j (n + length xs + 1) d sy e (ap roleOf (code-of S m [] d (back S (X ++ Y) (m ∷ []) i d refl s)) ∙ binary-role o (p .0) (p .1))))
+  phrase-fault (e-up x) role i n k s q r = phrase-fault x role i n k s q r
 
   -- with the mark behind it, which judges the height
-  pub marked-fault : {s : Shape} (e : Exp s) (role : Role) (x : Item) (i r : ℕ) → StandsIn S i (code-exp e ++ x ∷ []) → Stood s role → roleOf (codeOf x) ≡ number role → ruleOf (codeOf x) ≡ r
-      → ((j : ℕ) → badBy (S .cs) (S .vs) (homes S) (starts S) (heights S) r j ≡ badHeight (heights S) j) → clean S i (code-exp e ++ x ∷ []) ≡ lawful (sense (S .at)) role e
-  unfolding lawful badHeight
-  marked-fault e role x i r s o n t f =
-      let E = code-exp e in
-      let k = i + length E in
-      let b = back S E (x ∷ []) i k refl s in
-      let c = code-at S x [] k b in
-      let E-stands = front S E (x ∷ []) i s in
-      last-item E x i k (named (sense (S .at)) role e) (leb (height e) heightMost) refl (phrase-fault e role i k E-stands refl o (ap roleOf c ∙ n))
-      (fine-by S k (codeOf x) r c t ∙ ap (λ n. eqb n 0) (f k) ∙ height-told (getD (heights S) (k - 1) 0) (height e) (risen e i (k - 1) E-stands refl))
-      ∙ both-turn (named (sense (S .at)) role e) (leb (height e) heightMost)
+  marked-by : {l : ℕ} {ts : List Token} {e : Expr} (x : E l ts e) (role : Role) (y : Item) (t i n r : ℕ) → SpotsIn S i (spots-exp x n ++ (y, t) ∷ []) → roleOf (codeOf y) ≡ number role
+      → ruleOf (codeOf y) ≡ r → ((j : ℕ) → badBy (S .cs) (S .vs) (homes S) (starts S) (heights S) r j ≡ badHeight (heights S) j)
+      → ((j : ℕ) → getD (S .toks) j 0 ≡ t → placeBy (S .cs) (starts S) (S .toks) r j ≡ n) → faults S i (spots-exp x n ++ (y, t) ∷ []) ≡ inWhole (sense (S .at)) role x n
+  unfolding inWhole badHeight
+  marked-by {e = e} x role y t i n r s o u f g =
+      let X = spots-exp x n in
+      let k = i + length X in
+      let b = back S X ((y, t) ∷ []) i k refl s in
+      let c = code-of S (y, t) [] k b in
+      let X-stands = front S X ((y, t) ∷ []) i s in
+      faults-last S X (y, t) i k refl (phrase-fault x role i n k X-stands refl (ap roleOf c ∙ o))
+      (fault-by S k (codeOf y) r (pick (leb (height e) heightMost) 0 2) n c u
+      (f k ∙ height-told (getD (heights S) (k - 1) 0) (height e) (risen e i (k - 1) (coded x i n X-stands) (omega (arith, as-long x n))))
+      (g k (b .items .0 .1)))
+
+  -- at the mark's own token
+  pub marked-fault : {l : ℕ} {ts : List Token} {e : Expr} (x : E l ts e) (role : Role) (y : Item) (i n : ℕ) → SpotsIn S i (spots-exp x n ++ (y, n) ∷ []) → roleOf (codeOf y) ≡ number role
+      → ruleOf (codeOf y) ≡ 2 → faults S i (spots-exp x n ++ (y, n) ∷ []) ≡ inWhole (sense (S .at)) role x n
+  unfolding badBy placeBy
+  marked-fault x role y i n s o u = marked-by x role y n i n 2 s o u (λ j. refl) (λ j e. e)
+
+  -- two tokens on
+  pub marked-behind : {l : ℕ} {ts : List Token} {e : Expr} (x : E l ts e) (y : Item) (i n : ℕ) → SpotsIn S i (spots-exp x (n + 2) ++ (y, n) ∷ []) → roleOf (codeOf y) ≡ 0
+      → ruleOf (codeOf y) ≡ 17 → faults S i (spots-exp x (n + 2) ++ (y, n) ∷ []) ≡ inWhole (sense (S .at)) operand x (n + 2)
+  unfolding badBy placeBy
+  marked-behind x y i n s o u = marked-by x operand y n i (n + 2) 17 s o u (λ j. refl) (λ j e. ap (_+ 2) e)

@@ -43,5 +43,3 @@ pub record Setting (xs : List Item) (cs vs hs : List ℕ) (h from to : ℕ) (at 
   -- a local hides a proctype
   pub hidden : (j : ℕ) (w : Name) → from ≤ j → j < to → itemAt xs j ≡ i-name w → same w pid ≡ false → ltb (find cs vs hs 1 (getD vs j 0) h j) j ≡ not (isUnknown (senseIn (at .locals) w))
   pub runs : (j : ℕ) (w : Name) → from ≤ j → j < to → itemAt xs j ≡ i-name w → same w pid ≡ false → Runs cs hs (globalOf cs vs hs j) (senseIn (at .model) w)
-  -- "`_pid` is neither declared nor stored to"
-  pub pidless : (senseIn (at .locals) pid ≡ unknown) × (senseIn (at .model) pid ≡ unknown)

@@ -7,7 +7,7 @@ use lib.Dec.{eqb, ltb}
 use Rattle.base_codes.specs.Codes.{c-number, c-text}
 use Rattle.base_bytes.specs.Choice.{pick}
 use Rattle.base_kinds.specs.Kinds.{Token, sym, name, number, text}
-use Rattle.text_spacing_proof.specs.Writing.{spell}
+use Rattle.spec_text.specs.Writing.{spell}
 use Rattle.text_pens.specs.After.{joinsBy}
 use Rattle.table_layout.specs.Access.{codeOf, numberOf, nameLength, nameByte}
 use Rattle.table_layout.specs.Back.{upto}

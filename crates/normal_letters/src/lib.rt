@@ -5,7 +5,7 @@ ghost use Prim.Native.Nat.{_-_};
 ghost use Rattle.base_bytes.specs.Choice.{pick};
 ghost use Rattle.base_pens.specs.Pen.{pen, puts};
 ghost use Rattle.base_kinds.specs.Kinds.{kindOf};
-ghost use Rattle.text_spacing_proof.specs.Writing.{spell, write};
+ghost use Rattle.spec_text.specs.Writing.{spell, write};
 ghost use Rattle.normal_letters.specs.Tokens.{spelled, heldOf, tokenBy, behind};
 
 // Writes the bytes of the name or string that item i is.

@@ -11,7 +11,7 @@ use lib.Seq.{getD-at}
 use Rattle.base_ceilings.specs.Ceilings.{itemsMost}
 use Rattle.base_codes.specs.Codes.{c-end-body, c-name, c-number, c-plain, c-text, c-len, c-send, c-receive}
 use Rattle.base_kinds.specs.Kinds.{Token, name, number, text}
-use Rattle.text_spacing_proof.specs.Writing.{write}
+use Rattle.spec_text.specs.Writing.{write}
 use Rattle.spec_grammar.specs.Tree.{Model}
 use Rattle.spec_grammar.specs.Print.{print-model}
 use Rattle.table_entries.specs.Entry.{Entry, entry, nothing}

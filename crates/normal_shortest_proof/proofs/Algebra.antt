@@ -13,12 +13,12 @@ use Rattle.base_bytes.specs.Choice.{pick, both}
 use Rattle.base_bytes.specs.Lists.{same}
 use Rattle.base_bytes.proofs.Tests.{both-true, either-no}
 use Rattle.base_kinds.specs.Kinds.{Token, sym, name, number, text}
-use Rattle.text_spellings.specs.Find.{find}
-use Rattle.text_spacing_proof.specs.Spelled.{joins, mark}
-use Rattle.text_spacing_proof.specs.Writing.{spell, AllSound, apart, writeBehind}
+use Rattle.spec_text.specs.Find.{find}
+use Rattle.spec_text.specs.Spelled.{joins, mark}
+use Rattle.spec_text.specs.Writing.{spell, AllSound, apart, writeBehind}
 use Rattle.text_spacing_proof.proofs.Written.{spaceIf}
 use Rattle.spec_grammar.specs.Marks.{'lpar, 'rpar, '[, '], 'lbrace, 'rbrace, 'comma, 'semi, '->, 'if, 'fi, 'do, 'od}
-use Rattle.parse_proof.specs.Depth.{opens-bracket, closes-bracket, opens-selection, closes-selection, count-after, passes, one-later, deep-from}
+use Rattle.spec_grammar.specs.Depth.{opens-bracket, closes-bracket, opens-selection, closes-selection, count-after, passes, one-later, deep-from}
 use Rattle.parse_proof.proofs.Tests.{some-none, later-none}
 use Rattle.normal_shortest_proof.specs.Lighter.{brackets, selections, Even, Shorter, Lighter}
 

@@ -15,7 +15,7 @@ use Rattle.spec_grammar.specs.Grammar.{is-len, is-bang, is-ask, Listed, one, mo
 use Rattle.spec_grammar.specs.Print.{wrap, print-exp, print-whole, join, print-received, print-tree, print-type, print-value, print-variable, print-declaration, print-name, print-group, print-items, print-body, print-activity, print-part, print-model}
 use Rattle.spec_grammar.proofs.Levels.{operator-small}
 use Rattle.spec_grammar.proofs.Printed.{join-more, further-more, sequence-before}
-use Rattle.parse_proof.specs.Depth.{opens-bracket, closes-bracket, opens-selection, closes-selection}
+use Rattle.spec_grammar.specs.Depth.{opens-bracket, closes-bracket, opens-selection, closes-selection}
 use Rattle.normal_shortest_proof.specs.Lighter.{Lighter}
 use Rattle.normal_shortest_proof.proofs.Algebra.{nothing, beside, Neutral, keep, left-out, arrow, in-parentheses, in-squares, in-braces, in-if, in-do, peeled, called}
 

@@ -7,8 +7,9 @@ use mathlib.Core.Option.{none}
 use mathlib.Core.List.{List, [], _∷_, _++_, append-nil}
 use lib.ListN.{length, take, drop, length-map}
 use Rattle.base_kinds.specs.Kinds.{Token, text}
-use Rattle.text_tokens.specs.Reading.{Placed, tokens, reading}
-use Rattle.text_spacing_proof.specs.Writing.{tokenIn, tokensIn, AllSound, writeBehind, write}
+use Rattle.text_tokens.specs.Reading.{tokens, reading}
+use Rattle.spec_text.specs.Placed.{Placed}
+use Rattle.spec_text.specs.Writing.{tokenIn, tokensIn, AllSound, writeBehind, write}
 use Rattle.text_spacing_proof.proofs.Exact.{reading-exact}
 use Rattle.text_spacing_proof.proofs.Written.{tokens-sound, written-shortest, reads-back}
 use Rattle.spec_grammar.specs.Tree.{Model}
@@ -16,7 +17,7 @@ use Rattle.spec_grammar.specs.Grammar.{Gram}
 use Rattle.spec_grammar.specs.Print.{print-model}
 use Rattle.spec_grammar.proofs.Printed.{print-in}
 use Rattle.spec_grammar.proofs.Lightest.{shortest}
-use Rattle.parse_proof.specs.Depth.{too-deep}
+use Rattle.spec_grammar.specs.Depth.{too-deep}
 use Rattle.parse_proof.proofs.Main.{one-tree, print-injective}
 use Rattle.base_pens.specs.Pen.{Pen, pen, puts}
 use Rattle.base_pens.proofs.Pen.{puts-fit, puts-full}

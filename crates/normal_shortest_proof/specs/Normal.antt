@@ -5,7 +5,7 @@ use mathlib.Core.List.{List}
 use Prim.Native.Nat.{ℕ}
 use Rattle.spec_grammar.specs.Tree.{Model}
 use Rattle.spec_grammar.specs.Print.{print-model}
-use Rattle.text_spacing_proof.specs.Writing.{write}
+use Rattle.spec_text.specs.Writing.{write}
 
 abbrev pub normal : Model → List ℕ
 normal m = write (print-model m)

@@ -4,8 +4,8 @@ use mathlib.Core.Path.{_≡_, refl}
 use mathlib.Core.List.{[], _∷_}
 use Rattle.base_kinds.specs.Kinds.{bytes}
 use Rattle.base_bytes.specs.Lists.{same}
-use Rattle.text_spellings.specs.Find.{find}
-use Rattle.text_spacing_proof.specs.Writing.{writeBehind}
+use Rattle.spec_text.specs.Find.{find}
+use Rattle.spec_text.specs.Writing.{writeBehind}
 use Rattle.spec_text.specs.Formats.{digitsBy}
 use Rattle.spec_grammar.specs.Tree.{Model, num, get, plain, unary, binary, leaf, express, skip, bare, end, then, unset, variable, declare, body, init}
 use mathlib.Core.Option.{none}

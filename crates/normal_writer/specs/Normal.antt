@@ -5,7 +5,7 @@ use mathlib.Core.List.{List}
 use Prim.Native.Nat.{ℕ, min}
 use Rattle.base_ceilings.specs.Ceilings.{itemsMost}
 use Rattle.base_kinds.specs.Kinds.{Token}
-use Rattle.text_spacing_proof.specs.Writing.{write}
+use Rattle.spec_text.specs.Writing.{write}
 use Rattle.table_layout.specs.Access.{itemsOf, codeOf}
 use Rattle.normal_letters.specs.Tokens.{tokenBy}
 use Rattle.normal_writer.specs.Turning.{whole, marks}

@@ -8,7 +8,7 @@ use lib.Seq.{length-take-le, drop-cons, getD-set-same}
 use borrow.Author.Tests.{lt-ltb, le-ltb, le-leb, lt-leb}
 use Rattle.base_ceilings.specs.Ceilings.{itemsMost, tokensMost}
 use Rattle.base_kinds.specs.Kinds.{Token, kindOf}
-use Rattle.parse_proof.specs.Depth.{judge}
+use Rattle.parse_proof.specs.Judge.{judge}
 use Rattle.parse_machine_proof.specs.Depth.{too-deep}
 use Rattle.parse_machine_proof.specs.Items.{All-proper, meant}
 use Rattle.parse_machine_proof.proofs.Judge.{same-judgement}

@@ -7,7 +7,7 @@ use mathlib.Core.List.{List, _++_, map}
 use lib.ListN.{length, drop}
 use Rattle.base_ceilings.specs.Ceilings.{itemsMost, tokensMost}
 use Rattle.base_kinds.specs.Kinds.{Token, kindOf}
-use Rattle.parse_proof.specs.Depth.{judge}
+use Rattle.parse_proof.specs.Judge.{judge}
 use Rattle.parse_machine_proof.specs.Machine.{symbol-of, place-of, count-of}
 use Rattle.parse_machine_proof.specs.Answer.{Answer, items, refuse, parsed}
 use Rattle.parse_machine_proof.specs.Items.{All-proper, meant}
@@ -24,7 +24,7 @@ filled f (items o) l = map f o ++ drop (length o) l
 filled f (refuse k i) l = l
 
 -- the answer, and each array: an item is its number, its token and its size; and what that answer means of any tokens of these kinds: the judgement of the grammar's
--- pass (specs/Depth.antt of `parse_proof`)
+-- pass (specs/Depth.antt of `spec_grammar`)
 pub record Parses (ks : List ℕ) (room : ℕ) (r : Parsed) (codes codes' tokens tokens' sizes sizes' : List ℕ) : Type 0 where
   pub answered : r ≡ answer (parsed ks room)
   pub codes-are : codes' ≡ filled symbol-of (parsed ks room) codes

@@ -17,14 +17,16 @@ use Rattle.base_codes.specs.Items.{Item}
 use Rattle.parse_proof.specs.Engine.{nt, Answer as Parse, ok, bad, later, ended, Moved, next, bound, step, finish, parse}
 use Rattle.parse_proof.specs.Productions.{NT, n-model, Ter, Right, G}
 use Rattle.parse_proof.specs.Guide.{U, parse-model}
-use Rattle.parse_proof.specs.Depth.{opens-bracket, closes-bracket, opens-selection, closes-selection, count-after, passes, one-later, deep-from, refused-2, refused-3, judged as judged-by, judge}
+use Rattle.parse_proof.specs.Judge.{judged as judged-by}
+use Rattle.spec_grammar.specs.Depth.{opens-bracket, closes-bracket, opens-selection, closes-selection, count-after, passes, one-later, deep-from}
+use Rattle.parse_proof.specs.Judge.{refused-2, refused-3, judge}
 use Rattle.parse_machine_proof.specs.Depth.{deep, too-deep}
 use Rattle.parse_machine_proof.specs.Machine.{Outcome, done, refused, spent, machine}
 use Rattle.parse_machine_proof.specs.Answer.{refuse, judged, parsed}
 use Rattle.parse_machine_proof.specs.Items.{answer-of, All-proper, meant}
 use Rattle.parse_machine_proof.proofs.Never.{lt-or-ge, Fine, never-spent}
 use Rattle.parse_machine_proof.proofs.Same.{same-answer}
-use Rattle.parse_proof.specs.Depth as parsing
+use Rattle.spec_grammar.specs.Depth as parsing
 
 -- ---- depth
 over : (u d : Bool) (n m : ℕ) → n ≤ m → ltb m (count-after u d n) ≡ both u (leb m n)

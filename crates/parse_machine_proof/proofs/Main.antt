@@ -13,8 +13,9 @@ use Rattle.spec_grammar.specs.Tree.{Model}
 use Rattle.spec_grammar.specs.Grammar.{Gram}
 use Rattle.base_codes.specs.Items.{Item}
 use Rattle.parse_code.specs.Code.{code}
-use Rattle.parse_proof.specs.Depth.{too-deep, accepted, refused-2, refused-3, judge}
-use Rattle.parse_proof.specs.Refusals.{Two, Three}
+use Rattle.spec_grammar.specs.Depth.{too-deep}
+use Rattle.parse_proof.specs.Judge.{accepted, refused-2, refused-3, judge}
+use Rattle.spec_grammar.specs.Refusals.{Two, Three}
 use Rattle.parse_proof.proofs.Judged.{judge-sound, judge-complete, judge-two, judge-three}
 use Rattle.parse_machine_proof.specs.Answer.{Answer, items, refuse, parsed}
 use Rattle.parse_machine_proof.specs.Items.{read, All-proper, meant}

@@ -67,13 +67,13 @@ solid-marked b (y ∷ r) st e t s =
     let l : 0 < y = ltb→lt 0 y (both-left (ltb 0 y) (ltb y 256) q) in
     (rw (below-256 y b h e) l, solid-marked b r st e (both-right (both (ltb 0 y) (ltb y 256)) (solid? r) t) s)
 
-is-terminal : (x : ℕ) → x < 73 → symbol x ≡ tm (terminal x)
+pub is-terminal : (x : ℕ) → x < 73 → symbol x ≡ tm (terminal x)
 is-terminal x h = simp (lt-ltb x 73 h)
 
-is-nonterminal : (x : ℕ) → 73 ≤ x → x < c-or-else → symbol x ≡ nt (nonterminal x)
+pub is-nonterminal : (x : ℕ) → 73 ≤ x → x < c-or-else → symbol x ≡ nt (nonterminal x)
 is-nonterminal x l h = simp (le-ltb x 73 l, lt-ltb x c-or-else h)
 
-is-act : (x : ℕ) → c-or-else ≤ x → symbol x ≡ act (item x)
+pub is-act : (x : ℕ) → c-or-else ≤ x → symbol x ≡ act (item x)
 is-act x h = simp (le-ltb x 73 (omega arith), le-ltb x c-or-else h)
 
 -- ---- the equations of `parse_proof`, where it refuses and at the end
@@ -139,7 +139,7 @@ module _ (x : ℕ) (lo : 73 ≤ x) (hi : x < c-or-else) (c : Token) where
       ⊎-elim (λ z. let k : U .kind c ≡ 0 = omega arith in rw k (no-kind-guide x lo hi))
       (λ h. refuses x lo hi (U .kind c) (omega arith) (omega arith) (rw (clipped-more (kindOf c) h) at e)) (kind-cases (kindOf c))
 
-  chooses : (production x (clipped (kindOf c)) ≡ 0 → ⊥) → choose G U (nonterminal x) (U .kind c) ≡ some (map symbol (right (production x (clipped (kindOf c)))))
+  pub chooses : (production x (clipped (kindOf c)) ≡ 0 → ⊥) → choose G U (nonterminal x) (U .kind c) ≡ some (map symbol (right (production x (clipped (kindOf c)))))
   chooses ne =
       ⊎-elim (λ z. absurd (ne (ap (production x) (clipped-zero (kindOf c) z) ∙ no-kind-table x lo hi)))
       (λ h. rw (clipped-more (kindOf c) h) (uses x lo hi (U .kind c) (omega arith) (omega arith) (rw (clipped-more (kindOf c) h) at ne))) (kind-cases (kindOf c))
@@ -159,17 +159,17 @@ module _ (ts : List Token) where
   kind-at : (pos : ℕ) → getD (map kindOf ts) pos 0 ≡ kindOf (getD ts pos (sym 0))
   kind-at pos = List·getD-map kindOf ts pos (sym 0)
 
-  many : length (map kindOf ts) ≡ length ts
+  pub many : length (map kindOf ts) ≡ length ts
   many = length-map ts kindOf
 
-  column-is : (pos : ℕ) → pos < length ts → column (map kindOf ts) pos ≡ clipped (kindOf (getD ts pos (sym 0)))
+  pub column-is : (pos : ℕ) → pos < length ts → column (map kindOf ts) pos ≡ clipped (kindOf (getD ts pos (sym 0)))
   unfolding column
   column-is pos h = simp (many, lt-ltb pos (length ts) h, kind-at pos)
 
-  opened : (pos : ℕ) → pos < length ts → drop pos ts ≡ getD ts pos (sym 0) ∷ drop (pos + 1) ts
+  pub opened : (pos : ℕ) → pos < length ts → drop pos ts ≡ getD ts pos (sym 0) ∷ drop (pos + 1) ts
   opened pos h = rw add-one (drop-cons ts pos (sym 0) h)
 
-  ended-at : (pos : ℕ) → length ts ≤ pos → drop pos ts ≡ []
+  pub ended-at : (pos : ℕ) → length ts ≤ pos → drop pos ts ≡ []
   ended-at pos h = drop-of-length-le ts h
 
   module _ (proper : All-proper ts) (short : length ts ≤ tokensMost) (f : Config → Outcome) (ih : (c : Config) → Solid (c .st) → Says (f c) (rest (c .st) (c .pos) (c .out)))

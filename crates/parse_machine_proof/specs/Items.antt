@@ -20,7 +20,7 @@ use Rattle.base_codes.specs.Codes.{c-or-else}
 use Rattle.base_kinds.specs.Kinds.{Token, sym, name, number, text}
 use Rattle.base_codes.specs.Items.{Item, i-name, i-number, i-plain, i-text}
 use Rattle.parse_proof.specs.Engine.{Answer as Parse, ok, bad}
-use Rattle.parse_proof.specs.Depth.{GrammarAnswer, accepted, refused-2, refused-3}
+use Rattle.parse_proof.specs.Judge.{GrammarAnswer, accepted, refused-2, refused-3}
 use Rattle.parse_tables.specs.Numbering.{item}
 use Rattle.parse_machine_proof.specs.Machine.{Outcome, done, refused, spent, symbol-of, place-of, count-of}
 use Rattle.parse_machine_proof.specs.Answer.{Answer, items, refuse}

@@ -57,7 +57,7 @@ module _ {C S N A : Type 0} (G : Grammar C S N A) (U : Guide C S N A) (K : ℕ) 
       go false true g t′ = g t′
       go false false g t′ = t′
 
-  safe-app : (r k : List (Sym N S A)) (F H : ℕ → Bool) → ((i : ℕ) → i < K → T (first G U k F i) → T (H i)) → Safe r H → Safe k F → Safe (r ++ k) F
+  pub safe-app : (r k : List (Sym N S A)) (F H : ℕ → Bool) → ((i : ℕ) → i < K → T (first G U k F i) → T (H i)) → Safe r H → Safe k F → Safe (r ++ k) F
   safe-app [] k F H f s t = t
   safe-app (act a ∷ r) k F H f s t = safe-app r k F H f s t
   safe-app (tm t′ ∷ r) k F H f s t = safe-app r k F H f s t
@@ -162,7 +162,7 @@ module _ {C S N A : Type 0} (G : Grammar C S N A) (U : Guide C S N A) (K : ℕ) 
             (both-in (isSome (U .nul n)) (first G U k never (U .kind c)) (fits-some (finish G U r) (U .nul n) (𝓖 .nul-ok n r m) (x .0)) (x .1))
 
     -- the right side that a derivation uses is the one that the machine chooses
-    same : (n : N) (k r : List (Sym N S A)) (c : C) {w : List C} {o : List A} → Safe (nt n ∷ k) never → In r (G .prods n) → L G (r ++ k) (c ∷ w) o → choose G U n (U .kind c) ≡ some r
+    pub same : (n : N) (k r : List (Sym N S A)) (c : C) {w : List C} {o : List A} → Safe (nt n ∷ k) never → In r (G .prods n) → L G (r ++ k) (c ∷ w) o → choose G U n (U .kind c) ≡ some r
     same n k r c s m d =
         let i = U .kind c in
         pick-sel (λ r′. first G U r′ (U .fol n) i) (G .prods n) r (𝓖 .single n i (ranged d)) m
@@ -264,7 +264,7 @@ module _ {C S N A : Type 0} (G : Grammar C S N A) (U : Guide C S N A) (K : ℕ) 
     fits-left (some a) none z o f e = absurd f
     fits-left (some a) (some b) z o f e = rw (← f) e
 
-    finish-of : {k : List (Sym N S A)} {o : List A} → L G k [] o → finish G U k ≡ some o
+    pub finish-of : {k : List (Sym N S A)} {o : List A} → L G k [] o → finish G U k ≡ some o
     finish-of done = refl
     finish-of (emit {a = a} d) = ap (wrote (a ∷ [])) (finish-of d)
     finish-of (by {n = n} {r = r} {k = k} {o = o} m d) = fits-left (finish G U r) (U .nul n) (finish G U k) o (𝓖 .nul-ok n r m) (sym (finish-app r k) ∙ finish-of d)

@@ -15,8 +15,9 @@ use Rattle.base_codes.specs.Items.{Item}
 use Rattle.parse_code.specs.Code.{code}
 use Rattle.parse_proof.specs.Engine.{Answer, ok, bad}
 use Rattle.parse_proof.specs.Guide.{parse-model}
-use Rattle.parse_proof.specs.Depth.{too-deep, GrammarAnswer, accepted, refused-2, refused-3, judged, judge}
-use Rattle.parse_proof.specs.Refusals.{Two, Three}
+use Rattle.spec_grammar.specs.Depth.{too-deep}
+use Rattle.parse_proof.specs.Judge.{GrammarAnswer, accepted, refused-2, refused-3, judged, judge}
+use Rattle.spec_grammar.specs.Refusals.{Two, Three}
 use Rattle.parse_proof.proofs.Main.{parse-sound, parse-complete, parse-refused}
 
 -- accepted exactly where there is a tree and no token passes a ceiling

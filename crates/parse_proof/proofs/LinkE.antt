@@ -159,11 +159,11 @@ operator-row (suc (suc (suc (suc (suc (suc (suc (suc (suc zero))))))))) h i m = 
 operator-row (suc (suc (suc (suc (suc (suc (suc (suc (suc (suc zero)))))))))) h i m = there m
 operator-row (suc (suc (suc (suc (suc (suc (suc (suc (suc (suc (suc l))))))))))) h i m = absurd (omega arith)
 
-operator-in : (o l : ℕ) → level o ≡ suc l → In (operation (ne (suc (suc l))) (tl (suc l)) o) (prods (tl (suc l)))
+pub operator-in : (o l : ℕ) → level o ≡ suc l → In (operation (ne (suc (suc l))) (tl (suc l)) o) (prods (tl (suc l)))
 operator-in o l e = operator-row (suc l) (omega arith) (level-top o l e)
     (map-in (operation (ne (suc (suc l))) (tl (suc l))) (operators (suc l)) o (member-in o (operators (suc l)) (is-operator o l e)))
 
-eats-same : (o : ℕ) → eats (sy o) (sym o) ≡ some []
+pub eats-same : (o : ℕ) → eats (sy o) (sym o) ≡ some []
 eats-same o = rw (eqb-same o)
 
 -- after an expression of level l, an operator of that level
@@ -225,7 +225,7 @@ from-conts (suc (suc (suc (suc (suc (suc (suc (suc zero)))))))) k h d = d
 from-conts (suc (suc (suc (suc (suc (suc (suc (suc (suc zero))))))))) k h d = d
 from-conts (suc (suc (suc (suc (suc (suc (suc (suc (suc (suc l)))))))))) k h d = absurd (omega arith)
 
-e-bound : {l : ℕ} {ts : List Token} {e : Expr} → E l ts e → l ≤ 12
+pub e-bound : {l : ℕ} {ts : List Token} {e : Expr} → E l ts e → l ≤ 12
 e-bound e-plain = omega arith
 e-bound (e-index x) = omega arith
 e-bound e-number = omega arith

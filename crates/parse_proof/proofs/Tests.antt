@@ -11,7 +11,7 @@ use native.Mathlib.Nat.{not-suc-le-zero}
 use lib.Dec.{T}
 use Rattle.base_bytes.specs.Choice.{both, either}
 use Rattle.parse_proof.specs.Engine.{In, here, there, isSome, pick}
-use Rattle.parse_proof.specs.Depth.{one-later}
+use Rattle.spec_grammar.specs.Depth.{one-later}
 
 -- tests
 abbrev pub never : ℕ → Bool

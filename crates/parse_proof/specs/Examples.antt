@@ -11,7 +11,7 @@ use Rattle.spec_grammar.specs.Tree.{plain, indexed, num, tru, fls, get, query, 
 use Rattle.parse_code.specs.Code.{code}
 use Rattle.parse_proof.specs.Engine.{ok, bad}
 use Rattle.parse_proof.specs.Guide.{parse-model}
-use Rattle.parse_proof.specs.Depth.{accepted, refused-2, refused-3, judge}
+use Rattle.parse_proof.specs.Judge.{accepted, refused-2, refused-3, judge}
 use Rattle.spec_grammar.specs.Print.{print-model}
 
 -- names

@@ -2,6 +2,5 @@ pub mod Engine
 pub mod Productions
 pub mod Numbers
 pub mod Guide
-pub mod Depth
+pub mod Judge
 pub mod Examples
-pub mod Refusals

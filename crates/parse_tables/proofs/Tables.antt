@@ -218,6 +218,10 @@ module _ (x : ℕ) (lo : 73 ≤ x) (hi : x < c-or-else) where
       let w = found by-end 0 (omega arith) ne refl in
       fits-eq _ _ (good .nul-ok (nonterminal x) _ (subst (λ (r : Right). In r (prods (nonterminal x))) (w .5) (nth-in (prods (nonterminal x)) (w .0) [] (w .1)))) (w .4)
 
+  -- the right side that the table has for the end is the first that may be empty
+  pub uses-at-end : (production x 0 ≡ 0 → ⊥) → pick (λ r. isSome (finish G U r)) (prods (nonterminal x)) ≡ some (map symbol (right (production x 0)))
+  uses-at-end ne = found by-end 0 (omega arith) ne refl .3
+
 -- ---- a test of each production, by the number of its nonterminal and its own
 abbrev pub each-right : (ℕ → ℕ → Bool) → Bool
 each-right f = below 74 (λ j. below (length (prods (nth nonterminals j e1))) (λ m. f (73 + j) (getD bases j 0 + suc m)))

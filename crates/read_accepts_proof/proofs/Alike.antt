@@ -16,16 +16,17 @@ use Rattle.base_codes.specs.Codes.{c-or-else, c-name, c-number, c-text}
 use Rattle.base_bytes.specs.Choice.{pick}
 use Rattle.base_bytes.specs.Lists.{piece}
 use Rattle.base_kinds.specs.Kinds.{sym}
-use Rattle.text_pieces.specs.Bytes.{quote}
-use Rattle.text_pieces.specs.Spans.{decimal}
+use Rattle.spec_text.specs.Bytes.{quote}
+use Rattle.spec_text.specs.Digits.{decimal}
 use Rattle.spec_grammar.specs.Grammar.{Gram}
-use Rattle.text_tokens.specs.Reading.{Placed, tokens, reading}
-use Rattle.text_spacing_proof.specs.Spelled.{Spelled, word, digits, string, mark}
-use Rattle.text_spacing_proof.specs.Writing.{tokenOf, tokenIn, partOf, tokensIn}
+use Rattle.text_tokens.specs.Reading.{tokens, reading}
+use Rattle.spec_text.specs.Placed.{Placed}
+use Rattle.spec_text.specs.Spelled.{Spelled, word, digits, string, mark}
+use Rattle.spec_text.specs.Writing.{tokenOf, tokenIn, partOf, tokensIn}
 use Rattle.text_spacing_proof.proofs.Exact.{reading-exact}
 use Rattle.text_spacing_proof.proofs.Written.{tokens-ordered, tokens-spelled}
 use Rattle.text_spacing_proof.proofs.Tables.{mark-range, word-range}
-use Rattle.parse_proof.specs.Depth.{too-deep}
+use Rattle.spec_grammar.specs.Depth.{too-deep}
 use Rattle.parse_machine_proof.specs.Machine.{Outcome, done, refused, spent, machine, symbol-of, place-of}
 use Rattle.parse_machine_proof.specs.Depth.{too-deep as first-deep}
 use Rattle.parse_machine_proof.specs.Answer.{items, refuse, parsed, judged}

@@ -13,8 +13,9 @@ use Rattle.base_ceilings.specs.Ceilings.{itemsMost, tokensMost}
 use Rattle.parse_machine_proof.proofs.Never.{lt-or-ge}
 use Rattle.base_bytes.specs.Choice.{pick}
 use Rattle.base_kinds.specs.Kinds.{sym, kindOf}
-use Rattle.text_tokens.specs.Reading.{Placed, Reading, tokens, refused, reading}
-use Rattle.text_spacing_proof.specs.Writing.{tokenOf, tokenIn, partOf, tokensIn}
+use Rattle.text_tokens.specs.Reading.{Reading, tokens, refused, reading}
+use Rattle.spec_text.specs.Placed.{Placed}
+use Rattle.spec_text.specs.Writing.{tokenOf, tokenIn, partOf, tokensIn}
 use Rattle.text_spacing_proof.proofs.Exact.{reading-exact}
 use Rattle.parse_machine_proof.specs.Answer.{Answer, items, refuse, parsed}
 use Rattle.parse_machine_proof.specs.Items.{Proper, All-proper}

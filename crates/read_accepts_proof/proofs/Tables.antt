@@ -6,8 +6,8 @@ use mathlib.Core.List.{List, [], _++_, map, append-nil}
 use native.Mathlib.Omega.{arith}
 use lib.ListN.{length, drop}
 use Rattle.base_ceilings.specs.Ceilings.{tablesRoom}
-use Rattle.text_tokens.specs.Reading.{Placed}
-use Rattle.text_spacing_proof.specs.Writing.{tokensIn}
+use Rattle.spec_text.specs.Placed.{Placed}
+use Rattle.spec_text.specs.Writing.{tokensIn}
 use Rattle.text_spacing_proof.proofs.Exact.{reading-exact}
 use Rattle.parse_code.specs.Code.{code}
 use Rattle.parse_machine_proof.specs.Machine.{symbol-of, place-of}

@@ -10,9 +10,10 @@ use Rattle.base_ceilings.specs.Ceilings.{itemsMost}
 use Rattle.spec_grammar.specs.Tree.{Model}
 use Rattle.spec_grammar.specs.Grammar.{Gram}
 use Rattle.parse_code.specs.Code.{code}
-use Rattle.text_tokens.specs.Reading.{Placed, tokens, reading}
-use Rattle.text_spacing_proof.specs.Writing.{tokensIn}
-use Rattle.parse_proof.specs.Depth.{too-deep}
+use Rattle.text_tokens.specs.Reading.{tokens, reading}
+use Rattle.spec_text.specs.Placed.{Placed}
+use Rattle.spec_text.specs.Writing.{tokensIn}
+use Rattle.spec_grammar.specs.Depth.{too-deep}
 use Rattle.parse_machine_proof.specs.Machine.{symbol-of, place-of}
 use Rattle.parse_machine_proof.specs.Answer.{items, parsed}
 use Rattle.parse_machine_proof.specs.Items.{read}

@@ -1,7 +1,7 @@
 -- The laws that the entries cite.
-use mathlib.Core.Path.{_≡_, refl, sym, ap, _∙_}
+use mathlib.Core.Path.{_≡_, refl, sym, ap, ap₂, _∙_}
 use mathlib.Core.Bool.{Bool, true, false}
-use mathlib.Core.List.{List, []}
+use mathlib.Core.List.{List}
 use Prim.Native.Nat.{ℕ, _+_, _-_, _≤_, _<_}
 use native.Mathlib.Omega.{arith}
 use borrow.Author.Tests.{le-leb, lt-leb, lt-ltb, le-ltb}
@@ -13,7 +13,7 @@ use Rattle.read_passes.specs.declared.Judged.the-variants.{Accepted, Refused}
 use Rattle.read_passes.specs.Judging.{judgeOf, left, tablesText}
 use Rattle.read_accepts_proof.proofs.Main.{accepted-means}
 use Rattle.read_accepts_proof.proofs.Tables.{text-laid}
-use Rattle.read_entry.specs.Entries.{readOf, stays, leftOf, part, Bounded}
+use Rattle.read_entry.specs.Entries.{readOf, stays, leftOf, partStart, part, behind, Bounded}
 
 -- ---- reading
 module _ (t old : List ℕ) where
@@ -40,15 +40,17 @@ whole-room t old r l e = e ∙ simp (le-ltb (length old) tablesRoom (omega arith
 
 -- ---- the part that an answer names
 pub part-none : (n : ℕ) (j : Judged) → j ≡ Accepted → Bounded n j 0 0
-part-none n j e = record { low = omega arith; high = omega arith; is = λ t l. rw e }
+part-none n j e = record { low = omega arith; high = omega arith; begins = rw e refl; ends = rw e refl }
 
 pub part-out : (n x i m : ℕ) (j : Judged) → j ≡ Refused x i m → n < i + m → Bounded n j 0 0
-part-out n x i m j e h = record { low = omega arith; high = omega arith; is = λ t l. rw (e, lt-leb (i + m) (length t) (omega arith)) }
+part-out n x i m j e h = record { low = omega arith; high = omega arith; begins = rw (e, lt-leb (i + m) n h) refl; ends = rw (e, lt-leb (i + m) n h) refl }
 
 pub part-in : (n x i m : ℕ) (j : Judged) → j ≡ Refused x i m → i + m ≤ n → Bounded n j i (i + m)
-part-in n x i m j e h =
-    record {
-      low = omega arith;
-      high = h;
-      is = λ t l. let q : i + m - i ≡ m = omega arith in rw (e, le-leb (i + m) (length t) (omega arith), q);
-    }
+part-in n x i m j e h = record { low = omega arith; high = h; begins = rw (e, le-leb (i + m) n h) refl; ends = rw (e, le-leb (i + m) n h) refl }
+
+-- the part between bounds, and where it lies
+pub part-is : (t : List ℕ) (j k : Judged) (a e : ℕ) → j ≡ k → Bounded (length t) j a e → take (e - a) (drop a t) ≡ part t k
+part-is t j k a e q b = ap₂ (λ x y. take (y - x) (drop x t)) (b .begins) (b .ends) ∙ ap (part t) q
+
+pub part-lies : (n : ℕ) (j k : Judged) (a e x y : ℕ) → j ≡ k → Bounded n j a e → _≡_ {A = ℕ × ℕ} (x, a + y) (behind (x, y) (partStart n k))
+part-lies n j k a e x y q b = ap (λ z. (x, z)) (let z : a + y ≡ y + a = omega arith in z ∙ ap (y +_) (b .begins ∙ ap (partStart n) q))

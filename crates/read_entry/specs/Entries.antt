@@ -1,7 +1,7 @@
--- Mechanism, held to the specification by `read-legal`, `legal-read` (crate `legal_texts`), `answer-row`, `row-answer` (crate `read_refusals_proof`) as far as `readOf` goes; `leftOf`, what is left, by `demand3` (crate `demands`); `part` is held by no theorem.
+-- Mechanism, held to the specification by `read-legal`, `legal-read` (crate `legal_texts`), `answer-row`, `row-answer` (crate `read_refusals_proof`) as far as `readOf` goes; `leftOf`, what is left, by `demand3` (crate `demands`); `partStart`, `partEnd` by `demand1` (same crate).
 -- The entries of the reader, each with one answer and one content of lent memory: document 01, "What is answered, and what stays behind".
 use mathlib.Core.Path.{_≡_}
-use mathlib.Core.List.{List, [], _++_}
+use mathlib.Core.List.{List, _++_}
 use Prim.Native.Nat.{ℕ, _+_, _-_, _≤_}
 use lib.Dec.{ltb, leb}
 use lib.ListN.{length, take, drop}
@@ -24,13 +24,26 @@ stays (Refused x i n) ts old = old
 unfoldable pub leftOf : List ℕ → List ℕ → List ℕ
 leftOf t old = stays (readOf t old) (tablesText t) old
 
--- "A further entry returns the part of the caller's text that 1 to 5 name; for a text too long or not so refused, the empty part at its start"
-abbrev pub part : List ℕ → Judged → List ℕ
-part t Accepted = []
-part t (Refused x i n) = pick (leb (i + n) (length t)) (take n (drop i t)) []
+-- "A further entry returns the part of the caller's text that 1 to 5 name; for a text too long or not so refused, the empty part at its start": where that part begins and ends in a text of n bytes
+abbrev pub partStart : ℕ → Judged → ℕ
+partStart n Accepted = 0
+partStart n (Refused x i m) = pick (leb (i + m) n) i 0
 
--- where that part begins and ends
+abbrev pub partEnd : ℕ → Judged → ℕ
+partEnd n Accepted = 0
+partEnd n (Refused x i m) = pick (leb (i + m) n) (i + m) 0
+
+-- its bytes
+abbrev pub part : List ℕ → Judged → List ℕ
+part t j = take (partEnd (length t) j - partStart (length t) j) (drop (partStart (length t) j) t)
+
+-- where it lies in memory, k bytes behind what is lent at p
+abbrev pub behind : ℕ × ℕ → ℕ → ℕ × ℕ
+behind p k = (p .0, p .1 + k)
+
+-- the bounds of the part that an answer names, in a text of n bytes
 pub record Bounded (n : ℕ) (j : Judged) (start end : ℕ) : Type 0 where
   pub low : start ≤ end
   pub high : end ≤ n
-  pub is : (t : List ℕ) → length t ≡ n → take (end - start) (drop start t) ≡ part t j
+  pub begins : start ≡ partStart n j
+  pub ends : end ≡ partEnd n j

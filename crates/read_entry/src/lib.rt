@@ -1,8 +1,9 @@
 // The entries of the reader: is this a model, and what are its tables; and the part of the text that a refusal names.
 ghost use mathlib.Core.Path.{_≡_};
 ghost use lib.ListN.{length};
+ghost use denote.Ref.{ptr};
 ghost use Rattle.read_passes.specs.Judging.{judgeOf};
-ghost use Rattle.read_entry.specs.Entries.{readOf, leftOf, part, Bounded};
+ghost use Rattle.read_entry.specs.Entries.{readOf, leftOf, partStart, part, behind, Bounded};
 use read_passes::Judged;
 
 // The answer for a text; of an accepted one the tables, at the front of what is lent.
@@ -46,6 +47,7 @@ fn named(j: Judged, n: usize) -> Bounds
 // The part of the text that a refusal names: empty, at the start, for a text that is accepted or refused by no part.
 pub fn refused_part(text: &[u8]) -> &[u8]
     ensures { λ r. ⌜ now r ≡ part (now (text .entry)) (judgeOf (now (text .entry))) ⌝ }
+    ensures { λ r. ⌜ ptr r ≡ behind (ptr (text .entry)) (partStart (length (now (text .entry))) (judgeOf (now (text .entry)))) ⌝ }
 {
     let mut tables = [0u32; base_ceilings::TABLES_ROOM];
     let b = named(read(text, &mut tables), text.len());

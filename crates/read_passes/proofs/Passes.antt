@@ -10,7 +10,8 @@ use lib.ListN.{length, getD, take, drop, replicate, length-append, length-map, l
 use lib.Seq.{take-at, length-take-le}
 use Rattle.base_ceilings.specs.Ceilings.{itemsMost, tokensMost}
 use Rattle.base_bytes.specs.Choice.{pick}
-use Rattle.text_tokens.specs.Reading.{Placed, Reading, tokens, refused, reading}
+use Rattle.text_tokens.specs.Reading.{Reading, tokens, refused, reading}
+use Rattle.spec_text.specs.Placed.{Placed}
 use Rattle.text_tokens.specs.Answers.{lexing, Answered}
 use Rattle.text_tokens.specs.declared.Lexed.{Lexed}
 use Rattle.parse_machine_proof.specs.Machine.{symbol-of, place-of}

@@ -12,15 +12,16 @@ use lib.ListN.{length, getD, take, length-map}
 use Rattle.base_ceilings.specs.Ceilings.{itemsMost, tablesRoom}
 use Rattle.base_bytes.specs.Choice.{pick}
 use Rattle.parse_machine_proof.proofs.Never.{lt-or-ge}
-use Rattle.text_tokens.specs.Reading.{Placed, Reading, tokens, refused, reading}
-use Rattle.text_spacing_proof.specs.Writing.{tokenIn, tokensIn}
+use Rattle.text_tokens.specs.Reading.{Reading, tokens, refused, reading}
+use Rattle.spec_text.specs.Placed.{Placed}
+use Rattle.spec_text.specs.Writing.{tokenIn, tokensIn}
 use Rattle.text_spacing_proof.proofs.Exact.{reading-exact}
 use Rattle.base_kinds.specs.Kinds.{Token, kindOf}
 use Rattle.spec_grammar.specs.Tree.{Model}
 use Rattle.spec_grammar.specs.Grammar.{Gram}
-use Rattle.parse_proof.specs.Depth.{count-after, opens-bracket, closes-bracket, opens-selection, closes-selection, passes, one-later, deep-from}
+use Rattle.spec_grammar.specs.Depth.{count-after, opens-bracket, closes-bracket, opens-selection, closes-selection, passes, one-later, deep-from}
 use Rattle.spec_grammar.specs.Viable.{StrayAt}
-use Rattle.parse_proof.specs.Refusals.{Two, Three}
+use Rattle.spec_grammar.specs.Refusals.{Two, Three}
 use Rattle.parse_proof.proofs.Judged.{before}
 use Rattle.parse_machine_proof.specs.Machine.{symbol-of, place-of}
 use Rattle.parse_machine_proof.specs.Answer.{Answer, items, refuse, parsed}
@@ -33,8 +34,9 @@ use Rattle.read_passes.specs.declared.Judged.the-variants.{Refused}
 use Rattle.read_passes.specs.Judging.{atToken, ruled, byRules, grammatical, byGrammar, lexical, judgeOf}
 use Rattle.read_accepts_proof.proofs.Main.{kinds-are, all-proper, short as few}
 use Rattle.read_entry.specs.Entries.{readOf}
-use Rattle.read_refusals_proof.specs.Rows.{startAt, sizeAt, Row, short, bytes, deep, stop, fault, ceiling}
-use Rattle.read_refusals_proof.proofs.Numbers.{bytes-number, grammar-number, rules-number}
+use Rattle.spec_refusals.specs.Texts.{startAt, sizeAt}
+use Rattle.read_refusals_proof.specs.Rows.{Row, short, bytes, deep, stop, fault, ceiling}
+use Rattle.read_refusals_proof.proofs.Numbers.{grammar-number}
 use Rattle.read_accepts_proof.specs.Meaning.{Grammatical, said}
 
 -- ---- the place of a token
@@ -63,7 +65,7 @@ module _ (t old : List ℕ) (x i n : ℕ) (enough : tablesRoom ≤ length old) w
   by-rules g (At y k) over c p e =
       let q = inv (at-token t (g .parts) y k) ∙ e in
       let z : checked (map symbol-of (g .numbers)) (said t g) (map place-of (g .numbers)) ≡ At x k = rw (number-of q) c in
-      fault g k enough z (rules-number _ _ _ x k z) (place-is q) (length-is q)
+      fault g k enough z (place-is q) (length-is q)
   by-rules g None true c p e = ceiling g enough c p (number-of e) (place-is e) (length-is e)
   by-rules g None false c p e = absurd (let z : _≡_ {A = ℕ} 0 1 = cc in omega arith)
 
@@ -90,7 +92,7 @@ module _ (t old : List ℕ) (x i n : ℕ) (enough : tablesRoom ≤ length old) w
   by-bytes (tokens ps) e q = by-grammar ps e (parsed (map Placed.kind ps) itemsMost) refl q
   by-bytes (refused y j m) e q =
       let z : reading t ≡ refused x i n = rw (number-of q, place-is q, length-is q) e in
-      bytes enough z (bytes-number t x i n z)
+      bytes enough z
 
 pub answer-row : (t old : List ℕ) (x i n : ℕ) → readOf t old ≡ Refused x i n → Row t old x i n
 unfolding readOf
@@ -194,10 +196,10 @@ module _ (t old : List ℕ) (x i n : ℕ) (enough : tablesRoom ≤ length old) w
   judged-row : Row t old x i n → judgeOf t ≡ Refused x i n
   unfolding byGrammar byRules
   judged-row (short h a b c) = absurd (omega arith)
-  judged-row (bytes h e l) = rw e
+  judged-row (bytes h e) = rw e
   judged-row (deep ps k h e w a b c) = ap (lexical t) e ∙ deep-answer ps e k w (parsed (map Placed.kind ps) itemsMost) refl ∙ rw (a, b, c)
   judged-row (stop ps k h e w a b c) = ap (lexical t) e ∙ stop-answer ps e k w (parsed (map Placed.kind ps) itemsMost) refl ∙ rw (a, b, c)
-  judged-row (fault g k h f l b c) = ap (lexical t) (g .reads) ∙ rw (g .written, f, b, c) (at-token t (g .parts) x k)
+  judged-row (fault g k h f b c) = ap (lexical t) (g .reads) ∙ rw (g .written, f, b, c) (at-token t (g .parts) x k)
   judged-row (ceiling g h f p a b c) = ap (lexical t) (g .reads) ∙ rw (g .written, f, p, a, b, c)
 
 pub row-answer : (t old : List ℕ) (x i n : ℕ) → Row t old x i n → readOf t old ≡ Refused x i n
@@ -206,9 +208,9 @@ row-answer t old x i n r = go (lt-or-ge (length old) tablesRoom) r
   where
     go : (length old < tablesRoom) ⊎ (tablesRoom ≤ length old) → Row t old x i n → pick (ltb (length old) tablesRoom) (Refused 7 0 0) (judgeOf t) ≡ Refused x i n
     go (inl h) (short l a b c) = rw (lt-ltb (length old) tablesRoom h, a, b, c)
-    go (inl h) (bytes l e w) = absurd (omega arith)
+    go (inl h) (bytes l e) = absurd (omega arith)
     go (inl h) (deep ps k l e w a b c) = absurd (omega arith)
     go (inl h) (stop ps k l e w a b c) = absurd (omega arith)
-    go (inl h) (fault g k l f w b c) = absurd (omega arith)
+    go (inl h) (fault g k l f b c) = absurd (omega arith)
     go (inl h) (ceiling g l f p a b c) = absurd (omega arith)
     go (inr h) r = rw (le-ltb (length old) tablesRoom h) (judged-row t old x i n h r)

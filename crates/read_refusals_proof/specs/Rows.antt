@@ -1,45 +1,36 @@
--- Bridge: what `answer-row`, `row-answer` (crate `read_refusals_proof`) hold `readOf` to: bytes by `reading` itself, the grammar over trees, names, rules and ceilings over items.
+-- Mechanism, held to the specification by `refused-exact` (crate `legal_texts`): the rows as the passes of the reader give them, bytes by `reading`, names, rules and ceilings over items.
 -- The rows of document 01's table "What is answered, and what stays behind" that a reader can give, each with what it stands for, its place, and the passes that came before it:
 -- "7 first .., then length, then bytes and tokens (1, 2), then grammar with bracket and if/do depth (2, 3), then names and rules (2, 4, 5), then 6".
 use mathlib.Core.Path.{_≡_}
 use mathlib.Core.Bool.{true}
-use mathlib.Core.Logic.{_⊎_}
 use mathlib.Core.List.{List, map}
-use Prim.Native.Nat.{ℕ, _-_, _≤_, _<_}
-use lib.Dec.{ltb}
-use lib.ListN.{length, getD}
-use Rattle.base_ceilings.specs.Ceilings.{itemsMost, tablesRoom}
-use Rattle.base_bytes.specs.Choice.{pick}
-use Rattle.text_tokens.specs.Reading.{Placed, tokens, refused, reading}
-use Rattle.text_spacing_proof.specs.Writing.{tokensIn}
-use Rattle.parse_code.specs.Code.{code}
-use Rattle.parse_proof.specs.Refusals.{Two, Three}
+use Prim.Native.Nat.{ℕ, _≤_, _<_}
+use lib.ListN.{length}
+use Rattle.base_ceilings.specs.Ceilings.{tablesRoom}
+use Rattle.text_tokens.specs.Reading.{tokens, refused, reading}
+use Rattle.spec_text.specs.Placed.{Placed}
+use Rattle.spec_text.specs.Writing.{tokensIn}
+use Rattle.spec_grammar.specs.Refusals.{Two, Three}
 use Rattle.parse_machine_proof.specs.Machine.{symbol-of, place-of}
 use Rattle.rule_least.specs.Faults.{checked}
 use Rattle.rule_least.specs.declared.Fault.the-variants.{None, At}
 use Rattle.rule_ceilings.specs.Ceilings.{passed}
+use Rattle.spec_refusals.specs.Texts.{startAt, sizeAt}
 use Rattle.read_accepts_proof.specs.Meaning.{Grammatical, said}
-
--- where token k begins, and how long it is; behind the last token "empty part at the end"
-abbrev pub startAt : List ℕ → List Placed → ℕ → ℕ
-startAt t ps k = pick (ltb k (length (map Placed.start ps))) (getD (map Placed.start ps) k 0) (length t)
-
-abbrev pub sizeAt : List ℕ → List Placed → ℕ → ℕ
-sizeAt t ps k = pick (ltb k (length (map Placed.start ps))) (getD (map Placed.end ps) k 0 - getD (map Placed.start ps) k 0) 0
 
 -- a text and the tables that were lent are refused with number x, at place i, length n
 pub data Row (t old : List ℕ) (x i n : ℕ) : Type 0 where
   -- 7 "a lent buffer shorter than its room": 0
   short : length old < tablesRoom → x ≡ 7 → i ≡ 0 → n ≡ 0 → Row t old x i n
   -- 1 "stray byte, unclosed string or comment, bad byte in a string", 2 "text, token, word, string, number .. ceiling passed": the part that the definition of tokens names
-  bytes : tablesRoom ≤ length old → reading t ≡ refused x i n → (x ≡ 1) ⊎ (x ≡ 2) → Row t old x i n
+  bytes : tablesRoom ≤ length old → reading t ≡ refused x i n → Row t old x i n
   -- 2 "bracket, if/do": token k is the first that passes its ceiling, and what stands before it can be continued to a text of the grammar
   deep : (ps : List Placed) (k : ℕ) → tablesRoom ≤ length old → reading t ≡ tokens ps → Two (tokensIn t ps) k → x ≡ 2 → i ≡ startAt t ps k → n ≡ sizeAt t ps k → Row t old x i n
   -- 3 "first token that can continue no text of the grammar, or end of text": token k
   stop : (ps : List Placed) (k : ℕ) → tablesRoom ≤ length old → reading t ≡ tokens ps → Three (tokensIn t ps) k → x ≡ 3 → i ≡ startAt t ps k → n ≡ sizeAt t ps k → Row t old x i n
   -- 2 "height", 4 and 5: the least fault of the items, at token k
   fault : (g : Grammatical t) (k : ℕ) → tablesRoom ≤ length old → checked (map symbol-of (g .numbers)) (said t g) (map place-of (g .numbers)) ≡ At x k
-      → (x ≡ 2) ⊎ (x ≡ 4) ⊎ (x ≡ 5) → i ≡ startAt t (g .parts) k → n ≡ sizeAt t (g .parts) k → Row t old x i n
+      → i ≡ startAt t (g .parts) k → n ≡ sizeAt t (g .parts) k → Row t old x i n
   -- 6 "any other ceiling passed, or no process starts": 0
   ceiling : (g : Grammatical t) → tablesRoom ≤ length old → checked (map symbol-of (g .numbers)) (said t g) (map place-of (g .numbers)) ≡ None
       → passed (map symbol-of (g .numbers)) (said t g) ≡ true → x ≡ 6 → i ≡ 0 → n ≡ 0 → Row t old x i n

@@ -1,4 +1,4 @@
--- Mechanism, held to the specification by `rules` (crate `legal_texts`) as to whether there is a fault; which number it has is said here alone.
+-- Mechanism, held to the specification by `all-faults` (crate `legal_texts`).
 -- The rules, each the number of the fault that an item has by it, 0 for none: document 01, "Names", "Ceilings" and rows 2, 4 and 5 of "What is answered".
 -- `cs` are the items, `vs` what their tokens say, `hs` the bodies that they are in, `ss` where expressions start, `ts` how high they are: no place of the text.
 use Prim.Native.Nat.{ℕ, zero, suc, _+_, _-_, _/_, _%_, _*_}

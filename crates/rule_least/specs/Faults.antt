@@ -1,4 +1,4 @@
--- Mechanism, held to the specification by `rules` (crate `legal_texts`) as to whether there is a fault; which one is the least, and where it stands, is said here alone.
+-- Mechanism, held to the specification by `least-fault` (crate `legal_texts`).
 -- The faults of a model with their places, and the least of them: document 01, "Within a pass the smallest place wins, then the smallest number".
 -- A place is a token; which one is said by the last column of "What is answered".
 use Prim.Native.Nat.{ℕ, zero, suc, _+_, _-_}

@@ -12,7 +12,7 @@ use native.Mathlib.Decide.{ℕ-discrete}
 use Rattle.base_ceilings.specs.Ceilings.{itemsMost, numberMost, textMost}
 use Rattle.base_bytes.specs.Choice.{pick}
 use Rattle.base_bytes.specs.Lists.{same}
-use Rattle.text_pieces.specs.Spans.{decimal}
+use Rattle.spec_text.specs.Digits.{decimal}
 use Rattle.rule_sheets.specs.Walks.{first, filled}
 use Rattle.rule_sheets.specs.Payload.{wordOf, sameName, firstSame, nameArg, argOf, argsOf}
 use Rattle.spec_text.specs.Formats.{formatOf}

@@ -9,7 +9,7 @@ use lib.Dec.{eqb, ltb}
 use Rattle.base_ceilings.specs.Ceilings.{itemsMost, numberMost, textMost}
 use Rattle.base_bytes.specs.Choice.{pick}
 use Rattle.base_bytes.specs.Lists.{same, piece}
-use Rattle.text_pieces.specs.Spans.{decimal}
+use Rattle.spec_text.specs.Digits.{decimal}
 use Rattle.spec_text.specs.Names.{pid}
 use Rattle.spec_text.specs.Formats.{formatOf}
 use Rattle.rule_sheets.specs.Walks.{first, filled}

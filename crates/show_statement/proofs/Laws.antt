@@ -9,7 +9,8 @@ use lib.ListN.{length, getD, take, drop, drop-of-length-le, length-append, lengt
 use lib.Seq.{drop-cons, take-at}
 use borrow.Author.Tests.{ne-eqb}
 use Rattle.base_ceilings.specs.Ceilings.{itemsMost}
-use Rattle.text_tokens.specs.Reading.{Placed, Reading, tokens, refused}
+use Rattle.text_tokens.specs.Reading.{Reading, tokens, refused}
+use Rattle.spec_text.specs.Placed.{Placed}
 use Rattle.text_tokens.specs.Answers.{Answered}
 use Rattle.text_tokens.specs.declared.Lexed.{Lexed}
 use Rattle.text_tokens.specs.declared.Lexed.the-variants as lexed

@@ -5,7 +5,8 @@ use mathlib.Core.Path.{_≡_}
 use mathlib.Core.List.{List, map}
 use lib.ListN.{length}
 use Rattle.base_ceilings.specs.Ceilings.{itemsMost}
-use Rattle.text_tokens.specs.Reading.{Placed, Reading, tokens, refused}
+use Rattle.text_tokens.specs.Reading.{Reading, tokens, refused}
+use Rattle.spec_text.specs.Placed.{Placed}
 use Rattle.text_tokens.specs.Answers.{left-in}
 use Rattle.parse_machine_proof.specs.Machine.{place-of}
 use Rattle.parse_machine_proof.specs.Answer.{Answer, items, refuse, parsed}

@@ -3,3 +3,5 @@ pub mod Tree
 pub mod Grammar
 pub mod Print
 pub mod Viable
+pub mod Depth
+pub mod Refusals

@@ -1,7 +1,7 @@
 -- Which statements are lawful: document 01, "Grammar" ("`else` is only the first statement of an option, unlabelled, once per selection"), "Names" and rows 4 and 5 of "What is answered":
 -- "wrong number of arguments, `%` in a format not followed by `d` or `%` .., `else` or `break` out of place, second `else` .., more than 4 message arguments".
 use Prim.Native.Nat.{ℕ, _+_, _/_, _%_}
-use mathlib.Core.Bool.{Bool, true, false}
+use mathlib.Core.Bool.{Bool, true, false, not}
 use mathlib.Core.List.{List, [], _∷_, _++_}
 use lib.ListN.{length}
 use lib.Dec.{eqb, leb}
@@ -70,9 +70,9 @@ module _ (at : Place) where
   abbrev pub sense : Name → Sense
   sense = senseOf (at .locals) (at .globals)
 
-  -- a proctype of the model, "may come later", that no local hides, with as many parameters
+  -- a proctype of the model, "may come later", that no local hides, with as many parameters; `_pid` is none
   unfoldable pub runs : Name → ℕ → Bool
-  runs w n = both (isUnknown (senseIn (at .locals) w)) (takes (senseIn (at .model) w) n)
+  runs w n = both (not (same w pid)) (both (isUnknown (senseIn (at .locals) w)) (takes (senseIn (at .model) w) n))
 
   abbrev pub receives : Received → Bool
   receives (into r) = lawful sense received r
@@ -97,7 +97,7 @@ module _ (at : Place) where
   leafAllowed loops first (assert e) = whole sense e
   leafAllowed loops first (print w es) = both (formats w (length es)) (all (whole sense) es)
   leafAllowed loops first skip = true
-  leafAllowed loops first (goto w) = has (at .labels) w
+  leafAllowed loops first (goto w) = both (not (same w pid)) (has (at .labels) w)
   leafAllowed loops first break = loops
   leafAllowed loops first timeout = true
   leafAllowed loops first else = first

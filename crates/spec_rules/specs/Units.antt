@@ -1,13 +1,15 @@
 -- Which models are lawful: declarations, units, and the whole. Document 01, "Names" and rows 4 and 5 of "What is answered": "name unknown, declared twice, of the wrong kind", "array, field or
 -- capacity number .., second `mtype` list or `init`". Ceilings that row 6 names are in specs/Ceilings.antt.
 use Prim.Native.Nat.{ℕ, _+_}
-use mathlib.Core.Bool.{Bool, true, false}
+use mathlib.Core.Bool.{Bool, true, false, not}
 use mathlib.Core.Option.{Option, none, some}
 use mathlib.Core.List.{List, [], _∷_, _++_, map}
 use lib.ListN.{length}
 use lib.Dec.{eqb, leb}
 use Rattle.base_ceilings.specs.Ceilings.{arrayLeast, arrayMost, capacityLeast, capacityMost, fieldsMost}
 use Rattle.base_bytes.specs.Choice.{both}
+use Rattle.base_bytes.specs.Lists.{same}
+use Rattle.spec_text.specs.Names.{pid}
 use Rattle.spec_grammar.specs.Tree.{Name, Value, unset, set-number, set-minus, set-true, set-false, set-name, set-channel, Declaration, declare, Group, group, Body, body, Part, mtypes, global, process, init, Model}
 use Rattle.spec_grammar.specs.Tree as tree
 use Rattle.spec_rules.specs.Senses.{Sense, variable, constant, procedure, Declared, declared, Scope, fresh, isConstant, senseOf}
@@ -66,7 +68,7 @@ valued sense (set-number n) = true
 valued sense (set-minus n) = true
 valued sense set-true = true
 valued sense set-false = true
-valued sense (set-name w) = isConstant (sense w)
+valued sense (set-name w) = both (not (same w pid)) (isConstant (sense w))
 valued sense (set-channel n ks) = both (both (leb capacityLeast n) (leb n capacityMost)) (leb (length ks) fieldsMost)
 
 -- each name of a list is new in its space, and joins it

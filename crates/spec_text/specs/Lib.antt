@@ -1,3 +1,12 @@
 pub mod Names
 pub mod Formats
+pub mod Bytes
+pub mod Find
+pub mod Digits
+pub mod Placed
+pub mod Spelled
+pub mod Layout
+pub mod Spoils
+pub mod Writing
 pub mod Examples
+pub mod ExamplesWriting

@@ -9,7 +9,7 @@ use lib.Dec.{eqb}
 use borrow.Author.Tests.{eq-eqb, ne-eqb}
 use Rattle.base_ceilings.specs.Ceilings.{numberMost, stringMost}
 use Rattle.base_bytes.specs.Choice.{pick}
-use Rattle.text_pieces.specs.Spans.{decimal}
+use Rattle.spec_text.specs.Digits.{decimal}
 use Rattle.table_entries.specs.Sources.{clipped, bytesOf, valueOf, entryAt}
 use Rattle.base_codes.specs.Codes.{c-name, c-number, c-text}
 use Rattle.base_bytes.specs.Lists.{piece}

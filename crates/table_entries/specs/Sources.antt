@@ -8,7 +8,7 @@ use lib.ListN.{length, getD}
 use lib.Dec.{eqb}
 use Rattle.base_ceilings.specs.Ceilings.{itemsMost, numberMost, stringMost}
 use Rattle.base_bytes.specs.Choice.{pick}
-use Rattle.text_pieces.specs.Spans.{decimal}
+use Rattle.spec_text.specs.Digits.{decimal}
 use Rattle.table_entries.specs.Entry.{Entry, entry, runs}
 use Rattle.base_codes.specs.Codes.{c-name, c-number, c-text}
 use Rattle.base_bytes.specs.Lists.{piece}

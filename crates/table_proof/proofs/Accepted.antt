@@ -5,8 +5,9 @@ use Prim.Native.Nat.{ℕ, _≤_}
 use native.Mathlib.Omega.{arith}
 use lib.ListN.{length, length-map}
 use Rattle.base_ceilings.specs.Ceilings.{tablesRoom, textMost, tokensMost}
-use Rattle.text_tokens.specs.Reading.{Placed, tokens, reading}
-use Rattle.text_spacing_proof.specs.Writing.{tokenIn, tokensIn}
+use Rattle.text_tokens.specs.Reading.{tokens, reading}
+use Rattle.spec_text.specs.Placed.{Placed}
+use Rattle.spec_text.specs.Writing.{tokenIn, tokensIn}
 use Rattle.text_spacing_proof.proofs.Exact.{reading-exact}
 use Rattle.text_spacing_proof.proofs.Written.{tokens-sound, written-shortest}
 use Rattle.spec_grammar.specs.Tree.{Model}

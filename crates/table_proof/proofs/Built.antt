@@ -6,8 +6,9 @@ use mathlib.Core.List.{List, _++_, map}
 use native.Mathlib.Omega.{arith}
 use lib.ListN.{length, getD, length-map}
 use Rattle.base_ceilings.specs.Ceilings.{itemsMost, tablesRoom}
-use Rattle.text_tokens.specs.Reading.{Placed, tokens, reading}
-use Rattle.text_spacing_proof.specs.Writing.{tokensIn}
+use Rattle.text_tokens.specs.Reading.{tokens, reading}
+use Rattle.spec_text.specs.Placed.{Placed}
+use Rattle.spec_text.specs.Writing.{tokensIn}
 use Rattle.spec_grammar.specs.Tree.{Model}
 use Rattle.spec_grammar.specs.Grammar.{Gram}
 use Rattle.parse_code.specs.Code.{code}

@@ -13,11 +13,12 @@ use borrow.Author.Tests.{lt-ltb, le-ltb, ne-eqb, eqb-true, eqb-false, ltb-true, 
 use Rattle.base_ceilings.specs.Ceilings.{itemsMost, numberMost, stringMost}
 use Rattle.base_codes.specs.Codes.{c-end-body, c-or-else, c-name, c-number, c-text}
 use Rattle.base_kinds.specs.Kinds.{sym, name, number, text}
-use Rattle.text_pieces.specs.Spans.{decimal}
-use Rattle.text_tokens.specs.Reading.{Placed, tokens, reading}
-use Rattle.text_spacing_proof.specs.Writing.{partOf, tokenIn, tokensIn, Sound, AllSound}
+use Rattle.spec_text.specs.Digits.{decimal}
+use Rattle.text_tokens.specs.Reading.{tokens, reading}
+use Rattle.spec_text.specs.Placed.{Placed}
+use Rattle.spec_text.specs.Writing.{partOf, tokenIn, tokensIn, Sound, AllSound}
 use Rattle.text_spacing_proof.proofs.Written.{tokens-sound, tokens-ordered}
-use Rattle.text_spacing_proof.specs.Layout.{Ordered}
+use Rattle.spec_text.specs.Layout.{Ordered}
 use Rattle.parse_tables.specs.Numbering.{item}
 use Rattle.table_entries.specs.Entry.{Entry, entry, runs}
 use Rattle.table_entries.specs.Items.{entryOf}

@@ -11,7 +11,7 @@ use borrow.Author.Tests.{lt-ltb, ltb-true, ltb-false, eqb-true}
 use Rattle.base_ceilings.specs.Ceilings.{itemsMost, tokensMost}
 use Rattle.base_codes.specs.Codes.{c-end-body, c-or-else, c-name, c-text}
 use Rattle.base_bytes.specs.Choice.{pick, both}
-use Rattle.text_tokens.specs.Reading.{Placed}
+use Rattle.spec_text.specs.Placed.{Placed}
 use Rattle.parse_tables.specs.Tables.{rights, span, right}
 use Rattle.parse_machine_proof.specs.Machine.{packed, symbol-of, place-of, count-of, clipped, column, Config, Outcome, done, refused, spent, go, stop, outputOf, write, eat, mark, marked, expand, step-on, next, run, start, machine, most-stack, most-steps, placeRoom}
 use Rattle.parse_machine_proof.proofs.Never.{mark-plain}

@@ -6,7 +6,7 @@ use mathlib.Core.Logic.{_⊎_}
 use mathlib.Core.List.{List}
 use lib.ListN.{length, getD}
 use Rattle.base_codes.specs.Codes.{c-end-body, c-name, c-or-else, c-text}
-use Rattle.text_tokens.specs.Reading.{Placed, placed}
+use Rattle.spec_text.specs.Placed.{Placed, placed}
 
 abbrev pub nowhere : Placed
 nowhere = placed 0 0 0

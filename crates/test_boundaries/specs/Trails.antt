@@ -8,8 +8,9 @@ use lib.ListN.{replicate}
 use lib.IntN.{ℤ}
 use Rattle.base_bytes.specs.Lists.{same}
 use Rattle.base_kinds.specs.Kinds.{bytes}
-use Rattle.text_spellings.specs.Find.{find}
-use Rattle.text_pieces.specs.Spans.{span, decimalFrom}
+use Rattle.spec_text.specs.Find.{find}
+use Rattle.text_pieces.specs.Spans.{span}
+use Rattle.spec_text.specs.Digits.{decimalFrom}
 use Rattle.base_values.specs.declared.Fault.the-variants.{Divide}
 use Rattle.read_passes.specs.Judging.{tablesText}
 use Rattle.rule_item.specs.Rules.{globalOf, badRun, bodyOf, badPassing, badCount, badEnd}

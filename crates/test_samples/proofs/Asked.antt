@@ -23,7 +23,8 @@ use Rattle.step_all.specs.Moving.{machineIn, verdictAs}
 use Rattle.step_entry.specs.Entries.{foreignOf, refusalOf, startLeft, standingOf, verdictFor, Outcome, refusedBy, outcomeBy, askedIn, stepRefusal, outcomeOf}
 use Rattle.state_encode.specs.Encode.{encode}
 use Rattle.agree_states.proofs.Cells.{encode-long}
-use Rattle.demands.specs.Lent.{Rooms, Tables, of-text}
+use Rattle.demands.specs.Lent.{Rooms, Tables}
+use Rattle.demands.proofs.Owned.{own-tables}
 use Rattle.demands.proofs.Lent.{tables-genuine, foreign-none}
 use Rattle.demands.proofs.Leaves.{states-left}
 use Rattle.test_samples.specs.Samples.{lent, tables, cleared, started, paper, firstStep}
@@ -58,7 +59,7 @@ module _ (t : List ℕ) (acc : readOf t lent ≡ Accepted) where
       omega (arith, e, f, g, h, long)
 
   of-model : Tables (tables t) (accepts .tree)
-  of-model = of-text t accepts own
+  of-model = own-tables (tables t) t accepts own
 
   rooms : Rooms (tables t) cleared
   rooms = record { tables = tables-long; state = let e = length-replicate {A = ℤ} 2048 (pos 0) in omega (arith, e) }

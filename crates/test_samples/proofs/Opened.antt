@@ -1,8 +1,9 @@
 -- The definitions that the samples compute with, on the way from the bytes of a text to its answer: to unfold one of these three is to unfold all that its line names.
 use Rattle.base_bytes.specs.Lists as base
-use Rattle.text_spellings.specs.Find as spellings
+use Rattle.spec_text.specs.Find as spellings
 use Rattle.text_pieces.specs.Pieces as lexemesPieces
 use Rattle.text_pieces.specs.Spans as lexemesSpans
+use Rattle.spec_text.specs.Digits as lexemesDigits
 use Rattle.text_tokens.specs.Reading as lexis
 use Rattle.parse_tables.specs.Tables as productions
 use Rattle.parse_machine_proof.specs.Answer as machineAnswer
@@ -45,7 +46,7 @@ use Rattle.normal_letters.specs.Tokens as lettering
 use Rattle.normal_rows.specs.Rules as patterns
 use Rattle.normal_writer.specs.Normal as writerNormal
 use Rattle.normal_writer.specs.Turning as writerTurning
-use Rattle.text_spacing_proof.specs.Writing as spacing
+use Rattle.spec_text.specs.Writing as spacing
 use Rattle.spec_text.specs.Formats as formats
 
 -- reading a text, judging it, and its tables
@@ -53,7 +54,7 @@ unfoldable pub reads : Unit {0}
 unfolding
     base.same
     spellings.find
-    lexemesPieces.pieceOf lexemesSpans.span lexemesSpans.decimalFrom lexemesSpans.closing lexemesSpans.quoted
+    lexemesPieces.pieceOf lexemesSpans.span lexemesDigits.decimalFrom lexemesSpans.closing lexemesSpans.quoted
     lexis.readFrom
     productions.choices productions.bases productions.rights productions.productionBy productions.production productions.span productions.right
     machineAnswer.parsed machineDepth.deep machineMachine.column machineMachine.write machineMachine.eat machineMachine.expand machineMachine.step-on machineMachine.run

@@ -5,8 +5,8 @@ use mathlib.Core.List.{List, [], _∷_, _++_}
 use lib.ListN.{getD}
 use Rattle.base_bytes.specs.Choice.{pick}
 use Rattle.base_kinds.specs.Kinds.{Token, sym, name, number, text, kindOf}
-use Rattle.text_spacing_proof.specs.Spelled.{joins}
-use Rattle.text_spacing_proof.specs.Writing.{spell, apart, writeBehind, write}
+use Rattle.spec_text.specs.Spelled.{joins}
+use Rattle.spec_text.specs.Writing.{spell, apart, writeBehind, write}
 use Rattle.text_pens.specs.After.{joinsBy, writeAfter}
 
 kind-decides : (a : Token) (c : ℕ) → joins (kindOf a) (spell a) c ≡ joinsBy (kindOf a) c

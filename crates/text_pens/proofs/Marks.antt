@@ -12,9 +12,9 @@ use Rattle.base_bytes.specs.Choice.{pick, both, either}
 use Rattle.base_bytes.specs.Lists.{same}
 use Rattle.base_bytes.proofs.Tests.{true-false, both-true, both-no}
 use Rattle.base_kinds.specs.Kinds.{marks, keywords}
-use Rattle.text_spellings.specs.Find.{find}
-use Rattle.text_pieces.specs.Bytes.{isWord, isDigit}
-use Rattle.text_spacing_proof.specs.Spelled.{joins, markJoins}
+use Rattle.spec_text.specs.Find.{find}
+use Rattle.spec_text.specs.Bytes.{isWord, isDigit}
+use Rattle.spec_text.specs.Spelled.{joins, markJoins}
 use Rattle.text_pens.specs.Sheet.{spelledBy}
 use Rattle.text_pens.specs.After.{joinsBy}
 

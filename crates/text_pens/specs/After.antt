@@ -7,8 +7,8 @@ use Prim.Native.Nat.{ℕ}
 use lib.ListN.{getD}
 use Rattle.base_bytes.specs.Choice.{pick}
 use Rattle.base_kinds.specs.Kinds.{Token, kindOf}
-use Rattle.text_spacing_proof.specs.Spelled.{joins}
-use Rattle.text_spacing_proof.specs.Writing.{spell}
+use Rattle.spec_text.specs.Spelled.{joins}
+use Rattle.spec_text.specs.Writing.{spell}
 use Rattle.text_pens.specs.Sheet.{spelledBy}
 
 -- the byte c would join a token of kind k before it

@@ -3,7 +3,7 @@ ghost use mathlib.Core.Path.{_≡_};
 ghost use Prim.Native.Nat.{_+_, _-_, _%_, _<_};
 ghost use lib.ListN.{length, getD};
 ghost use Rattle.base_pens.specs.Pen.{pen, write, puts};
-ghost use Rattle.text_pieces.specs.Bytes.{isWord};
+ghost use Rattle.spec_text.specs.Bytes.{isWord};
 ghost use Rattle.spec_text.specs.Formats.{digitsBy};
 ghost use Rattle.text_pens.specs.Sheet.{sheet, sizes, spelledBy};
 ghost use Rattle.text_pens.specs.After.{joinsBy};

@@ -9,8 +9,9 @@ use lib.Dec.{eqb}
 use lib.ListN.{length, getD, take, drop, drop-of-length-le}
 use lib.Seq.{drop-cons, take-all}
 use Rattle.base_bytes.specs.Choice.{pick, both}
-use Rattle.text_pieces.specs.Bytes.{isBlank, isLetter, isDigit, isWord, quote, slash, star}
-use Rattle.text_pieces.specs.Spans.{inRun, span, decimalFrom, oneMore, closing, moveOf, further, moved, quoted}
+use Rattle.spec_text.specs.Bytes.{isBlank, isLetter, isDigit, isWord, quote, slash, star}
+use Rattle.text_pieces.specs.Spans.{inRun, span, oneMore, closing, moveOf, further, moved, quoted}
+use Rattle.spec_text.specs.Digits.{decimalFrom}
 use Rattle.text_pieces.specs.Pieces.{wordOf, numberOf, stringOf, commentOf, markOf, pieceOf}
 use Rattle.text_pieces.specs.declared.Piece.{Piece}
 use Rattle.text_pieces.specs.declared.Piece.the-variants.{Skip}

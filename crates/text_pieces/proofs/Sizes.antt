@@ -12,9 +12,10 @@ use Rattle.base_bytes.specs.Choice.{pick, both}
 use Rattle.base_bytes.specs.Lists.{same}
 use Rattle.base_bytes.proofs.Tests.{both-true, both-no, right-holds}
 use Rattle.base_kinds.specs.Kinds.{marks}
-use Rattle.text_spellings.specs.Find.{find}
-use Rattle.text_pieces.specs.Bytes.{isBlank, isLetter, isDigit, isWord, quote, slash, star}
-use Rattle.text_pieces.specs.Spans.{span, decimal, closing, quoted}
+use Rattle.spec_text.specs.Find.{find}
+use Rattle.spec_text.specs.Bytes.{isBlank, isLetter, isDigit, isWord, quote, slash, star}
+use Rattle.text_pieces.specs.Spans.{span, closing, quoted}
+use Rattle.spec_text.specs.Digits.{decimal}
 use Rattle.text_pieces.specs.Pieces.{wordOf, numberOf, stringOf, commentOf, markOf, pieceOf}
 use Rattle.text_pieces.specs.declared.Piece.{Piece}
 use Rattle.text_pieces.specs.declared.Piece.the-variants.{Skip, Take, Stop}

@@ -1,4 +1,3 @@
-pub mod Bytes
 pub mod Spans
 pub mod Pieces
 pub mod Examples

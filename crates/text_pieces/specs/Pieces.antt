@@ -1,4 +1,4 @@
--- Mechanism, held by `reading-exact` (crate `text_spacing_proof`) and `front-sound` to what document 01 says of bytes (specs/ of that crate), as far as tokens go; what is refused, and by which number, is said here alone.
+-- Mechanism, held to the specification by `reading-exact` (crate `text_spacing_proof`) and `reading-spoils` (crate `text_spoils_proof`).
 -- One piece at the front of a text: a blank or a comment to skip, a token to take, or a refusal.
 -- Document 01, "The edition we read", Bytes and Keywords; "Ceilings"; rows 1 and 2 of "What is answered".
 use mathlib.Core.Bool.{Bool}
@@ -9,9 +9,10 @@ use lib.ListN.{length, getD, take, drop}
 use Rattle.base_ceilings.specs.Ceilings.{numberMost, stringMost, wordMost}
 use Rattle.base_bytes.specs.Choice.{pick, both}
 use Rattle.base_kinds.specs.Kinds.{marks, number-kind, string-kind}
-use Rattle.text_spellings.specs.Find.{find, wordKind}
-use Rattle.text_pieces.specs.Bytes.{isBlank, isLetter, isDigit, isWord, quote, slash, star}
-use Rattle.text_pieces.specs.Spans.{span, decimal, closing, quoted}
+use Rattle.spec_text.specs.Find.{find, wordKind}
+use Rattle.spec_text.specs.Bytes.{isBlank, isLetter, isDigit, isWord, quote, slash, star}
+use Rattle.text_pieces.specs.Spans.{span, closing, quoted}
+use Rattle.spec_text.specs.Digits.{decimal}
 use Rattle.text_pieces.specs.declared.Piece.{Piece}
 use Rattle.text_pieces.specs.declared.Piece.the-variants.{Skip, Take, Stop}
 use Rattle.text_pieces.specs.declared.Close.{Close}

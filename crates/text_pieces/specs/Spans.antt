@@ -1,11 +1,11 @@
--- Mechanism, held by `reading-exact` (crate `text_spacing_proof`) and `front-sound` to what document 01 says of bytes (specs/ of that crate), but for `inRun`, of contracts alone.
+-- Mechanism, held to the specification by `reading-exact` (crate `text_spacing_proof`) and `reading-spoils` (crate `text_spoils_proof`), but for `inRun`, of contracts alone.
 -- How far a word, a number, a string or a comment reaches: document 01, "The edition we read", Bytes.
 use mathlib.Core.Bool.{Bool, true, false}
 use mathlib.Core.List.{List, [], _∷_}
 use Prim.Native.Nat.{ℕ, suc, _+_, _-_, _*_}
 use lib.Dec.{eqb}
 use Rattle.base_bytes.specs.Choice.{pick, both, either}
-use Rattle.text_pieces.specs.Bytes.{isDigit, isLetter, isPlain, isEscape, quote, backslash, slash, star}
+use Rattle.spec_text.specs.Bytes.{isDigit, isLetter, isPlain, isEscape, quote, backslash, slash, star}
 use Rattle.text_pieces.specs.declared.Close.{Close}
 use Rattle.text_pieces.specs.declared.Close.the-variants.{After, Never}
 use Rattle.text_pieces.specs.declared.Quoted.{Quoted}
@@ -21,14 +21,6 @@ inRun letters b = either (isDigit b) (both letters (isLetter b))
 unfoldable pub span : (ℕ → Bool) → List ℕ → ℕ
 span p [] = 0
 span p (b ∷ s) = pick (p b) (suc (span p s)) 0
-
--- the number that decimal digits write, after v
-unfoldable pub decimalFrom : ℕ → List ℕ → ℕ
-decimalFrom v [] = v
-decimalFrom v (b ∷ s) = decimalFrom (v * 10 + (b - 48)) s
-
-abbrev pub decimal : List ℕ → ℕ
-decimal s = decimalFrom 0 s
 
 -- "Comments run from `/*` to the next `*/` and hold any bytes": how many bytes through the next `*/`; `starred` if the byte before is a star
 abbrev pub oneMore : Close → Close

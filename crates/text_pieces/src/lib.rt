@@ -4,10 +4,11 @@ ghost use mathlib.Core.Bool.{false};
 ghost use Prim.Native.Nat.{_+_, _-_, _≤_, min};
 ghost use lib.ListN.{length};
 ghost use Rattle.base_ceilings.specs.Ceilings.{numberMost};
-ghost use Rattle.text_pieces.specs.Bytes.{isBlank, isLetter, isDigit, isPlain, isEscape, slash, star};
+ghost use Rattle.spec_text.specs.Bytes.{isBlank, isLetter, isDigit, isPlain, isEscape, slash, star};
 ghost use Rattle.base_bytes.specs.Choice.{both};
 ghost use lib.Dec.{eqb};
-ghost use Rattle.text_pieces.specs.Spans.{inRun, span, decimal, closing, moveOf, quoted};
+ghost use Rattle.text_pieces.specs.Spans.{inRun, span, closing, moveOf, quoted};
+ghost use Rattle.spec_text.specs.Digits.{decimal};
 ghost use Rattle.text_pieces.specs.Pieces.{wordOf, numberOf, stringOf, commentOf, markOf, pieceOf};
 
 // What stands at the front of a text, with its length.

@@ -8,7 +8,7 @@ use borrow.Author.Tests.{leb-true, lt-leb, ne-eqb, eqb-true}
 use lib.Dec.{leb, eqb}
 use Rattle.base_bytes.specs.Choice.{both, either}
 use Rattle.base_bytes.proofs.Tests.{both-true, either-true}
-use Rattle.text_pieces.specs.Bytes.{within, isBlank, isLetter, isDigit}
+use Rattle.spec_text.specs.Bytes.{within, isBlank, isLetter, isDigit}
 
 pub digit-range : (b : ℕ) → isDigit b ≡ true → (48 ≤ b) × (b ≤ 57)
 digit-range b e = let (p, q) = both-true (leb 48 b) (leb b 57) e in (leb-true 48 b p, leb-true b 57 q)

@@ -10,9 +10,9 @@ use lib.Dec.{ltb}
 use lib.ListN.{length, length-append}
 use Rattle.base_ceilings.specs.Ceilings.{numberMost}
 use Rattle.base_bytes.proofs.Tests.{both-true}
-use Rattle.text_pieces.specs.Bytes.{isDigit}
-use Rattle.text_pieces.specs.Spans.{decimalFrom, decimal}
-use Rattle.text_spacing_proof.specs.Spelled.{all, Spelled, digits}
+use Rattle.spec_text.specs.Bytes.{isDigit}
+use Rattle.spec_text.specs.Digits.{decimalFrom, decimal}
+use Rattle.spec_text.specs.Spelled.{all, Spelled, digits}
 use Rattle.spec_text.specs.Formats.{digitsBy, digitsOf}
 use Rattle.text_spacing_proof.proofs.Classes.{digit-range}
 

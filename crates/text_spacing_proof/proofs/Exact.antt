@@ -11,25 +11,28 @@ use lib.ListN.{length, getD, take, drop, length-append}
 use lib.Seq.{drop-at}
 use Rattle.base_ceilings.specs.Ceilings.{textMost, tokensMost}
 use Rattle.base_bytes.specs.Choice.{pick}
-use Rattle.text_pieces.specs.Bytes.{isBlank, slash, star}
+use Rattle.spec_text.specs.Bytes.{isBlank, slash, star}
 use Rattle.text_pieces.specs.Spans.{closing}
 use Rattle.text_pieces.specs.Pieces.{pieceOf}
 use Rattle.text_pieces.specs.declared.Piece.{Piece}
 use Rattle.text_pieces.specs.declared.Piece.the-variants.{Skip, Take, Stop}
 use Rattle.text_pieces.specs.declared.Close.the-variants.{After}
 use Rattle.text_pieces.proofs.Sizes.{Sized, piece-sized, by-test}
-use Rattle.text_tokens.specs.Reading.{Placed, placed, Reading, tokens, refused, before, follow, readFrom, reading}
+use Rattle.text_tokens.specs.Reading.{Reading, tokens, refused, before, follow, readFrom, reading}
+use Rattle.spec_text.specs.Placed.{Placed, placed}
 use Rattle.text_tokens.proofs.Scans.{pass}
-use Rattle.text_spacing_proof.specs.Spelled.{Spelled, joins}
-use Rattle.text_spacing_proof.specs.Layout.{Gap, none, blank, comment, Laid, ends, token}
+use Rattle.spec_text.specs.Spelled.{Spelled, joins}
+use Rattle.spec_text.specs.Layout.{Gap, none, blank, comment, Laid, ends, token}
 use Rattle.text_spacing_proof.proofs.Spans.{closing-more}
+use Rattle.text_spacing_proof.proofs.Comments.{closing-next}
+use Rattle.text_spacing_proof.proofs.Longest.{joins-longest, longest-joins}
 use Rattle.text_spacing_proof.proofs.Fronts.{front-taken, FrontToken, front-sound, Skipped, skip-sound, spelled-some}
 
 -- ---- one piece at the front
 no-tokens : {X : Type 0} {x i n : ℕ} {ps : List Placed} → refused x i n ≡ tokens ps → X
 no-tokens e = absurd (let z : _≡_ {A = ℕ} 0 1 = cc in omega arith)
 
-behind : (i l n : ℕ) (b : ℕ) (s : List ℕ) → 0 < n → readFrom (i + 1) l (n - 1) s ≡ readFrom (i + n) l 0 (drop n (b ∷ s))
+pub behind : (i l n : ℕ) (b : ℕ) (s : List ℕ) → 0 < n → readFrom (i + 1) l (n - 1) s ≡ readFrom (i + n) l 0 (drop n (b ∷ s))
 behind i l zero b s h = absurd (omega arith)
 behind i l (suc m) b s h =
     let e : suc m - 1 ≡ m = omega arith in
@@ -54,12 +57,12 @@ one-blank : (b : ℕ) (s : List ℕ) → isBlank b ≡ true → pieceOf (b ∷ s
 unfolding pieceOf
 one-blank b s h = rw h
 
-read-gap : {g : List ℕ} → Gap g → (i left : ℕ) (s : List ℕ) → readFrom i left 0 (g ++ s) ≡ readFrom (i + length g) left 0 s
+pub read-gap : {g : List ℕ} → Gap g → (i left : ℕ) (s : List ℕ) → readFrom i left 0 (g ++ s) ≡ readFrom (i + length g) left 0 s
 read-gap none i left s = ap (λ (x : ℕ). readFrom x left 0 s) (omega arith)
 read-gap (blank {b = b} {g = g} e G) i left s =
     past-skip i left 1 b (g ++ s) (one-blank b (g ++ s) e) (omega arith) ∙ (read-gap G (i + 1) left s ∙ ap (λ (x : ℕ). readFrom x left 0 s) (omega arith))
 read-gap (comment c {g = g} e G) i left s =
-    past-skip i left (length c + 2 + 2) slash (star ∷ (c ++ star ∷ slash ∷ g) ++ s) (commented c g s e) (omega arith)
+    past-skip i left (length c + 2 + 2) slash (star ∷ (c ++ star ∷ slash ∷ g) ++ s) (commented c g s (closing-next c .1 e)) (omega arith)
     ∙ (ap (readFrom (i + (length c + 2 + 2)) left 0) split
     ∙ (read-gap G (i + (length c + 2 + 2)) left s
     ∙ ap (λ (x : ℕ). readFrom x left 0 s) (omega (arith, length-append c (star ∷ slash ∷ g)))))
@@ -70,7 +73,7 @@ read-gap (comment c {g = g} e G) i left s =
         (rw (← append-assoc c (star ∷ slash ∷ []) (g ++ s))
         (drop-at (slash ∷ star ∷ c ++ star ∷ slash ∷ []) (g ++ s) (length c + 2 + 2) (omega (arith, length-append c (star ∷ slash ∷ [])))))
 
-read-token : {k : ℕ} {x : List ℕ} → Spelled k x → (s : List ℕ) (i left : ℕ) → joins k x (getD s 0 0) ≡ false →
+pub read-token : {k : ℕ} {x : List ℕ} → Spelled k x → (s : List ℕ) (i left : ℕ) → joins k x (getD s 0 0) ≡ false →
     readFrom i (suc left) 0 (x ++ s) ≡ before (placed k i (length x)) (readFrom (i + length x) left 0 s)
 read-token {k} {x} z s i left j = go x (spelled-some z) (front-taken s z j)
   where
@@ -89,7 +92,7 @@ laid-read (ends {i = i} {g = g} G) left h = subst (λ (y : List ℕ). readFrom i
 laid-read (token G z j L) zero h = absurd (omega arith)
 laid-read (token {i = i} {k = k} {g = g} {x = x} {s = s} {ps = ps} G z j L) (suc left) h =
     read-gap G i (suc left) (x ++ s)
-    ∙ (read-token z s (i + length g) left j
+    ∙ (read-token z s (i + length g) left (longest-joins z s j)
     ∙ ap (before (placed k (i + length g) (length x))) (laid-read L left (omega arith)))
 
 -- ---- from the reading to the layout
@@ -112,7 +115,7 @@ put-token : (i left k n : ℕ) (x rest t : List ℕ) (ps qs : List Placed) → t
 put-token i left k n x rest t ps qs w l u sp lo y =
     let e : i + 0 ≡ i = omega arith in
     let L : Laid (i + 0 + length x) rest qs = rw (e, l) (y .laid) in
-    rw (w, u, ← l) (record { laid = rw e at (token {i = i} {g = []} none sp lo L); count = omega (arith, y .count) })
+    rw (w, u, ← l) (record { laid = rw e at (token {i = i} {g = []} none sp (joins-longest sp rest lo) L); count = omega (arith, y .count) })
 
 read-laid : (f i left : ℕ) (t : List ℕ) (ps : List Placed) → length t ≤ f → readFrom i left 0 t ≡ tokens ps → Reads i left t ps
 unfolding readFrom

@@ -13,9 +13,10 @@ use Rattle.base_bytes.specs.Choice.{pick, both, either}
 use Rattle.base_bytes.specs.Lists.{same}
 use Rattle.base_bytes.proofs.Tests.{both-true, either-true, either-false, true-false}
 use Rattle.base_kinds.specs.Kinds.{marks, number-kind, string-kind}
-use Rattle.text_spellings.specs.Find.{find, wordKind}
-use Rattle.text_pieces.specs.Bytes.{isBlank, isLetter, isDigit, isWord, quote, slash, star}
-use Rattle.text_pieces.specs.Spans.{span, decimal, closing, quoted}
+use Rattle.spec_text.specs.Find.{find, wordKind}
+use Rattle.spec_text.specs.Bytes.{isBlank, isLetter, isDigit, isWord, quote, slash, star}
+use Rattle.text_pieces.specs.Spans.{span, closing, quoted}
+use Rattle.spec_text.specs.Digits.{decimal}
 use Rattle.text_pieces.specs.Pieces.{wordOf, numberOf, stringOf, commentOf, markOf, pieceOf}
 use Rattle.text_pieces.specs.declared.Piece.{Piece}
 use Rattle.text_pieces.specs.declared.Piece.the-variants.{Skip, Take, Stop}
@@ -26,9 +27,10 @@ use Rattle.text_pieces.specs.declared.Quoted.the-variants.{Closed, Spoiled, Unc
 use Rattle.text_pieces.proofs.Laws.{span-le}
 use Rattle.text_pieces.proofs.Sizes.{by-test, find-zero}
 use Rattle.text_spellings.proofs.Laws.{two-one}
-use Rattle.text_spacing_proof.specs.Spelled.{all, Between, Spelled, word, digits, string, mark, markJoins, joins}
-use Rattle.text_spacing_proof.specs.Layout.{Gap, none, blank, comment}
+use Rattle.spec_text.specs.Spelled.{all, Between, Spelled, word, digits, string, mark, markJoins, joins}
+use Rattle.spec_text.specs.Layout.{Gap, none, blank, comment}
 use Rattle.text_spacing_proof.proofs.Classes.{digit-letter, digit-blank, letter-blank}
+use Rattle.text_spacing_proof.proofs.Comments.{closing-next}
 use Rattle.text_spacing_proof.proofs.Tables.{mark-range, word-range, every, found-passes, fails-unfound}
 use Rattle.text_spacing_proof.proofs.Spans.{span-whole, span-all, span-stops, quoted-whole, Ends, quoted-ends, closing-more, Comment, comment-ends}
 
@@ -92,7 +94,7 @@ mark-front (a ∷ c ∷ []) rest k m e j =
 mark-front (a ∷ c ∷ d ∷ x) rest k m e j = absurd (true-false (sym m))
 
 -- ---- THE FRONT, ONE WAY: a spelled token is taken
-first-word : (b : ℕ) (s : List ℕ) → isLetter b ≡ true → all isWord s ≡ true → all isWord (b ∷ s) ≡ true
+pub first-word : (b : ℕ) (s : List ℕ) → isLetter b ≡ true → all isWord s ≡ true → all isWord (b ∷ s) ≡ true
 unfolding all
 first-word b s e a = rw (either-last (isDigit b) e, a)
   where
@@ -100,7 +102,7 @@ first-word b s e a = rw (either-last (isDigit b) e, a)
     either-last true q = refl
     either-last false q = q
 
-first-digit : (b : ℕ) (s : List ℕ) → isDigit b ≡ true → all isDigit s ≡ true → all isDigit (b ∷ s) ≡ true
+pub first-digit : (b : ℕ) (s : List ℕ) → isDigit b ≡ true → all isDigit s ≡ true → all isDigit (b ∷ s) ≡ true
 unfolding all
 first-digit b s e a = rw (e, a)
 
@@ -302,7 +304,7 @@ comment-skipped s m n (After j) q e =
       rest = z .rest;
       whole = ap (λ (a : List ℕ). slash ∷ star ∷ a) (z .whole ∙ sym (append-assoc (z .inside) (star ∷ slash ∷ []) (z .rest)));
       size = omega (arith, length-append (z .inside) (star ∷ slash ∷ []), z .size);
-      gap = λ h G. rw (append-assoc (z .inside) (star ∷ slash ∷ []) h) (comment (z .inside) (z .alone) G);
+      gap = λ h G. rw (append-assoc (z .inside) (star ∷ slash ∷ []) h) (comment (z .inside) (closing-next (z .inside) .0 (z .alone)) G);
     }
 comment-skipped s m n Never q e = not-passed e
 

@@ -1,8 +1,10 @@
 pub mod Classes
 pub mod Tables
 pub mod Spans
+pub mod Comments
 pub mod Fronts
-pub mod Exact
 pub mod Digits
 pub mod Tokens
+pub mod Longest
+pub mod Exact
 pub mod Written

@@ -10,14 +10,14 @@ use lib.Dec.{eqb}
 use lib.ListN.{length, getD, take, drop, length-append}
 use Rattle.base_bytes.specs.Choice.{pick, both}
 use Rattle.base_bytes.proofs.Tests.{both-true, true-false}
-use Rattle.text_pieces.specs.Bytes.{isPlain, isEscape, quote, backslash, slash, star}
+use Rattle.spec_text.specs.Bytes.{isPlain, isEscape, quote, backslash, slash, star}
 use Rattle.text_pieces.specs.Spans.{span, closing, oneMore, quoted, moveOf, moved, further}
 use Rattle.text_pieces.specs.declared.Close.{Close}
 use Rattle.text_pieces.specs.declared.Close.the-variants.{After, Never}
 use Rattle.text_pieces.specs.declared.Quoted.{Quoted}
 use Rattle.text_pieces.specs.declared.Quoted.the-variants.{Closed, Spoiled, Unclosed}
 use Rattle.text_pieces.specs.declared.Move.the-variants.{On, End, Bad}
-use Rattle.text_spacing_proof.specs.Spelled.{all, Between, empty, plain, escape}
+use Rattle.spec_text.specs.Spelled.{all, Between, empty, plain, escape}
 
 -- ---- runs
 module _ (p : ℕ → Bool) where

@@ -13,7 +13,7 @@ use Rattle.base_bytes.specs.Lists.{same}
 use Rattle.base_bytes.proofs.Tests.{both-true}
 use Rattle.base_bytes.proofs.Lists.{same-eq}
 use Rattle.base_kinds.specs.Kinds.{marks, keywords}
-use Rattle.text_spellings.specs.Find.{find, orElse, keywordOf, wordKind}
+use Rattle.spec_text.specs.Find.{find, orElse, keywordOf, wordKind}
 
 -- 0, or a place of the table
 abbrev Ranged : ℕ → ℕ → ℕ → Type 0

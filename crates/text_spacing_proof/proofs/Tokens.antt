@@ -13,12 +13,12 @@ use Rattle.base_bytes.specs.Choice.{pick, both, either}
 use Rattle.base_bytes.specs.Lists.{same}
 use Rattle.base_bytes.proofs.Tests.{both-no, both-true, true-false}
 use Rattle.base_kinds.specs.Kinds.{marks, keywords, Token, sym as symbol, name, number, text, kindOf, name-kind, number-kind, string-kind}
-use Rattle.text_spellings.specs.Find.{find, keywordOf, wordKind}
+use Rattle.spec_text.specs.Find.{find, keywordOf, wordKind}
 use Rattle.text_spellings.proofs.Laws.{two-one}
-use Rattle.text_pieces.specs.Bytes.{isDigit, isLetter, isWord, quote, slash, star}
-use Rattle.text_pieces.specs.Spans.{decimal}
-use Rattle.text_spacing_proof.specs.Spelled.{all, Spelled, word, digits, string, mark, markJoins, joins}
-use Rattle.text_spacing_proof.specs.Writing.{spell, tokenOf, Sound}
+use Rattle.spec_text.specs.Bytes.{isDigit, isLetter, isWord, quote, slash, star}
+use Rattle.spec_text.specs.Digits.{decimal}
+use Rattle.spec_text.specs.Spelled.{all, Spelled, word, digits, string, mark, markJoins, joins}
+use Rattle.spec_text.specs.Writing.{spell, tokenOf, Sound}
 use Rattle.spec_text.specs.Formats.{digitsOf}
 use Rattle.text_spacing_proof.proofs.Classes.{digit-range}
 use Rattle.text_spacing_proof.proofs.Tables.{mark-range, word-range, keyword-below, every, fails-unfound, found-at}

@@ -12,11 +12,13 @@ use Rattle.base_bytes.proofs.Tests.{true-false}
 use Rattle.base_kinds.specs.Kinds.{Token, kindOf}
 use Rattle.text_pieces.specs.Pieces.{pieceOf}
 use Rattle.text_pieces.specs.declared.Piece.the-variants.{Take}
-use Rattle.text_tokens.specs.Reading.{Placed, placed, tokens, reading}
-use Rattle.text_spacing_proof.specs.Spelled.{Spelled, joins}
-use Rattle.text_spacing_proof.specs.Layout.{Gap, none, blank, Laid, ends, token, Ordered}
-use Rattle.text_spacing_proof.specs.Writing.{spell, tokenOf, partOf, tokenIn, tokensIn, Sound, AllSound, apart, writeBehind, write, Spaced}
+use Rattle.text_tokens.specs.Reading.{tokens, reading}
+use Rattle.spec_text.specs.Placed.{Placed, placed}
+use Rattle.spec_text.specs.Spelled.{Spelled, joins}
+use Rattle.spec_text.specs.Layout.{Gap, none, blank, Laid, ends, token, Ordered}
+use Rattle.spec_text.specs.Writing.{spell, tokenOf, partOf, tokenIn, tokensIn, Sound, AllSound, apart, writeBehind, write, Spaced}
 use Rattle.text_spacing_proof.proofs.Fronts.{front-sound, spelled-some}
+use Rattle.text_spacing_proof.proofs.Longest.{joins-longest, longest-joins}
 use Rattle.text_spacing_proof.proofs.Exact.{reading-exact}
 use Rattle.text_spacing_proof.proofs.Tokens.{joins-space, joins-end, kept, sound-spelled, token-back}
 
@@ -109,14 +111,14 @@ short-behind a k x (ends G) f p e = omega arith
 short-behind a k x (token {k = j} {g = g} {x = y} {s = s} G z q L) f p e =
     let b = tokenOf j y in
     let w = spaceIf (apart a b) in
-    omega (arith, gap-pays a k x y g s j f p z e, kept z .fewest, short-behind b j y L (alike z) z q, length-append w (spell b ++ writeBehind b (contents L)), length-append (spell b) (writeBehind b (contents L)), length-append g (y ++ s), length-append y s)
+    omega (arith, gap-pays a k x y g s j f p z e, kept z .fewest, short-behind b j y L (alike z) z (longest-joins z s q), length-append w (spell b ++ writeBehind b (contents L)), length-append (spell b) (writeBehind b (contents L)), length-append g (y ++ s), length-append y s)
 
 laid-short : {i : ℕ} {t : List ℕ} {ps : List Placed} (L : Laid i t ps) → length (write (contents L)) ≤ length t
 unfolding contents
 laid-short (ends G) = omega arith
 laid-short (token {k = k} {g = g} {x = x} {s = s} G z q L) =
     let a = tokenOf k x in
-    omega (arith, kept z .fewest, short-behind a k x L (alike z) z q, length-append (spell a) (writeBehind a (contents L)), length-append g (x ++ s), length-append x s)
+    omega (arith, kept z .fewest, short-behind a k x L (alike z) z (longest-joins z s q), length-append (spell a) (writeBehind a (contents L)), length-append g (x ++ s), length-append x s)
 
 pub written-shortest : (t : List ℕ) (ps : List Placed) → reading t ≡ tokens ps → length (write (tokensIn t ps)) ≤ length t
 written-shortest t ps e =
@@ -141,7 +143,7 @@ put-before pre b a s ts z j r =
     let l : length (pre ++ (sp ++ x)) ≡ length pre + length sp + length x = omega (arith, length-append pre (sp ++ x), length-append sp x) in
     record {
       ps = placed (kindOf a) (length pre + length sp) (length x) ∷ r .ps;
-      laid = token (space-gap b) (sound-spelled a z) j (rw l at (r .laid));
+      laid = token (space-gap b) (sound-spelled a z) (joins-longest (sound-spelled a z) s j) (rw l at (r .laid));
       same = rw (part-is pre sp x s (length pre + length sp) refl, token-back a z) (ap (a ∷_) (ap (λ (t : List ℕ). tokensIn t (r .ps)) (regroup pre sp x s) ∙ r .same));
       count = ap suc (r .count);
     }
@@ -205,7 +207,7 @@ spaced-in t pre (ends G) e w = tt
 spaced-in t pre (token {i = i} {k = k} {g = g} {x = x} {s = s} G z j L) e w =
     let l : i + length g + length x ≡ length (pre ++ (g ++ x)) = omega (arith, length-append pre (g ++ x), length-append g x) in
     let v : t ≡ (pre ++ (g ++ x)) ++ s = w ∙ regroup pre g x s in
-    spaced-next t (pre ++ (g ++ x)) k (i + length g + length x) x (placed k (i + length g) (length x)) L l v refl (in-text t pre g x s k i e w) z j (spaced-in t (pre ++ (g ++ x)) L l v)
+    spaced-next t (pre ++ (g ++ x)) k (i + length g + length x) x (placed k (i + length g) (length x)) L l v refl (in-text t pre g x s k i e w) z (longest-joins z s j) (spaced-in t (pre ++ (g ++ x)) L l v)
 
 pub tokens-spaced : (t : List ℕ) (ps : List Placed) → reading t ≡ tokens ps → Spaced t ps
 tokens-spaced t ps e = spaced-in t [] (reading-exact t ps .0 e .0) refl refl

@@ -11,7 +11,7 @@ use lib.ListN.{length, take, drop}
 use Rattle.base_bytes.specs.Choice.{pick, both}
 use Rattle.base_bytes.specs.Lists.{same}
 use Rattle.base_kinds.specs.Kinds.{keywords}
-use Rattle.text_spellings.specs.Find.{find, orElse, keywordOf}
+use Rattle.spec_text.specs.Find.{find, orElse, keywordOf}
 
 pub find-append : (w : List ℕ) (xs ys : List (List ℕ)) (k : ℕ) → 0 < k → find w (xs ++ ys) k ≡ orElse (find w xs k) (find w ys (k + length xs))
 unfolding find

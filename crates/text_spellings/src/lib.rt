@@ -3,7 +3,7 @@ ghost use mathlib.Core.Path.{_≡_};
 ghost use mathlib.Core.List.{[], _∷_};
 ghost use lib.ListN.{take, drop};
 ghost use Rattle.base_kinds.specs.Kinds.{marks, keywords};
-ghost use Rattle.text_spellings.specs.Find.{find, keywordOf};
+ghost use Rattle.spec_text.specs.Find.{find, keywordOf};
 
 // Keywords, each a fixed spelling compared byte for byte with the word; 0 where it is none of these.
 fn type_kind(w: &[u8]) -> u8

@@ -7,7 +7,8 @@ use borrow.Author.Tests.{le-leb, lt-leb, lt-ltb, le-ltb}
 use lib.ListN.{length, take, drop}
 use Rattle.base_ceilings.specs.Ceilings.{textMost, tokensMost}
 use Rattle.base_bytes.specs.Lists.{pasted}
-use Rattle.text_tokens.specs.Reading.{Placed, Reading, tokens, refused, readFrom, reading}
+use Rattle.text_tokens.specs.Reading.{Reading, tokens, refused, readFrom, reading}
+use Rattle.spec_text.specs.Placed.{Placed}
 use Rattle.text_tokens.specs.Answers.{answerOf, left-in, lexing, Answered}
 use Rattle.text_tokens.specs.Scans.{read-in, Scanned}
 use Rattle.text_tokens.specs.declared.Lexed.{Lexed}

@@ -12,7 +12,8 @@ use Rattle.text_pieces.specs.Pieces.{pieceOf}
 use Rattle.text_pieces.specs.declared.Piece.{Piece}
 use Rattle.text_pieces.specs.declared.Piece.the-variants.{Skip, Take, Stop}
 use Rattle.text_pieces.proofs.Sizes.{size, Sized, piece-sized}
-use Rattle.text_tokens.specs.Reading.{Placed, placed, Reading, tokens, refused, before, follow, readFrom}
+use Rattle.text_tokens.specs.Reading.{Reading, tokens, refused, before, follow, readFrom}
+use Rattle.spec_text.specs.Placed.{Placed, placed}
 use Rattle.text_tokens.specs.Answers.{answerOf}
 use Rattle.text_tokens.specs.Scans.{read-in, Scanned}
 use Rattle.text_tokens.specs.declared.Lexed.{Lexed}

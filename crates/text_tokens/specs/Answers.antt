@@ -8,7 +8,8 @@ use lib.Dec.{leb}
 use lib.ListN.{length, drop}
 use Rattle.base_ceilings.specs.Ceilings.{tokensMost}
 use Rattle.base_bytes.specs.Choice.{pick, both}
-use Rattle.text_tokens.specs.Reading.{Placed, Reading, tokens, refused, reading}
+use Rattle.text_tokens.specs.Reading.{Reading, tokens, refused, reading}
+use Rattle.spec_text.specs.Placed.{Placed}
 use Rattle.text_tokens.specs.declared.Lexed.{Lexed}
 use Rattle.text_tokens.specs.declared.Lexed.the-variants.{Tokens, Refused}
 

@@ -6,10 +6,12 @@ use Prim.Native.Nat.{ℕ}
 use lib.ListN.{replicate}
 use Rattle.base_bytes.specs.Lists.{same}
 use Rattle.base_kinds.specs.Kinds.{bytes}
-use Rattle.text_spellings.specs.Find.{find}
-use Rattle.text_pieces.specs.Spans.{span, decimalFrom, closing, quoted}
+use Rattle.spec_text.specs.Find.{find}
+use Rattle.text_pieces.specs.Spans.{span, closing, quoted}
+use Rattle.spec_text.specs.Digits.{decimalFrom}
 use Rattle.text_pieces.specs.Pieces.{pieceOf}
-use Rattle.text_tokens.specs.Reading.{placed, tokens, refused, readFrom, reading}
+use Rattle.text_tokens.specs.Reading.{tokens, refused, readFrom, reading}
+use Rattle.spec_text.specs.Placed.{placed}
 use Rattle.text_tokens.specs.Lines.{behind, position, positionOf}
 
 -- P9

@@ -1,4 +1,4 @@
--- Mechanism, held by `reading-exact` (crate `text_spacing_proof`) to what document 01 says of bytes (specs/ of that crate), as far as tokens go; what is refused, and by which number, is said here alone.
+-- Mechanism, held to the specification by `reading-exact` (crate `text_spacing_proof`) and `reading-spoils` (crate `text_spoils_proof`).
 -- The tokens of a whole text, or its refusal: document 01, "The edition we read", Bytes; "Ceilings"; rows 1 and 2 of "What is answered".
 -- The text is read from its front, piece by piece, so that the first refusal met is the one of the smallest place.
 use mathlib.Core.List.{List, [], _∷_}
@@ -7,18 +7,10 @@ use lib.Dec.{ltb}
 use lib.ListN.{length}
 use Rattle.base_ceilings.specs.Ceilings.{textMost, tokensMost}
 use Rattle.base_bytes.specs.Choice.{pick}
+use Rattle.spec_text.specs.Placed.{Placed, placed}
 use Rattle.text_pieces.specs.Pieces.{pieceOf}
 use Rattle.text_pieces.specs.declared.Piece.{Piece}
 use Rattle.text_pieces.specs.declared.Piece.the-variants.{Skip, Take, Stop}
-
--- a token in its text: its kind, the place of its first byte, and the place behind its last
-pub record Placed : Type 0 where
-  pub kind : ℕ
-  pub start : ℕ
-  pub end : ℕ
-
-abbrev pub placed : ℕ → ℕ → ℕ → Placed
-placed k i n = record { kind = k; start = i; end = i + n }
 
 -- the tokens in text order, or a refusal with its number, the place of its first byte and its length
 pub data Reading : Type 0 where

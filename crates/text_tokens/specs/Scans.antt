@@ -5,7 +5,8 @@ use mathlib.Core.List.{List, [], map}
 use Prim.Native.Nat.{ℕ, _≤_}
 use lib.ListN.{length, take}
 use Rattle.base_ceilings.specs.Ceilings.{tokensMost}
-use Rattle.text_tokens.specs.Reading.{Placed, Reading, tokens, refused}
+use Rattle.text_tokens.specs.Reading.{Reading, tokens, refused}
+use Rattle.spec_text.specs.Placed.{Placed}
 use Rattle.text_tokens.specs.Answers.{answerOf}
 use Rattle.text_tokens.specs.declared.Lexed.{Lexed}
 

@@ -14,8 +14,9 @@ use Rattle.base_bytes.specs.Lists.{same}
 use Rattle.base_bytes.proofs.Lists.{same-eq}
 use Rattle.base_bytes.proofs.Tests.{both-true, true-false}
 use Rattle.base_kinds.specs.Kinds.{bytes}
-use Rattle.text_spellings.specs.Find.{find}
-use Rattle.text_pieces.specs.Spans.{span, decimal}
+use Rattle.spec_text.specs.Find.{find}
+use Rattle.text_pieces.specs.Spans.{span}
+use Rattle.spec_text.specs.Digits.{decimal}
 use Rattle.text_pieces.proofs.Sizes.{by-test}
 use Rattle.spec_text.specs.Formats.{digitsOf}
 use Rattle.spec_machine.specs.Machine.{finished, blocked, «open»}
@@ -32,7 +33,7 @@ use Rattle.trail_form.proofs.Numbers.{formed-written}
 use Rattle.trail_form.proofs.Written.{trail-formed}
 
 -- what stands before the first byte c, that byte, and what stands behind it
-parted : (c : ℕ) (x : List ℕ) → span (isNot c) x < length x → x ≡ take (span (isNot c) x) x ++ c ∷ drop (span (isNot c) x + 1) x
+pub parted : (c : ℕ) (x : List ℕ) → span (isNot c) x < length x → x ≡ take (span (isNot c) x) x ++ c ∷ drop (span (isNot c) x + 1) x
 unfolding span
 parted c [] h = absurd (omega arith)
 parted c (b ∷ x) h = go (eqb b c) refl (parted c x) h
@@ -43,7 +44,7 @@ parted c (b ∷ x) h = go (eqb b c) refl (parted c x) h
     go false e r h = let z : suc (span (isNot c) x) + 1 ≡ suc (span (isNot c) x + 1) = omega arith in rw z (ap (b ∷_) (r (omega arith)))
 
 -- ---- what a line is, by its record
-data Line : List ℕ → Record → Type 0 where
+pub data Line : List ℕ → Record → Type 0 where
   step : (a : Recorded) → a .process < 100000 → a .choice < 100000 → Line (stepLine a) (Step (a .process) (a .choice))
   claim : (c : claims.Claim) → Line (claimLine (claimed c)) (Claim (claimed c))
   neither : {x : List ℕ} → Line x Malformed
@@ -81,7 +82,7 @@ claim-line x = go (same x (bytes "assert")) (same x (bytes "fault")) (same x (by
     go false false false false true h i j k l = word (bytes "open") (Claim 5) l (claim (standing «open»))
     go false false false false false h i j k l = neither
 
-line-of : (x : List ℕ) → Line x (recordOf x)
+pub line-of : (x : List ℕ) → Line x (recordOf x)
 line-of x =
     by-test (Line x) (both (eqb (getD x 0 0) 83) (eqb (getD x 1 0) tab))
     (λ t. by-test (Line x) (both (wellFormed (field (drop 2 x))) (wellFormed (behindField (drop 2 x))))
@@ -101,7 +102,7 @@ line-of x =
     front a h t = let (p, q) = both-true (eqb (getD x 0 0) a) (eqb (getD x 1 0) tab) t in two-front x a tab h (λ z. omega arith) (eqb-true (getD x 0 0) a p) (eqb-true (getD x 1 0) tab q)
 
 -- ---- what is read is the text of its records
-not-form : {x l v : ℕ} {steps : List Recorded} → spoiled x l ≡ form steps v → ⊥
+pub not-form : {x l v : ℕ} {steps : List Recorded} → spoiled x l ≡ form steps v → ⊥
 not-form e = let z : _≡_ {A = ℕ} 0 1 = cc in omega arith
 
 -- one line, where what is read behind it is the text of its records

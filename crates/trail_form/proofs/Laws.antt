@@ -11,12 +11,13 @@ use lib.ListN.{length, getD, take, drop, drop-of-length-le, List·getD-eq-defaul
 use lib.Seq.{take-all}
 use Rattle.base_bytes.specs.Choice.{both, either}
 use Rattle.base_bytes.proofs.Tests.{both-true}
-use Rattle.text_pieces.specs.Bytes.{isDigit}
-use Rattle.text_pieces.specs.Spans.{span, decimal}
+use Rattle.spec_text.specs.Bytes.{isDigit}
+use Rattle.text_pieces.specs.Spans.{span}
+use Rattle.spec_text.specs.Digits.{decimal}
 use Rattle.text_pieces.proofs.Laws.{span-le, span-stop, span-more, tail-part}
 use Rattle.text_spacing_proof.proofs.Spans.{span-all}
 use Rattle.text_spacing_proof.proofs.Digits.{decimal-below}
-use Rattle.text_spacing_proof.specs.Spelled.{all}
+use Rattle.spec_text.specs.Spelled.{all}
 use Rattle.trail_form.specs.Records.{wellFormed, isNot, field, behindField, stepOf}
 use Rattle.spec_trails.specs.Trails.{tab}
 use Rattle.trail_form.specs.declared.Record.the-variants.{Step, Malformed}

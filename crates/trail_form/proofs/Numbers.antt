@@ -11,9 +11,10 @@ use lib.ListN.{length, getD, take, drop, length-append}
 use lib.Seq.{take-append-seam, drop-append-add, take-length}
 use Rattle.base_bytes.specs.Choice.{pick, both, either}
 use Rattle.base_bytes.proofs.Tests.{both-true, either-true}
-use Rattle.text_pieces.specs.Bytes.{isDigit}
-use Rattle.text_pieces.specs.Spans.{span, decimal, decimalFrom}
-use Rattle.text_spacing_proof.specs.Spelled.{all}
+use Rattle.spec_text.specs.Bytes.{isDigit}
+use Rattle.text_pieces.specs.Spans.{span}
+use Rattle.spec_text.specs.Digits.{decimal, decimalFrom}
+use Rattle.spec_text.specs.Spelled.{all}
 use Rattle.spec_text.specs.Formats.{digitsBy, digitsOf}
 use Rattle.text_spacing_proof.proofs.Classes.{digit-range}
 use Rattle.text_spacing_proof.proofs.Digits.{digits-write, digits-fewest, decimal-below, digit-of}

@@ -10,8 +10,9 @@ use lib.ListN.{length, getD, take, drop, length-append, length-drop, take-append
 use lib.Seq.{drop-cons, drop-drop, length-take-le}
 use Rattle.base_bytes.specs.Choice.{both}
 use Rattle.base_bytes.proofs.Tests.{both-true}
-use Rattle.text_pieces.specs.Bytes.{isDigit}
-use Rattle.text_pieces.specs.Spans.{span, decimalFrom, decimal}
+use Rattle.spec_text.specs.Bytes.{isDigit}
+use Rattle.text_pieces.specs.Spans.{span}
+use Rattle.spec_text.specs.Digits.{decimalFrom, decimal}
 use Rattle.spec_trails.specs.Trails.{tab, line-end, Recorded, stepLine}
 use Rattle.trail_form.specs.Records.{wellFormed, recordOf}
 use Rattle.trail_form.specs.Forms.{lineOf}

@@ -11,8 +11,8 @@ use lib.Seq.{take-append-seam, drop-append-add}
 use Rattle.base_ceilings.specs.Ceilings.{stepsMost, trailMost}
 use Rattle.base_bytes.specs.Choice.{pick}
 use Rattle.base_bytes.specs.Lists as lists
-use Rattle.text_spellings.specs.Find.{find}
-use Rattle.text_spacing_proof.specs.Spelled.{all}
+use Rattle.spec_text.specs.Find.{find}
+use Rattle.spec_text.specs.Spelled.{all}
 use Rattle.spec_text.specs.Formats.{digitsOf}
 use Rattle.text_spacing_proof.proofs.Spans.{span-whole}
 use Rattle.trail_form.specs.Records.{isNot, recordOf}
@@ -54,12 +54,12 @@ module _ (b : ℕ) (x rest : List ℕ) (plain : all (isNot line-end) (b ∷ x) �
       rw (em, en, lt-ltb (suc (length x)) (suc (length x) + suc (length rest)) (omega arith), z, t)
       (follow-same (recordOf (b ∷ x)) line left (length rest) (λ l. formFrom (line + 1) l (suc (length x)) (x ++ line-end ∷ rest)) (λ l. formFrom (line + 1) l 0 rest) (λ l. behind-line (line + 1) l))
 
-  lined : (line left : ℕ) → formFrom line left 0 (b ∷ (x ++ line-end ∷ rest)) ≡ follow (recordOf (b ∷ x)) line left (length rest) (λ l. formFrom (line + 1) l 0 rest)
+  pub lined : (line left : ℕ) → formFrom line left 0 (b ∷ (x ++ line-end ∷ rest)) ≡ follow (recordOf (b ∷ x)) line left (length rest) (λ l. formFrom (line + 1) l 0 rest)
   unfolding formFrom
   lined line left = by-length line left (lineOf (b ∷ (x ++ line-end ∷ rest))) (length (b ∷ (x ++ line-end ∷ rest))) line-length whole-length
 
 -- ---- the first line of a step's and what follows
-step-plain : (a : Recorded) → all (isNot line-end) (stepLine a) ≡ true
+pub step-plain : (a : Recorded) → all (isNot line-end) (stepLine a) ≡ true
 unfolding all
 step-plain a =
     all-append (isNot line-end) (digitsOf (a .process)) (tab ∷ digitsOf (a .choice)) (all-not line-end (omega arith) (digitsOf (a .process)) (digits-all 10 (a .process)))
@@ -83,9 +83,9 @@ first-line a rest hp hk =
     }
 
 -- ---- the claim
-record Claimed (v : ℕ) : Type 0 where
-  read : recordOf (claimLine v) ≡ Claim v
-  plain : all (isNot line-end) (claimLine v) ≡ true
+pub record Claimed (v : ℕ) : Type 0 where
+  pub read : recordOf (claimLine v) ≡ Claim v
+  pub plain : all (isNot line-end) (claimLine v) ≡ true
   short : length (claimLine v) ≤ 10
 
 assert-claimed : Claimed 1
@@ -102,7 +102,7 @@ standing-claimed finished = record { read = refl; plain = refl; short = omega ar
 standing-claimed blocked = record { read = refl; plain = refl; short = omega arith }
 standing-claimed «open» = record { read = refl; plain = refl; short = omega arith }
 
-claim-claimed : (c : claims.Claim) → Claimed (claimed c)
+pub claim-claimed : (c : claims.Claim) → Claimed (claimed c)
 claim-claimed assertion = assert-claimed
 claim-claimed fault = fault-claimed
 claim-claimed (standing d) = standing-claimed d

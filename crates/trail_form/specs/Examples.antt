@@ -5,8 +5,9 @@ use mathlib.Core.List.{List, [], _∷_}
 use Prim.Native.Nat.{ℕ}
 use Rattle.base_bytes.specs.Lists.{same}
 use Rattle.base_kinds.specs.Kinds.{bytes}
-use Rattle.text_spellings.specs.Find.{find}
-use Rattle.text_pieces.specs.Spans.{span, decimalFrom}
+use Rattle.spec_text.specs.Find.{find}
+use Rattle.text_pieces.specs.Spans.{span}
+use Rattle.spec_text.specs.Digits.{decimalFrom}
 use Rattle.trail_form.specs.Forms.{Form, form, spoiled, formFrom, formOf}
 
 abbrev forms : List (List ℕ) → List Form

@@ -6,10 +6,11 @@ use Prim.Native.Nat.{ℕ, suc, _+_}
 use lib.Dec.{eqb, leb}
 use lib.ListN.{length, getD, take, drop}
 use Rattle.base_bytes.specs.Choice.{pick, both, either}
-use Rattle.text_spellings.specs.Find.{find}
+use Rattle.spec_text.specs.Find.{find}
 use Rattle.spec_trails.specs.Trails.{tab, verdicts}
-use Rattle.text_pieces.specs.Bytes.{isDigit}
-use Rattle.text_pieces.specs.Spans.{span, decimal}
+use Rattle.spec_text.specs.Bytes.{isDigit}
+use Rattle.text_pieces.specs.Spans.{span}
+use Rattle.spec_text.specs.Digits.{decimal}
 use Rattle.trail_form.specs.declared.Record.{Record}
 use Rattle.trail_form.specs.declared.Record.the-variants.{Step, Claim, Malformed}
 

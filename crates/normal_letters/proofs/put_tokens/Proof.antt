@@ -1,7 +1,7 @@
 use Rattle.normal_letters.proofs.Tokens as laws
 use Rattle.normal_letters.specs.Tokens.{tokenBy}
 use Rattle.text_pens.specs.After.{writeAfter}
-use Rattle.text_spacing_proof.specs.Writing.{write}
+use Rattle.spec_text.specs.Writing.{write}
 use Rattle.base_pens.specs.Pen.{pen, puts}
 use lib.ListN.{length, drop}
 use mathlib.Core.List.{map}

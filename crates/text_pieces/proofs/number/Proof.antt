@@ -1,6 +1,6 @@
 use lib.ListN.{take}
 use Rattle.base_ceilings.specs.Ceilings.{numberMost}
-use Rattle.text_pieces.specs.Spans.{decimal}
+use Rattle.spec_text.specs.Digits.{decimal}
 use native.Mathlib.Omega.{arith}
 use denote.Ref.{now}
 use lib.Seq.{length-take-le}

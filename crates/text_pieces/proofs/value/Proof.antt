@@ -1,5 +1,5 @@
 use Rattle.base_ceilings.specs.Ceilings.{numberMost}
-use Rattle.text_pieces.specs.Spans.{decimalFrom}
+use Rattle.spec_text.specs.Digits.{decimalFrom}
 use Rattle.text_pieces.proofs.Laws as laws
 use denote.Ref.{now}
 use native.Mathlib.Omega.{arith}

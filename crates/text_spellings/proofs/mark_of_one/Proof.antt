@@ -1,5 +1,5 @@
 use Rattle.base_bytes.specs.Lists.{same}
-use Rattle.text_spellings.specs.Find.{find}
+use Rattle.spec_text.specs.Find.{find}
 use borrow.Author.Tests.{ne-eqb}
 use Rattle.text_spellings.proofs.mark_of_one.Statement.{statement}
 use Rattle.text_spellings.proofs.mark_of_one.Tie as tie

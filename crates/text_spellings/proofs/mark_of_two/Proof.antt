@@ -1,5 +1,5 @@
 use Rattle.base_bytes.specs.Lists.{same}
-use Rattle.text_spellings.specs.Find.{find}
+use Rattle.spec_text.specs.Find.{find}
 use Rattle.text_spellings.proofs.Laws as laws
 use native.Mathlib.Omega.{arith}
 use borrow.Author.Needs.{needs}

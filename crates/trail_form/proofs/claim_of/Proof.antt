@@ -1,4 +1,4 @@
-use Rattle.text_spellings.specs.Find.{find}
+use Rattle.spec_text.specs.Find.{find}
 use Rattle.base_bytes.specs.Lists.{same}
 use borrow.Author.Needs.{needs}
 use Rattle.trail_form.proofs.claim_of.Statement.{statement}

@@ -1,4 +1,4 @@
-use Rattle.text_pieces.specs.Spans.{decimal}
+use Rattle.spec_text.specs.Digits.{decimal}
 use Rattle.trail_form.specs.Records.{wellFormed}
 use lib.Seq.{length-take-le}
 use borrow.Author.Tests.{not-true, not-false}

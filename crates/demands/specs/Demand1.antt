@@ -1,0 +1,109 @@
+-- Top: a statement about the entries, over the specification.
+-- DEMAND 1: whatever bytes or numbers arrive, every public entry answers and ends, relies on no caller, refuses with the number and place of document 01's table, and leaves each lent buffer as that
+-- document says. That it answers and ends, with one answer and one content of lent memory, is its contract, an equation without any condition; here is which refusals there are. Proved as
+-- `demand1` (proofs/Demand1.antt). What is answered where nothing is refused is demands 2 and 3.
+use Prim.Native.Nat.{ℕ, _+_, _≤_, _<_}
+use mathlib.Core.Path.{_≡_}
+use mathlib.Core.Logic.{_⊎_, _↔_}
+use mathlib.Core.List.{List}
+use lib.ListN.{length}
+use lib.IntN.{ℤ}
+use Rattle.base_ceilings.specs.Ceilings.{printRoom, stepsMost, tablesRoom, trailMost}
+use Rattle.spec_grammar.specs.Tree.{Model}
+use Rattle.spec_machine.specs.State.{State}
+use Rattle.spec_machine.specs.Machine.{Move, stepOf}
+use Rattle.spec_machine.specs.Begins.{initial}
+use Rattle.spec_machine.specs.Steps.{machineOf}
+use Rattle.spec_trails.specs.Trails.{Recorded}
+use Rattle.spec_trails.specs.Texts.{TextOf}
+use Rattle.spec_refusals.specs.Legal.{Legal}
+use Rattle.spec_refusals.specs.Rows.{Refusal, Refused}
+use Rattle.spec_refusals.specs.Trails.{Misformed}
+use Rattle.read_passes.specs.Judging.{judgeOf}
+use Rattle.read_entry.specs.Entries as reading
+use Rattle.read_entry.specs.Entries.{readOf, partStart, partEnd}
+use Rattle.normal_shortest_proof.specs.Normal.{normal}
+use Rattle.normal_entry.specs.Entries as writing
+use Rattle.normal_entry.specs.Entries.{answerOf, answerFrom, leftFrom}
+use Rattle.step_entry.specs.Entries.{foreignOf, startLeft, offeredOf, verdictFor, outcomeOf}
+use Rattle.run_entry.specs.Entries.{ranOf}
+use Rattle.trail_replay.specs.Entries.{replayedOf}
+use Rattle.demands.specs.Lent.{Rooms, Tables, Holds, Lent}
+use Rattle.demands.specs.Entries.{refusalBy, leaves}
+use Rattle.demands.specs.Walks.{Offers, Stops}
+use Rattle.demands.specs.Said as said
+use Rattle.demands.specs.Said.{refusal}
+
+-- ## the reader, and the part that a refusal names
+pub record Reader (t : List ℕ) : Type 0 where
+  -- each number and place exactly where its row says
+  pub refuses : (old : List ℕ) (x i n : ℕ) → (said.reader (readOf t old) ≡ refusal x i n) ↔ Refused t (length old) x i n
+  -- "A refusal changes no lent number"
+  pub unchanged : (old : List ℕ) (x i n : ℕ) → said.reader (readOf t old) ≡ refusal x i n → reading.leftOf t old ≡ old
+  -- "A further entry returns the part of the caller's text that 1 to 5 name": from its place, and as long as the row says
+  pub part : (x i n : ℕ) → Refusal t x i n → (partStart (length t) (judgeOf t) ≡ i) × (partEnd (length t) (judgeOf t) ≡ i + n)
+  -- ".. for a text .. not so refused, the empty part at its start"
+  pub no-part : Legal t → (partStart (length t) (judgeOf t) ≡ 0) × (partEnd (length t) (judgeOf t) ≡ 0)
+
+-- ## normal text of a text: the reader's refusals, then "7 .. last for normal text's own room"
+pub data NotWritten (t : List ℕ) (room : ℕ) : ℕ → ℕ → ℕ → Type 0 where
+  text : {x i n : ℕ} → Refusal t x i n → NotWritten t room x i n
+  no-room : (l : Legal t) → room < length (normal (l .tree)) → NotWritten t room 7 0 0
+
+pub record Writer (t : List ℕ) : Type 0 where
+  pub refuses : (out : List ℕ) (x i n : ℕ) → (said.writer (answerOf t out) ≡ refusal x i n) ↔ NotWritten t (length out) x i n
+  pub unchanged : (out : List ℕ) (x i n : ℕ) → said.writer (answerOf t out) ≡ refusal x i n → writing.leftOf t out ≡ out
+
+-- ## normal text of tables: 7, 8, and 7 for its own room
+pub data NotWrittenOf (ts : List ℕ) (room : ℕ) : ℕ → Type 0 where
+  too-small : length ts < tablesRoom → NotWrittenOf ts room 7
+  no-model : tablesRoom ≤ length ts → ((m : Model) → Tables ts m → ⊥) → NotWrittenOf ts room 8
+  no-room : (m : Model) → tablesRoom ≤ length ts → Tables ts m → room < length (normal m) → NotWrittenOf ts room 7
+
+pub record TablesWriter (ts : List ℕ) : Type 0 where
+  pub refuses : (out : List ℕ) (x i n : ℕ) → (said.writer (answerFrom ts out) ≡ refusal x i n) ↔ NotWrittenOf ts (length out) x × (i ≡ 0) × (n ≡ 0)
+  pub unchanged : (out : List ℕ) (x i n : ℕ) → said.writer (answerFrom ts out) ≡ refusal x i n → leftFrom ts out ≡ out
+
+-- ## the stepper: "Stepping: 7, 8, 9, 11", each at place 0
+-- 7, 8 or 9, by the case of what is lent
+abbrev pub Refuses : List ℕ → List ℤ → ℕ → Type 0
+Refuses ts s x = (c : Lent ts s) × (refusalBy c ≡ x) × (0 < x)
+
+-- the single step: 7 for its paper too, first; 11 last
+pub data NotTaken (ts : List ℕ) (s : List ℤ) (p k room : ℕ) : ℕ → Type 0 where
+  no-paper : room < printRoom → NotTaken ts s p k room 7
+  lent : {x : ℕ} → printRoom ≤ room → Refuses ts s x → NotTaken ts s p k room x
+  not-offered : (m : Model) (σ : State) → printRoom ≤ room → Holds ts s m σ → ((y : Move) → Offers (machineOf m) σ (stepOf p k y) → ⊥) → NotTaken ts s p k room 11
+
+pub record Stepper (ts : List ℕ) (s : List ℤ) : Type 0 where
+  -- `start` has no numbers to judge, so 9 is no refusal of it
+  pub start : (x : ℕ) → 0 < x → (foreignOf ts s ≡ x) ↔ Refuses ts s x × ((x ≡ 9) → ⊥)
+  pub start-unchanged : (x : ℕ) → 0 < x → foreignOf ts s ≡ x → startLeft ts s ≡ s
+  pub offered : (n x : ℕ) → (said.list (offeredOf ts s n) ≡ refusal x 0 0) ↔ Refuses ts s x
+  pub verdict : (x : ℕ) → (said.verdict (verdictFor ts s) ≡ refusal x 0 0) ↔ Refuses ts s x
+  pub step : (p k : ℕ) (out : List ℕ) (x : ℕ) → (said.step (outcomeOf ts s p k out .answer) ≡ refusal x 0 0) ↔ NotTaken ts s p k (length out) x
+  pub step-unchanged : (p k : ℕ) (out : List ℕ) (x : ℕ) → said.step (outcomeOf ts s p k out .answer) ≡ refusal x 0 0 → (outcomeOf ts s p k out .state ≡ s) × (outcomeOf ts s p k out .printed ≡ out)
+  pub run : (limit x : ℕ) → (said.run (ranOf ts s limit .0) ≡ refusal x 0 0) ↔ Refuses ts s x
+  pub run-unchanged : (limit x : ℕ) → said.run (ranOf ts s limit .0) ≡ refusal x 0 0 → ranOf ts s limit .1 ≡ s
+
+-- ## replay: "7, length, 8, form .., then steps"; its line, and the numbers left
+pub data TrailRefused (ts trail : List ℕ) (s : List ℤ) : ℕ → ℕ → List ℤ → Type 0 where
+  no-room : (Rooms ts s → ⊥) → TrailRefused ts trail s 7 0 s
+  too-long : Rooms ts s → trailMost < length trail → TrailRefused ts trail s 2 0 s
+  no-model : Rooms ts s → length trail ≤ trailMost → ((m : Model) → Tables ts m → ⊥) → TrailRefused ts trail s 8 0 s
+  -- 10, or 2 past 2,048 steps
+  misformed : {x line : ℕ} (m : Model) → Rooms ts s → Tables ts m → length trail ≤ trailMost → Misformed trail x line → TrailRefused ts trail s x line s
+  -- 11 and 12: "replay's 11 and 12 leave the state reached before the refused record"
+  stops : {x line v : ℕ} (m : Model) (l : List Recorded) (τ : State) → Rooms ts s → Tables ts m → (f : TextOf stepsMost trail l v) → Stops (machineOf m) (f .claim) l 1 (initial m) x line τ
+      → TrailRefused ts trail s x line (leaves s m τ)
+
+abbrev pub Replay : List ℕ → List ℕ → List ℤ → Type 0
+Replay ts trail s = (x line : ℕ) (left : List ℤ) → ((said.replay (replayedOf ts trail s .0) ≡ refusal x line 0) × (replayedOf ts trail s .1 ≡ left)) ↔ TrailRefused ts trail s x line left
+
+-- ## every entry, any input
+pub record Demand1 : Type 0 where
+  pub reader : (t : List ℕ) → Reader t
+  pub writer : (t : List ℕ) → Writer t
+  pub tables-writer : (ts : List ℕ) → TablesWriter ts
+  pub stepper : (ts : List ℕ) (s : List ℤ) → Stepper ts s
+  pub replay : (ts trail : List ℕ) (s : List ℤ) → Replay ts trail s

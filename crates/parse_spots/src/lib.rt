@@ -1,0 +1,1 @@
+// The tokens of the items of a derivation are definitions and theorems alone (specs/, proofs/).

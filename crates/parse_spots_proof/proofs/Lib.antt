@@ -1,0 +1,5 @@
+pub mod Expressions
+pub mod Statements
+pub mod Units
+pub mod Follows
+pub mod Main

@@ -1,0 +1,1 @@
+// That the parser gives each item the token of the derivation is theorems alone (proofs/).

@@ -1,0 +1,5 @@
+pub mod None
+pub mod Labels
+pub mod Phrases
+pub mod Statements
+pub mod Lawful

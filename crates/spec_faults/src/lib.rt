@@ -1,0 +1,1 @@
+// What the faults of a text are, with their numbers and tokens, is definitions alone (specs/).

@@ -1,0 +1,4 @@
+pub mod Texts
+pub mod Legal
+pub mod Rows
+pub mod Trails

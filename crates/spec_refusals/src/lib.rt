@@ -1,0 +1,1 @@
+// The rows of the table of refusals are definitions alone (specs/).

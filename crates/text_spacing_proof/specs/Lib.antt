@@ -1,4 +1,0 @@
-pub mod Spelled
-pub mod Layout
-pub mod Writing
-pub mod Examples
