@@ -20,7 +20,7 @@ use Rattle.read_passes.specs.declared.Judged.the-variants as judged
 use Rattle.read_passes.specs.Judging.{judgeOf, tablesText}
 use Rattle.read_entry.specs.Entries as reading
 use Rattle.read_entry.specs.Entries.{readOf, stays, partStart, partEnd}
-use Rattle.normal_shortest_proof.specs.Normal.{normal}
+use Rattle.spec_normal.specs.Normal.{normal}
 use Rattle.normal_proof.specs.Texts.{normalText}
 use Rattle.normal_entry.specs.Entries as writing
 use Rattle.normal_entry.specs.Entries.{roomy, put, normalBy, answerOf, answerFrom, leftFrom}

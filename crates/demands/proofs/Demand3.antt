@@ -26,7 +26,7 @@ use Rattle.table_genuine.specs.Genuine.{written, genuine}
 use Rattle.table_genuine.proofs.Laws.{counted, written-front, some-numbers}
 use Rattle.spec_refusals.specs.Legal.{Legal}
 use Rattle.legal_texts.proofs.Main.{read-legal, legal-read}
-use Rattle.normal_shortest_proof.specs.Normal.{normal}
+use Rattle.spec_normal.specs.Normal.{normal}
 use Rattle.normal_shortest_proof.proofs.Main.{normal-tree}
 use Rattle.normal_proof.specs.Texts.{normalText}
 use Rattle.normal_proof.specs.Signing.{Owned}

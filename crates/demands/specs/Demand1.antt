@@ -22,7 +22,7 @@ use Rattle.spec_refusals.specs.Trails.{Misformed}
 use Rattle.read_passes.specs.Judging.{judgeOf}
 use Rattle.read_entry.specs.Entries as reading
 use Rattle.read_entry.specs.Entries.{readOf, partStart, partEnd}
-use Rattle.normal_shortest_proof.specs.Normal.{normal}
+use Rattle.spec_normal.specs.Normal.{normal}
 use Rattle.normal_entry.specs.Entries as writing
 use Rattle.normal_entry.specs.Entries.{answerOf, answerFrom, leftFrom}
 use Rattle.step_entry.specs.Entries.{foreignOf, startLeft, offeredOf, verdictFor, outcomeOf}

@@ -13,7 +13,7 @@ use Rattle.spec_grammar.specs.Tree.{Model}
 use Rattle.spec_refusals.specs.Legal.{Legal}
 use Rattle.read_entry.specs.Entries as reader
 use Rattle.read_entry.specs.Entries.{readOf}
-use Rattle.normal_shortest_proof.specs.Normal.{normal}
+use Rattle.spec_normal.specs.Normal.{normal}
 use Rattle.normal_entry.specs.Entries as writer
 use Rattle.normal_entry.specs.Entries.{answerOf, answerFrom, leftFrom}
 use Rattle.normal_entry.specs.declared.Written.{Written}

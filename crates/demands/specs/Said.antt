@@ -1,11 +1,10 @@
 -- Top: a statement about the entries, over the specification.
 -- WHAT EACH ANSWER STANDS FOR: document 01, "Where an answer is an enum, a definition gives this paper's number and values for each of its cases". A refusal has its number of the table "What is
 -- answered", its place (0 where the table says 0) and the length of its part (0 where it has none); all else has its values. Verdicts have the numbers of trails: assert 1, fault 2, finished 3,
--- blocked 4, open 5.
+-- blocked 4, open 5; faults theirs (specs/Faults.antt of `base_values`).
 use Prim.Native.Nat.{ℕ}
 use mathlib.Core.List.{List, [], _∷_}
-use Rattle.base_values.specs.declared.Fault.{Fault}
-use Rattle.base_values.specs.declared.Fault.the-variants.{Divide, Shift, Index, Channel, Fields}
+use Rattle.base_values.specs.Faults.{faultNumber}
 use Rattle.read_passes.specs.declared.Judged.{Judged}
 use Rattle.read_passes.specs.declared.Judged.the-variants as judged
 use Rattle.normal_entry.specs.declared.Written.{Written}
@@ -27,14 +26,6 @@ pub data Said : Type 0 where
   -- number, place, length
   refusal : ℕ → ℕ → ℕ → Said
   values : List ℕ → Said
-
--- "Faults: zero divisor, shift outside 0 to 31, index out of range, a channel number that was never made, wrong field count at run time", in this order from 1
-abbrev pub faultNumber : Fault → ℕ
-faultNumber Divide = 1
-faultNumber Shift = 2
-faultNumber Index = 3
-faultNumber Channel = 4
-faultNumber Fields = 5
 
 -- the reader
 abbrev pub reader : Judged → Said

@@ -13,7 +13,7 @@ use Rattle.read_accepts_proof.specs.Meaning.{Accepts, linksAt}
 use Rattle.read_accepts_proof.proofs.Main.{accepted-means}
 use Rattle.read_accepts_proof.proofs.Tables.{text-tables, tree-tables}
 use Rattle.normal_writer.specs.Normal.{normalOf}
-use Rattle.normal_shortest_proof.specs.Normal.{normal}
+use Rattle.spec_normal.specs.Normal.{normal}
 use Rattle.normal_shortest_proof.proofs.Main.{never-longer, normal-accepted, normal-tree, tables-normal, equal-normals}
 use Rattle.normal_proof.specs.Texts.{normalText}
 

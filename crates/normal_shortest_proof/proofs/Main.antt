@@ -30,7 +30,7 @@ use Rattle.read_passes.specs.Judging.{judgeOf}
 use Rattle.read_accepts_proof.specs.Meaning.{Accepts}
 use Rattle.read_accepts_proof.proofs.Main.{short, accepted-means}
 use Rattle.read_accepts_proof.proofs.Alike.{same-tree}
-use Rattle.normal_shortest_proof.specs.Normal.{normal}
+use Rattle.spec_normal.specs.Normal.{normal}
 use Rattle.normal_shortest_proof.specs.Lighter.{Lighter}
 use Rattle.normal_shortest_proof.proofs.Lightened.{model-lighter}
 

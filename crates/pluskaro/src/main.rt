@@ -25,7 +25,7 @@ fn main() {
             put(b"error: too many words\n");
             return;
         }
-        show_batch::batch(part(&first, 0, f));
+        show_files::lists::batch(part(&first, 0, f));
         return;
     }
     show_files::perform(

@@ -1,6 +1,5 @@
 -- The status that a command returns is that of its answer: what its callees promise, put together; and every status is 0, 1 or 2.
 use Prim.Native.Nat.{ℕ, _≤_}
-use native.Mathlib.Omega.{arith}
 use mathlib.Core.Path.{_≡_, ap, ap₂, _∙_}
 use mathlib.Core.List.{List}
 use lib.IntN.{ℤ}
@@ -18,6 +17,8 @@ use Rattle.run_entry.specs.declared.Ran.the-variants as ran
 use Rattle.trail_replay.specs.Entries.{replayedOf}
 use Rattle.trail_replay.specs.declared.Replayed.{Replayed}
 use Rattle.trail_replay.specs.declared.Replayed.the-variants as replayed
+use Rattle.show_statuses.specs.declared.Answer.the-variants as answer
+use Rattle.show_statuses.proofs.Laws.{status-small}
 use Rattle.show_commands.specs.Statuses.{verdictStatus, endingStatus, ranStatus, replayedStatus, cleared, startStatus, runStatus, replayStatus}
 
 pub replay-status : (ts trail : List ℕ) (s left : List ℤ) (r : Replayed) (x : ℕ) → s ≡ cleared → (r, left) ≡ replayedOf ts trail s → x ≡ replayedStatus r → x ≡ replayStatus ts trail
@@ -38,24 +39,24 @@ module _ (ts t : List ℕ) (s z : List ℤ) (own : t ≡ written ts) (c : s ≡ 
 
 -- ---- 0, 1 or 2
 verdict-small : (v : Verdict) → verdictStatus v ≤ 2
-verdict-small verdict.Finished = omega arith
-verdict-small verdict.Blocked = omega arith
-verdict-small verdict.Open = omega arith
+verdict-small verdict.Finished = status-small answer.Finished
+verdict-small verdict.Blocked = status-small answer.Blocked
+verdict-small verdict.Open = status-small answer.Open
 
 ending-small : (e : Ending) → endingStatus e ≤ 2
-ending-small ending.Finished = omega arith
-ending-small ending.Blocked = omega arith
-ending-small ending.Open = omega arith
-ending-small ending.Assert = omega arith
-ending-small (ending.Fault f) = omega arith
+ending-small ending.Finished = status-small answer.Finished
+ending-small ending.Blocked = status-small answer.Blocked
+ending-small ending.Open = status-small answer.Open
+ending-small ending.Assert = status-small answer.Assert
+ending-small (ending.Fault f) = status-small answer.Fault
 
 ran-small : (r : Ran) → ranStatus r ≤ 2
 ran-small (ran.Ended e n) = ending-small e
-ran-small (ran.Refused x) = omega arith
+ran-small (ran.Refused x) = status-small answer.Error
 
 replayed-small : (r : Replayed) → replayedStatus r ≤ 2
-replayed-small (replayed.Accepted v) = omega arith
-replayed-small (replayed.Refused x l) = omega arith
+replayed-small (replayed.Accepted v) = status-small answer.Accepted
+replayed-small (replayed.Refused x l) = status-small answer.Refused
 
 pub start-small : (ts : List ℕ) → startStatus ts ≤ 2
 unfolding startStatus

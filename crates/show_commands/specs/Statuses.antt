@@ -1,6 +1,5 @@
 -- Program: held by stored output and by `tests/program` beyond what its contracts say.
--- THE STATUS OF AN ANSWER: 0 where nothing is wrong, 1 for a refusal, a failed assertion, a fault or a blocked state, 2 for an error. A batch counts by it, and the script ends with it.
--- `ts` are the tables of an accepted model; the program's state is lent as zeros.
+-- THE STATUS OF A COMMAND on an accepted model: that of its answer (`show_statuses`). `ts` are the model's tables; the program's state is lent as zeros.
 use Prim.Native.Nat.{ℕ}
 use mathlib.Core.List.{List}
 use lib.ListN.{replicate}
@@ -20,26 +19,28 @@ use Rattle.run_entry.specs.declared.Ran.the-variants as ran
 use Rattle.trail_replay.specs.Entries.{replayedOf}
 use Rattle.trail_replay.specs.declared.Replayed.{Replayed}
 use Rattle.trail_replay.specs.declared.Replayed.the-variants as replayed
+use Rattle.show_statuses.specs.declared.Answer.the-variants as answer
+use Rattle.show_statuses.specs.Statuses.{statusOf}
 
 abbrev pub verdictStatus : Verdict → ℕ
-verdictStatus verdict.Finished = 0
-verdictStatus verdict.Blocked = 1
-verdictStatus verdict.Open = 0
+verdictStatus verdict.Finished = statusOf answer.Finished
+verdictStatus verdict.Blocked = statusOf answer.Blocked
+verdictStatus verdict.Open = statusOf answer.Open
 
 abbrev pub endingStatus : Ending → ℕ
-endingStatus ending.Finished = 0
-endingStatus ending.Blocked = 1
-endingStatus ending.Open = 0
-endingStatus ending.Assert = 1
-endingStatus (ending.Fault f) = 1
+endingStatus ending.Finished = statusOf answer.Finished
+endingStatus ending.Blocked = statusOf answer.Blocked
+endingStatus ending.Open = statusOf answer.Open
+endingStatus ending.Assert = statusOf answer.Assert
+endingStatus (ending.Fault f) = statusOf answer.Fault
 
 abbrev pub ranStatus : Ran → ℕ
 ranStatus (ran.Ended e n) = endingStatus e
-ranStatus (ran.Refused x) = 2
+ranStatus (ran.Refused x) = statusOf answer.Error
 
 abbrev pub replayedStatus : Replayed → ℕ
-replayedStatus (replayed.Accepted v) = 0
-replayedStatus (replayed.Refused x line) = 1
+replayedStatus (replayed.Accepted v) = statusOf answer.Accepted
+replayedStatus (replayed.Refused x line) = statusOf answer.Refused
 
 unfoldable pub cleared : List ℤ
 cleared = replicate stateRoom (pos 0)

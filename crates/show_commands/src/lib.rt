@@ -1,5 +1,4 @@
-// Commands on the tables of an accepted model; the last line of each is its answer. Each returns the status that a command with this answer ends with: 0 where nothing is wrong, 1 for a
-// refusal, a failed assertion, a fault or a blocked state, 2 for an error.
+// Commands on the tables of an accepted model; the last line of each is its answer. Each returns the status of that answer (`show_statuses`).
 ghost use mathlib.Core.Path.{_≡_};
 ghost use Rattle.show_commands.specs.Statuses as statuses;
 use base_outcome::Step;
@@ -7,6 +6,8 @@ use run_entry::Ending;
 use run_entry::Ran;
 use show_answers::put;
 use show_answers::put_number;
+use show_statuses::Answer;
+use show_statuses::status;
 use step_all::Offer;
 use step_all::Verdict;
 use trail_replay::Replayed;
@@ -74,17 +75,17 @@ fn put_verdict_of(v: Verdict, n: usize) -> u8
     match v {
         Verdict::Finished => {
             put(b"finished\n");
-            0
+            status(Answer::Finished)
         }
         Verdict::Blocked => {
             put(b"blocked\n");
-            1
+            status(Answer::Blocked)
         }
         Verdict::Open => {
             put(b"open ");
             put_number(n);
             put(b"\n");
-            0
+            status(Answer::Open)
         }
     }
 }
@@ -119,23 +120,23 @@ fn put_ending(e: Ending) -> u8
     match e {
         Ending::Finished => {
             put(b"finished");
-            0
+            status(Answer::Finished)
         }
         Ending::Blocked => {
             put(b"blocked");
-            1
+            status(Answer::Blocked)
         }
         Ending::Open => {
             put(b"open");
-            0
+            status(Answer::Open)
         }
         Ending::Assert => {
             put(b"assert");
-            1
+            status(Answer::Assert)
         }
         Ending::Fault(_) => {
             put(b"fault");
-            1
+            status(Answer::Fault)
         }
     }
 }
@@ -154,7 +155,7 @@ fn put_ran(r: Ran) -> u8
         }
         Ran::Refused(_) => {
             put(b"error: the run was refused\n");
-            2
+            status(Answer::Error)
         }
     }
 }
@@ -193,7 +194,7 @@ pub fn put_replayed(r: Replayed) -> u8
             put(b"accepted ");
             put_verdict(v);
             put(b"\n");
-            0
+            status(Answer::Accepted)
         }
         Replayed::Refused(x, line) => {
             put(b"refused ");
@@ -201,7 +202,7 @@ pub fn put_replayed(r: Replayed) -> u8
             put(b" ");
             put_number(line);
             put(b"\n");
-            1
+            status(Answer::Refused)
         }
     }
 }

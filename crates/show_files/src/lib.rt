@@ -1,12 +1,14 @@
-// A command with the words that stand behind it, over files. Each returns the status that a command with this answer ends with: 0 where nothing is wrong, 1 for a refusal, a failed assertion,
-// a fault or a blocked state, 2 for an error.
+// A command with the words that stand behind it, over files; each returns the status of its answer (`show_statuses`). Lists of such commands stand in the module `lists`.
 ghost use mathlib.Core.Path.{_≡_};
 ghost use Prim.Native.Nat.{_≤_};
-ghost use Rattle.show_texts.specs.Statuses as statuses;
+
+pub mod lists;
+
 use base_bytes::part;
 use show_answers::put;
 use show_answers::put_bytes;
-use show_answers::put_number;
+use show_statuses::Answer;
+use show_statuses::status;
 
 // The steps of a run that is given no limit.
 const LIMIT: u32 = 1000000;
@@ -35,13 +37,13 @@ fn load(path: &[u8], buffer: &mut [u8]) -> Loaded {
 }
 
 // A file that cannot be read.
-pub fn unreadable(path: &[u8]) -> u8
+fn unreadable(path: &[u8]) -> u8
     ensures { λ r. ⌜ r ≡ 2 ⌝ }
 {
     put(b"error: cannot read ");
     put_bytes(path);
     put(b"\n");
-    2
+    status(Answer::Error)
 }
 
 // How many words stand behind a command, at the least and at the most: 0 for one that is unknown.
@@ -135,7 +137,7 @@ fn perform_run(model: &[u8], word: &[u8]) -> u8
         return perform_files(b"run", model, b"", text_pieces::value(word) as u32);
     }
     put(b"error: a limit is a number of at most 9 digits\n");
-    2
+    status(Answer::Error)
 }
 
 // A command with its words: `count` of them stand behind it.
@@ -147,11 +149,11 @@ pub fn perform(command: &[u8], first: &[u8], second: &[u8], count: usize) -> u8
     }
     if count < words_least(command) {
         put(b"error: a word is missing\n");
-        return 2;
+        return status(Answer::Error);
     }
     if words_most(command) < count {
         put(b"error: too many words\n");
-        return 2;
+        return status(Answer::Error);
     }
     if is_replay(command) {
         return perform_replay(command, first, second);

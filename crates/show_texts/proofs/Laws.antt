@@ -1,7 +1,6 @@
 -- The status of a command on a text, from what its callees promise; and that every status is 0, 1 or 2.
 use Prim.Native.Nat.{ℕ, _≤_}
-use native.Mathlib.Omega.{arith}
-use mathlib.Core.Path.{_≡_, refl, sym, ap, _∙_, subst}
+use mathlib.Core.Path.{_≡_, sym, ap, _∙_}
 use mathlib.Core.Bool.{Bool, true, false}
 use mathlib.Core.List.{List}
 use lib.ListN.{replicate}
@@ -14,16 +13,19 @@ use Rattle.read_entry.specs.Entries.{readOf, leftOf}
 use Rattle.normal_entry.specs.Entries.{answerOf}
 use Rattle.normal_entry.specs.declared.Written.{Written}
 use Rattle.normal_entry.specs.declared.Written.the-variants as text
+use Rattle.show_statuses.specs.declared.Answer.the-variants as answer
+use Rattle.show_statuses.specs.Statuses.{statusOf, modelStatus}
+use Rattle.show_statuses.proofs.Laws.{status-small, model-small}
 use Rattle.show_commands.proofs.Laws.{start-small, run-small, replay-small}
 use Rattle.show_texts.specs.Statuses.{writtenStatus, normalStatus, w-read, w-normal, w-start, w-run, w-replay, w-steps, w-state, commandStatus, judgedStatus, textStatus}
 
 -- ---- `normal`
 module _ (t : List ℕ) (out : List ℕ) (w : Written) (room : out ≡ replicate normalMost 0) (e : w ≡ answerOf t out) where
-  pub is-text : (n : ℕ) → w ≡ text.Text n → 0 ≡ normalStatus t
+  pub is-text : (n y : ℕ) → w ≡ text.Text n → y ≡ statusOf answer.Text → y ≡ normalStatus t
   unfolding normalStatus
-  is-text n f = ap writtenStatus (sym f ∙ e ∙ ap (answerOf t) room)
+  is-text n y f g = g ∙ ap writtenStatus (sym f ∙ e ∙ ap (answerOf t) room)
 
-  pub is-refused : (x i n y : ℕ) → w ≡ text.Refused x i n → y ≡ 1 → y ≡ normalStatus t
+  pub is-refused : (x i n y : ℕ) → w ≡ text.Refused x i n → y ≡ statusOf answer.Refused → y ≡ normalStatus t
   unfolding normalStatus
   is-refused x i n y f g = g ∙ ap writtenStatus (sym f ∙ e ∙ ap (answerOf t) room)
 
@@ -34,18 +36,18 @@ module _ (command t trail : List ℕ) (limit : ℕ) (b : Bool) (other : b ≡ sa
   of-normal y h e = e ∙ sym (rw (← other, h))
 
   module _ (f : b ≡ false) (ts : List ℕ) (j : Judged) (room : ts ≡ replicate tablesRoom 0) (e : j ≡ readOf t ts) where
-    pub on-accepted : (left : List ℕ) (y : ℕ) → left ≡ leftOf t ts → j ≡ judged.Accepted → y ≡ commandStatus command left trail limit → y ≡ textStatus command t trail limit
+    pub on-accepted : (left : List ℕ) (x y : ℕ) → left ≡ leftOf t ts → j ≡ judged.Accepted → x ≡ commandStatus command left trail limit → y ≡ modelStatus true x → y ≡ textStatus command t trail limit
     unfolding textStatus
-    on-accepted left y l a g = g ∙ ap (λ z. commandStatus command z trail limit) (l ∙ ap (leftOf t) room) ∙ sym (rw (← other, f, ← room, ← e, a))
+    on-accepted left x y l a g k = k ∙ g ∙ ap (λ z. commandStatus command z trail limit) (l ∙ ap (leftOf t) room) ∙ sym (rw (← other, f, ← room, ← e, a))
 
-    pub on-refused : (x i n y : ℕ) → j ≡ judged.Refused x i n → y ≡ 1 → y ≡ textStatus command t trail limit
+    pub on-refused : (x i n z y : ℕ) → j ≡ judged.Refused x i n → y ≡ modelStatus false z → y ≡ textStatus command t trail limit
     unfolding textStatus
-    on-refused x i n y r g = g ∙ sym (rw (← other, f, ← room, ← e, r))
+    on-refused x i n z y r g = g ∙ sym (rw (← other, f, ← room, ← e, r))
 
 -- ---- 0, 1 or 2
 written-small : (w : Written) → writtenStatus w ≤ 2
-written-small (text.Text n) = omega arith
-written-small (text.Refused x i n) = omega arith
+written-small (text.Text n) = status-small answer.Text
+written-small (text.Refused x i n) = status-small answer.Refused
 
 either-small : (b : Bool) {x y : ℕ} → x ≤ 2 → y ≤ 2 → pick b x y ≤ 2
 either-small true h k = h
@@ -54,16 +56,16 @@ either-small false h k = k
 command-small : (command ts trail : List ℕ) (limit : ℕ) → commandStatus command ts trail limit ≤ 2
 unfolding commandStatus
 command-small command ts trail limit =
-    either-small (same command w-read) (omega arith)
+    either-small (same command w-read) (status-small answer.Accepted)
     (either-small (same command w-start) (start-small ts)
     (either-small (same command w-run) (run-small ts limit)
     (either-small (same command w-replay) (replay-small ts trail)
     (either-small (same command w-steps) (replay-small ts trail)
-    (either-small (same command w-state) (replay-small ts trail) (omega arith))))))
+    (either-small (same command w-state) (replay-small ts trail) (status-small answer.Error))))))
 
 judged-small : (j : Judged) {x : ℕ} → x ≤ 2 → judgedStatus j x ≤ 2
-judged-small judged.Accepted h = h
-judged-small (judged.Refused x i n) h = omega arith
+judged-small judged.Accepted h = model-small true h
+judged-small (judged.Refused x i n) h = model-small false h
 
 pub text-small : (command t trail : List ℕ) (limit : ℕ) → textStatus command t trail limit ≤ 2
 unfolding textStatus normalStatus

@@ -1,7 +1,8 @@
 -- Program: held by stored output and by `tests/program` beyond what its contracts say.
--- THE STATUS OF A COMMAND on the text of a model, with its trail or its limit: 0 where nothing is wrong, 1 where the answer is a refusal, a failed assertion, a fault or a blocked state, 2 for
--- an error. A model that is refused is refused whatever the command. The program's buffers are lent as zeros.
+-- THE STATUS OF A COMMAND on the text of a model, with its trail or its limit: that of its answer (`show_statuses`). A model that is refused is refused whatever the command. The program's
+-- buffers are lent as zeros.
 use Prim.Native.Nat.{ℕ}
+use mathlib.Core.Bool.{true, false}
 use mathlib.Core.List.{List, [], _∷_}
 use lib.ListN.{replicate}
 use Rattle.base_ceilings.specs.Ceilings.{normalMost, tablesRoom}
@@ -13,11 +14,13 @@ use Rattle.read_entry.specs.Entries.{readOf, leftOf}
 use Rattle.normal_entry.specs.Entries.{answerOf}
 use Rattle.normal_entry.specs.declared.Written.{Written}
 use Rattle.normal_entry.specs.declared.Written.the-variants as written
+use Rattle.show_statuses.specs.declared.Answer.the-variants as answer
+use Rattle.show_statuses.specs.Statuses.{statusOf, modelStatus}
 use Rattle.show_commands.specs.Statuses.{startStatus, runStatus, replayStatus}
 
 abbrev pub writtenStatus : Written → ℕ
-writtenStatus (written.Text n) = 0
-writtenStatus (written.Refused x i n) = 1
+writtenStatus (written.Text n) = statusOf answer.Text
+writtenStatus (written.Refused x i n) = statusOf answer.Refused
 
 unfoldable pub normalStatus : List ℕ → ℕ
 normalStatus text = writtenStatus (answerOf text (replicate normalMost 0))
@@ -47,17 +50,17 @@ w-state = 115 ∷ 116 ∷ 97 ∷ 116 ∷ 101 ∷ []
 -- on the tables of an accepted model
 unfoldable pub commandStatus : List ℕ → List ℕ → List ℕ → ℕ → ℕ
 commandStatus command ts trail limit =
-    pick (same command w-read) 0
+    pick (same command w-read) (statusOf answer.Accepted)
     (pick (same command w-start) (startStatus ts)
     (pick (same command w-run) (runStatus ts limit)
     (pick (same command w-replay) (replayStatus ts trail)
     (pick (same command w-steps) (replayStatus ts trail)
     (pick (same command w-state) (replayStatus ts trail)
-    2)))))
+    (statusOf answer.Error))))))
 
 abbrev pub judgedStatus : Judged → ℕ → ℕ
-judgedStatus judged.Accepted x = x
-judgedStatus (judged.Refused x i n) y = 1
+judgedStatus judged.Accepted y = modelStatus true y
+judgedStatus (judged.Refused x i n) y = modelStatus false y
 
 unfoldable pub textStatus : List ℕ → List ℕ → List ℕ → ℕ → ℕ
 textStatus command text trail limit =

@@ -1,5 +1,4 @@
-// A command on the text of a model. Each function returns the status that a command with this answer ends with: 0 where nothing is wrong, 1 for a refusal, a failed assertion, a fault or a
-// blocked state, 2 for an error.
+// A command on the text of a model. Each function that answers returns the status of its answer (`show_statuses`).
 ghost use mathlib.Core.Path.{_≡_};
 ghost use Rattle.show_texts.specs.Statuses as statuses;
 use base_bytes::part;
@@ -8,11 +7,11 @@ use read_passes::Judged;
 use show_answers::put;
 use show_answers::put_bytes;
 use show_answers::put_number;
+use show_statuses::Answer;
+use show_statuses::status;
 
 // A model that is refused: where, and the refusal.
-fn refuse(text: &[u8], x: u8, place: usize, len: usize) -> u8
-    ensures { λ r. ⌜ r ≡ 1 ⌝ }
-{
+fn refuse(text: &[u8], x: u8, place: usize, len: usize) {
     if x != 6 {
         if text.len() <= base_ceilings::TEXT_MOST {
             show_answers::explain(text, place, len, read_entry::refused_part(text));
@@ -25,7 +24,6 @@ fn refuse(text: &[u8], x: u8, place: usize, len: usize) -> u8
     put(b" ");
     put_number(len);
     put(b"\n");
-    1
 }
 
 // A command that there is not.
@@ -35,7 +33,7 @@ pub fn unknown(command: &[u8]) -> u8
     put(b"error: unknown command ");
     put_bytes(command);
     put(b"\n");
-    2
+    status(Answer::Error)
 }
 
 // `normal MODEL`
@@ -48,9 +46,12 @@ fn show_normal(text: &[u8]) -> u8
         Written::Text(n) => {
             put(part(&out, 0, n));
             put(b"\n");
-            0
+            status(Answer::Text)
         }
-        Written::Refused(x, place, len) => refuse(text, x, place, len),
+        Written::Refused(x, place, len) => {
+            refuse(text, x, place, len);
+            status(Answer::Refused)
+        }
     }
 }
 
@@ -60,7 +61,7 @@ fn perform_on(command: &[u8], tables: &[u32], trail: &[u8], limit: u32) -> u8
 {
     if base_bytes::same(command, b"read") {
         put(b"accepted\n");
-        return 0;
+        return status(Answer::Accepted);
     }
     if base_bytes::same(command, b"start") {
         return show_commands::start(tables);
@@ -90,7 +91,14 @@ pub fn perform_text(command: &[u8], text: &[u8], trail: &[u8], limit: u32) -> u8
     let mut tables = [0u32; base_ceilings::TABLES_ROOM];
     let j = read_entry::read(text, &mut tables);
     match j {
-        Judged::Accepted => perform_on(command, &tables, trail, limit),
-        Judged::Refused(x, place, len) => refuse(text, x, place, len),
+        Judged::Accepted => show_statuses::on_model(
+            true,
+            perform_on(command, &tables, trail, limit),
+        ),
+        Judged::Refused(x, place, len) => {
+            refuse(text, x, place, len);
+            // No command was performed, so it has no status of its own.
+            show_statuses::on_model(false, 0)
+        }
     }
 }

@@ -2,3 +2,4 @@ pub mod Texts
 pub mod Legal
 pub mod Rows
 pub mod Trails
+pub mod Examples

@@ -10,3 +10,4 @@ pub mod Spoils
 pub mod Writing
 pub mod Examples
 pub mod ExamplesWriting
+pub mod ExamplesSpoils

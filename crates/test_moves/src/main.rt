@@ -1,8 +1,8 @@
-// Walks through each model on standard input by the entries of the stepper (crate `test_walks`); then the automatic run, and steps that are refused (crate `test_corners`).
+// Walks through each model on standard input by the entries of the stepper; then the automatic run, and steps that are refused (crate `test_walks`).
 use read_passes::Judged;
 use test_cases::Case;
-use test_corners::show_run;
 use test_walks::put;
+use test_walks::show_run;
 
 // The limit of a run.
 const LIMIT: u32 = 60;
@@ -17,7 +17,7 @@ fn each(text: &[u8]) {
             test_walks::show_standing(step_entry::verdict(&tables, &state));
             step_entry::start(&tables, &mut state);
             show_run(run_entry::run(&tables, &mut state, LIMIT));
-            test_corners::corners(&tables);
+            test_walks::corners(&tables);
         }
         Judged::Refused(x, place, _) => {
             put(b"model refused");

@@ -1,5 +1,8 @@
-// Walks by the entries of the stepper: how many steps are offered, the one that is taken, what it prints.
+// Walks by the entries of the stepper: how many steps are offered, the one that is taken, what it prints. How a run's answer is shown; and steps and runs that are refused. One crate holds them all,
+// since what costs is loading the stepper.
 use libc::STDOUT_FILENO;
+use run_entry::Ending;
+use run_entry::Ran;
 use step_entry::Listed;
 use step_entry::Standing;
 use step_entry::Stepped;
@@ -20,7 +23,7 @@ fn how_many(tables: &[u32], state: &[i32]) -> u32 {
 }
 
 // Shows an answer; does the walk go on?
-pub fn show_step(r: Stepped, printed: &[u8]) -> bool {
+fn show_step(r: Stepped, printed: &[u8]) -> bool {
     match r {
         Stepped::Took(n) => {
             if n > 0 {
@@ -92,4 +95,60 @@ pub fn show_standing(v: Standing) {
             put(b"\n");
         }
     }
+}
+
+fn show_ending(e: Ending) {
+    match e {
+        Ending::Finished => put(b"run finished"),
+        Ending::Blocked => put(b"run blocked"),
+        Ending::Open => put(b"run open"),
+        Ending::Assert => put(b"run assert"),
+        Ending::Fault(_) => put(b"run fault"),
+    }
+}
+
+pub fn show_run(r: Ran) {
+    match r {
+        Ran::Ended(e, n) => {
+            show_ending(e);
+            test_cases::number(b' ', n as usize);
+        }
+        Ran::Refused(x) => {
+            put(b"run refused");
+            test_cases::number(b' ', x as usize);
+        }
+    }
+    put(b"\n");
+}
+
+// Steps that are never offered, too little room, numbers that are no state, and tables of no model.
+pub fn corners(tables: &[u32]) {
+    let none = [0u32; 16384];
+    let mut state = [0i32; 2048];
+    step_entry::start(tables, &mut state);
+    let mut printed = [0u8; 128];
+    let mut few = [0u8; 127];
+    show_step(
+        step_entry::step(tables, &mut state, 0, 0, &mut printed),
+        &printed,
+    );
+    show_step(
+        step_entry::step(tables, &mut state, 16, 1, &mut printed),
+        &printed,
+    );
+    show_step(
+        step_entry::step(tables, &mut state, 0, 1, &mut few),
+        &printed,
+    );
+    state_layout::put(&mut state, 0, 17);
+    show_step(
+        step_entry::step(tables, &mut state, 0, 1, &mut printed),
+        &printed,
+    );
+    show_run(run_entry::run(tables, &mut state, 1));
+    show_step(
+        step_entry::step(&none, &mut state, 0, 1, &mut printed),
+        &printed,
+    );
+    show_run(run_entry::run(&none, &mut state, 1));
 }

@@ -12,6 +12,7 @@ use Rattle.show_commands.proofs.start.Reads as start-reads
 use Rattle.show_left.proofs.state.Reads as state-reads
 use Rattle.show_trails.proofs.steps.Reads as steps-reads
 use Rattle.show_answers.proofs.put.Reads as put-reads
+use Rattle.show_statuses.proofs.status.Reads as status-reads
 use Rattle.show_texts.proofs.unknown.Reads as unknown-reads
 
 -- src/lib.rt:74:28
@@ -30,10 +31,13 @@ slice-aggregate-put c = search needs
 put-requires : tie.Need-put-requires
 put-requires c κs = search needs
 
+status-requires : tie.Need-status-requires
+status-requires c κs = search needs
+
 -- src/lib.rt:76:9
 returns : tie.Need-returns
 unfolding commandStatus
-returns c = rw (sym (c .before .before .before .same .ensures) ∙ c .before .before .if1 .taken)
+returns c = rw (sym (c .before .before .before .before .same .ensures) ∙ c .before .before .before .if1 .taken) (c .status .ensures)
 
 -- src/lib.rt:78:28
 slice-aggregate-same-2 : tie.Need-slice-aggregate-same-2
@@ -137,6 +141,7 @@ perform-on-spec =
     same-requires
     slice-aggregate-put
     put-requires
+    status-requires
     returns
     slice-aggregate-same-2
     same-requires-2

@@ -7,6 +7,7 @@ use Rattle.show_texts.proofs.perform_text.Reads as reads
 use Rattle.show_texts.proofs.perform_text.Lts as lts
 use Rattle.base_bytes.proofs.same.Reads as same-reads
 use Rattle.read_entry.proofs.read.Reads as read-reads
+use Rattle.show_statuses.proofs.on_model.Reads as on-model-reads
 use Rattle.show_texts.proofs.perform_on.Reads as perform-on-reads
 use Rattle.show_texts.proofs.refuse.Reads as refuse-reads
 use Rattle.show_texts.proofs.show_normal.Reads as show-normal-reads
@@ -47,6 +48,9 @@ slice-aggregate-perform-on c = search needs
 perform-on-requires : tie.Need-perform-on-requires
 perform-on-requires c κs = search needs
 
+on-model-requires : tie.Need-on-model-requires
+on-model-requires c κs = search needs
+
 -- src/lib.rt:107:25
 enum-known-j : tie.Need-enum-known-j
 enum-known-j c = search needs
@@ -55,13 +59,16 @@ enum-known-j c = search needs
 refuse-requires : tie.Need-refuse-requires
 refuse-requires c κs = search needs
 
+on-model-requires-2 : tie.Need-on-model-requires-2
+on-model-requires-2 c κs = search needs
+
 -- src/lib.rt:97:1
 returns-2 : tie.Need-returns-2
-returns-2 c = laws.on-accepted _ _ _ _ _ (c .before .before .before .before .before .before .before .before .same .ensures) (c .before .before .before .before .before .before .before .if1 .left) _ _ refl (c .before .before .before .before .before .read .ensures .0) _ _ (c .before .before .before .before .before .read .ensures .1) (c .before .before .enum-told .given .1) (c .perform-on .ensures)
+returns-2 c = laws.on-accepted _ _ _ _ _ (c .before .before .before .before .before .before .before .before .before .same .ensures) (c .before .before .before .before .before .before .before .before .if1 .left) _ _ refl (c .before .before .before .before .before .before .read .ensures .0) _ _ _ (c .before .before .before .before .before .before .read .ensures .1) (c .before .before .before .enum-told .given .1) (c .before .perform-on .ensures) (c .on-model .ensures)
 
 -- src/lib.rt:97:1
 returns-3 : tie.Need-returns-3
-returns-3 c = laws.on-refused _ _ _ _ _ (c .before .before .before .before .before .before .before .before .same .ensures) (c .before .before .before .before .before .before .before .if1 .left) _ _ refl (c .before .before .before .before .before .read .ensures .0) _ _ _ _ (c .before .before .j .given .1) (c .refuse .ensures)
+returns-3 c = laws.on-refused _ _ _ _ _ (c .before .before .before .before .before .before .before .before .before .same .ensures) (c .before .before .before .before .before .before .before .before .if1 .left) _ _ refl (c .before .before .before .before .before .before .read .ensures .0) _ _ _ 0 _ (c .before .before .before .j .given .1) (c .on-model2 .ensures)
 
 pub perform-text-spec : {M : Type 1} → statement M
 perform-text-spec =
@@ -76,7 +83,9 @@ perform-text-spec =
     enum-told
     slice-aggregate-perform-on
     perform-on-requires
+    on-model-requires
     enum-known-j
     refuse-requires
+    on-model-requires-2
     returns-2
     returns-3)

@@ -8,6 +8,7 @@ use Rattle.show_texts.proofs.show_normal.Lts as lts
 use Rattle.base_bytes.proofs.part.Reads as part-reads
 use Rattle.show_answers.proofs.put.Reads as put-reads
 use Rattle.normal_entry.proofs.normal.Reads as normal-reads
+use Rattle.show_statuses.proofs.status.Reads as status-reads
 use Rattle.show_texts.proofs.refuse.Reads as refuse-reads
 
 -- src/lib.rt:59:34
@@ -42,6 +43,9 @@ slice-aggregate-put c = search needs
 put-requires-2 : tie.Need-put-requires-2
 put-requires-2 c κs = search needs
 
+status-requires : tie.Need-status-requires
+status-requires c κs = search needs
+
 -- src/lib.rt:66:26
 enum-known-w-2 : tie.Need-enum-known-w-2
 enum-known-w-2 c = search needs
@@ -50,13 +54,16 @@ enum-known-w-2 c = search needs
 refuse-requires : tie.Need-refuse-requires
 refuse-requires c κs = search needs
 
+status-requires-2 : tie.Need-status-requires-2
+status-requires-2 c κs = search needs
+
 -- src/lib.rt:55:1
 returns : tie.Need-returns
-returns c = laws.is-text _ _ _ refl (c .before .before .before .before .before .before .before .before .before .normal .ensures .0) _ (c .before .before .before .before .before .before .w .given .1)
+returns c = laws.is-text _ _ _ refl (c .before .before .before .before .before .before .before .before .before .before .normal .ensures .0) _ _ (c .before .before .before .before .before .before .before .w .given .1) (c .status .ensures)
 
 -- src/lib.rt:55:1
 returns-2 : tie.Need-returns-2
-returns-2 c = laws.is-refused _ _ _ refl (c .before .before .before .before .before .normal .ensures .0) _ _ _ _ (c .before .before .w2 .given .1) (c .refuse .ensures)
+returns-2 c = laws.is-refused _ _ _ refl (c .before .before .before .before .before .before .normal .ensures .0) _ _ _ _ (c .before .before .before .w2 .given .1) (c .status2 .ensures)
 
 pub show-normal-spec : {M : Type 1} → statement M
 show-normal-spec =
@@ -70,7 +77,9 @@ show-normal-spec =
     put-requires
     slice-aggregate-put
     put-requires-2
+    status-requires
     enum-known-w-2
     refuse-requires
+    status-requires-2
     returns
     returns-2)

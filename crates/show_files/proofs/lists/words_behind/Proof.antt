@@ -1,0 +1,26 @@
+use lib.ListN.{length}
+use Prim.Native.Nat.{_≤_, _-_}
+use borrow.Author.Needs.{needs}
+use Rattle.show_files.proofs.lists.words_behind.Statement.{statement}
+use Rattle.show_files.proofs.lists.words_behind.Tie as tie
+
+abbrev Inv-loop : tie.InvT-loop
+Inv-loop line n₀ i₀ n i = i ≤ length line
+
+abbrev μ-loop : tie.MeasureT-loop
+μ-loop line n₀ i₀ n i = length line - i
+
+pub words-behind-spec : {M : Type 1} → statement M
+words-behind-spec =
+    tie.close
+    (tie.spec
+    Inv-loop
+    μ-loop
+    (λ c. search needs)
+    (λ c. search needs)
+    (λ c κs. search needs)
+    (λ c. search needs)
+    (λ c. search needs)
+    (λ c. search needs)
+    (λ c. search needs)
+    (λ c. search needs))
