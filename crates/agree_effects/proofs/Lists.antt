@@ -31,7 +31,7 @@ use Rattle.agree_effects.proofs.Marks.{Leaf, begins-leaf, leaf-no-end}
 use Rattle.agree_effects.proofs.Phrases.{behind-argument, behind-equal, refers-into, quiet-there, linked-there, works, number-works, true-works, false-works, refers-linked, refers-located}
 
 -- one behind the other
-regroup : (x : List Item) (m : Item) (y z : List Item) → ((x ++ m ∷ []) ++ y) ++ z ≡ x ++ m ∷ (y ++ z)
+pub regroup : (x : List Item) (m : Item) (y z : List Item) → ((x ++ m ∷ []) ++ y) ++ z ≡ x ++ m ∷ (y ++ z)
 regroup x m y z = append-assoc (x ++ m ∷ []) y z ∙ append-assoc x (m ∷ []) (y ++ z)
 
 module _ (t : List ℕ) (a : Accepts t) where
@@ -85,28 +85,28 @@ module _ (t : List ℕ) (a : Accepts t) where
   compared j b y e x n p w = record { mark = λ c. n (sym (mark-code e x y b p) ∙ c); worked = w }
 
   -- what is received, as an expression and its mark
-  abbrev said : Received → Expr
+  abbrev pub said : Received → Expr
   said (into r) = get r
   said (equal e) = e
   said (exactly n) = num n
   said exactly-true = tru
   said exactly-false = fls
 
-  abbrev marked : Received → Item
+  abbrev pub marked : Received → Item
   marked (into r) = i-into
   marked (equal e) = i-equal
   marked (exactly n) = i-constant
   marked exactly-true = i-constant
   marked exactly-false = i-constant
 
-  received-code : (x : Received) → code-received x ≡ code-exp (said x) ++ marked x ∷ []
+  pub received-code : (x : Received) → code-received x ≡ code-exp (said x) ++ marked x ∷ []
   received-code (into r) = refl
   received-code (equal e) = refl
   received-code (exactly n) = refl
   received-code exactly-true = refl
   received-code exactly-false = refl
 
-  marked-mark : (x : Received) → (isMark (items.codeOf (marked x)) ≡ true) × (items.codeOf (marked x) < c-declared)
+  pub marked-mark : (x : Received) → (isMark (items.codeOf (marked x)) ≡ true) × (items.codeOf (marked x) < c-declared)
   unfolding isPart
   marked-mark (into r) = (refl, omega arith)
   marked-mark (equal e) = (refl, omega arith)

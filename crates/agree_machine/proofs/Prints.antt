@@ -68,16 +68,16 @@ module _ (t : List ℕ) (a : Accepts t) (rest : List ℤ) (σ : State) (f : Fits
   end-most (body ds q) i = omega arith
 
   -- the statement of a step that is offered
-  record Stood (q : ℕ) : Type 0 where
-    act : Tree action
-    next : ℕ
-    out : ℕ
-    bodied : Bodied (unitAt m k)
-    at : At m k act q next out
-    law : Lawful (Belongs m k) (settingOf m k) act out
-    takes : takable (plainStage m p (unitAt m k) σ) act ≡ true
+  pub record Stood (q : ℕ) : Type 0 where
+    pub act : Tree action
+    pub next : ℕ
+    pub out : ℕ
+    pub bodied : Bodied (unitAt (a .tree) (getD (σ .processes) p noProcess .unit))
+    pub at : At (a .tree) (getD (σ .processes) p noProcess .unit) act q next out
+    pub law : Lawful (Belongs (a .tree) (getD (σ .processes) p noProcess .unit)) (settingOf (a .tree) (getD (σ .processes) p noProcess .unit)) act out
+    pub takes : takable (plainStage (a .tree) p (unitAt (a .tree) (getD (σ .processes) p noProcess .unit)) σ) act ≡ true
 
-  stood : (late : Bool) (q : ℕ) → In q (stepsOf m σ p late) → Stood q
+  pub stood : (late : Bool) (q : ℕ) → In q (stepsOf (a .tree) σ p late) → Stood q
   unfolding stepsOf
   stood late q h = go (f .each p g .place) h
     where

@@ -161,10 +161,10 @@ module _ {S T : Type 0} (R : S → T → Type 0) (P : ℕ → Type 0) (at : Plac
 
   -- ---- references
   -- a role in which no mtype name and no `_pid` stands
-  abbrev Storable : Ref → Type 0
+  abbrev pub Storable : Ref → Type 0
   Storable r = storable (sense at) (nameOf r) ≡ true
 
-  target-named : (r : Ref) → lawful (sense at) target r ≡ true → Storable r
+  pub target-named : (r : Ref) → lawful (sense at) target r ≡ true → Storable r
   unfolding lawful named
   target-named (plain w) h = target-storable (sense at) false w (both-true (leb (height (plain w)) heightMost) (usable (sense at) target false w) h .1)
   target-named (indexed w e) h =
@@ -179,7 +179,7 @@ module _ {S T : Type 0} (R : S → T → Type 0) (P : ℕ → Type 0) (at : Plac
       channel-storable (sense at) true w (both-true (usable (sense at) channel true w) (named (sense at) operand e) (p .1) .0)
 
   -- the number of its variable is there
-  abbrev There : Name → Aim → Type 0
+  abbrev pub There : Name → Aim → Type 0
   There w (hit k) = ltb k (c .scene .size w) ≡ true
   There w (miss f) = Unit {0}
 
@@ -192,7 +192,7 @@ module _ {S T : Type 0} (R : S → T → Type 0) (P : ℕ → Type 0) (at : Plac
   aimed-same w h (Value (negsuc i)) = (refl, tt)
   aimed-same w h (Fails f) = (refl, tt)
 
-  aim-same : (r : Ref) (o : Role) → lawful (sense at) o r ≡ true → Storable r → (aim (c .scene) r ≡ aim (d .scene) r) × There (nameOf r) (aim (c .scene) r)
+  pub aim-same : (r : Ref) (o : Role) → lawful (sense at) o r ≡ true → Storable r → (aim (c .scene) r ≡ aim (d .scene) r) × There (nameOf r) (aim (c .scene) r)
   unfolding lawful named
   aim-same (plain w) o h g = (refl, a .some w g)
   aim-same (indexed w e) o h g =
@@ -203,7 +203,7 @@ module _ {S T : Type 0} (R : S → T → Type 0) (P : ℕ → Type 0) (at : Plac
 
   -- ---- channel operands
   -- the channel was made, and has n fields
-  abbrev Made : ℕ → Reach → Type 0
+  abbrev pub Made : ℕ → Reach → Type 0
   Made n (args.channel v) = (c .scene .made v ≡ true) × (c .fields v ≡ n)
   Made n (astray f) = Unit {0}
 
@@ -221,7 +221,7 @@ module _ {S T : Type 0} (R : S → T → Type 0) (P : ℕ → Type 0) (at : Plac
       go true e = let r = inner (eqb (c .fields v) n) refl e in (rw (inv (a .made v) ∙ e) (r .0), r .1)
       go false e = (rw (inv (a .made v) ∙ e), tt)
 
-  reach-same : (r : Ref) (n : ℕ) → lawful (sense at) channel r ≡ true → (reach c r n ≡ reach d r n) × Made n (reach c r n)
+  pub reach-same : (r : Ref) (n : ℕ) → lawful (sense at) channel r ≡ true → (reach c r n ≡ reach d r n) × Made n (reach c r n)
   reach-same r n h =
       let g = channel-named r h in
       let k = aim-same r channel h g in
@@ -255,14 +255,14 @@ module _ {S T : Type 0} (R : S → T → Type 0) (P : ℕ → Type 0) (at : Plac
       go (Value v) (stopped f) k = tt
       go (Fails f) vs k = tt
 
-  into-usable : (r : Ref) → lawful (sense at) received r ≡ true → (c .constant (nameOf r) ≡ isConstant (sense at (nameOf r))) × (d .constant (nameOf r) ≡ isConstant (sense at (nameOf r)))
+  pub into-usable : (r : Ref) → lawful (sense at) received r ≡ true → (c .constant (nameOf r) ≡ isConstant (sense at (nameOf r))) × (d .constant (nameOf r) ≡ isConstant (sense at (nameOf r)))
   unfolding lawful named
   into-usable (plain n) h = a .constant n false (both-true (leb (height (plain n)) heightMost) (usable (sense at) received false n) h .1)
   into-usable (indexed n e) h =
       let p = both-true (leb (height (indexed n e)) heightMost) (both (usable (sense at) received true n) (named (sense at) operand e)) h in
       a .constant n true (both-true (usable (sense at) received true n) (named (sense at) operand e) (p .1) .0)
 
-  received-named : (r : Ref) → lawful (sense at) received r ≡ true → isConstant (sense at (nameOf r)) ≡ false → Storable r
+  pub received-named : (r : Ref) → lawful (sense at) received r ≡ true → isConstant (sense at (nameOf r)) ≡ false → Storable r
   unfolding lawful named
   received-named (plain n) h k = received-storable (sense at) false n (both-true (leb (height (plain n)) heightMost) (usable (sense at) received false n) h .1) k
   received-named (indexed n e) h k =

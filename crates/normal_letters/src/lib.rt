@@ -9,7 +9,7 @@ ghost use Rattle.spec_text.specs.Writing.{spell, write};
 ghost use Rattle.normal_letters.specs.Tokens.{spelled, heldOf, tokenBy, behind};
 
 // Writes the bytes of the name or string that item i is.
-fn put_name(t: &[u32], i: usize, out: &mut [u8], p: usize) -> usize
+pub fn put_name(t: &[u32], i: usize, out: &mut [u8], p: usize) -> usize
     ensures { λ r. ⌜ pen (now (out .exit)) r ≡ puts (spelled (now (t .entry)) i) (pen (now (out .entry)) p) ⌝ }
 {
     let n = table_layout::name_length(t, i);
@@ -86,12 +86,12 @@ fn put_token(t: &[u32], k: u8, v: u32, out: &mut [u8], p: usize) -> usize
     text_pens::put_all(w, out, q)
 }
 
-// Writes the tokens of these numbers, one after the other, at the front of out.
-pub fn put_tokens(t: &[u32], toks: &[u32], out: &mut [u8]) -> usize
-    ensures { λ r. ⌜ pen (now (out .exit)) r ≡ puts (write (map (tokenBy (now (t .entry))) (now (toks .entry)))) (pen (now (out .entry)) 0) ⌝ }
+// Writes the tokens of these numbers, one after the other.
+pub fn put_tokens(t: &[u32], toks: &[u32], out: &mut [u8], p: usize) -> usize
+    ensures { λ r. ⌜ pen (now (out .exit)) r ≡ puts (write (map (tokenBy (now (t .entry))) (now (toks .entry)))) (pen (now (out .entry)) p) ⌝ }
 {
     let mut k: u8 = 72;
-    let mut q: usize = 0;
+    let mut q = p;
     let mut j: usize = 0;
     while j < toks.len() {
         let v = toks[j];

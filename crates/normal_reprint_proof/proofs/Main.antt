@@ -127,7 +127,7 @@ module _ (t : List ℕ) where
       let all : Here (heldOf t) (pre ++ d ∷ rest) b i (x ∷ l) = (getD-at pre d rest 0 i (inv e), held-known t i (f .1) (f .0), known-sane (f .1), r′) in
       subst (λ (ms : List ℕ). Here (heldOf t) ms b i (x ∷ l)) (inv (ap (pre ++_) (ap (marks b (codeOf t) i) n ∙ m))) all
 
-length-marks : (b : Bool) (f : ℕ → ℕ) (i k : ℕ) → length (marks b f i k) ≡ k
+pub length-marks : (b : Bool) (f : ℕ → ℕ) (i k : ℕ) → length (marks b f i k) ≡ k
 unfolding marks
 length-marks b f i zero = refl
 length-marks b f i (suc k) = ap suc (length-marks (after b (f i)) f (i + 1) k)
@@ -153,6 +153,10 @@ module _ (m : Model) (ls : List ℕ) (known : AllKnown (code m)) (small : Small 
   abbrev M : List ℕ
   M = marks false (codeOf T) 0 (length (code m))
 
+  -- all items stand in them
+  pub all-here : Here (heldOf (tablesIn m ls)) (marks false (codeOf (tablesIn m ls)) 0 (length (code m))) false 0 (code m)
+  all-here = here-marks T (code m) [] false 0 (length (code m)) refl refl all-facts
+
   codes-are : length (entriesIn m) ≤ itemsMost → codesIn T ≡ M
   unfolding codesIn
   codes-are few =
@@ -166,10 +170,10 @@ module _ (m : Model) (ls : List ℕ) (known : AllKnown (code m)) (small : Small 
 
   walked : walk (tok (heldOf T)) M (length M) (143 ∷ []) [] ≡ print-model m
   walked =
-      walk-model (heldOf T) M m false 0 (length M) (omega (arith, length-marks false (codeOf T) 0 (length (code m)))) (here-marks T (code m) [] false 0 (length (code m)) refl refl all-facts) [] []
+      walk-model (heldOf T) M m false 0 (length M) (omega (arith, length-marks false (codeOf T) 0 (length (code m)))) all-here [] []
       ∙ bottom (print-model m ++ []) ∙ append-nil (print-model m)
 
-  tokens-are : length (entriesIn m) ≤ itemsMost → tokensOf T ≡ print-model m
+  pub tokens-are : length (entriesIn m) ≤ itemsMost → tokensOf T ≡ print-model m
   unfolding tokensOf tokenBy
   tokens-are few = ap (λ (cs : List ℕ). walk (tok (heldOf T)) cs (length cs) (143 ∷ []) []) (codes-are few) ∙ walked
 

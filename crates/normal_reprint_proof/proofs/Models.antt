@@ -45,7 +45,7 @@ module _ (i : ℕ) (st : List ℕ) where
   unfolding turned rowOf rowFrom cell rows laid
   global-row = refl
 
-  end-body-row : turned 143 c-end-body i st ≡ 26 ∷ 130 ∷ 139 ∷ 143 ∷ st
+  pub end-body-row : turned 143 c-end-body i st ≡ 26 ∷ 130 ∷ 139 ∷ 143 ∷ st
   unfolding turned rowOf rowFrom cell rows laid
   end-body-row = refl
 

@@ -78,11 +78,11 @@ module _ (i : ℕ) (st : List ℕ) where
   unfolding turned rowOf rowFrom cell rows laid
   else-rows = (refl, refl)
 
-  fi-rows : (turned 130 c-fi i st ≡ 53 ∷ 138 ∷ 131 ∷ st) × (turned 131 c-fi i st ≡ 28 ∷ 53 ∷ 138 ∷ 131 ∷ st)
+  pub fi-rows : (turned 130 c-fi i st ≡ 53 ∷ 138 ∷ 131 ∷ st) × (turned 131 c-fi i st ≡ 28 ∷ 53 ∷ 138 ∷ 131 ∷ st)
   unfolding turned rowOf rowFrom cell rows laid
   fi-rows = (refl, refl)
 
-  od-rows : (turned 130 c-od i st ≡ 58 ∷ 138 ∷ 131 ∷ st) × (turned 131 c-od i st ≡ 28 ∷ 58 ∷ 138 ∷ 131 ∷ st)
+  pub od-rows : (turned 130 c-od i st ≡ 58 ∷ 138 ∷ 131 ∷ st) × (turned 131 c-od i st ≡ 28 ∷ 58 ∷ 138 ∷ 131 ∷ st)
   unfolding turned rowOf rowFrom cell rows laid
   od-rows = (refl, refl)
 
@@ -94,7 +94,7 @@ module _ (i : ℕ) (st : List ℕ) where
   unfolding turned rowOf rowFrom cell rows laid
   target-row = refl
 
-  end-option-row : turned 138 c-end-option i st ≡ 130 ∷ 138 ∷ st
+  pub end-option-row : turned 138 c-end-option i st ≡ 130 ∷ 138 ∷ st
   unfolding turned rowOf rowFrom cell rows laid
   end-option-row = refl
 
@@ -139,7 +139,7 @@ pub symbol-of-body : (f : Bool) → isToken (body-of f) ≡ false
 symbol-of-body false = refl
 symbol-of-body true = refl
 
-before-sep : (q : Tree sequence) (ts : List Token) → sep (any q) 'semi ++ ts ≡ before q ts
+pub before-sep : (q : Tree sequence) (ts : List Token) → sep (any q) 'semi ++ ts ≡ before q ts
 before-sep end ts = refl
 before-sep (then s q) ts = refl
 
@@ -151,7 +151,7 @@ module _ (h : ℕ → Token) (ms : List ℕ) where
   Claim options t i j = (st : List ℕ) (out : List Token) → W h ms j (138 ∷ st) out ≡ W h ms i (138 ∷ st) (print-tree t ++ out)
 
   -- `;` is written behind a statement if one is there
-  begin : (f : Bool) (j i c : ℕ) (st xs : List ℕ) (out : List Token) → j ≡ suc i → getD ms i 0 ≡ c → (turned 130 c i st ≡ xs) × (turned 131 c i st ≡ 28 ∷ xs) → W h ms j (body-of f ∷ st) out ≡ W h ms i xs (sep f 'semi ++ out)
+  pub begin : (f : Bool) (j i c : ℕ) (st xs : List ℕ) (out : List Token) → j ≡ suc i → getD ms i 0 ≡ c → (turned 130 c i st ≡ xs) × (turned 131 c i st ≡ 28 ∷ xs) → W h ms j (body-of f ∷ st) out ≡ W h ms i xs (sep f 'semi ++ out)
   begin false j i c st xs out n g r = go h ms j i 130 c st xs out n refl g (r .0)
   begin true j i c st xs out n g r = go h ms j i 131 c st (28 ∷ xs) out n refl g (r .1) ∙ emit h ms 28 refl i xs out
 

@@ -16,6 +16,7 @@ use Rattle.base_bytes.specs.Choice.{pick, both}
 use Rattle.base_values.specs.Operators.{levelOf}
 use Rattle.normal_writer.specs.Turning.{cell, rowOf, said, unless-none, laid, operated, shared, turned, isToken, kept, told, walk, turnRoom}
 use Rattle.normal_writer.specs.Places.{Pushed, Flushed}
+use Rattle.normal_writer.proofs.Rows.{blank-row}
 
 -- ---- one symbol
 pub push-none : (old : List ℕ) (sp v : ℕ) → v ≡ 0 → Pushed old sp old sp (unless-none v (drop sp old)) 1
@@ -129,9 +130,12 @@ pub step-row : (old new : List ℕ) (sp r s c i x : ℕ) (b : Bool) → b ≡ bo
 unfolding turned
 step-row old new sp r s c i x b e h q y = record { holds = y .holds ∙ rw (← e, h, q) refl; low = y .low; high = y .high; size = y .size }
 
+pub step-none : (old : List ℕ) (sp s c i : ℕ) → c ≡ 0 → Pushed old sp old sp (turned s c i (drop sp old)) 8
+step-none old sp s c i e = record { holds = sym (ap (λ (k : ℕ). turned s k i (drop sp old)) e ∙ blank-row s i (drop sp old)); low = omega arith; high = omega arith; size = refl }
+
 -- ---- all items: i are left
-pub record Going (codes stack : List ℕ) (sp : ℕ) (toks : List ℕ) (tp i : ℕ) : Type 0 where
-  pub goes : walk (λ (v : ℕ). v) codes i (drop sp stack) (drop tp toks) ≡ walk (λ (v : ℕ). v) codes (length codes) (143 ∷ []) []
+pub record Going (symbol : ℕ) (codes stack : List ℕ) (sp : ℕ) (toks : List ℕ) (tp i : ℕ) : Type 0 where
+  pub goes : walk (λ (v : ℕ). v) codes i (drop sp stack) (drop tp toks) ≡ walk (λ (v : ℕ). v) codes (length codes) (unless-none symbol []) []
   pub room : 2 * turnRoom ≤ sp + tp + 8 * (length codes - i) + 1
   pub low : sp ≤ turnRoom
   pub high : tp ≤ turnRoom
@@ -139,8 +143,8 @@ pub record Going (codes stack : List ℕ) (sp : ℕ) (toks : List ℕ) (tp i : �
   pub stack-size : length stack ≡ turnRoom
   pub toks-size : length toks ≡ turnRoom
 
-pub turn-start : (codes stack new toks : List ℕ) (sp : ℕ) → length stack ≡ turnRoom → length toks ≡ turnRoom → Pushed stack turnRoom new sp (unless-none 143 (drop turnRoom stack)) 1 → Going codes new sp toks turnRoom (length codes)
-turn-start codes stack new toks sp a b y =
+pub turn-start : (symbol : ℕ) (codes stack new toks : List ℕ) (sp : ℕ) → length stack ≡ turnRoom → length toks ≡ turnRoom → Pushed stack turnRoom new sp (unless-none symbol (drop turnRoom stack)) 1 → Going symbol codes new sp toks turnRoom (length codes)
+turn-start symbol codes stack new toks sp a b y =
     record {
       goes = rw (y .holds, drop-of-length-le stack {i = turnRoom} (omega arith), drop-of-length-le toks {i = turnRoom} (omega arith)) refl;
       room = omega (arith, y .low);
@@ -162,14 +166,14 @@ under stack p m l h e = drop-drop 1 p stack ∙ go (decLt p turnRoom)
     go (yes z) = let q : m ≡ p + 1 = omega arith in rw q
     go (no z) = drop-of-length-le stack {i = p + 1} (omega arith) ∙ sym (drop-of-length-le stack {i = m} (omega arith))
 
-pub turn-more : (codes stack toks stack′ toks′ : List ℕ) (sp tp i i1 p q r s c m : ℕ) → Going codes stack sp toks tp i → 0 < i → i1 ≡ i - 1 → Flushed stack sp toks tp toks′ p q
-    → s ≡ getD stack p 0 → m ≡ min turnRoom (p + 1) → c ≡ getD codes i1 0 → Pushed stack m stack′ r (turned s c i1 (drop m stack)) 8 → Going codes stack′ r toks′ q i1
+pub turn-more : (symbol : ℕ) (codes stack toks stack′ toks′ : List ℕ) (sp tp i i1 p q r s c m : ℕ) → Going symbol codes stack sp toks tp i → 0 < i → i1 ≡ i - 1 → Flushed stack sp toks tp toks′ p q
+    → s ≡ getD stack p 0 → m ≡ min turnRoom (p + 1) → c ≡ getD codes i1 0 → Pushed stack m stack′ r (turned s c i1 (drop m stack)) 8 → Going symbol codes stack′ r toks′ q i1
 unfolding walk
-turn-more codes stack toks stack′ toks′ sp tp i i1 p q r s c m y h e f a b d z =
+turn-more symbol codes stack toks stack′ toks′ sp tp i i1 p q r s c m y h e f a b d z =
     let n : i ≡ suc i1 = omega arith in
     record {
       goes =
-          (let g : walk (λ (v : ℕ). v) codes (suc i1) (drop sp stack) (drop tp toks) ≡ walk (λ (v : ℕ). v) codes (length codes) (143 ∷ []) [] = rw n at (y .goes) in
+          (let g : walk (λ (v : ℕ). v) codes (suc i1) (drop sp stack) (drop tp toks) ≡ walk (λ (v : ℕ). v) codes (length codes) (unless-none symbol []) [] = rw n at (y .goes) in
           let u : drop r stack′ ≡ turned (getD (kept (drop sp stack)) 0 0) (getD codes i1 0) i1 (drop 1 (kept (drop sp stack))) =
           z .holds ∙ rw (← f .left, top-of stack p, under stack p m (y .stack-size) (omega (arith, f .within, y .stack-size)) b, ← a, ← d) refl in
           rw (u, f .written) g);
@@ -181,9 +185,9 @@ turn-more codes stack toks stack′ toks′ sp tp i i1 p q r s c m y h e f a b d
       toks-size = f .size ∙ y .toks-size;
     }
 
-pub turn-end : (codes stack toks new : List ℕ) (sp tp i p q : ℕ) → Going codes stack sp toks tp i → i ≤ 0 → Flushed stack sp toks tp new p q
-    → (q ≤ turnRoom) × (drop q new ≡ walk (λ (v : ℕ). v) codes (length codes) (143 ∷ []) [])
+pub turn-end : (symbol : ℕ) (codes stack toks new : List ℕ) (sp tp i p q : ℕ) → Going symbol codes stack sp toks tp i → i ≤ 0 → Flushed stack sp toks tp new p q
+    → (q ≤ turnRoom) × (drop q new ≡ walk (λ (v : ℕ). v) codes (length codes) (unless-none symbol []) [])
 unfolding walk
-turn-end codes stack toks new sp tp i p q y h f =
+turn-end symbol codes stack toks new sp tp i p q y h f =
     let n : i ≡ 0 = omega arith in
     (omega (arith, f .moved, f .less, y .high), f .written ∙ (rw n at (y .goes)))

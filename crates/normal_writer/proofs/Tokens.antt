@@ -8,6 +8,7 @@ use native.Mathlib.Numerals.{add-one}
 use lib.ListN.{length, getD, take, drop, set, length-set, length-append, length-drop, drop-of-length-le}
 use lib.Seq.{take-suc-set, append-snoc, take-at, take-all, drop-cons}
 use lib.Dec.{eqb, ltb}
+use native.Mathlib.Decide.{decLt}
 use borrow.Author.Tests.{lt-ltb, le-ltb, eq-eqb, ne-eqb}
 use Rattle.base_ceilings.specs.Ceilings.{itemsMost}
 use Rattle.base_bytes.specs.Choice.{pick}
@@ -23,28 +24,48 @@ use Rattle.text_pens.proofs.After.{write-after}
 use Rattle.text_pens.proofs.Sheet.{spelled-short}
 use Rattle.table_layout.specs.Access.{itemsOf, codeOf, numberOf, nameLength, nameByte}
 use Rattle.table_layout.specs.Back.{upto}
-use Rattle.normal_writer.specs.Turning.{isToken, turned, kept, told, walk, whole, marked, after, marks, turnRoom}
+use Rattle.normal_writer.specs.Turning.{unless-none, isToken, turned, kept, told, walk, wholeBy, marked, after, marks, blanked, turnRoom}
 use Rattle.normal_letters.specs.Tokens.{tokenBy}
-use Rattle.normal_writer.specs.Normal.{codesIn, tokensOf, normalOf}
+use Rattle.normal_writer.specs.Normal.{codesIn, tokensOf, normalOf, codesBetween, tokensBetween}
 
 -- ---- the marked codes
-pub mark-start : (t codes : List ℕ) (n : ℕ) → take 0 codes ++ marks false (codeOf t) 0 (n - 0) ≡ marks false (codeOf t) 0 n
-mark-start t codes n = let q : n - 0 ≡ n = omega arith in rw q
+blanked-none : (k : ℕ) → blanked k [] ≡ []
+unfolding blanked
+blanked-none zero = refl
+blanked-none (suc k) = refl
+
+blanked-more : (from i c v : ℕ) (cs : List ℕ) → v ≡ pick (ltb i from) 0 c → blanked (from - i) (c ∷ cs) ≡ v ∷ blanked (from - (i + 1)) cs
+unfolding blanked
+blanked-more from i c v cs e = go (decLt i from)
+  where
+    go : Dec (i < from) → blanked (from - i) (c ∷ cs) ≡ v ∷ blanked (from - (i + 1)) cs
+    go (yes h) = let q : from - i ≡ suc (from - (i + 1)) = omega arith in rw (q, e, lt-ltb i from h) refl
+    go (no h) =
+        let q : from - i ≡ 0 = omega arith in
+        let r : from - (i + 1) ≡ 0 = omega arith in
+        rw (q, r, e, le-ltb i from (omega arith)) refl
+
+pub mark-start : (t codes : List ℕ) (from n : ℕ) → take 0 codes ++ blanked (from - 0) (marks false (codeOf t) 0 (n - 0)) ≡ blanked from (marks false (codeOf t) 0 n)
+mark-start t codes from n = let q : n - 0 ≡ n = omega arith in let r : from - 0 ≡ from = omega arith in rw (q, r)
 
 pub set-size : (l : List ℕ) (i v : ℕ) → length (set l i v) ≡ length l
 set-size l i v = length-set l i v
 
-pub mark-more : (t codes : List ℕ) (b d : Bool) (i n c v : ℕ) → i < n → i < length codes → c ≡ codeOf t i → v ≡ marked b c → d ≡ after b c
-    → take (i + 1) (set codes i v) ++ marks d (codeOf t) (i + 1) (n - (i + 1)) ≡ take i codes ++ marks b (codeOf t) i (n - i)
+pub mark-more : (t codes : List ℕ) (b d : Bool) (from i n c u v : ℕ) → i < n → i < length codes → c ≡ codeOf t i → u ≡ marked b c → v ≡ pick (ltb i from) 0 u → d ≡ after b c
+    → take (i + 1) (set codes i v) ++ blanked (from - (i + 1)) (marks d (codeOf t) (i + 1) (n - (i + 1))) ≡ take i codes ++ blanked (from - i) (marks b (codeOf t) i (n - i))
 unfolding marks
-mark-more t codes b d i n c v h l e f g =
+mark-more t codes b d from i n c u v h l e f x g =
     let q : n - i ≡ suc (n - (i + 1)) = omega arith in
-    rw q (ap (_++ marks d (codeOf t) (i + 1) (n - (i + 1))) (ap (λ (k : ℕ). take k (set codes i v)) (add-one i) ∙ take-suc-set codes i v l)
-    ∙ append-snoc (take i codes) v (marks d (codeOf t) (i + 1) (n - (i + 1))) ∙ rw (f, g, e))
+    let rest = blanked (from - (i + 1)) (marks d (codeOf t) (i + 1) (n - (i + 1))) in
+    rw q (ap (_++ rest) (ap (λ (k : ℕ). take k (set codes i v)) (add-one i) ∙ take-suc-set codes i v l)
+    ∙ append-snoc (take i codes) v rest ∙ ap (take i codes ++_) (sym (blanked-more from i u v (marks d (codeOf t) (i + 1) (n - (i + 1))) x) ∙ rw (f, g, e)))
 
-pub mark-end : (t codes : List ℕ) (b : Bool) (i n : ℕ) (x : List ℕ) → i ≡ n → take i codes ++ marks b (codeOf t) i (n - i) ≡ x → take n codes ≡ x
+pub mark-end : (t codes : List ℕ) (b : Bool) (from i n : ℕ) (x : List ℕ) → i ≡ n → take i codes ++ blanked (from - i) (marks b (codeOf t) i (n - i)) ≡ x → take n codes ≡ x
 unfolding marks
-mark-end t codes b i n x e h = let q : n - i ≡ 0 = omega arith in ap (λ (k : ℕ). take k codes) (sym e) ∙ sym (append-nil (take i codes)) ∙ (rw q at h)
+mark-end t codes b from i n x e h =
+    let q : n - i ≡ 0 = omega arith in
+    let g : take i codes ++ blanked (from - i) [] ≡ x = rw q at h in
+    ap (λ (k : ℕ). take k codes) (sym e) ∙ sym (append-nil (take i codes)) ∙ ap (take i codes ++_) (sym (blanked-none (from - i))) ∙ g
 
 -- ---- what tokens' numbers stand for, before or behind the walk
 told-map : {A : Type 0} (f : ℕ → A) (st out : List ℕ) → map f (told (λ (v : ℕ). v) st out) ≡ told f st (map f out)
@@ -64,10 +85,20 @@ walk-map f cs (suc i) st out =
     ∙ ap (walk f cs i (turned (getD (kept st) 0 0) (getD cs i 0) i (drop 1 (kept st)))) (told-map f st out)
 
 -- ---- the whole
-pub normal-is : (t codes toks cs : List ℕ) (n first : ℕ) (w x : Pen) → n ≡ min itemsMost (itemsOf t) → take n codes ≡ marks false (codeOf t) 0 n → cs ≡ take (n - 0) codes → drop first toks ≡ whole (λ (v : ℕ). v) cs → length toks ≡ turnRoom
-    → x ≡ puts (write (map (tokenBy t) (take (turnRoom - first) (drop first toks)))) w → x ≡ puts (normalOf t) w
-unfolding tokensOf codesIn
-normal-is t codes toks cs n first w x a b c d l e =
+pub tokens-are : (t codes toks cs : List ℕ) (asked from to all n first : ℕ) (w x : Pen) → all ≡ min itemsMost (itemsOf t) → n ≡ min to all → take n codes ≡ blanked from (marks false (codeOf t) 0 n) → cs ≡ take (n - 0) codes
+    → drop first toks ≡ wholeBy asked (λ (v : ℕ). v) cs → length toks ≡ turnRoom → x ≡ puts (write (map (tokenBy t) (take (turnRoom - first) (drop first toks)))) w → x ≡ puts (write (tokensBetween t asked from to)) w
+unfolding tokensBetween codesBetween
+tokens-are t codes toks cs asked from to all n first w x a a′ b c d l e =
     let z : n - 0 ≡ n = omega arith in
     e ∙ ap (λ (z : List ℕ). puts (write (map (tokenBy t) z)) w) (take-all (turnRoom - first) (drop first toks) (omega (arith, length-drop first toks)) ∙ d)
-    ∙ ap (λ (z : List Token). puts (write z) w) (walk-map (tokenBy t) cs (length cs) (143 ∷ []) [] ∙ ap (whole (tokenBy t)) (c ∙ ap (λ (k : ℕ). take k codes) z ∙ b ∙ ap (marks false (codeOf t) 0) a))
+    ∙ ap (λ (z : List Token). puts (write z) w)
+    (walk-map (tokenBy t) cs (length cs) (unless-none asked []) []
+    ∙ ap (wholeBy asked (tokenBy t)) (c ∙ ap (λ (k : ℕ). take k codes) z ∙ b ∙ ap (λ (k : ℕ). blanked from (marks false (codeOf t) 0 k)) (a′ ∙ ap (min to) a)))
+
+-- all of them
+pub tokens-all : (t : List ℕ) (n : ℕ) → n ≡ itemsOf t → tokensBetween t 143 0 n ≡ tokensOf t
+unfolding tokensBetween codesBetween tokensOf codesIn blanked
+tokens-all t n e = let q : min n (min itemsMost (itemsOf t)) ≡ min itemsMost (itemsOf t) = omega arith in rw q refl
+
+pub normal-is : (t : List ℕ) (n : ℕ) (w x : Pen) → n ≡ itemsOf t → x ≡ puts (write (tokensBetween t 143 0 n)) w → x ≡ puts (normalOf t) w
+normal-is t n w x e f = f ∙ ap (λ (z : List Token). puts (write z) w) (tokens-all t n e)

@@ -1,4 +1,4 @@
--- Mechanism, held to the specification by `text-normal` (crate `normal_proof`), but for `turnRoom`, of contracts alone.
+-- Mechanism, held to the specification by `text-normal` (crate `normal_proof`), and `blanked` by `statement-shown` (crate `agree_texts`), but for `turnRoom`, of contracts alone.
 -- Items turned into tokens from the back, by the rows of specs/Rules.antt of `normal_rows`. Binary operators by their levels (document 01, "Operators follow table 3.2 of 002"):
 -- parentheses exactly around what is looser than what is asked for, so a right operand of the same level keeps them.
 use mathlib.Core.Bool.{Bool, true, false}
@@ -76,8 +76,12 @@ unfoldable pub walk : {A : Type 0} → (ℕ → A) → List ℕ → ℕ → List
 walk f cs zero st out = told f st out
 walk f cs (suc i) st out = walk f cs i (turned (getD (kept st) 0 0) (getD cs i 0) i (drop 1 (kept st))) (told f st out)
 
+-- all items, where at first the symbol s is asked for, or units
+abbrev pub wholeBy : {A : Type 0} → ℕ → (ℕ → A) → List ℕ → List A
+wholeBy s f cs = walk f cs (length cs) (unless-none s []) []
+
 abbrev pub whole : {A : Type 0} → (ℕ → A) → List ℕ → List A
-whole f cs = walk f cs (length cs) (143 ∷ []) []
+whole f cs = wholeBy 143 f cs
 
 -- which `end` closes arguments in parentheses: those of a format, `run` and `v = run`, not those of a send or a receive. The last of these items decides
 abbrev pub after : Bool → ℕ → Bool
@@ -89,3 +93,9 @@ marked b c = pick (both (eqb c c-end) b) c-end-closed c
 unfoldable pub marks : Bool → (ℕ → ℕ) → ℕ → ℕ → List ℕ
 marks b f i zero = []
 marks b f i (suc k) = marked b (f i) ∷ marks (after b (f i)) f (i + 1) k
+
+-- the first k codes made 0: no row has it, so a symbol goes at each and nothing is written
+unfoldable pub blanked : ℕ → List ℕ → List ℕ
+blanked zero cs = cs
+blanked (suc k) [] = []
+blanked (suc k) (c ∷ cs) = 0 ∷ blanked k cs

@@ -3,14 +3,16 @@ ghost use mathlib.Core.Path.{_≡_};
 ghost use mathlib.Core.Bool.{false};
 ghost use Prim.Native.Nat.{_+_, _-_, _≤_, _<_, _*_, min};
 ghost use lib.ListN.{length, getD, drop, take};
+ghost use lib.Dec.{ltb};
 ghost use Rattle.base_ceilings.specs.Ceilings.{itemsMost};
 ghost use Rattle.base_pens.specs.Pen.{pen, puts};
+ghost use Rattle.spec_text.specs.Writing.{write};
 ghost use Rattle.table_layout.specs.Access.{codeOf};
 ghost use Rattle.normal_rows.specs.Rules.{cells};
 ghost use Rattle.normal_writer.specs.Turning as turning;
 ghost use Rattle.base_bytes.specs.Choice.{pick};
-ghost use Rattle.normal_writer.specs.Turning.{rowOf, unless-none, laid, operated, isBinary, turned, whole, marks, turnRoom};
-ghost use Rattle.normal_writer.specs.Normal.{normalOf};
+ghost use Rattle.normal_writer.specs.Turning.{rowOf, unless-none, laid, operated, isBinary, turned, wholeBy, marks, blanked, turnRoom};
+ghost use Rattle.normal_writer.specs.Normal.{tokensBetween, normalOf};
 ghost use Rattle.normal_writer.specs.Places.{Pushed, Flushed};
 
 // How many rows there are (specs/Rules.antt of `normal_rows`).
@@ -155,11 +157,14 @@ fn operator(c: u8) -> u8
     if c < 146 { 0 } else { c - 146 }
 }
 
-// What the symbol s becomes at item i of code c.
+// What the symbol s becomes at item i of code c. No row has code 0.
 fn step(rows: &[u8], stack: &mut [u32], sp: usize, s: u32, c: u8, i: usize) -> usize
     requires { ⌜ (now rows ≡ cells) × (8 ≤ sp) × (sp ≤ length (now stack)) × (i < itemsMost) ⌝ }
     ensures { λ r. ⌜ Pushed (now (stack .entry)) sp (now (stack .exit)) r (turned s c i (drop sp (now (stack .entry)))) 8 ⌝ }
 {
+    if c == 0 {
+        return sp;
+    }
     if is_binary(s, c) {
         operate(stack, sp, s, operator(c))
     } else {
@@ -213,12 +218,12 @@ fn next(n: usize, p: usize) -> usize
     if p < n { p + 1 } else { p }
 }
 
-// Items turned into tokens, from the back: the tokens stand from the answer on.
-fn turn(rows: &[u8], codes: &[u8], stack: &mut [u32], toks: &mut [u32]) -> usize
+// Items turned into tokens, from the back, where at first the symbol is asked for: the tokens stand from the answer on.
+fn turn(rows: &[u8], codes: &[u8], symbol: u32, stack: &mut [u32], toks: &mut [u32]) -> usize
     requires { ⌜ (now rows ≡ cells) × (length (now codes) ≤ itemsMost) × (length (now stack) ≡ turnRoom) × (length (now toks) ≡ turnRoom) ⌝ }
-    ensures { λ r. ⌜ (r ≤ turnRoom) × (drop r (now (toks .exit)) ≡ whole (λ v. v) (now (codes .entry))) ⌝ }
+    ensures { λ r. ⌜ (r ≤ turnRoom) × (drop r (now (toks .exit)) ≡ wholeBy symbol (λ v. v) (now (codes .entry))) ⌝ }
 {
-    let mut sp = push(stack, ROOM, 143);
+    let mut sp = push(stack, ROOM, symbol);
     let mut tp = ROOM;
     let mut i = codes.len();
     while 0 < i {
@@ -262,32 +267,54 @@ fn after(b: bool, c: u8) -> bool
     if c == base_codes::SET_RUN { true } else { b }
 }
 
-// The codes of the first n items, with the `end`s marked whose arguments stand in parentheses.
-fn mark(t: &[u32], codes: &mut [u8], n: usize)
+// 0 for an item before item `from`.
+fn unless_before(i: usize, from: usize, c: u8) -> u8
+    ensures { λ r. ⌜ r ≡ pick (ltb i from) 0 c ⌝ }
+{
+    if i < from { 0 } else { c }
+}
+
+// The codes of the first n items, with the `end`s marked whose arguments stand in parentheses; those before item `from` are blank.
+fn mark(t: &[u32], codes: &mut [u8], from: usize, n: usize)
     requires { ⌜ n ≤ length (now codes) ⌝ }
-    ensures { λ _. ⌜ take n (now (codes .exit)) ≡ marks false (codeOf (now (t .entry))) 0 n ⌝ }
+    ensures { λ _. ⌜ take n (now (codes .exit)) ≡ blanked from (marks false (codeOf (now (t .entry))) 0 n) ⌝ }
 {
     let mut b = false;
     let mut i: usize = 0;
     while i < n {
         let c = table_layout::code(t, i);
-        codes[i] = marked(b, c);
+        codes[i] = unless_before(i, from, marked(b, c));
         b = after(b, c);
         i += 1;
     }
+}
+
+// Writes what the items from `from` to before `to` become where the symbol is asked for.
+pub fn write_tokens(
+    t: &[u32],
+    symbol: u32,
+    from: usize,
+    to: usize,
+    out: &mut [u8],
+    p: usize,
+) -> usize
+    ensures { λ r. ⌜ pen (now (out .exit)) r ≡ puts (write (tokensBetween (now (t .entry)) symbol from to)) (pen (now (out .entry)) p) ⌝ }
+{
+    let all = base_bytes::least(base_ceilings::ITEMS_MOST, table_layout::items(t));
+    let n = base_bytes::least(to, all);
+    let mut rows = [0u8; 1340];
+    normal_rows::lay_cells(&mut rows);
+    let mut codes = [0u8; base_ceilings::ITEMS_MOST];
+    mark(t, &mut codes, from, n);
+    let mut stack = [0u32; ROOM];
+    let mut toks = [0u32; ROOM];
+    let first = turn(&rows, &codes[0..n], symbol, &mut stack, &mut toks);
+    normal_letters::put_tokens(t, &toks[first..ROOM], out, p)
 }
 
 // Writes the normal text of the tables t at the front of out, as far as it reaches: the answer is the text's length, or one more than out's where it does not fit.
 pub fn write_normal(t: &[u32], out: &mut [u8]) -> usize
     ensures { λ r. ⌜ pen (now (out .exit)) r ≡ puts (normalOf (now (t .entry))) (pen (now (out .entry)) 0) ⌝ }
 {
-    let n = base_bytes::least(base_ceilings::ITEMS_MOST, table_layout::items(t));
-    let mut rows = [0u8; 1340];
-    normal_rows::lay_cells(&mut rows);
-    let mut codes = [0u8; base_ceilings::ITEMS_MOST];
-    mark(t, &mut codes, n);
-    let mut stack = [0u32; ROOM];
-    let mut toks = [0u32; ROOM];
-    let first = turn(&rows, &codes[0..n], &mut stack, &mut toks);
-    normal_letters::put_tokens(t, &toks[first..ROOM], out)
+    write_tokens(t, 143, 0, table_layout::items(t), out, 0)
 }

@@ -68,3 +68,9 @@ module _ (cs vs hs : List ℕ) where
 -- the whole question; of more than 8,192 items, too many
 unfoldable pub passed : List ℕ → List ℕ → Bool
 passed cs vs = pick (ltb itemsMost (length cs)) true (anyPassed cs vs (homesOf cs (replicate itemsMost 0)))
+
+-- what is held against a ceiling: the global numbers (0), or a sum; nothing of more than 8,192 items. No theorem needs it: it serves to say in words which ceiling was passed
+unfoldable pub amountOf : List ℕ → List ℕ → ℕ → ℕ
+amountOf cs vs which =
+    pick (ltb itemsMost (length cs)) 0
+    (pick (eqb which 0) (numbers cs vs (homesOf cs (replicate itemsMost 0)) 0) (total cs vs (homesOf cs (replicate itemsMost 0)) which))

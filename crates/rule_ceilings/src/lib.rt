@@ -178,3 +178,19 @@ pub fn passed(codes: &[u8], args: &[u32]) -> bool
     rule_sheets::fill_homes(codes, &mut homes);
     any_passed(codes, args, &homes)
 }
+
+// What is held against a ceiling, by a number: the global numbers (0), or one of the sums of `weight`; 0 of more than 8,192 items.
+pub fn amount(codes: &[u8], args: &[u32], which: u8) -> usize
+    ensures { λ r. ⌜ r ≡ tops.amountOf (now (codes .entry)) (now (args .entry)) which ⌝ }
+{
+    if base_ceilings::ITEMS_MOST < codes.len() {
+        return 0;
+    }
+    let mut homes = [0u32; base_ceilings::ITEMS_MOST];
+    rule_sheets::fill_homes(codes, &mut homes);
+    if which == 0 {
+        numbers(codes, args, &homes, 0)
+    } else {
+        total(codes, args, &homes, which)
+    }
+}

@@ -13,7 +13,7 @@ pub enum Fault {
 }
 
 // The token at which item j is at fault by a rule.
-fn place_by(codes: &[u8], starts: &[u32], toks: &[u32], rule: u8, j: usize) -> usize
+pub fn place_by(codes: &[u8], starts: &[u32], toks: &[u32], rule: u8, j: usize) -> usize
     ensures { λ r. ⌜ r ≡ faults.placeBy (now (codes .entry)) (now (starts .entry)) (now (toks .entry)) rule j ⌝ }
 {
     if rule < 7 {

@@ -1,63 +1,35 @@
 // Commands on the tables of an accepted model; the last line of each is its answer. Each returns the status of that answer (`show_statuses`).
 ghost use mathlib.Core.Path.{_≡_};
+ghost use Rattle.base_pens.specs.Pen.{pen, puts};
 ghost use Rattle.show_commands.specs.Statuses as statuses;
-use base_outcome::Step;
+ghost use Rattle.show_commands.specs.Lines as lines;
+use base_bytes::part;
 use run_entry::Ending;
 use run_entry::Ran;
 use show_answers::put;
-use show_answers::put_number;
+use show_answers::put_counted;
 use show_statuses::Answer;
 use show_statuses::status;
 use step_all::Offer;
 use step_all::Verdict;
+use text_pens::put_all;
 use trail_replay::Replayed;
 
-// An offered step: its process, its number, its proctype and its statement.
-fn put_offer(
-    t: &[u32],
-    s: &[i32],
-    text: &[u8],
-    kinds: &[u8],
-    starts: &[u32],
-    ends: &[u32],
-    toks: &[u32],
-    x: Step,
-) {
-    put_number(x.process as usize);
-    put(b"\t");
-    put_number(x.number as usize);
-    put(b"\t");
-    show_state::put_proctype(t, state_layout::unit_of(s, x.process) as usize);
-    put(b"\t");
-    put(show_statement::statement(
-        text,
-        kinds,
-        starts,
-        ends,
-        base_bytes::word_at(toks, x.place as usize),
-    ));
-    put(b"\n");
-}
+// The most bytes of an answer, and of the line of an offered step.
+const ANSWER_ROOM: usize = 64;
 
-// So many steps are shown, always more than there are.
-const LISTED_MOST: u32 = base_ceilings::PROCESSES_MOST as u32 * base_ceilings::ITEMS_MOST as u32;
+const OFFER_ROOM: usize = base_ceilings::NORMAL_MOST + 128;
 
 // `start`: each offered step of a state; how many there are.
-fn list_offers(
-    t: &[u32],
-    s: &[i32],
-    text: &[u8],
-    kinds: &[u8],
-    starts: &[u32],
-    ends: &[u32],
-    toks: &[u32],
-) -> usize {
+fn list_offers(t: &[u32], s: &[i32]) -> usize {
+    let mut out = [0u8; OFFER_ROOM];
     let mut n: u32 = 0;
-    while n < LISTED_MOST {
+    while n < show_steps::LISTED_MOST {
         let o = step_all::nth(t, s, n);
         match o {
             Offer::Step(x) => {
-                put_offer(t, s, text, kinds, starts, ends, toks, x);
+                let k = show_steps::put_offer(t, s, x, &mut out, 0);
+                show_answers::hand_on(&out, k);
             }
             Offer::Beyond(_) => {
                 return n as usize;
@@ -68,25 +40,28 @@ fn list_offers(
     n as usize
 }
 
-// The verdict of a state in which n steps are offered.
-fn put_verdict_of(v: Verdict, n: usize) -> u8
-    ensures { λ r. ⌜ r ≡ statuses.verdictStatus v ⌝ }
+// Writes the answer for a state in which n steps are offered.
+fn put_verdict(v: Verdict, n: usize, out: &mut [u8], p: usize) -> usize
+    ensures { λ r. ⌜ pen (now (out .exit)) r ≡ puts (lines.verdictText v n) (pen (now (out .entry)) p) ⌝ }
 {
     match v {
-        Verdict::Finished => {
-            put(b"finished\n");
-            status(Answer::Finished)
-        }
-        Verdict::Blocked => {
-            put(b"blocked\n");
-            status(Answer::Blocked)
-        }
-        Verdict::Open => {
-            put(b"open ");
-            put_number(n);
-            put(b"\n");
-            status(Answer::Open)
-        }
+        Verdict::Finished => put_all(b"finished\n", out, p),
+        Verdict::Blocked => put_all(b"blocked\n", out, p),
+        Verdict::Open => put_counted(b"open", n, out, p),
+    }
+}
+
+// Answers for a state in which n steps are offered.
+fn answer_verdict(v: Verdict, n: usize) -> u8
+    ensures { λ r. ⌜ r ≡ statuses.verdictStatus v ⌝ }
+{
+    let mut line = [0u8; ANSWER_ROOM];
+    let k = put_verdict(v, n, &mut line, 0);
+    put(part(&line, 0, k));
+    match v {
+        Verdict::Finished => status(Answer::Finished),
+        Verdict::Blocked => status(Answer::Blocked),
+        Verdict::Open => status(Answer::Open),
     }
 }
 
@@ -94,69 +69,57 @@ fn put_verdict_of(v: Verdict, n: usize) -> u8
 pub fn start(tables: &[u32]) -> u8
     ensures { λ r. ⌜ r ≡ statuses.startStatus (now (tables .entry)) ⌝ }
 {
-    let mut text = [0u8; base_ceilings::NORMAL_MOST];
-    let mut kinds = [0u8; base_ceilings::TOKENS_MOST];
-    let mut starts = [0u32; base_ceilings::TOKENS_MOST];
-    let mut ends = [0u32; base_ceilings::TOKENS_MOST];
-    let mut toks = [0u32; base_ceilings::ITEMS_MOST];
-    show_sketch::sketch(
-        tables,
-        &mut text,
-        &mut kinds,
-        &mut starts,
-        &mut ends,
-        &mut toks,
-    );
     let t = table_genuine::written(tables);
     let mut s = [0i32; base_ceilings::STATE_ROOM];
     state_start::start(t, &mut s);
-    let n = list_offers(t, &s, &text, &kinds, &starts, &ends, &toks);
-    put_verdict_of(step_all::verdict_of(t, &s), n)
+    let n = list_offers(t, &s);
+    answer_verdict(step_all::verdict_of(t, &s), n)
 }
 
-fn put_ending(e: Ending) -> u8
-    ensures { λ r. ⌜ r ≡ statuses.endingStatus e ⌝ }
+// Writes the answer for a run of n steps.
+fn put_ending(e: Ending, n: usize, out: &mut [u8], p: usize) -> usize
+    ensures { λ r. ⌜ pen (now (out .exit)) r ≡ puts (lines.endingText e n) (pen (now (out .entry)) p) ⌝ }
 {
     match e {
-        Ending::Finished => {
-            put(b"finished");
-            status(Answer::Finished)
-        }
-        Ending::Blocked => {
-            put(b"blocked");
-            status(Answer::Blocked)
-        }
-        Ending::Open => {
-            put(b"open");
-            status(Answer::Open)
-        }
-        Ending::Assert => {
-            put(b"assert");
-            status(Answer::Assert)
-        }
-        Ending::Fault(_) => {
-            put(b"fault");
-            status(Answer::Fault)
-        }
+        Ending::Finished => put_counted(b"finished", n, out, p),
+        Ending::Blocked => put_counted(b"blocked", n, out, p),
+        Ending::Open => put_counted(b"open", n, out, p),
+        Ending::Assert => put_counted(b"assert", n, out, p),
+        Ending::Fault(_) => put_counted(b"fault", n, out, p),
     }
 }
 
-// The answer of a run.
-fn put_ran(r: Ran) -> u8
-    ensures { λ x. ⌜ x ≡ statuses.ranStatus r ⌝ }
+fn ending_status(e: Ending) -> u8
+    ensures { λ r. ⌜ r ≡ statuses.endingStatus e ⌝ }
+{
+    match e {
+        Ending::Finished => status(Answer::Finished),
+        Ending::Blocked => status(Answer::Blocked),
+        Ending::Open => status(Answer::Open),
+        Ending::Assert => status(Answer::Assert),
+        Ending::Fault(_) => status(Answer::Fault),
+    }
+}
+
+// Writes the answer of a run.
+fn put_ran(r: Ran, out: &mut [u8], p: usize) -> usize
+    ensures { λ x. ⌜ pen (now (out .exit)) x ≡ puts (lines.ranText r) (pen (now (out .entry)) p) ⌝ }
 {
     match r {
-        Ran::Ended(e, n) => {
-            let x = put_ending(e);
-            put(b" ");
-            put_number(n as usize);
-            put(b"\n");
-            x
-        }
-        Ran::Refused(_) => {
-            put(b"error: the run was refused\n");
-            status(Answer::Error)
-        }
+        Ran::Ended(e, n) => put_ending(e, n as usize, out, p),
+        Ran::Refused(_) => put_all(b"error: the run was refused\n", out, p),
+    }
+}
+
+fn answer_run(r: Ran) -> u8
+    ensures { λ x. ⌜ x ≡ statuses.ranStatus r ⌝ }
+{
+    let mut line = [0u8; ANSWER_ROOM];
+    let k = put_ran(r, &mut line, 0);
+    put(part(&line, 0, k));
+    match r {
+        Ran::Ended(e, _) => ending_status(e),
+        Ran::Refused(_) => status(Answer::Error),
     }
 }
 
@@ -172,38 +135,28 @@ pub fn run(tables: &[u32], limit: u32) -> u8
     if line[0] != b'\n' {
         put(b"\n");
     }
-    put_ran(r)
+    answer_run(r)
 }
 
-fn put_verdict(v: u8) {
-    match v {
-        1 => put(b"assert"),
-        2 => put(b"fault"),
-        3 => put(b"finished"),
-        4 => put(b"blocked"),
-        _ => put(b"open"),
+// Writes the answer of a replay.
+fn put_replayed(r: Replayed, out: &mut [u8], p: usize) -> usize
+    ensures { λ x. ⌜ pen (now (out .exit)) x ≡ puts (lines.replayedText r) (pen (now (out .entry)) p) ⌝ }
+{
+    match r {
+        Replayed::Accepted(v) => show_answers::put_accepted(v, out, p),
+        Replayed::Refused(x, line) => show_answers::put_stopped(x, line, out, p),
     }
 }
 
-// The answer of a replay.
-pub fn put_replayed(r: Replayed) -> u8
+pub fn answer_replay(r: Replayed) -> u8
     ensures { λ x. ⌜ x ≡ statuses.replayedStatus r ⌝ }
 {
+    let mut line = [0u8; ANSWER_ROOM];
+    let k = put_replayed(r, &mut line, 0);
+    put(part(&line, 0, k));
     match r {
-        Replayed::Accepted(v) => {
-            put(b"accepted ");
-            put_verdict(v);
-            put(b"\n");
-            status(Answer::Accepted)
-        }
-        Replayed::Refused(x, line) => {
-            put(b"refused ");
-            put_number(x as usize);
-            put(b" ");
-            put_number(line);
-            put(b"\n");
-            status(Answer::Refused)
-        }
+        Replayed::Accepted(_) => status(Answer::Accepted),
+        Replayed::Refused(_, _) => status(Answer::Refused),
     }
 }
 
@@ -212,5 +165,5 @@ pub fn replay(tables: &[u32], trail: &[u8]) -> u8
     ensures { λ r. ⌜ r ≡ statuses.replayStatus (now (tables .entry)) (now (trail .entry)) ⌝ }
 {
     let mut s = [0i32; base_ceilings::STATE_ROOM];
-    put_replayed(trail_replay::replay(tables, trail, &mut s))
+    answer_replay(trail_replay::replay(tables, trail, &mut s))
 }

@@ -6,7 +6,6 @@ pub mod lists;
 
 use base_bytes::part;
 use show_answers::put;
-use show_answers::put_bytes;
 use show_statuses::Answer;
 use show_statuses::status;
 
@@ -40,9 +39,7 @@ fn load(path: &[u8], buffer: &mut [u8]) -> Loaded {
 fn unreadable(path: &[u8]) -> u8
     ensures { λ r. ⌜ r ≡ 2 ⌝ }
 {
-    put(b"error: cannot read ");
-    put_bytes(path);
-    put(b"\n");
+    show_answers::complain(b"error: cannot read ", path);
     status(Answer::Error)
 }
 

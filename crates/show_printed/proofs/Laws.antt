@@ -1,18 +1,17 @@
--- Laws of shown text: one byte more of it, its length, and that every line of it has its margin.
-use Prim.Native.Nat.{ℕ, _+_, _*_, _/_, _%_, _≤_, _<_}
+-- Laws of pens that write shown bytes: one byte more, and none.
+use Prim.Native.Nat.{ℕ, suc, _+_, _/_, _%_, _≤_, _<_}
 use mathlib.Core.Path.{_≡_, refl, sym, ap, _∙_}
 use mathlib.Core.Bool.{Bool, true, false}
 use mathlib.Core.List.{List, [], _∷_, _++_}
-use native.Mathlib.Omega.{arith}
 use native.Mathlib.Numerals.{add-one}
-use lib.ListN.{length, getD, drop, drop-of-length-le, length-append}
+use lib.ListN.{length, getD, drop, drop-of-length-le}
 use lib.Seq.{drop-cons}
-use borrow.Author.Tests.{ne-eqb}
-use lib.Dec.{eqb, ltb}
-use Rattle.base_bytes.specs.Choice.{pick}
+use lib.Dec.{eqb}
+use Rattle.base_bytes.specs.Choice.{pick, both}
 use Rattle.base_pens.specs.Pen.{Pen, write, puts}
 use Rattle.base_pens.proofs.Pen.{puts-append}
-use Rattle.show_printed.specs.Printed.{isPlain, hexDigit, escaped, margin, shownByte, shown, indented}
+use Rattle.spec_account.specs.Bytes.{hexDigit, coded, isVisible, visible, eachVisible, isPlain, escaped, margin, shownByte, shown}
+use Rattle.spec_account.specs.Quiet.{isFront, guarded}
 
 -- the rest of the text, behind one byte more
 pub shown-more : (l : List ℕ) (k : ℕ) (f : Bool) (w x : Pen) (b : ℕ) → k < length l → b ≡ getD l k 0 → x ≡ puts (shownByte f b) w → puts (shown f (drop k l)) w ≡ puts (shown (eqb b 10) (drop (k + 1) l)) x
@@ -36,10 +35,6 @@ pub plain-put : (b : ℕ) (w x : Pen) → true ≡ isPlain b → x ≡ write b w
 unfolding escaped puts
 plain-put b w x h e = rw (← h) e
 
-pub coded-put : (b : ℕ) (w x y z v : Pen) (c d : ℕ) → false ≡ isPlain b → x ≡ write 92 w → y ≡ write 120 x → c ≡ hexDigit (b / 16) → z ≡ write c y → d ≡ hexDigit (b % 16) → v ≡ write d z → v ≡ puts (escaped b) w
-unfolding escaped puts
-coded-put b w x y z v c d h e f g i j k = rw (← h) (k ∙ rw (j, i, g, f, e))
-
 pub byte-ends : (f : Bool) (b : ℕ) (w x y : Pen) → x ≡ puts (margin f) w → b ≡ 10 → y ≡ write 10 x → y ≡ puts (shownByte f b) w
 unfolding shownByte puts
 byte-ends f b w x y e h g = g ∙ ap (write 10) e ∙ sym (rw (h, puts-append))
@@ -48,65 +43,52 @@ pub byte-shown : (f : Bool) (b : ℕ) (w x y : Pen) → x ≡ puts (margin f) w 
 unfolding shownByte
 byte-shown f b w x y e h g = g ∙ ap (puts (escaped b)) e ∙ sym (rw (h, puts-append))
 
--- ---- the room that is lent for a step's text is enough
-escaped-short : (b : ℕ) → length (escaped b) ≤ 4
+pub coded-put : (b : ℕ) (w x y z v : Pen) (c d : ℕ) → x ≡ write 92 w → y ≡ write 120 x → c ≡ hexDigit (b / 16) → z ≡ write c y → d ≡ hexDigit (b % 16) → v ≡ write d z → v ≡ puts (coded b) w
+unfolding puts
+coded-put b w x y z v c d e f g i j k = k ∙ rw (j, i, g, f, e)
+
+pub escaped-put : (b : ℕ) (w x : Pen) → false ≡ isPlain b → x ≡ puts (coded b) w → x ≡ puts (escaped b) w
 unfolding escaped
-escaped-short b = by (isPlain b)
+escaped-put b w x h e = rw (← h) e
+
+pub seen-put : (b : ℕ) (w x : Pen) → true ≡ isVisible b → x ≡ write b w → x ≡ puts (visible b) w
+unfolding visible puts
+seen-put b w x h e = rw (← h) e
+
+pub unseen-put : (b : ℕ) (w x : Pen) → false ≡ isVisible b → x ≡ puts (coded b) w → x ≡ puts (visible b) w
+unfolding visible
+unseen-put b w x h e = rw (← h) e
+
+pub width-is : (b : ℕ) (p : Bool) → p ≡ isVisible b → pick p 1 4 ≡ length (visible b)
+unfolding visible
+width-is b true h = rw (← h) refl
+width-is b false h = rw (← h) refl
+
+pub visible-more : (l : List ℕ) (k : ℕ) (w x : Pen) → k < length l → x ≡ puts (visible (getD l k 0)) w → puts (eachVisible (drop k l)) w ≡ puts (eachVisible (drop (k + 1) l)) x
+unfolding eachVisible
+visible-more l k w x h g = rw (drop-cons l k 0 h, add-one, puts-append, ← g)
+
+pub visible-end : (l : List ℕ) (k : ℕ) (w : Pen) → length l ≤ k → puts (eachVisible (drop k l)) w ≡ w
+unfolding eachVisible puts
+visible-end l k w h = rw (drop-of-length-le l h)
+
+-- a byte behind its guard
+pub guard-put : (f : Bool) (b : ℕ) (w x y : Pen) (g : Bool) → g ≡ both f (isFront b) → x ≡ puts (margin g) w → y ≡ write b x → y ≡ puts (pick (both f (isFront b)) (32 ∷ 32 ∷ []) [] ++ b ∷ []) w
+unfolding puts margin
+guard-put f b w x y g e h k = k ∙ ap (write b) h ∙ sym (rw (← e) (by g))
   where
-    by : (p : Bool) → length (pick p (b ∷ []) (92 ∷ 120 ∷ hexDigit (b / 16) ∷ hexDigit (b % 16) ∷ [])) ≤ 4
-    by true = omega arith
-    by false = omega arith
+    by : (g : Bool) → puts (pick g (32 ∷ 32 ∷ []) [] ++ b ∷ []) w ≡ write b (puts (margin g) w)
+    by true = refl
+    by false = refl
 
-byte-short : (f : Bool) (b : ℕ) → length (shownByte f b) ≤ 6
-unfolding shownByte margin
-byte-short true b = by (eqb b 10)
+pub guard-more : (l : List ℕ) (k : ℕ) (f : Bool) (w x : Pen) (b : ℕ) → k < length l → b ≡ getD l k 0 → x ≡ puts (pick (both f (isFront b)) (32 ∷ 32 ∷ []) [] ++ b ∷ []) w → puts (guarded f (drop k l)) w ≡ puts (guarded (eqb b 10) (drop (k + 1) l)) x
+unfolding guarded
+guard-more l k f w x b h e g = rw (drop-cons l k 0 h, add-one, ← e, g) (ap (λ z. puts z w) (regroup (pick (both f (isFront b)) (32 ∷ 32 ∷ []) []) b (guarded (eqb b 10) (drop (suc k) l))) ∙ puts-append (pick (both f (isFront b)) (32 ∷ 32 ∷ []) [] ++ b ∷ []) (guarded (eqb b 10) (drop (suc k) l)) w)
   where
-    by : (p : Bool) → length ((32 ∷ 32 ∷ []) ++ pick p (10 ∷ []) (escaped b)) ≤ 6
-    by true = omega arith
-    by false = omega (arith, escaped-short b)
-byte-short false b = by (eqb b 10)
-  where
-    by : (p : Bool) → length (pick p (10 ∷ []) (escaped b)) ≤ 6
-    by true = omega arith
-    by false = omega (arith, escaped-short b)
+    regroup : (u : List ℕ) (b : ℕ) (v : List ℕ) → u ++ b ∷ v ≡ (u ++ b ∷ []) ++ v
+    regroup [] b v = refl
+    regroup (a ∷ u) b v = ap (a ∷_) (regroup u b v)
 
-pub shown-short : (f : Bool) (l : List ℕ) → length (shown f l) ≤ 6 * length l
-unfolding shown
-shown-short f [] = omega arith
-shown-short f (b ∷ l) = omega (arith, length-append (shownByte f b) (shown (eqb b 10) l), byte-short f b, shown-short (eqb b 10) l)
-
--- ---- EVERY LINE OF WHAT IS SHOWN HAS ITS MARGIN: no text that a model prints begins a line like an answer or a heading
-digit-inside : (n : ℕ) → eqb (hexDigit n) 10 ≡ false
-unfolding hexDigit
-digit-inside n = by (ltb n 10)
-  where
-    by : (p : Bool) → eqb (pick p (48 + n) (87 + n % 16)) 10 ≡ false
-    by true = ne-eqb (48 + n) 10 (λ e. omega (arith, e))
-    by false = ne-eqb (87 + n % 16) 10 (λ e. omega (arith, e))
-
-next-inside : (b : ℕ) (l : List ℕ) → eqb b 10 ≡ false → indented false (b ∷ l) ≡ indented false l
-unfolding indented
-next-inside b l h = ap (λ p. indented p l) h
-
-escaped-inside : (b : ℕ) (l : List ℕ) → eqb b 10 ≡ false → indented false (escaped b ++ l) ≡ indented false l
-unfolding escaped
-escaped-inside b l h = by (isPlain b)
-  where
-    by : (p : Bool) → indented false (pick p (b ∷ []) (92 ∷ 120 ∷ hexDigit (b / 16) ∷ hexDigit (b % 16) ∷ []) ++ l) ≡ indented false l
-    by true = next-inside b l h
-    by false = next-inside 92 _ refl ∙ next-inside 120 _ refl ∙ next-inside (hexDigit (b / 16)) _ (digit-inside (b / 16)) ∙ next-inside (hexDigit (b % 16)) l (digit-inside (b % 16))
-
--- behind its margin
-byte-inside : (b : ℕ) (l : List ℕ) → indented false (pick (eqb b 10) (10 ∷ []) (escaped b) ++ l) ≡ indented (eqb b 10) l
-unfolding indented
-byte-inside b l = by (eqb b 10) refl
-  where
-    by : (p : Bool) → eqb b 10 ≡ p → indented false (pick p (10 ∷ []) (escaped b) ++ l) ≡ indented p l
-    by true h = refl
-    by false h = escaped-inside b l h
-
-pub shown-indented : (f : Bool) (l : List ℕ) → indented f (shown f l) ≡ true
-unfolding shown shownByte margin indented
-shown-indented f [] = refl
-shown-indented true (b ∷ l) = byte-inside b (shown (eqb b 10) l) ∙ shown-indented (eqb b 10) l
-shown-indented false (b ∷ l) = byte-inside b (shown (eqb b 10) l) ∙ shown-indented (eqb b 10) l
+pub guard-end : (l : List ℕ) (k : ℕ) (f : Bool) (w : Pen) → length l ≤ k → puts (guarded f (drop k l)) w ≡ w
+unfolding guarded puts
+guard-end l k f w h = rw (drop-of-length-le l h)

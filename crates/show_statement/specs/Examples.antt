@@ -1,35 +1,44 @@
--- Program: held by stored output and by `tests/program` beyond what its contracts say.
--- Worked examples, computed.
+-- Mechanism: worked examples, computed from its definitions; they are held to nothing else.
+-- Statements of the tables of `init{if::skip;x=1::else fi;L:x=2}`: a selection, one inside of it, one behind a label; and where they begin in the normal text.
 use Prim.Native.Nat.{ℕ}
 use mathlib.Core.Path.{_≡_, refl}
 use mathlib.Core.List.{List, [], _∷_}
-use Rattle.rule_sheets.specs.Walks.{after}
-use Rattle.show_statement.specs.Statements.{isFront, isBack, depthBehind, firstToken, behind, tokenBehind, placeOf, statementOf}
+use Rattle.base_kinds.specs.Kinds.{bytes}
+use Rattle.base_bytes.specs.Lists.{same}
+use Rattle.spec_text.specs.Find.{find}
+use Rattle.spec_text.specs.Writing.{writeBehind}
+use Rattle.spec_text.specs.Formats.{digitsBy}
+use Rattle.spec_grammar.specs.Tree.{Name, Model, plain, num, leaf, assign, skip, else, select, bare, labelled, end, then, over, option, body, init}
+use Rattle.base_pens.specs.Pack.{four, packed, digit}
+use Rattle.table_entries.specs.Entry.{number, joined}
+use Rattle.table_layout.specs.Tables.{argument, itemWord, one, itemWords, linked, numbers, pool, tablesOf}
+use Rattle.table_layout.specs.Access.{codeOf, poolByte, nameByte}
+use Rattle.table_layout.specs.Back.{upto}
+use Rattle.table_layout.specs.Trees.{tablesIn}
+use Rattle.base_values.specs.Operators.{levelOf}
+use Rattle.rule_sheets.specs.Walks.{first}
+use Rattle.normal_rows.specs.Rules.{rows}
+use Rattle.normal_letters.specs.Tokens.{heldOf, tokenBy}
+use Rattle.normal_writer.specs.Turning.{cell, rowFrom, rowOf, laid, operated, turned, kept, told, walk, marks, blanked}
+use Rattle.normal_writer.specs.Normal.{codesBetween, tokensBetween}
+use Rattle.show_statement.specs.Statements.{endsLeaf, isBranching, leafEnd, lastOf, statementIn, lengthFrom, placeIn}
 
--- the kinds of `{a=1;if::b;fi;skip}`
-abbrev kinds : List ℕ
-kinds = 25 ∷ 70 ∷ 32 ∷ 71 ∷ 28 ∷ 55 ∷ 30 ∷ 70 ∷ 28 ∷ 53 ∷ 28 ∷ 63 ∷ 26 ∷ []
+abbrev x : Name
+x = bytes "x"
 
--- from the `=` of the assignment: tokens 1 to 3
-first : firstToken kinds 2 ≡ 1
-unfolding firstToken after isFront
-first = refl
+model : Model
+model =
+    init (body [] (then (bare (select (option (then (bare (leaf skip)) (then (bare (leaf (assign (plain x) (num 1)))) end)) (option (then (bare (leaf else)) end) over))))
+    (then (labelled (bytes "L") (leaf (assign (plain x) (num 2)))) end))) ∷ []
 
-behind-it : tokenBehind kinds 2 ≡ 4
-unfolding tokenBehind behind isBack depthBehind
-behind-it = refl
+-- the `if`, item 2, is linked to its `fi`, item 14
+abbrev t : List ℕ
+t = tablesIn model (0 ∷ 0 ∷ 14 ∷ [])
 
--- from the `if`: through its `fi`
-whole : tokenBehind kinds 5 ≡ 10
-unfolding tokenBehind behind isBack depthBehind
-whole = refl
+texts : (statementIn t 2 ≡ bytes "if::skip;x=1::else fi") × (statementIn t 5 ≡ bytes "x=1") × (statementIn t 17 ≡ bytes "x=2")
+unfolding codeOf model tablesOf argument itemWord one itemWords linked numbers pool packed four digit number joined poolByte nameByte upto levelOf rows cell rowFrom rowOf laid operated turned kept told walk marks blanked heldOf tokenBy codesBetween tokensBetween digitsBy writeBehind find same first endsLeaf isBranching leafEnd lastOf statementIn
+texts = (refl, refl, refl)
 
--- `skip` has no `;` behind it
-last : tokenBehind kinds 11 ≡ 12
-unfolding tokenBehind behind isBack depthBehind
-last = refl
-
--- `{a;b}`, from the `b`
-shown : statementOf (123 ∷ 97 ∷ 59 ∷ 98 ∷ 125 ∷ []) (25 ∷ 70 ∷ 28 ∷ 70 ∷ 26 ∷ []) (0 ∷ 1 ∷ 2 ∷ 3 ∷ 4 ∷ []) (1 ∷ 2 ∷ 3 ∷ 4 ∷ 5 ∷ []) 3 ≡ 98 ∷ []
-unfolding statementOf placeOf firstToken after isFront tokenBehind behind isBack depthBehind
-shown = refl
+places : (placeIn t 2 ≡ 5) × (placeIn t 5 ≡ 14) × (placeIn t 17 ≡ 29)
+unfolding codeOf model tablesOf argument itemWord one itemWords linked numbers pool packed four digit number joined poolByte nameByte upto levelOf rows cell rowFrom rowOf laid operated turned kept told walk marks blanked heldOf tokenBy codesBetween tokensBetween digitsBy writeBehind find same lengthFrom placeIn
+places = (refl, refl, refl)

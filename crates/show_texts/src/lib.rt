@@ -5,34 +5,46 @@ use base_bytes::part;
 use normal_entry::Written;
 use read_passes::Judged;
 use show_answers::put;
-use show_answers::put_bytes;
-use show_answers::put_number;
 use show_statuses::Answer;
 use show_statuses::status;
 
-// A model that is refused: where, and the refusal.
-fn refuse(text: &[u8], x: u8, place: usize, len: usize) {
-    if x != 6 {
-        if text.len() <= base_ceilings::TEXT_MOST {
-            show_answers::explain(text, place, len, read_entry::refused_part(text));
-        }
+// The most bytes of what is shown of a refused text, and of an answer.
+const REFUSAL_ROOM: usize = 8 * base_ceilings::TEXT_MOST + 2048;
+
+const ANSWER_ROOM: usize = 64;
+
+// Writes where the refused part stands, if there is one.
+fn put_place(text: &[u8], x: u8, place: usize, len: usize, out: &mut [u8]) -> usize {
+    if x == 6 {
+        return 0;
     }
-    put(b"refused ");
-    put_number(x as usize);
-    put(b" ");
-    put_number(place);
-    put(b" ");
-    put_number(len);
-    put(b"\n");
+    if base_ceilings::TEXT_MOST < text.len() {
+        return 0;
+    }
+    show_answers::put_refused(text, place, len, out, 0)
+}
+
+// Shows where the part stands for which a model is refused, and in a sentence what was found.
+fn explain(text: &[u8], x: u8, place: usize, len: usize) {
+    let mut out = [0u8; REFUSAL_ROOM];
+    let a = put_place(text, x, place, len, &mut out);
+    let b = show_sentences::put_sentence(text, place, len, &mut out, a);
+    show_answers::hand_on(&out, b);
+}
+
+// A model that is refused: where, what was found, and the answer.
+fn refuse(text: &[u8], x: u8, place: usize, len: usize) {
+    explain(text, x, place, len);
+    let mut line = [0u8; ANSWER_ROOM];
+    let n = show_answers::put_refusal(x, place, len, &mut line, 0);
+    put(part(&line, 0, n));
 }
 
 // A command that there is not.
 pub fn unknown(command: &[u8]) -> u8
     ensures { λ r. ⌜ r ≡ 2 ⌝ }
 {
-    put(b"error: unknown command ");
-    put_bytes(command);
-    put(b"\n");
+    show_answers::complain(b"error: unknown command ", command);
     status(Answer::Error)
 }
 

@@ -13,10 +13,10 @@ use Rattle.normal_letters.proofs.put_tokens.Statement.{statement}
 use Rattle.normal_letters.proofs.put_tokens.Tie as tie
 
 abbrev Inv-loop : tie.InvT-loop
-Inv-loop t toks out₀ k₀ q₀ j₀ out k q j = (length out ≡ length out₀) × (puts (writeAfter k (map (tokenBy t) (drop j toks))) (pen out q) ≡ puts (write (map (tokenBy t) toks)) (pen out₀ 0))
+Inv-loop t toks out₀ p k₀ q₀ j₀ out k q j = (length out ≡ length out₀) × (puts (writeAfter k (map (tokenBy t) (drop j toks))) (pen out q) ≡ puts (write (map (tokenBy t) toks)) (pen out₀ p))
 
 abbrev μ-loop : tie.MeasureT-loop
-μ-loop t toks out₀ k₀ q₀ j₀ out k q j = length toks - j
+μ-loop t toks out₀ p k₀ q₀ j₀ out k q j = length toks - j
 
 loop-holds : tie.Need-loop-holds Inv-loop μ-loop
 loop-holds c = (refl, laws.tokens-start (c .before .before .before .args .t .now) (c .before .before .before .args .toks .now) _)

@@ -1,40 +1,16 @@
-use lib.ListN.{replicate}
-use Rattle.base_ceilings.specs.Ceilings.{itemsMost}
-use Rattle.normal_rows.proofs.Laid.{cells-laid}
-use mathlib.Core.Path.{refl, ap, _∙_}
 use Rattle.normal_writer.proofs.Tokens as laws
-use Prim.Native.Nat.{min}
 use borrow.Author.Needs.{needs}
 use Rattle.normal_writer.proofs.write_normal.Statement.{statement}
 use Rattle.normal_writer.proofs.write_normal.Tie as tie
 
-turn-requires : tie.Need-turn-requires
-turn-requires c κs = (c .before .before .before .before .before .before .before .before .before .lay-cells .ensures ∙ cells-laid (replicate 1340 0) refl, search needs, search needs, search needs)
-
 returns : tie.Need-returns
-returns c = laws.normal-is (c .before .before .before .before .before .before .before .before .before .before .before .before .before .before .before .before .before .before .before .before .before .before .before .before .args .t .now) _ _ _ (c .before .before .before .before .before .before .before .before .before .before .before .before .before .before .before .before .before .before .before .before .least .result) (c .before .before .before .before .before .before .before .before .turn .result) _ _ (c .before .before .before .before .before .before .before .before .before .before .before .before .before .before .before .before .before .before .before .before .least .ensures ∙ ap (min itemsMost) (c .before .before .before .before .before .before .before .before .before .before .before .before .before .before .before .before .before .before .before .before .before .items .ensures .0)) (c .before .before .before .before .before .before .before .before .before .before .before .before .before .before .before .mark .ensures) refl (c .before .before .before .before .before .before .before .before .turn .ensures .1) (c .before .before .before .before .before .before .before .before .turn .kept .1 .1 .1 .0) (c .before .before .put-tokens .ensures)
+returns c = laws.normal-is (c .before .before .before .before .before .before .before .args .t .now) _ _ _ (c .before .before .before .before .items .ensures .0) (c .before .before .write-tokens .ensures)
 
 pub write-normal-spec : {M : Type 1} → statement M
 write-normal-spec =
     tie.close
     (tie.spec
     (λ c κs. search needs)
-    (λ c κs. search needs)
-    (λ c. search needs)
-    (λ c κs. search needs)
-    (λ c. search needs)
-    (λ c κs. search needs)
-    (λ c. search needs)
-    (λ c. search needs)
-    (λ c. search needs)
-    (λ c. search needs)
-    (λ c. search needs)
-    (λ c. search needs)
-    turn-requires
-    (λ c. search needs)
-    (λ c. search needs)
-    (λ c. search needs)
-    (λ c. search needs)
     (λ c κs. search needs)
     (λ c. search needs)
     returns)

@@ -1,4 +1,4 @@
-use Rattle.show_printed.specs.Printed.{hexDigit}
+use Rattle.spec_account.specs.Bytes.{hexDigit}
 use borrow.Author.Tests.{lt-ltb, le-ltb}
 use borrow.Author.Needs.{needs}
 use Rattle.show_printed.proofs.hex_digit.Statement.{statement}

@@ -1,4 +1,4 @@
-use Rattle.show_printed.specs.Printed.{isPlain}
+use Rattle.spec_account.specs.Bytes.{isPlain}
 use native.Mathlib.Omega.{arith}
 use borrow.Author.Tests.{ne-eqb, le-leb, lt-leb}
 use Rattle.show_printed.proofs.is_plain.Statement.{statement}

@@ -1,4 +1,4 @@
-use Rattle.show_printed.specs.Printed.{margin}
+use Rattle.spec_account.specs.Bytes.{margin}
 use Rattle.show_printed.proofs.Laws as laws
 use borrow.Author.Needs.{needs}
 use Rattle.show_printed.proofs.put_margin.Statement.{statement}

@@ -3,7 +3,7 @@ use native.Mathlib.Omega.{arith}
 use mathlib.Core.Path.{sym, refl, _∙_, _≡_}
 use lib.ListN.{length, drop}
 use Rattle.base_pens.specs.Pen.{pen, puts}
-use Rattle.show_printed.specs.Printed.{shown}
+use Rattle.spec_account.specs.Bytes.{shown}
 use Rattle.show_printed.proofs.Laws as laws
 use borrow.Author.Needs.{needs}
 use Rattle.show_printed.proofs.put_text.Statement.{statement}

@@ -1,25 +1,20 @@
-use native.Mathlib.Omega.{arith}
-use Prim.Native.Nat.{_≤_, _-_}
+use Rattle.show_state.proofs.Laws as laws
 use borrow.Author.Needs.{needs}
-use Rattle.base_ceilings.specs.Ceilings.{capacityMost}
 use Rattle.show_state.proofs.put_channel.Statement.{statement}
 use Rattle.show_state.proofs.put_channel.Tie as tie
 
-abbrev Inv-loop : tie.InvT-loop
-Inv-loop t s c fields n m₀ t7 m = (m ≤ n) × (n ≤ capacityMost)
-
-abbrev μ-loop : tie.MeasureT-loop
-μ-loop t s c fields n m₀ t7 m = n - m
-
-loop-holds : tie.Need-loop-holds Inv-loop μ-loop
-loop-holds c = (omega arith, omega (arith, c .least .ensures))
+returns : tie.Need-returns
+returns c = laws.channel-put (c .before .before .before .before .before .before .before .before .before .before .before .before .before .before .before .before .before .before .before .before .before .before .before .before .before .before .before .before .before .before .args .t .now) (c .before .before .before .before .before .before .before .before .before .before .before .before .before .before .before .before .before .before .before .before .before .before .before .before .before .before .before .before .before .before .args .s .now) (c .before .before .before .before .before .before .before .before .before .before .before .before .before .before .before .before .before .before .before .before .before .before .before .before .before .before .before .before .before .before .args .c) _ _ _ _ _ _ _ _ _ _ (c .before .before .before .before .before .before .before .before .before .before .before .before .before .before .before .before .before .before .before .before .before .before .before .before .before .before .before .declared-of .ensures .0) (c .before .before .before .before .before .before .before .before .before .before .before .before .before .before .before .before .before .before .before .before .before .before .before .before .put-all .ensures) (c .before .before .before .before .before .before .before .before .before .before .before .before .before .before .before .before .before .before .before .before .put-count .ensures) (c .before .before .before .before .before .before .before .before .before .before .before .before .before .before .before .before .put .ensures) (c .before .before .before .before .before .before .before .before .before .before .before .before .before .capacity .ensures) (c .before .before .before .before .before .before .before .before .before .before .before .put-count2 .ensures) (c .before .before .before .before .before .before .before .before .fields .ensures .0) (c .before .before .before .before .before .before .put-messages .ensures) (c .before .before .put2 .ensures)
 
 pub put-channel-spec : {M : Type 1} → statement M
 put-channel-spec =
     tie.close
     (tie.spec
-    Inv-loop
-    μ-loop
+    (λ c κs. search needs)
+    (λ c. search needs)
+    (λ c κs. search needs)
+    (λ c. search needs)
+    (λ c κs. search needs)
     (λ c κs. search needs)
     (λ c κs. search needs)
     (λ c κs. search needs)
@@ -27,13 +22,4 @@ put-channel-spec =
     (λ c κs. search needs)
     (λ c κs. search needs)
     (λ c. search needs)
-    (λ c κs. search needs)
-    loop-holds
-    (λ c. search needs)
-    (λ c κs. search needs)
-    (λ c. search needs)
-    (λ c. search needs)
-    (λ c. search needs)
-    (λ c. search needs)
-    (λ c κs. search needs)
-    (λ c. search needs))
+    returns)

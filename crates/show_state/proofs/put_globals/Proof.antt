@@ -1,13 +1,31 @@
-use Prim.Native.Nat.{_≤_, _-_}
+use Prim.Native.Nat.{_-_}
+use native.Mathlib.Omega.{arith}
+use mathlib.Core.Path.{sym, refl, _∙_, _≡_}
+use lib.ListN.{length}
+use Rattle.base_pens.specs.Pen.{pen, puts}
+use Rattle.show_state.specs.Listing as listing
+use Rattle.show_state.proofs.Laws as laws
 use borrow.Author.Needs.{needs}
 use Rattle.show_state.proofs.put_globals.Statement.{statement}
 use Rattle.show_state.proofs.put_globals.Tie as tie
 
 abbrev Inv-loop : tie.InvT-loop
-Inv-loop t s n j₀ t5 j = j ≤ n
+Inv-loop t s out₀ p n q₀ j₀ out q j = (length out ≡ length out₀) × (puts (listing.along (listing.globalIn t s) j (n - j)) (pen out q) ≡ puts (listing.globalsIn t s) (pen out₀ q₀))
 
 abbrev μ-loop : tie.MeasureT-loop
-μ-loop t s n j₀ t5 j = n - j
+μ-loop t s out₀ p n q₀ j₀ out q j = n - j
+
+loop-holds : tie.Need-loop-holds Inv-loop μ-loop
+loop-holds c = (refl, laws.along-start (listing.globalIn (c .before .before .before .args .t .now) (c .before .before .before .args .s .now)) (c .items .result) _ _ (c .items .ensures .0))
+
+loop-again : tie.Need-loop-again Inv-loop μ-loop
+loop-again c = (omega (arith, c .before .before .put-global .kept .1 .1 .1 .0, c .before .before .before .before .before .loop .inv .0), laws.along-more (listing.globalIn (c .before .before .before .before .before .before .before .before .before .args .t .now) (c .before .before .before .before .before .before .before .before .before .args .s .now)) (c .before .before .before .before .before .loop .j) (c .before .before .before .before .before .before .items .result) _ _ (c .before .before .before .before .loop-test .taken) (c .before .before .put-global .ensures) ∙ c .before .before .before .before .before .loop .inv .1)
+
+same-length : tie.Need-same-length Inv-loop μ-loop
+same-length c = c .before .loop .inv .0
+
+returns : tie.Need-returns Inv-loop μ-loop
+returns c = sym (laws.along-end (listing.globalIn (c .before .before .before .before .before .args .t .now) (c .before .before .before .before .before .args .s .now)) (c .before .loop .j) (c .before .before .items .result) _ (c .loop-test .left)) ∙ c .before .loop .inv .1
 
 pub put-globals-spec : {M : Type 1} → statement M
 put-globals-spec =
@@ -16,12 +34,10 @@ put-globals-spec =
     Inv-loop
     μ-loop
     (λ c κs. search needs)
-    (λ c. search needs)
-    (λ c κs. search needs)
-    (λ c. search needs)
-    (λ c κs. search needs)
+    loop-holds
     (λ c κs. search needs)
     (λ c. search needs)
     (λ c. search needs)
-    (λ c. search needs)
-    (λ c. search needs))
+    loop-again
+    same-length
+    returns)

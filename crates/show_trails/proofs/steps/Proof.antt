@@ -1,13 +1,13 @@
-use mathlib.Core.Path.{refl}
-use Rattle.show_commands.specs.Statuses.{cleared}
 use Rattle.show_commands.proofs.Laws as laws
+use Rattle.show_commands.specs.Statuses.{cleared}
+use mathlib.Core.Path.{refl}
 use borrow.Author.Needs.{needs}
 use Rattle.show_trails.proofs.steps.Statement.{statement}
 use Rattle.show_trails.proofs.steps.Tie as tie
 
 returns : tie.Need-returns
 unfolding cleared
-returns c = laws.replay-status _ _ _ _ _ _ refl (c .before .before .before .before .replay .ensures) (c .put-replayed .ensures)
+returns c = laws.replay-status _ _ _ _ _ _ refl (c .before .before .before .before .replay .ensures) (c .answer-replay .ensures)
 
 pub steps-spec : {M : Type 1} → statement M
 steps-spec =
@@ -17,25 +17,11 @@ steps-spec =
     (λ c κs. search needs)
     (λ c κs. search needs)
     (λ c. search needs)
-    (λ c. search needs)
-    (λ c. search needs)
-    (λ c. search needs)
-    (λ c. search needs)
-    (λ c. search needs)
-    (λ c κs. search needs)
     (λ c κs. search needs)
     (λ c. search needs)
     (λ c κs. search needs)
+    (λ c. search needs)
     (λ c κs. search needs)
-    (λ c κs. search needs)
-    (λ c κs. search needs)
-    (λ c. search needs)
-    (λ c. search needs)
-    (λ c. search needs)
-    (λ c. search needs)
-    (λ c. search needs)
-    (λ c. search needs)
-    (λ c. search needs)
     (λ c κs. search needs)
     (λ c. search needs)
     (λ c κs. search needs)

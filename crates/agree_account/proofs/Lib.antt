@@ -1,0 +1,5 @@
+pub mod Listed
+pub mod Few
+pub mod Steps
+pub mod Processes
+pub mod Instead

@@ -1,0 +1,86 @@
+-- THE LINES OF A STEP: for an accepted text, in any state that fits, the lines that its tables and the numbers of the state give for an offered step are those of the tree and the plain state
+-- (`offer-shown`, `step-shown`), and so are those of what came of it (`outcome-shown`). A step that is asked for is offered (`asked-in`, Listed.antt).
+use Prim.Native.Nat.{ℕ, _-_, _<_}
+use mathlib.Core.Path.{_≡_, refl, sym as inv, ap, ap₂, _∙_}
+use mathlib.Core.List.{List, [], _∷_, _++_}
+use lib.ListN.{length}
+use lib.IntN.{ℤ}
+use Rattle.base_outcome.specs.declared.Taken.{Taken}
+use Rattle.base_outcome.specs.declared.Taken.the-variants.{Done, Refuted, Faulted, Idle}
+use Rattle.spec_text.specs.Formats.{digitsOf}
+use Rattle.spec_grammar.specs.Tree.{Model}
+use Rattle.read_passes.specs.Judging.{tablesText}
+use Rattle.read_accepts_proof.specs.Meaning.{Accepts}
+use Rattle.spec_machine.specs.State.{State}
+use Rattle.spec_machine.specs.Places.{Belongs}
+use Rattle.spec_machine.specs.Fits.{Fits}
+use Rattle.spec_machine.specs.Machine.{Machine, Step, late, offered, advance}
+use Rattle.spec_machine.specs.Steps.{stepsOf, printOf, machineOf}
+use Rattle.spec_account.specs.Statements.{standsAt}
+use Rattle.spec_account.specs.States.{atText, titleText}
+use Rattle.spec_account.specs.Steps.{tab, printedText, unitOf, statementOf, offerText, rowText, stepText, outcomeText}
+use Rattle.state_encode.specs.Encode.{encode}
+use Rattle.agree_transfer.specs.Alike.{In}
+use Rattle.agree_transfer.proofs.Statements.{within-found}
+use Rattle.agree_tables.proofs.Main.{in-alone}
+use Rattle.agree_machine.proofs.Prints.{Stood, stood}
+use Rattle.agree_listing.proofs.Main.{title-shown}
+use Rattle.agree_texts.proofs.Main.{statement-shown, place-shown}
+use Rattle.agree_deeds.proofs.Main.{deeds-shown}
+use Rattle.show_statement.specs.Statements.{statementIn, lengthFrom, placeIn}
+use Rattle.show_steps.specs.Steps.{titleAt, offerIn, stepIn, outcomeIn}
+use Rattle.agree_account.proofs.Listed.{offered-listed}
+
+module _ (t : List ℕ) (a : Accepts t) (rest : List ℤ) (σ : State) (f : Fits (Belongs (a .tree)) (a .tree) σ) (x : Step) (i : In x (offered (machineOf (a .tree)) σ)) where
+  abbrev m : Model
+  m = a .tree
+
+  abbrev T : List ℕ
+  T = tablesText t
+
+  abbrev S : List ℤ
+  S = encode m σ ++ rest
+
+  abbrev M : Machine State
+  M = machineOf (a .tree)
+
+  here : x .process < length (σ .processes)
+  here = offered-listed M σ x i .0
+
+  listed : In (x .place) (stepsOf m σ (x .process) (late M σ))
+  listed = in-alone (stepsOf m σ (x .process) (late M σ)) (offered-listed M σ x i .1)
+
+  at : Stood t a rest σ f (x .process) here (x .place)
+  at = stood t a rest σ f (x .process) here (late M σ) (x .place) listed
+
+  -- its statement, its place and its proctype
+  pub statement-there : statementIn (tablesText t) (x .place) ≡ statementOf (a .tree) σ x
+  statement-there =
+      let e = within-found (at .at) in
+      statement-shown t a (unitOf m σ (x .process)) (x .place) (at .act) (at .next) (at .out) e ∙ ap (atText m σ) (inv e)
+
+  place-there : lengthFrom T 0 - lengthFrom T (x .place) ≡ standsAt m (unitOf m σ (x .process)) (x .place)
+  unfolding placeIn
+  place-there = place-shown t a (unitOf m σ (x .process)) (x .place) (at .act) (at .next) (at .out) (within-found (at .at))
+
+  title-there : titleAt T S (x .process) ≡ titleText m σ (x .process)
+  title-there = title-shown t a σ f rest (x .process) here
+
+  -- AN OFFERED STEP
+  pub offer-shown : offerIn (tablesText t) (encode (a .tree) σ ++ rest) x ≡ offerText (a .tree) σ x
+  offer-shown = ap₂ (λ (w s : List ℕ). digitsOf (x .process) ++ (tab ∷ (digitsOf (x .number) ++ (tab ∷ (w ++ (tab ∷ (s ++ 10 ∷ []))))))) title-there statement-there
+
+  -- A STEP OF A TRAIL
+  pub step-shown : (n : ℕ) → stepIn (tablesText t) (encode (a .tree) σ ++ rest) (lengthFrom (tablesText t) 0) n x ≡ stepText (a .tree) σ n x
+  step-shown n =
+      ap₂ (λ (w s : List ℕ). rowText m σ n (x .process) (x .number) ++ (w ++ (tab ∷ (digitsOf (lengthFrom T 0 - lengthFrom T (x .place)) ++ (tab ∷ (s ++ 10 ∷ [])))))) title-there statement-there
+      ∙ ap (λ (k : ℕ). rowText m σ n (x .process) (x .number) ++ (titleText m σ (x .process) ++ (tab ∷ (digitsOf k ++ (tab ∷ (statementOf m σ x ++ 10 ∷ [])))))) place-there
+
+  -- WHAT CAME OF IT
+  pub outcome-shown : (r : Taken) (τ : State) → advance (machineOf (a .tree)) σ x ≡ (r, τ)
+      → outcomeIn (tablesText t) (encode (a .tree) σ ++ rest) (encode (a .tree) τ ++ rest) x (printOf (a .tree) σ (x .process) (x .place)) r ≡ outcomeText (a .tree) σ x r τ
+  unfolding advance
+  outcome-shown Done τ e = ap (λ (l : List ℕ). l ++ printedText (printOf m σ (x .process) (x .place))) (deeds-shown t a rest σ f (x .process) here (late M σ) (x .place) listed τ e)
+  outcome-shown Refuted τ e = refl
+  outcome-shown (Faulted f) τ e = refl
+  outcome-shown Idle τ e = refl

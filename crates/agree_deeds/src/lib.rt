@@ -1,0 +1,1 @@
+// That what is shown of a step are its deeds is theorems alone (proofs/).

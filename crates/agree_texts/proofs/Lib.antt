@@ -1,0 +1,5 @@
+pub mod Blank
+pub mod From
+pub mod Last
+pub mod Firsts
+pub mod Main

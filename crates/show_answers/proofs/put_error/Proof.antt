@@ -1,0 +1,19 @@
+use Rattle.show_answers.proofs.Laws as laws
+use Rattle.spec_account.specs.Bytes.{eachVisible}
+use mathlib.Core.List.{_∷_, []}
+use borrow.Author.Needs.{needs}
+use Rattle.show_answers.proofs.put_error.Statement.{statement}
+use Rattle.show_answers.proofs.put_error.Tie as tie
+
+returns : tie.Need-returns
+returns c = laws.then-puts (c .before .before .before .before .before .before .before .before .before .before .before .before .before .before .before .args .words .now) _ _ _ _ (c .before .before .before .before .before .before .before .before .before .before .put-all .ensures) (laws.then-puts (eachVisible (c .before .before .before .before .before .before .before .before .before .before .before .before .before .before .before .args .name .now)) (10 ∷ []) _ _ _ (c .before .before .before .before .before .before .put-visible .ensures) (laws.one-put 10 _ _ (c .before .before .put .ensures)))
+
+pub put-error-spec : {M : Type 1} → statement M
+put-error-spec =
+    tie.close
+    (tie.spec
+    (λ c κs. search needs)
+    (λ c κs. search needs)
+    (λ c κs. search needs)
+    (λ c. search needs)
+    returns)

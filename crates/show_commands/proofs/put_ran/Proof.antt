@@ -1,0 +1,24 @@
+use borrow.Author.Needs.{needs}
+use Rattle.show_commands.proofs.put_ran.Statement.{statement}
+use Rattle.show_commands.proofs.put_ran.Tie as tie
+
+returns : tie.Need-returns
+returns c = rw (c .before .before .before .before .before .r .given .1) (c .before .before .put-ending .ensures)
+
+returns-2 : tie.Need-returns-2
+returns-2 c = rw (c .before .before .before .before .before .enum-told .given .1) (c .before .before .put-all .ensures)
+
+pub put-ran-spec : {M : Type 1} → statement M
+put-ran-spec =
+    tie.close
+    (tie.spec
+    (λ c. search needs)
+    (λ c. search needs)
+    (λ c κs. search needs)
+    (λ c. search needs)
+    (λ c. search needs)
+    (λ c κs. search needs)
+    (λ c. search needs)
+    returns
+    (λ c. search needs)
+    returns-2)

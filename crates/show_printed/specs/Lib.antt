@@ -1,2 +1,0 @@
-pub mod Printed
-pub mod Examples

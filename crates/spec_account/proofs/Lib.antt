@@ -1,0 +1,4 @@
+pub mod Bytes
+pub mod Quiet
+pub mod Statements
+pub mod Deeds

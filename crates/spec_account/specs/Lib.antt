@@ -1,0 +1,11 @@
+pub mod Bytes
+pub mod Quiet
+pub mod Refused
+pub mod Statements
+pub mod Deeds
+pub mod States
+pub mod Steps
+pub mod Answers
+pub mod Examples
+pub mod ExamplesStatements
+pub mod ExamplesSteps

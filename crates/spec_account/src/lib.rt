@@ -1,0 +1,1 @@
+// What is shown of texts, states, steps and trails: definitions over trees and plain states, and no function.
