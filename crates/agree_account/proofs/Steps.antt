@@ -1,10 +1,15 @@
 -- THE LINES OF A STEP: for an accepted text, in any state that fits, the lines that its tables and the numbers of the state give for an offered step are those of the tree and the plain state
--- (`offer-shown`, `step-shown`), and so are those of what came of it (`outcome-shown`). A step that is asked for is offered (`asked-in`, Listed.antt).
-use Prim.Native.Nat.{ℕ, _-_, _<_}
+-- (`offer-shown`, `step-shown`), and so are those of what came of it (`outcome-shown`); together they are what the code writes when it takes a step (`taken-shown`). A step that is asked for is offered (`asked-in`, Listed.antt).
+use Prim.Native.Nat.{ℕ, _-_, _≤_, _<_, min}
 use mathlib.Core.Path.{_≡_, refl, sym as inv, ap, ap₂, _∙_}
 use mathlib.Core.List.{List, [], _∷_, _++_}
-use lib.ListN.{length}
+use native.Mathlib.Omega.{arith}
+use lib.ListN.{length, drop, replicate, length-append, length-replicate}
+use lib.Seq.{take-append-seam}
 use lib.IntN.{ℤ}
+use Rattle.base_ceilings.specs.Ceilings.{printRoom}
+use Rattle.base_bytes.specs.Lists.{piece}
+use Rattle.step_prints.specs.Printing as paper
 use Rattle.base_outcome.specs.declared.Taken.{Taken}
 use Rattle.base_outcome.specs.declared.Taken.the-variants.{Done, Refuted, Faulted, Idle}
 use Rattle.spec_text.specs.Formats.{digitsOf}
@@ -23,12 +28,13 @@ use Rattle.state_encode.specs.Encode.{encode}
 use Rattle.agree_transfer.specs.Alike.{In}
 use Rattle.agree_transfer.proofs.Statements.{within-found}
 use Rattle.agree_tables.proofs.Main.{in-alone}
-use Rattle.agree_machine.proofs.Prints.{Stood, stood}
+use Rattle.agree_machine.proofs.Fitted.{text-fits}
+use Rattle.agree_machine.proofs.Prints.{Stood, stood, text-printed, text-short}
 use Rattle.agree_listing.proofs.Main.{title-shown}
 use Rattle.agree_texts.proofs.Main.{statement-shown, place-shown}
 use Rattle.agree_deeds.proofs.Main.{deeds-shown}
 use Rattle.show_statement.specs.Statements.{statementIn, lengthFrom, placeIn}
-use Rattle.show_steps.specs.Steps.{titleAt, offerIn, stepIn, outcomeIn}
+use Rattle.show_steps.specs.Steps.{titleAt, offerIn, stepIn, outcomeIn, paperOf, printedIn, takenIn}
 use Rattle.agree_account.proofs.Listed.{offered-listed}
 
 module _ (t : List ℕ) (a : Accepts t) (rest : List ℤ) (σ : State) (f : Fits (Belongs (a .tree)) (a .tree) σ) (x : Step) (i : In x (offered (machineOf (a .tree)) σ)) where
@@ -84,3 +90,27 @@ module _ (t : List ℕ) (a : Accepts t) (rest : List ℤ) (σ : State) (f : Fits
   outcome-shown Refuted τ e = refl
   outcome-shown (Faulted f) τ e = refl
   outcome-shown Idle τ e = refl
+
+  -- what it printed, on the paper that the code lends, which is long enough
+  written : (l : List ℕ) → length l ≤ 100 → piece (paperOf l .bytes) 0 (paperOf l .at) ≡ l
+  written l h =
+      let z : List ℕ = replicate printRoom 0 in
+      let e = text-fits l z (omega (arith, length-replicate {A = ℕ} printRoom 0)) in
+      ap (λ (w : paper.Pen). piece (w .bytes) 0 (w .at)) e ∙ whole (drop (length l) z)
+    where
+      whole : (u : List ℕ) → piece (l ++ u) 0 (length l) ≡ l
+      whole u =
+          let n : min (length l) (length (l ++ u)) ≡ length l = omega (arith, length-append l u) in
+          let k : min 0 (length l) ≡ 0 = omega arith in
+          let j : length l - 0 ≡ length l = omega arith in
+          rw (n, k, j) (take-append-seam l u)
+
+  printed-there : printedIn T S x ≡ printOf m σ (x .process) (x .place)
+  printed-there =
+      ap (λ (l : List ℕ). piece (paperOf l .bytes) 0 (paperOf l .at)) (inv (text-printed t a rest σ f (x .process) here (late M σ) (x .place) listed))
+      ∙ written (printOf m σ (x .process) (x .place)) (text-short t a rest σ f (x .process) here (late M σ) (x .place) listed)
+
+  -- BOTH, as the code tells a step that it takes
+  pub taken-shown : (n : ℕ) (r : Taken) (τ : State) → advance (machineOf (a .tree)) σ x ≡ (r, τ)
+      → takenIn (tablesText t) (encode (a .tree) σ ++ rest) (encode (a .tree) τ ++ rest) (lengthFrom (tablesText t) 0) n x r ≡ stepText (a .tree) σ n x ++ outcomeText (a .tree) σ x r τ
+  taken-shown n r τ e = ap₂ _++_ (step-shown n) (ap (λ (l : List ℕ). outcomeIn T S (encode m τ ++ rest) x l r) printed-there ∙ outcome-shown r τ e)

@@ -1,11 +1,13 @@
 -- Laws of pens that write lines of steps: one pen behind the other, and one offered step more of a list.
 use Prim.Native.Nat.{ℕ, zero, suc, _+_, _≤_, _<_}
-use mathlib.Core.Path.{_≡_, refl, sym, ap, _∙_}
+use mathlib.Core.Path.{_≡_, refl, sym, ap, ap₂, _∙_}
 use mathlib.Core.Bool.{Bool, true, false}
 use mathlib.Core.List.{List, [], _∷_, _++_, append-assoc}
 use native.Mathlib.Omega.{arith}
 use native.Mathlib.Numerals.{add-one}
-use lib.ListN.{length, take, drop, length-take, drop-of-length-le}
+use lib.ListN.{length, set, take, drop, length-take, drop-of-length-le}
+use lib.Seq.{take-all, take-suc, take-suc-set}
+use lib.IntN.{ℤ, pos}
 use lib.Dec.{eqb}
 use borrow.Author.Tests.{eq-eqb, ne-eqb}
 use Rattle.base_bytes.specs.Choice.{pick}
@@ -22,7 +24,9 @@ use Rattle.base_codes.specs.Codes.{c-end-body}
 use Rattle.spec_text.specs.Formats.{digitsOf}
 use Rattle.table_layout.specs.Access.{codeOf}
 use Rattle.show_statement.specs.Statements.{statementIn}
-use Rattle.show_steps.specs.Steps.{rowIn, otherIn, othersIn, anyOf, noneBy, standingIn}
+use Rattle.base_outcome.specs.declared.Taken.{Taken}
+use Rattle.state_layout.specs.Layout.{cellOf}
+use Rattle.show_steps.specs.Steps.{rowIn, stepIn, outcomeIn, printedIn, takenIn, otherIn, othersIn, anyOf, noneBy, standingIn}
 
 pub then-puts : (a b : List ℕ) (w x y : Pen) → x ≡ puts a w → y ≡ puts b x → y ≡ puts (a ++ b) w
 then-puts a b w x y e f = f ∙ ap (puts b) e ∙ sym (puts-append a b w)
@@ -127,3 +131,16 @@ module _ (t : List ℕ) (q c : ℕ) (w x : Pen) (e : c ≡ codeOf t q) where
 
 pub standing-put : (t : List ℕ) (q r : ℕ) (w x : Pen) → q ≡ r → x ≡ puts (standingIn t q) w → x ≡ puts (standingIn t r) w
 standing-put t q r w x e f = f ∙ ap (λ k. puts (standingIn t k) w) e
+
+-- ---- the numbers before a step, kept
+pub kept-more : (s b : List ℤ) (i : ℕ) (v : ℤ) → i < length s → i < length b → v ≡ cellOf s i → take i b ≡ take i s → take (i + 1) (set b i v) ≡ take (i + 1) s
+kept-more s b i v h k e g =
+    ap (λ n. take n (set b i v)) (add-one i) ∙ take-suc-set b i v k ∙ ap₂ (λ l w. l ++ w ∷ []) g e ∙ sym (take-suc s i (pos 0) h) ∙ ap (λ n. take n s) (sym (add-one i))
+
+pub kept-all : (s b : List ℤ) (i : ℕ) → length s ≤ i → length b ≤ i → take i b ≡ take i s → b ≡ s
+kept-all s b i h k e = sym (take-all i b k) ∙ e ∙ take-all i s h
+
+-- ---- a step taken and told
+pub taken-put : (t : List ℕ) (s kept after : List ℤ) (whole i : ℕ) (x : Step) (r : Taken) (printed : List ℕ) (w a b : Pen) → kept ≡ s → printed ≡ printedIn t s x → a ≡ puts (stepIn t s whole i x) w → b ≡ puts (outcomeIn t kept after x printed r) a
+    → b ≡ puts (takenIn t s after whole i x r) w
+taken-put t s kept after whole i x r printed w a b e f g h = then-puts (stepIn t s whole i x) (outcomeIn t s after x (printedIn t s x) r) w a b g (h ∙ ap₂ (λ k l. puts (outcomeIn t k after x l r) a) e f)

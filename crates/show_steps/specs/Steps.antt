@@ -1,12 +1,13 @@
--- Mechanism, held to the specification by `offer-shown`, `step-shown`, `outcome-shown`, `instead-shown` and `process-shown` (crate `agree_account`).
+-- Mechanism, held to the specification by `offer-shown`, `step-shown`, `outcome-shown`, `taken-shown`, `instead-shown` and `process-shown` (crate `agree_account`).
 -- The lines of steps and of processes, read from the tables `t` of a model and the numbers of states.
 use Prim.Native.Nat.{ℕ, suc, _+_, _-_, _*_}
 use mathlib.Core.Bool.{Bool, true, false}
 use mathlib.Core.List.{List, [], _∷_, _++_}
-use lib.ListN.{take}
+use lib.ListN.{take, replicate}
 use lib.IntN.{ℤ}
 use lib.Dec.{eqb, ltb}
-use Rattle.base_ceilings.specs.Ceilings.{processesMost, itemsMost}
+use Rattle.base_ceilings.specs.Ceilings.{processesMost, itemsMost, printRoom}
+use Rattle.base_bytes.specs.Lists.{piece}
 use Rattle.base_bytes.specs.Choice.{pick}
 use Rattle.base_kinds.specs.Kinds.{bytes}
 use Rattle.base_codes.specs.Codes.{c-end-body}
@@ -17,6 +18,8 @@ use Rattle.table_layout.specs.Access.{codeOf}
 use Rattle.state_layout.specs.Layout.{unitOf, placeOf}
 use Rattle.spec_machine.specs.Machine.{Step, offered}
 use Rattle.step_all.specs.Moving.{machineIn, processes}
+use Rattle.step_prints.specs.Printing as paper
+use Rattle.step_prints.specs.Printing.{printedAt}
 use Rattle.show_words.specs.Words.{titleIn}
 use Rattle.show_state.specs.Listing.{localsIn}
 use Rattle.show_statement.specs.Statements.{statementIn, lengthFrom}
@@ -40,6 +43,9 @@ abbrev pub noneBy : Bool → List ℕ
 noneBy true = []
 noneBy false = bytes "    nothing\n"
 
+abbrev pub paperOf : List ℕ → paper.Pen
+paperOf text = paper.puts text (paper.pen (replicate printRoom 0) 0)
+
 module _ (t : List ℕ) where
   abbrev pub titleAt : List ℤ → ℕ → List ℕ
   titleAt s p = titleIn t (unitOf s p)
@@ -58,6 +64,14 @@ module _ (t : List ℕ) where
   outcomeIn before after x printed Refuted = bytes "\tassert: the assertion is 0\n"
   outcomeIn before after x printed (Faulted f) = faultText f
   outcomeIn before after x printed Idle = []
+
+  -- what a step prints, on a paper of the room that is lent
+  abbrev pub printedIn : List ℤ → Step → List ℕ
+  printedIn s x = piece (paperOf (printedAt t s (x .process) (x .place)) .bytes) 0 (paperOf (printedAt t s (x .process) (x .place)) .at)
+
+  -- the step and what came of it
+  abbrev pub takenIn : List ℤ → List ℤ → ℕ → ℕ → Step → Taken → List ℕ
+  takenIn before after whole i x r = stepIn before whole i x ++ outcomeIn before after x (printedIn before x) r
 
   -- a step that process p was offered
   abbrev pub otherIn : ℕ → Step → List ℕ

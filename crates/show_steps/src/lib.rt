@@ -7,7 +7,10 @@ ghost use Rattle.base_kinds.specs.Kinds.{bytes};
 ghost use Rattle.spec_text.specs.Formats.{digitsOf};
 ghost use Rattle.spec_account.specs.Steps.{printedText, faultText};
 ghost use Rattle.show_statement.specs.Statements.{statementIn};
-ghost use Rattle.step_all.specs.Moving.{processes};
+ghost use lib.ListN.{length};
+ghost use Rattle.base_ceilings.specs.Ceilings.{stateRoom};
+ghost use Rattle.spec_machine.specs.Machine as machine;
+ghost use Rattle.step_all.specs.Moving.{machineIn, processes};
 ghost use Rattle.show_steps.specs.Steps as steps;
 use base_outcome::Step;
 use base_outcome::Taken;
@@ -141,6 +144,55 @@ pub fn put_outcome(
         Taken::Faulted(f) => put_fault(f, out, p),
         Taken::Idle => p,
     }
+}
+
+// What came of a step that was taken and told, and where the pen stands then.
+pub struct Told {
+    pub taken: Taken,
+    pub end: usize,
+}
+
+// Keeps the numbers of a state, where there are as many.
+fn keep(s: &[i32], kept: &mut [i32])
+    ensures { λ _. ⌜ (length (now (s .entry)) ≡ length (now (kept .entry)) → now (kept .exit) ≡ now (s .entry)) ⌝ }
+{
+    let mut i: usize = 0;
+    while i < kept.len() {
+        state_layout::put(kept, i, state_layout::cell(s, i));
+        i += 1;
+    }
+}
+
+// Takes a step that line i of a trail asks for, and writes it and what came of it.
+pub fn put_taken(
+    t: &[u32],
+    s: &mut [i32],
+    whole: usize,
+    i: usize,
+    x: Step,
+    out: &mut [u8],
+    p: usize,
+) -> Told
+    ensures { λ r. ⌜ (r .taken, now (s .exit)) ≡ machine.advance (machineIn (now (t .entry))) (now (s .entry)) x ⌝ }
+    ensures { λ r. ⌜ (length (now (s .entry)) ≡ stateRoom → pen (now (out .exit)) (r .end) ≡ puts (steps.takenIn (now (t .entry)) (now (s .entry)) (now (s .exit)) whole i x (r .taken)) (pen (now (out .entry)) p)) ⌝ }
+{
+    let a = put_step(t, s, whole, i, x, out, p);
+    let mut before = [0i32; base_ceilings::STATE_ROOM];
+    keep(s, &mut before);
+    let mut printed = [0u8; base_ceilings::PRINT_ROOM];
+    let n = step_prints::print_at(t, s, x.process, x.place, &mut printed);
+    let taken = step_all::advance(t, s, x);
+    let end = put_outcome(
+        t,
+        &before,
+        s,
+        x,
+        base_bytes::part(&printed, 0, n),
+        taken,
+        out,
+        a,
+    );
+    Told { taken, end }
 }
 
 // Writes a record that is not offered.

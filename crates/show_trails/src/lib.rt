@@ -30,24 +30,9 @@ fn tell_step(t: &[u32], s: &mut [i32], whole: usize, i: usize, x: Step) -> Taken
     ensures { λ r. ⌜ (r, now (s .exit)) ≡ machine.advance (machineIn (now (t .entry))) (now (s .entry)) x ⌝ }
 {
     let mut out = [0u8; STEP_ROOM];
-    let a = show_steps::put_step(t, s, whole, i, x, &mut out, 0);
-    let mut before = [0i32; base_ceilings::STATE_ROOM];
-    keep(s, &mut before);
-    let mut printed = [0u8; base_ceilings::PRINT_ROOM];
-    let n = step_prints::print_at(t, s, x.process, x.place, &mut printed);
-    let r = step_all::advance(t, s, x);
-    let b = show_steps::put_outcome(t, &before, s, x, part(&printed, 0, n), r, &mut out, a);
-    hand_on(&out, b);
-    r
-}
-
-// Keeps the numbers of a state.
-fn keep(s: &[i32], before: &mut [i32]) {
-    let mut i: usize = 0;
-    while i < before.len() {
-        before[i] = state_layout::cell(s, i);
-        i += 1;
-    }
+    let told = show_steps::put_taken(t, s, whole, i, x, &mut out, 0);
+    hand_on(&out, told.end);
+    told.taken
 }
 
 // Shows a record that is not offered, and what its process was offered instead.
