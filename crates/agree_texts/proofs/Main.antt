@@ -33,8 +33,7 @@ use Rattle.normal_reprint_proof.proofs.Walk.{here-front, here-back}
 use Rattle.normal_reprint_proof.proofs.Statements.{walk-tree}
 use Rattle.normal_reprint_proof.proofs.Main.{all-here, length-marks, tokens-are}
 use Rattle.normal_shortest_proof.proofs.Lightened.{model-lighter}
-use Rattle.normal_shortest_proof.proofs.Main.{never-longer}
-use Rattle.text_spacing_proof.proofs.Exact.{reading-exact}
+use Rattle.read_accepts_proof.proofs.Alike.{accepted-slim}
 use Rattle.spec_normal.specs.Normal.{normal}
 use Rattle.spec_machine.specs.Program.{Within, itself, in-if, in-do, unlabelled, behind-label, in-first, in-rest, in-option, in-others, Holds, startIn, sequenceOf}
 use Rattle.spec_machine.specs.Names.{unitAt}
@@ -110,7 +109,7 @@ module _ (t : List ℕ) (a : Accepts t) where
   sound = model-lighter (a .gram) .sound (tokens-sound t (a .parts) (a .reads))
 
   short : length (normal m) ≤ normalMost
-  short = omega (arith, never-longer t a, reading-exact t (a .parts) .0 (a .reads) .1)
+  short = accepted-slim t a
 
   -- what the items between two places become, by the walk
   between : (from to : ℕ) (st : List ℕ) (ts : List Token) → to ≤ length (code m) → (walk (tok h) (blanked from (marks false (codeOf T) 0 to)) to st [] ≡ ts)

@@ -2,11 +2,11 @@
 use Prim.Native.Nat.{ℕ}
 use mathlib.Core.List.{List, [], _∷_}
 
--- "Text 8,192 bytes"
+-- "Text 8,192 bytes"; request One, "the reader takes texts up to 65,536 bytes"
 abbrev pub textMost : ℕ
-textMost = 8192
+textMost = 65536
 
--- a normal text is a text, and never longer than the one it is of
+-- request One, "one whose normal text exceeds 8,192 is refused with 6"
 abbrev pub normalMost : ℕ
 normalMost = 8192
 

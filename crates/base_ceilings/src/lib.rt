@@ -3,7 +3,7 @@ ghost use mathlib.Core.Path.{_≡_};
 ghost use lib.ListN.{getD};
 ghost use Rattle.base_ceilings.specs.Ceilings.{ceilings};
 
-pub const TEXT_MOST: usize = 8192;
+pub const TEXT_MOST: usize = 65536;
 
 pub const NORMAL_MOST: usize = 8192;
 

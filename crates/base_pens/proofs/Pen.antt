@@ -1,11 +1,11 @@
 -- Laws of the pen: one number, a list after a list, and what is there at the end if all fits or not.
-use Prim.Native.Nat.{ℕ, suc, _+_, _≤_, _<_}
+use Prim.Native.Nat.{ℕ, suc, _+_, _-_, _≤_, _<_}
 use mathlib.Core.Path.{_≡_, refl, sym, _∙_, ap}
 use mathlib.Core.List.{List, [], _∷_, _++_, append-nil}
 use native.Mathlib.Omega.{arith}
 use native.Mathlib.Numerals.{add-one}
 use native.Mathlib.Nat.{add-zero, zero-add}
-use lib.ListN.{length, getD, set, take, drop, length-set, drop-of-length-le, take-append-drop}
+use lib.ListN.{length, getD, set, take, drop, replicate, length-set, drop-of-length-le, take-append-drop}
 use lib.Seq.{drop-cons, drop-length, set-out, sets, sets-eq, length-take-le}
 use borrow.Author.Tests.{lt-ltb, le-ltb}
 use Rattle.base_pens.specs.Pen.{Pen, pen, write, puts}
@@ -22,6 +22,27 @@ pub puts-append : (xs ys : List ℕ) (w : Pen) → puts (xs ++ ys) w ≡ puts ys
 unfolding puts
 puts-append [] ys w = refl
 puts-append (x ∷ xs) ys w = puts-append xs ys (write x w)
+
+-- ---- one pen behind the other
+pub then-puts : (a b : List ℕ) (w x y : Pen) → x ≡ puts a w → y ≡ puts b x → y ≡ puts (a ++ b) w
+then-puts a b w x y e f = f ∙ ap (puts b) e ∙ sym (puts-append a b w)
+
+pub one-put : (b : ℕ) (w x : Pen) → x ≡ write b w → x ≡ puts (b ∷ []) w
+unfolding puts
+one-put b w x e = e
+
+pub none-put : (w : Pen) → w ≡ puts [] w
+unfolding puts
+none-put w = refl
+
+-- ---- one number n times
+pub times-more : (n k mark : ℕ) (w x : Pen) → k < n → x ≡ write mark w → puts (replicate (n - (k + 1)) mark) x ≡ puts (replicate (n - k) mark) w
+unfolding puts
+times-more n k mark w x h e = let q : n - k ≡ suc (n - (k + 1)) = omega arith in rw q (ap (puts (replicate (n - (k + 1)) mark)) e)
+
+pub times-end : (n k mark : ℕ) (w : Pen) → n ≤ k → puts (replicate (n - k) mark) w ≡ w
+unfolding puts
+times-end n k mark w h = let q : n - k ≡ 0 = omega arith in rw q refl
 
 -- what fits is pasted; else the list is full and the pen stands past it
 fits-sets : (vs l : List ℕ) (p : ℕ) → p + length vs ≤ length l → puts vs (pen l p) ≡ pen (sets l p vs) (p + length vs)

@@ -1,4 +1,4 @@
--- Mechanism, held to the specification by `written-normal` (crate `normal_shortest_proof`).
+-- Mechanism, held to the specification by `written-normal` (crate `normal_proof`).
 -- Writing one number after the other to a lent list. Past its end nothing is written, and the pen stands one past the end.
 use Prim.Native.Nat.{ℕ, _+_}
 use mathlib.Core.List.{List, [], _∷_}

@@ -8,14 +8,14 @@ use lib.ListN.{length}
 use lib.IntN.{ℤ}
 use Rattle.base_bytes.specs.Choice.{pick}
 use Rattle.base_ceilings.specs.Ceilings.{tablesRoom, stateRoom, printRoom, trailMost}
-use Rattle.normal_writer.specs.Normal.{normalOf}
+use Rattle.normal_writer.specs.Normal.{normalOf, layoutOf}
 use Rattle.table_genuine.specs.Genuine.{written, returns, genuine}
 use Rattle.state_start.specs.Starting.{initialOf}
 use Rattle.state_check.specs.Standing.{isStateOf}
 use Rattle.spec_machine.specs.Machine as machine
 use Rattle.step_all.specs.Moving.{machineIn, nthIn, verdictAs}
 use Rattle.trail_form.specs.Forms.{formOf}
-use Rattle.normal_entry.specs.Entries.{roomy, put, answerFrom, leftFrom}
+use Rattle.normal_entry.specs.Entries.{roomy, put, tablesAnswer, tablesLeft}
 use Rattle.normal_entry.specs.declared.Written.{Written}
 use Rattle.normal_entry.specs.declared.Written.the-variants as text
 use Rattle.step_entry.specs.Entries.{foreignOf, refusalOf, startLeft, standingOf, verdictFor, offerBy, offeredOf, Outcome, refusedBy, outcomeBy, askedIn, stepRefusal, outcomeOf}
@@ -80,15 +80,17 @@ module _ (ts us : List ℕ) (roomy-alike : ltb (length ts) tablesRoom ≡ ltb (l
           (pick (ltb trailMost (length trail)) (replayed.Refused 2 0, s)
           (pick (eqb x 0) (replayedBy (formOf trail) w s) (replayed.Refused 8 0, s)))
 
-  normal-alike : (out : List ℕ) → answerFrom ts out ≡ answerFrom us out
-  unfolding answerFrom genuine
-  normal-alike out = ap₂ (λ (r : Bool) (w : List ℕ). by r w) roomy-alike wrote
-    where
-      by : Bool → List ℕ → Written
-      by r w = pick r (text.Refused 7 0 0) (pick (returns w (normalOf w)) (roomy (normalOf w) out) (text.Refused 8 0 0))
+  -- what is written of tables, whatever it is
+  module _ (g : List ℕ → List ℕ) (out : List ℕ) where
+    written-alike : tablesAnswer g ts out ≡ tablesAnswer g us out
+    unfolding tablesAnswer genuine
+    written-alike = ap₂ (λ (r : Bool) (w : List ℕ). by r w) roomy-alike wrote
+      where
+        by : Bool → List ℕ → Written
+        by r w = pick r (text.Refused 7 0 0) (pick (returns w (normalOf w)) (roomy (g w) out) (text.Refused 8 0 0))
 
-  left-alike : (out : List ℕ) → leftFrom ts out ≡ leftFrom us out
-  left-alike out = ap₂ (λ (a : Written) (w : List ℕ). put a (normalOf w) out) (normal-alike out) wrote
+    left-alike : tablesLeft g ts out ≡ tablesLeft g us out
+    left-alike = ap₂ (λ (a : Written) (w : List ℕ). put a (g w) out) written-alike wrote
 
   pub same-alike : Same ts us
   same-alike =
@@ -99,5 +101,6 @@ module _ (ts us : List ℕ) (roomy-alike : ltb (length ts) tablesRoom ≡ ltb (l
         offered = offered-alike;
         verdict = verdict-alike;
         step = outcome-alike;
-        normal-text = λ out. (normal-alike out, left-alike out);
+        normal-text = λ out. (written-alike normalOf out, left-alike normalOf out);
+        layout-text = λ out. (written-alike layoutOf out, left-alike layoutOf out);
       }

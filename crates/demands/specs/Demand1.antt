@@ -5,17 +5,26 @@
 use Prim.Native.Nat.{ℕ, _+_, _≤_, _<_}
 use mathlib.Core.Path.{_≡_}
 use mathlib.Core.Logic.{_⊎_, _↔_}
+use mathlib.Core.Bool.{true, false}
+use mathlib.Core.Option.{none}
 use mathlib.Core.List.{List}
 use lib.ListN.{length}
 use lib.IntN.{ℤ}
-use Rattle.base_ceilings.specs.Ceilings.{printRoom, stepsMost, tablesRoom, trailMost}
+use Rattle.base_ceilings.specs.Ceilings.{normalMost, printRoom, stepsMost, tablesRoom, trailMost}
+use Rattle.spec_text.specs.Placed.{Placed}
+use Rattle.spec_text.specs.Writing.{tokensIn}
 use Rattle.spec_grammar.specs.Tree.{Model}
+use Rattle.spec_grammar.specs.Grammar.{Gram}
+use Rattle.spec_grammar.specs.Depth.{too-deep}
+use Rattle.spec_rules.specs.Units.{modelLawful}
+use Rattle.spec_rules.specs.Ceilings as ceilings
 use Rattle.spec_machine.specs.State.{State}
 use Rattle.spec_machine.specs.Machine.{Move, stepOf}
 use Rattle.spec_machine.specs.Begins.{initial}
 use Rattle.spec_machine.specs.Steps.{machineOf}
 use Rattle.spec_trails.specs.Trails.{Recorded}
 use Rattle.spec_trails.specs.Texts.{TextOf}
+use Rattle.spec_refusals.specs.Texts.{Tokens}
 use Rattle.spec_refusals.specs.Legal.{Legal}
 use Rattle.spec_refusals.specs.Rows.{Refusal, Refused}
 use Rattle.spec_refusals.specs.Trails.{Misformed}
@@ -25,6 +34,9 @@ use Rattle.read_entry.specs.Entries.{readOf, partStart, partEnd}
 use Rattle.spec_normal.specs.Normal.{normal}
 use Rattle.normal_entry.specs.Entries as writing
 use Rattle.normal_entry.specs.Entries.{answerOf, answerFrom, leftFrom}
+use Rattle.normal_entry.specs.declared.Written.{Written}
+use Rattle.spec_layout.specs.Layout.{layout}
+use Rattle.layout_entry.specs.Entries as laying
 use Rattle.step_entry.specs.Entries.{foreignOf, startLeft, offeredOf, verdictFor, outcomeOf}
 use Rattle.run_entry.specs.Entries.{ranOf}
 use Rattle.trail_replay.specs.Entries.{replayedOf}
@@ -38,6 +50,9 @@ use Rattle.demands.specs.Said.{refusal}
 pub record Reader (t : List ℕ) : Type 0 where
   -- each number and place exactly where its row says
   pub refuses : (old : List ℕ) (x i n : ℕ) → (said.reader (readOf t old) ≡ refusal x i n) ↔ Refused t (length old) x i n
+  -- 6, of a text that no row before it refuses: "any other ceiling passed, or no process starts", or the normal text too long (request One)
+  pub six : (old : List ℕ) (ps : List Placed) (m : Model) → tablesRoom ≤ length old → Tokens t ps → Gram (tokensIn t ps) m → too-deep (tokensIn t ps) ≡ none → modelLawful m ≡ true
+      → (said.reader (readOf t old) ≡ refusal 6 0 0) ↔ ((ceilings.modest m ≡ false) ⊎ (normalMost < length (normal m)))
   -- "A refusal changes no lent number"
   pub unchanged : (old : List ℕ) (x i n : ℕ) → said.reader (readOf t old) ≡ refusal x i n → reading.leftOf t old ≡ old
   -- "A further entry returns the part of the caller's text that 1 to 5 name": from its place, and as long as the row says
@@ -45,24 +60,25 @@ pub record Reader (t : List ℕ) : Type 0 where
   -- ".. for a text .. not so refused, the empty part at its start"
   pub no-part : Legal t → (partStart (length t) (judgeOf t) ≡ 0) × (partEnd (length t) (judgeOf t) ≡ 0)
 
--- ## normal text of a text: the reader's refusals, then "7 .. last for normal text's own room"
-pub data NotWritten (t : List ℕ) (room : ℕ) : ℕ → ℕ → ℕ → Type 0 where
-  text : {x i n : ℕ} → Refusal t x i n → NotWritten t room x i n
-  no-room : (l : Legal t) → room < length (normal (l .tree)) → NotWritten t room 7 0 0
+-- ## what is written of a text, where f is the normal text or the layout of a tree: the reader's refusals, then "7 .. last for normal text's own room", and so for the layout's (request One)
+pub data NotWritten (f : Model → List ℕ) (t : List ℕ) (room : ℕ) : ℕ → ℕ → ℕ → Type 0 where
+  text : {x i n : ℕ} → Refusal t x i n → NotWritten f t room x i n
+  no-room : (l : Legal t) → room < length (f (l .tree)) → NotWritten f t room 7 0 0
 
-pub record Writer (t : List ℕ) : Type 0 where
-  pub refuses : (out : List ℕ) (x i n : ℕ) → (said.writer (answerOf t out) ≡ refusal x i n) ↔ NotWritten t (length out) x i n
-  pub unchanged : (out : List ℕ) (x i n : ℕ) → said.writer (answerOf t out) ≡ refusal x i n → writing.leftOf t out ≡ out
+-- an entry answers, and leaves what is lent, so
+pub record Writer (f : Model → List ℕ) (t : List ℕ) (answer : List ℕ → Written) (left : List ℕ → List ℕ) : Type 0 where
+  pub refuses : (out : List ℕ) (x i n : ℕ) → (said.writer (answer out) ≡ refusal x i n) ↔ NotWritten f t (length out) x i n
+  pub unchanged : (out : List ℕ) (x i n : ℕ) → said.writer (answer out) ≡ refusal x i n → left out ≡ out
 
--- ## normal text of tables: 7, 8, and 7 for its own room
-pub data NotWrittenOf (ts : List ℕ) (room : ℕ) : ℕ → Type 0 where
-  too-small : length ts < tablesRoom → NotWrittenOf ts room 7
-  no-model : tablesRoom ≤ length ts → ((m : Model) → Tables ts m → ⊥) → NotWrittenOf ts room 8
-  no-room : (m : Model) → tablesRoom ≤ length ts → Tables ts m → room < length (normal m) → NotWrittenOf ts room 7
+-- ## what is written of tables: 7, 8, and 7 for its own room
+pub data NotWrittenOf (f : Model → List ℕ) (ts : List ℕ) (room : ℕ) : ℕ → Type 0 where
+  too-small : length ts < tablesRoom → NotWrittenOf f ts room 7
+  no-model : tablesRoom ≤ length ts → ((m : Model) → Tables ts m → ⊥) → NotWrittenOf f ts room 8
+  no-room : (m : Model) → tablesRoom ≤ length ts → Tables ts m → room < length (f m) → NotWrittenOf f ts room 7
 
-pub record TablesWriter (ts : List ℕ) : Type 0 where
-  pub refuses : (out : List ℕ) (x i n : ℕ) → (said.writer (answerFrom ts out) ≡ refusal x i n) ↔ NotWrittenOf ts (length out) x × (i ≡ 0) × (n ≡ 0)
-  pub unchanged : (out : List ℕ) (x i n : ℕ) → said.writer (answerFrom ts out) ≡ refusal x i n → leftFrom ts out ≡ out
+pub record TablesWriter (f : Model → List ℕ) (ts : List ℕ) (answer : List ℕ → Written) (left : List ℕ → List ℕ) : Type 0 where
+  pub refuses : (out : List ℕ) (x i n : ℕ) → (said.writer (answer out) ≡ refusal x i n) ↔ NotWrittenOf f ts (length out) x × (i ≡ 0) × (n ≡ 0)
+  pub unchanged : (out : List ℕ) (x i n : ℕ) → said.writer (answer out) ≡ refusal x i n → left out ≡ out
 
 -- ## the stepper: "Stepping: 7, 8, 9, 11", each at place 0
 -- 7, 8 or 9, by the case of what is lent
@@ -103,7 +119,9 @@ Replay ts trail s = (x line : ℕ) (left : List ℤ) → ((said.replay (replayed
 -- ## every entry, any input
 pub record Demand1 : Type 0 where
   pub reader : (t : List ℕ) → Reader t
-  pub writer : (t : List ℕ) → Writer t
-  pub tables-writer : (ts : List ℕ) → TablesWriter ts
+  pub writer : (t : List ℕ) → Writer normal t (answerOf t) (writing.leftOf t)
+  pub tables-writer : (ts : List ℕ) → TablesWriter normal ts (answerFrom ts) (leftFrom ts)
+  pub layout-writer : (t : List ℕ) → Writer layout t (laying.answerOf t) (laying.leftOf t)
+  pub tables-layout-writer : (ts : List ℕ) → TablesWriter layout ts (laying.answerFrom ts) (laying.leftFrom ts)
   pub stepper : (ts : List ℕ) (s : List ℤ) → Stepper ts s
   pub replay : (ts trail : List ℕ) (s : List ℤ) → Replay ts trail s

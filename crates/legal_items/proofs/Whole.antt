@@ -8,7 +8,7 @@ use mathlib.Core.List.{List, map}
 use lib.ListN.{length}
 use lib.Dec.{ltb}
 use borrow.Author.Tests.{le-ltb}
-use Rattle.base_ceilings.specs.Ceilings.{itemsMost, tablesRoom}
+use Rattle.base_ceilings.specs.Ceilings.{itemsMost, normalMost, tablesRoom}
 use Rattle.base_bytes.specs.Choice.{pick}
 use Rattle.base_bytes.proofs.Tests.{true-false}
 use Rattle.base_kinds.specs.Kinds.{Token}
@@ -24,7 +24,9 @@ use Rattle.read_passes.specs.declared.Judged.the-variants.{Accepted, Refused}
 use Rattle.read_passes.specs.Judging.{judgeOf}
 use Rattle.read_accepts_proof.specs.Meaning.{Accepts, Grammatical, codesOf, said}
 use Rattle.read_accepts_proof.proofs.Main.{kinds-are, all-proper, short, accepted-means, means-accepted}
+use Rattle.read_accepts_proof.proofs.Alike.{overlong-is, accepted-slim}
 use Rattle.read_entry.specs.Entries.{readOf}
+use Rattle.spec_normal.specs.Normal.{normal}
 use Rattle.spec_rules.specs.Units.{modelLawful}
 use Rattle.spec_rules.specs.Ceilings as ceilings
 use Rattle.legal_terms.specs.Says.{Says}
@@ -80,6 +82,7 @@ module _ (rules : (m : Model) (ts : List Token) → Gram ts m → (cs vs toks : 
         shallow = a .shallow;
         lawful = rules (a .tree) (tokensIn t (a .parts)) (a .gram) (codesOf t p) (said t p) (map place-of (a .numbers)) s .0 (a .faultless);
         modest = denied (ceilings.modest (a .tree)) (inv (passed-modest (a .tree) (codesOf t p) (said t p) s) ∙ a .within);
+        slim = accepted-slim t a;
       }
 
   pub lawful-accepted : (t : List ℕ) → Legal t → judgeOf t ≡ Accepted
@@ -99,6 +102,7 @@ module _ (rules : (m : Model) (ts : List Token) → Gram ts m → (cs vs toks : 
         coded = p .coded;
         faultless = rules (p .tree) (tokensIn t (p .parts)) (p .gram) (codesOf t p) (said t p) (map place-of (p .numbers)) s .1 (l .lawful);
         within = passed-modest (p .tree) (codesOf t p) (said t p) s ∙ ap not (l .modest);
+        slim = overlong-is t (p .parts) (p .tree) (p .reads) (p .gram) (p .numbers) (p .written) (p .coded) ∙ le-ltb normalMost (length (normal (p .tree))) (l .slim);
       }
 
   -- the same of the reader's entry, whose tables are lent with room or refused

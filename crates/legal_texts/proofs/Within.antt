@@ -11,7 +11,7 @@ use Rattle.base_bytes.specs.Choice.{pick}
 use Rattle.spec_text.specs.Placed.{Placed}
 use Rattle.spec_text.specs.Layout.{Ordered}
 use Rattle.spec_refusals.specs.Texts.{Tokens, startAt, sizeAt}
-use Rattle.spec_refusals.specs.Rows.{Refusal, bytes, deep, stop, fault, ceiling}
+use Rattle.spec_refusals.specs.Rows.{Refusal, bytes, deep, stop, fault, ceiling, overlong}
 use Rattle.text_spacing_proof.proofs.Written.{tokens-ordered}
 use Rattle.text_spoils_proof.proofs.Within.{spoils-within}
 use Rattle.legal_items.proofs.Whole.{tokens-read}
@@ -39,3 +39,4 @@ refusal-within {t} (deep {ps = ps} {k = k} l w) = part-within t ps k l
 refusal-within {t} (stop {ps = ps} {k = k} l w) = part-within t ps k l
 refusal-within {t} (fault {ps = ps} {k = k} l g d s) = part-within t ps k l
 refusal-within (ceiling l g d w o) = omega arith
+refusal-within (overlong l g d w o) = omega arith

@@ -24,12 +24,11 @@ use Rattle.table_genuine.specs.Genuine.{written, agrees, returns, genuine}
 use Rattle.table_genuine.proofs.Laws.{counted, written-front, some-numbers}
 use Rattle.normal_entry.specs.declared.Written.{Written}
 use Rattle.normal_entry.specs.declared.Written.the-variants.{Text, Refused}
-use Rattle.normal_entry.specs.Entries.{roomy, put, normalBy, answerOf, leftOf, answerFrom, leftFrom}
-use Rattle.normal_proof.specs.Texts.{normalText}
+use Rattle.normal_entry.specs.Entries.{roomy, put, writtenBy, textAnswer, textLeft, tablesAnswer, tablesLeft}
 use Rattle.read_passes.specs.declared.Judged.the-variants as judged
 
 -- ---- a text in an array, and copied
-module _ (u zeros text : List ℕ) (n : ℕ) (old : List ℕ) (few : length u ≤ normalMost) (l : length zeros ≡ normalMost) (e : pen text n ≡ puts u (pen zeros 0)) where
+module _ (most : ℕ) (u zeros text : List ℕ) (n : ℕ) (old : List ℕ) (few : length u ≤ most) (l : length zeros ≡ most) (e : pen text n ≡ puts u (pen zeros 0)) where
   laid : pen text n ≡ pen (u ++ drop (length u) zeros) (length u)
   laid = e ∙ puts-fit u zeros (omega arith)
 
@@ -60,38 +59,39 @@ module _ (t zeros tables : List ℕ) (r : Judged) (l : length zeros ≡ tablesRo
   pub text-room : (w : List ℕ) → r ≡ judged.Accepted → w ≡ written tables → length (normalOf w) ≤ normalMost
   text-room w q ew = rw (ew ∙ written-is q) (text-short t (accepted-means t (sym judged-is ∙ q)))
 
-  pub text-written : (w old new : List ℕ) (x : Written) → r ≡ judged.Accepted → w ≡ written tables → x ≡ roomy (normalOf w) old → new ≡ put x (normalOf w) old
-      → (x ≡ answerOf t old) × (new ≡ leftOf t old)
-  text-written w old new x q ew ex en =
-      let v : w ≡ tablesText t = ew ∙ written-is q in
-      let j : judgeOf t ≡ judged.Accepted = sym judged-is ∙ q in
-      let a : x ≡ answerOf t old = ex ∙ ap (λ (z : List ℕ). roomy (normalOf z) old) v ∙ sym (ap (λ (z : Judged). normalBy z (normalText t) old) j) in
-      (a, en ∙ ap (λ (z : List ℕ). put x (normalOf z) old) v ∙ ap (λ (z : Written). put z (normalText t) old) a)
+  module _ (g : List ℕ → List ℕ) where
+    pub text-written : (w old new : List ℕ) (x : Written) → r ≡ judged.Accepted → w ≡ written tables → x ≡ roomy (g w) old → new ≡ put x (g w) old
+        → (x ≡ textAnswer g t old) × (new ≡ textLeft g t old)
+    text-written w old new x q ew ex en =
+        let v : w ≡ tablesText t = ew ∙ written-is q in
+        let j : judgeOf t ≡ judged.Accepted = sym judged-is ∙ q in
+        let a : x ≡ textAnswer g t old = ex ∙ ap (λ (z : List ℕ). roomy (g z) old) v ∙ sym (ap (λ (z : Judged). writtenBy z (g (tablesText t)) old) j) in
+        (a, en ∙ ap (λ (z : List ℕ). put x (g z) old) v ∙ ap (λ (z : Written). put z (g (tablesText t)) old) a)
 
-  pub text-refused : (x i n : ℕ) (old : List ℕ) → r ≡ judged.Refused x i n → (Refused x i n ≡ answerOf t old) × (old ≡ leftOf t old)
-  text-refused x i n old q =
-      let a : Refused x i n ≡ answerOf t old = sym (ap (λ (z : Judged). normalBy z (normalText t) old) (sym judged-is ∙ q)) in
-      (a, ap (λ (z : Written). put z (normalText t) old) a)
+    pub text-refused : (x i n : ℕ) (old : List ℕ) → r ≡ judged.Refused x i n → (Refused x i n ≡ textAnswer g t old) × (old ≡ textLeft g t old)
+    text-refused x i n old q =
+        let a : Refused x i n ≡ textAnswer g t old = sym (ap (λ (z : Judged). writtenBy z (g (tablesText t)) old) (sym judged-is ∙ q)) in
+        (a, ap (λ (z : Written). put z (g (tablesText t)) old) a)
 
 -- ---- from tables
-module _ (ts old : List ℕ) where
-  left-by : (x : Written) → x ≡ answerFrom ts old → old ≡ put x (normalOf (written ts)) old → old ≡ leftFrom ts old
-  left-by x e h = h ∙ ap (λ (z : Written). put z (normalOf (written ts)) old) e
+module _ (g : List ℕ → List ℕ) (ts old : List ℕ) where
+  left-by : (x : Written) → x ≡ tablesAnswer g ts old → old ≡ put x (g (written ts)) old → old ≡ tablesLeft g ts old
+  left-by x e h = h ∙ ap (λ (z : Written). put z (g (written ts)) old) e
 
-  pub tables-short : length ts < tablesRoom → (Refused 7 0 0 ≡ answerFrom ts old) × (old ≡ leftFrom ts old)
-  unfolding answerFrom
-  tables-short h = let a : Refused 7 0 0 ≡ answerFrom ts old = simp (lt-ltb (length ts) tablesRoom h) in (a, left-by (Refused 7 0 0) a refl)
+  pub tables-short : length ts < tablesRoom → (Refused 7 0 0 ≡ tablesAnswer g ts old) × (old ≡ tablesLeft g ts old)
+  unfolding tablesAnswer
+  tables-short h = let a : Refused 7 0 0 ≡ tablesAnswer g ts old = simp (lt-ltb (length ts) tablesRoom h) in (a, left-by (Refused 7 0 0) a refl)
 
-  pub tables-foreign : (b : Bool) → tablesRoom ≤ length ts → b ≡ genuine ts → b ≡ false → (Refused 8 0 0 ≡ answerFrom ts old) × (old ≡ leftFrom ts old)
-  unfolding answerFrom
-  tables-foreign b h e q = let a : Refused 8 0 0 ≡ answerFrom ts old = simp (le-ltb (length ts) tablesRoom h, sym e ∙ q) in (a, left-by (Refused 8 0 0) a refl)
+  pub tables-foreign : (b : Bool) → tablesRoom ≤ length ts → b ≡ genuine ts → b ≡ false → (Refused 8 0 0 ≡ tablesAnswer g ts old) × (old ≡ tablesLeft g ts old)
+  unfolding tablesAnswer
+  tables-foreign b h e q = let a : Refused 8 0 0 ≡ tablesAnswer g ts old = simp (le-ltb (length ts) tablesRoom h, sym e ∙ q) in (a, left-by (Refused 8 0 0) a refl)
 
-  pub tables-written : (b : Bool) (w new : List ℕ) (x : Written) → tablesRoom ≤ length ts → b ≡ genuine ts → b ≡ true → w ≡ written ts → x ≡ roomy (normalOf w) old → new ≡ put x (normalOf w) old
-      → (x ≡ answerFrom ts old) × (new ≡ leftFrom ts old)
-  unfolding answerFrom
+  pub tables-written : (b : Bool) (w new : List ℕ) (x : Written) → tablesRoom ≤ length ts → b ≡ genuine ts → b ≡ true → w ≡ written ts → x ≡ roomy (g w) old → new ≡ put x (g w) old
+      → (x ≡ tablesAnswer g ts old) × (new ≡ tablesLeft g ts old)
+  unfolding tablesAnswer
   tables-written b w new x h e q ew ex en =
-      let a : x ≡ answerFrom ts old = ex ∙ ap (λ (z : List ℕ). roomy (normalOf z) old) ew ∙ simp (le-ltb (length ts) tablesRoom h, sym e ∙ q) in
-      (a, en ∙ ap (λ (z : List ℕ). put x (normalOf z) old) ew ∙ ap (λ (z : Written). put z (normalOf (written ts)) old) a)
+      let a : x ≡ tablesAnswer g ts old = ex ∙ ap (λ (z : List ℕ). roomy (g z) old) ew ∙ simp (le-ltb (length ts) tablesRoom h, sym e ∙ q) in
+      (a, en ∙ ap (λ (z : List ℕ). put x (g z) old) ew ∙ ap (λ (z : Written). put z (g (written ts)) old) a)
 
 -- a text that is returned is short
 pub genuine-short : (ts : List ℕ) (b : Bool) (w : List ℕ) → b ≡ genuine ts → b ≡ true → w ≡ written ts → length (normalOf w) ≤ normalMost

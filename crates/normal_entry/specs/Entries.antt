@@ -8,12 +8,11 @@ use lib.ListN.{length, drop}
 use Rattle.base_ceilings.specs.Ceilings.{tablesRoom}
 use Rattle.base_bytes.specs.Choice.{pick}
 use Rattle.read_passes.specs.declared.Judged.{Judged}
-use Rattle.read_passes.specs.Judging.{judgeOf}
+use Rattle.read_passes.specs.Judging.{judgeOf, tablesText}
 use Rattle.normal_writer.specs.Normal.{normalOf}
 use Rattle.table_genuine.specs.Genuine.{written, genuine}
 use Rattle.normal_entry.specs.declared.Written.{Written}
 use Rattle.normal_entry.specs.declared.Written.the-variants.{Text, Refused}
-use Rattle.normal_proof.specs.Texts.{normalText}
 use Rattle.read_passes.specs.declared.Judged.the-variants as judged
 
 -- the text u, where `old` is lent for it
@@ -25,20 +24,36 @@ abbrev pub put : Written → List ℕ → List ℕ → List ℕ
 put (Text n) u old = u ++ drop (length u) old
 put (Refused x i n) u old = old
 
--- ## from a text: the reader's refusals in their order, then 7
-abbrev pub normalBy : Judged → List ℕ → List ℕ → Written
-normalBy judged.Accepted u old = roomy u old
-normalBy (judged.Refused x i n) u old = Refused x i n
+-- by the reader's answer
+abbrev pub writtenBy : Judged → List ℕ → List ℕ → Written
+writtenBy judged.Accepted u old = roomy u old
+writtenBy (judged.Refused x i n) u old = Refused x i n
 
+-- ## what is written of numbers that are tables is f of them: here the normal text, in `layout_entry` the layout
+module _ (f : List ℕ → List ℕ) where
+  -- from a text: the reader's refusals in their order, then 7
+  abbrev pub textAnswer : List ℕ → List ℕ → Written
+  textAnswer t old = writtenBy (judgeOf t) (f (tablesText t)) old
+
+  abbrev pub textLeft : List ℕ → List ℕ → List ℕ
+  textLeft t old = put (textAnswer t old) (f (tablesText t)) old
+
+  -- from tables: 7 for their room, 8, then 7 for the text's own
+  unfoldable pub tablesAnswer : List ℕ → List ℕ → Written
+  tablesAnswer ts old = pick (ltb (length ts) tablesRoom) (Refused 7 0 0) (pick (genuine ts) (roomy (f (written ts)) old) (Refused 8 0 0))
+
+  abbrev pub tablesLeft : List ℕ → List ℕ → List ℕ
+  tablesLeft ts old = put (tablesAnswer ts old) (f (written ts)) old
+
+-- ## the normal text
 abbrev pub answerOf : List ℕ → List ℕ → Written
-answerOf t old = normalBy (judgeOf t) (normalText t) old
+answerOf t old = textAnswer normalOf t old
 
 abbrev pub leftOf : List ℕ → List ℕ → List ℕ
-leftOf t old = put (answerOf t old) (normalText t) old
+leftOf t old = textLeft normalOf t old
 
--- ## from tables: 7 for their room, 8, then 7 for the text's own
-unfoldable pub answerFrom : List ℕ → List ℕ → Written
-answerFrom ts old = pick (ltb (length ts) tablesRoom) (Refused 7 0 0) (pick (genuine ts) (roomy (normalOf (written ts)) old) (Refused 8 0 0))
+abbrev pub answerFrom : List ℕ → List ℕ → Written
+answerFrom ts old = tablesAnswer normalOf ts old
 
 abbrev pub leftFrom : List ℕ → List ℕ → List ℕ
-leftFrom ts old = put (answerFrom ts old) (normalOf (written ts)) old
+leftFrom ts old = tablesLeft normalOf ts old

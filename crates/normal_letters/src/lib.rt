@@ -56,7 +56,7 @@ fn put_spelling(t: &[u32], v: u32, out: &mut [u8], p: usize) -> usize
 }
 
 // Its kind.
-fn kind_by(t: &[u32], v: u32) -> u8
+pub fn kind_by(t: &[u32], v: u32) -> u8
     ensures { λ r. ⌜ r ≡ kindOf (tokenBy (now (t .entry)) v) ⌝ }
 {
     if v < 70 {
@@ -76,7 +76,7 @@ fn space_if(b: bool, out: &mut [u8], p: usize) -> usize
 }
 
 // Writes the token of number v behind a token of kind k. No token is longer than 129 bytes.
-fn put_token(t: &[u32], k: u8, v: u32, out: &mut [u8], p: usize) -> usize
+pub fn put_token(t: &[u32], k: u8, v: u32, out: &mut [u8], p: usize) -> usize
     ensures { λ r. ⌜ pen (now (out .exit)) r ≡ puts (behind k (tokenBy (now (t .entry)) v)) (pen (now (out .entry)) p) ⌝ }
 {
     let mut buffer = [0u8; 160];

@@ -1,2 +1,3 @@
+pub mod Trees
 pub mod Texts
 pub mod Owners

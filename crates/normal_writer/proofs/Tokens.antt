@@ -26,7 +26,8 @@ use Rattle.table_layout.specs.Access.{itemsOf, codeOf, numberOf, nameLength, na
 use Rattle.table_layout.specs.Back.{upto}
 use Rattle.normal_writer.specs.Turning.{unless-none, isToken, turned, kept, told, walk, wholeBy, marked, after, marks, blanked, turnRoom}
 use Rattle.normal_letters.specs.Tokens.{tokenBy}
-use Rattle.normal_writer.specs.Normal.{codesIn, tokensOf, normalOf, codesBetween, tokensBetween}
+use Rattle.layout_lines.specs.Lines.{layAll}
+use Rattle.normal_writer.specs.Normal.{codesIn, tokensOf, normalOf, layoutOf, codesBetween, tokensBetween}
 
 -- ---- the marked codes
 blanked-none : (k : ℕ) → blanked k [] ≡ []
@@ -85,15 +86,25 @@ walk-map f cs (suc i) st out =
     ∙ ap (walk f cs i (turned (getD (kept st) 0 0) (getD cs i 0) i (drop 1 (kept st)))) (told-map f st out)
 
 -- ---- the whole
-pub tokens-are : (t codes toks cs : List ℕ) (asked from to all n first : ℕ) (w x : Pen) → all ≡ min itemsMost (itemsOf t) → n ≡ min to all → take n codes ≡ blanked from (marks false (codeOf t) 0 n) → cs ≡ take (n - 0) codes
-    → drop first toks ≡ wholeBy asked (λ (v : ℕ). v) cs → length toks ≡ turnRoom → x ≡ puts (write (map (tokenBy t) (take (turnRoom - first) (drop first toks)))) w → x ≡ puts (write (tokensBetween t asked from to)) w
-unfolding tokensBetween codesBetween
-tokens-are t codes toks cs asked from to all n first w x a a′ b c d l e =
+pub numbers-are : (t codes cs x : List ℕ) (asked from to all n : ℕ) → all ≡ min itemsMost (itemsOf t) → n ≡ min to all → take n codes ≡ blanked from (marks false (codeOf t) 0 n) → cs ≡ take (n - 0) codes
+    → x ≡ wholeBy asked (λ (v : ℕ). v) cs → x ≡ wholeBy asked (λ (v : ℕ). v) (codesBetween t from to)
+unfolding codesBetween
+numbers-are t codes cs x asked from to all n a a′ b c d =
     let z : n - 0 ≡ n = omega arith in
-    e ∙ ap (λ (z : List ℕ). puts (write (map (tokenBy t) z)) w) (take-all (turnRoom - first) (drop first toks) (omega (arith, length-drop first toks)) ∙ d)
-    ∙ ap (λ (z : List Token). puts (write z) w)
-    (walk-map (tokenBy t) cs (length cs) (unless-none asked []) []
-    ∙ ap (wholeBy asked (tokenBy t)) (c ∙ ap (λ (k : ℕ). take k codes) z ∙ b ∙ ap (λ (k : ℕ). blanked from (marks false (codeOf t) 0 k)) (a′ ∙ ap (min to) a)))
+    d ∙ ap (wholeBy asked (λ (v : ℕ). v)) (c ∙ ap (λ (k : ℕ). take k codes) z ∙ b ∙ ap (λ (k : ℕ). blanked from (marks false (codeOf t) 0 k)) (a′ ∙ ap (min to) a))
+
+module _ (t toks : List ℕ) (asked from to first : ℕ) (e : drop first toks ≡ wholeBy asked (λ (v : ℕ). v) (codesBetween t from to)) (l : length toks ≡ turnRoom) where
+  tokens-are : map (tokenBy t) (take (turnRoom - first) (drop first toks)) ≡ tokensBetween t asked from to
+  unfolding tokensBetween
+  tokens-are =
+      ap (map (tokenBy t)) (take-all (turnRoom - first) (drop first toks) (omega (arith, length-drop first toks)) ∙ e)
+      ∙ walk-map (tokenBy t) (codesBetween t from to) (length (codesBetween t from to)) (unless-none asked []) []
+
+  pub tokens-written : (w x : Pen) → x ≡ puts (write (map (tokenBy t) (take (turnRoom - first) (drop first toks)))) w → x ≡ puts (write (tokensBetween t asked from to)) w
+  tokens-written w x f = f ∙ ap (λ (z : List Token). puts (write z) w) tokens-are
+
+  pub tokens-laid : (w x : Pen) → x ≡ puts (layAll (map (tokenBy t) (take (turnRoom - first) (drop first toks)))) w → x ≡ puts (layAll (tokensBetween t asked from to)) w
+  tokens-laid w x f = f ∙ ap (λ (z : List Token). puts (layAll z) w) tokens-are
 
 -- all of them
 pub tokens-all : (t : List ℕ) (n : ℕ) → n ≡ itemsOf t → tokensBetween t 143 0 n ≡ tokensOf t
@@ -102,3 +113,6 @@ tokens-all t n e = let q : min n (min itemsMost (itemsOf t)) ≡ min itemsMost (
 
 pub normal-is : (t : List ℕ) (n : ℕ) (w x : Pen) → n ≡ itemsOf t → x ≡ puts (write (tokensBetween t 143 0 n)) w → x ≡ puts (normalOf t) w
 normal-is t n w x e f = f ∙ ap (λ (z : List Token). puts (write z) w) (tokens-all t n e)
+
+pub layout-is : (t : List ℕ) (n : ℕ) (w x : Pen) → n ≡ itemsOf t → x ≡ puts (layAll (tokensBetween t 143 0 n)) w → x ≡ puts (layoutOf t) w
+layout-is t n w x e f = f ∙ ap (λ (z : List Token). puts (layAll z) w) (tokens-all t n e)

@@ -1,4 +1,4 @@
--- Mechanism, held to the specification by `text-normal` (crate `normal_proof`), and `tokensBetween` by `statement-shown` and `place-shown` (crate `agree_texts`).
+-- Mechanism, held to the specification by `text-normal` (crate `normal_proof`), `layoutOf` by `text-layout` (crate `layout_proof`), and `tokensBetween` by `statement-shown` and `place-shown` (crate `agree_texts`).
 -- The normal text that tables hold: document 01, "Normal text". It is defined for any numbers; that it is the normal text of the tree is proved in `normal_reprint_proof`.
 use mathlib.Core.Bool.{false}
 use mathlib.Core.List.{List}
@@ -8,6 +8,7 @@ use Rattle.base_kinds.specs.Kinds.{Token}
 use Rattle.spec_text.specs.Writing.{write}
 use Rattle.table_layout.specs.Access.{itemsOf, codeOf}
 use Rattle.normal_letters.specs.Tokens.{tokenBy}
+use Rattle.layout_lines.specs.Lines.{layAll}
 use Rattle.normal_writer.specs.Turning.{whole, wholeBy, marks, blanked}
 
 module _ (t : List ℕ) where
@@ -20,6 +21,10 @@ module _ (t : List ℕ) where
 
   abbrev pub normalOf : List ℕ
   normalOf = write tokensOf
+
+  -- the layout that tables hold (request One); that it is that of the tree is proved in `layout_proof`
+  abbrev pub layoutOf : List ℕ
+  layoutOf = layAll tokensOf
 
   -- the codes before item `to`, those before item `from` blank
   unfoldable pub codesBetween : ℕ → ℕ → List ℕ

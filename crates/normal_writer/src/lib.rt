@@ -1,4 +1,4 @@
-// The normal text of tables: items, read from the back, become tokens by the rows of a table; tokens are written with one space where two would read otherwise.
+// The normal text of tables, and their layout: items, read from the back, become tokens by the rows of a table; tokens are written with one space where two would read otherwise, or in lines.
 ghost use mathlib.Core.Path.{_≡_};
 ghost use mathlib.Core.Bool.{false};
 ghost use Prim.Native.Nat.{_+_, _-_, _≤_, _<_, _*_, min};
@@ -12,7 +12,7 @@ ghost use Rattle.normal_rows.specs.Rules.{cells};
 ghost use Rattle.normal_writer.specs.Turning as turning;
 ghost use Rattle.base_bytes.specs.Choice.{pick};
 ghost use Rattle.normal_writer.specs.Turning.{rowOf, unless-none, laid, operated, isBinary, turned, wholeBy, marks, blanked, turnRoom};
-ghost use Rattle.normal_writer.specs.Normal.{tokensBetween, normalOf};
+ghost use Rattle.normal_writer.specs.Normal.{codesBetween, tokensBetween, normalOf, layoutOf};
 ghost use Rattle.normal_writer.specs.Places.{Pushed, Flushed};
 
 // How many rows there are (specs/Rules.antt of `normal_rows`).
@@ -289,7 +289,22 @@ fn mark(t: &[u32], codes: &mut [u8], from: usize, n: usize)
     }
 }
 
-// Writes what the items from `from` to before `to` become where the symbol is asked for.
+// The numbers of the tokens that the items from `from` to before `to` become where the symbol is asked for: they stand from the answer on.
+fn tokens_of(t: &[u32], symbol: u32, from: usize, to: usize, toks: &mut [u32]) -> usize
+    requires { ⌜ length (now toks) ≡ turnRoom ⌝ }
+    ensures { λ r. ⌜ (r ≤ turnRoom) × (drop r (now (toks .exit)) ≡ wholeBy symbol (λ v. v) (codesBetween (now (t .entry)) from to)) ⌝ }
+{
+    let all = base_bytes::least(base_ceilings::ITEMS_MOST, table_layout::items(t));
+    let n = base_bytes::least(to, all);
+    let mut rows = [0u8; 1340];
+    normal_rows::lay_cells(&mut rows);
+    let mut codes = [0u8; base_ceilings::ITEMS_MOST];
+    mark(t, &mut codes, from, n);
+    let mut stack = [0u32; ROOM];
+    turn(&rows, &codes[0..n], symbol, &mut stack, toks)
+}
+
+// Writes these tokens.
 pub fn write_tokens(
     t: &[u32],
     symbol: u32,
@@ -300,15 +315,8 @@ pub fn write_tokens(
 ) -> usize
     ensures { λ r. ⌜ pen (now (out .exit)) r ≡ puts (write (tokensBetween (now (t .entry)) symbol from to)) (pen (now (out .entry)) p) ⌝ }
 {
-    let all = base_bytes::least(base_ceilings::ITEMS_MOST, table_layout::items(t));
-    let n = base_bytes::least(to, all);
-    let mut rows = [0u8; 1340];
-    normal_rows::lay_cells(&mut rows);
-    let mut codes = [0u8; base_ceilings::ITEMS_MOST];
-    mark(t, &mut codes, from, n);
-    let mut stack = [0u32; ROOM];
     let mut toks = [0u32; ROOM];
-    let first = turn(&rows, &codes[0..n], symbol, &mut stack, &mut toks);
+    let first = tokens_of(t, symbol, from, to, &mut toks);
     normal_letters::put_tokens(t, &toks[first..ROOM], out, p)
 }
 
@@ -317,4 +325,13 @@ pub fn write_normal(t: &[u32], out: &mut [u8]) -> usize
     ensures { λ r. ⌜ pen (now (out .exit)) r ≡ puts (normalOf (now (t .entry))) (pen (now (out .entry)) 0) ⌝ }
 {
     write_tokens(t, 143, 0, table_layout::items(t), out, 0)
+}
+
+// Writes the layout of the tables t at the front of out, as far as it reaches: the answer is its length, or one more than out's where it does not fit.
+pub fn write_layout(t: &[u32], out: &mut [u8]) -> usize
+    ensures { λ r. ⌜ pen (now (out .exit)) r ≡ puts (layoutOf (now (t .entry))) (pen (now (out .entry)) 0) ⌝ }
+{
+    let mut toks = [0u32; ROOM];
+    let first = tokens_of(t, 143, 0, table_layout::items(t), &mut toks);
+    layout_lines::put_lines(t, &toks[first..ROOM], out, 0)
 }

@@ -6,7 +6,7 @@ fn main() {
     let count = os::arg_count();
     if count < 3 {
         put(
-            b"error: usage: pluskaro read|normal|start MODEL, run MODEL [LIMIT], replay|steps|state MODEL TRAIL, batch LIST\n",
+            b"error: usage: pluskaro read|normal|layout|start MODEL, run MODEL [LIMIT], replay|steps|state MODEL TRAIL, batch LIST\n",
         );
         return;
     }

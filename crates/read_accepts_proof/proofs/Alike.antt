@@ -5,20 +5,22 @@ use native.Mathlib.Decide.{ℕ-discrete}
 use mathlib.Core.Path.{_≡_, refl, sym as inv, ap, ap₂, _∙_}
 use mathlib.Core.Option.{none}
 use mathlib.Core.Logic.{_⊎_, inl, inr}
-use mathlib.Core.List.{List, [], _∷_, _++_, map}
+use mathlib.Core.List.{List, [], _∷_, _++_, map, append-nil}
 use mathlib.Core.Bool.{Bool, true, false}
 use lib.ListN.{length, getD, take, drop, replicate, length-map, length-append}
 use lib.Seq.{take-at}
 use lib.Dec.{ltb, leb}
-use borrow.Author.Tests.{lt-ltb, le-ltb}
-use Rattle.base_ceilings.specs.Ceilings.{itemsMost, numberMost, tokensMost}
+use borrow.Author.Tests.{lt-ltb, le-ltb, ltb-false}
+use Rattle.base_ceilings.specs.Ceilings.{itemsMost, normalMost, numberMost, tokensMost}
 use Rattle.base_codes.specs.Codes.{c-or-else, c-name, c-number, c-text}
-use Rattle.base_bytes.specs.Choice.{pick}
+use Rattle.base_bytes.specs.Choice.{pick, both}
 use Rattle.base_bytes.specs.Lists.{piece}
 use Rattle.base_kinds.specs.Kinds.{sym}
 use Rattle.spec_text.specs.Bytes.{quote}
 use Rattle.spec_text.specs.Digits.{decimal}
 use Rattle.spec_grammar.specs.Grammar.{Gram}
+use Rattle.spec_grammar.specs.Tree.{Model}
+use Rattle.spec_normal.specs.Normal.{normal}
 use Rattle.text_tokens.specs.Reading.{tokens, reading}
 use Rattle.spec_text.specs.Placed.{Placed}
 use Rattle.spec_text.specs.Spelled.{Spelled, word, digits, string, mark}
@@ -39,11 +41,18 @@ use Rattle.table_entries.proofs.Items.{mark-entry}
 use Rattle.table_proof.specs.Read.{nowhere, Right}
 use Rattle.table_proof.proofs.Read.{get-only, ordered-at}
 use Rattle.table_proof.proofs.Wrote.{machine-right}
+use Rattle.table_proof.proofs.Built.{accepted-entries}
+use Rattle.table_entries.specs.Sources.{entriesOf}
+use Rattle.table_layout.specs.Tables.{tablesOf}
+use Rattle.table_layout.specs.Trees.{entriesIn, tablesIn}
+use Rattle.link_items.specs.Links.{linksOf}
+use Rattle.normal_length.specs.Overlong.{overlong}
+use Rattle.normal_length_proof.proofs.Main.{overlong-exact}
 use Rattle.rule_sheets.specs.Payload.{spelled}
 use Rattle.rule_sheets.proofs.Meaning.{Alike, args-alike}
 use Rattle.rule_least.proofs.Theorems.{places-free}
 use Rattle.read_passes.specs.declared.Judged.the-variants.{Accepted}
-use Rattle.read_passes.specs.Judging.{payload, judgeOf}
+use Rattle.read_passes.specs.Judging.{payload, laid, tablesFrom, tablesAt, tablesText, wideRoom, front, judgeOf}
 use Rattle.read_accepts_proof.specs.Meaning.{Accepts}
 use Rattle.read_accepts_proof.proofs.Main.{kinds-are, all-proper, short, means-accepted}
 use Rattle.base_codes.specs.Items.{Item, i-plain}
@@ -172,8 +181,8 @@ module _ (t : List ℕ) (ps : List Placed) (e : reading t ≡ tokens ps) (o : Li
     code-two : symbol-of (getD o2 j 0) ≡ c
     item-same : read (tokensIn t ps) (getD o j 0) ≡ read (tokensIn t2 ps2) (getD o2 j 0)
 
-  both : (j c : ℕ) → getD (map symbol-of o) j 0 ≡ suc c → Both j (suc c)
-  both j c q =
+  both-have : (j c : ℕ) → getD (map symbol-of o) j 0 ≡ suc c → Both j (suc c)
+  both-have j c q =
       let h : j < length o = omega (arith, is-inside (map symbol-of o) j c q, length-map o symbol-of) in
       let h2 : j < length o2 = omega (arith, lengths) in
       record {
@@ -195,15 +204,15 @@ module _ (t : List ℕ) (ps : List Placed) (e : reading t ≡ tokens ps) (o : Li
   alike =
       record {
         names = λ j q.
-            let b = both j 69 q in
+            let b = both-have j 69 q in
             place-one j c-name b ∙ name-says t ps e (getD o j 0) (b .code-one) (right j (b .one)) ∙ ap (λ (i : Item). entryOf i .bytes) (b .item-same)
             ∙ inv (name-says t2 ps2 e2 (getD o2 j 0) (b .code-two) (right2 j (b .two))) ∙ place-two j c-name b;
         numbers = λ j q.
-            let b = both j c-name q in
+            let b = both-have j c-name q in
             ap (min (numberMost + 1)) (ap decimal (place-one j c-number b) ∙ number-says t ps e (getD o j 0) (b .code-one) (right j (b .one)) ∙ ap (λ (i : Item). entryOf i .value) (b .item-same)
             ∙ inv (number-says t2 ps2 e2 (getD o2 j 0) (b .code-two) (right2 j (b .two))) ∙ ap decimal (place-two j c-number b));
         strings = λ j q.
-            let b = both j c-number q in
+            let b = both-have j c-number q in
             place-one j c-text b ∙ text-says t ps e (getD o j 0) (b .code-one) (right j (b .one)) ∙ ap (λ (i : Item). quote ∷ (entryOf i .bytes ++ quote ∷ [])) (b .item-same)
             ∙ inv (text-says t2 ps2 e2 (getD o2 j 0) (b .code-two) (right2 j (b .two))) ∙ place-two j c-text b;
       }
@@ -227,6 +236,25 @@ module _ (t : List ℕ) (ps : List Placed) (e : reading t ≡ tokens ps) (o : Li
       (alike t ps e o right-t u qs f p right-u same) (replicate itemsMost 0) (reading-exact t ps .0 e .1) (reading-exact u qs .0 f .1)
       ∙ ap (λ (cs : List ℕ). payload u (map Placed.start qs) (map Placed.end qs) cs (map place-of p)) same-codes
 
+-- ---- the entries of a text's items are those of its tree, and so is the length of its normal text
+module _ (t : List ℕ) (ps : List Placed) (m : Model) (e : reading t ≡ tokens ps) (g : Gram (tokensIn t ps) m) (o : List ℕ) (w : parsed (map Placed.kind ps) itemsMost ≡ items o)
+    (c : map (read (tokensIn t ps)) o ≡ code m) where
+  pub entries-are : entriesOf t (map Placed.start ps) (map Placed.end ps) (map symbol-of o) (map place-of o) ≡ entriesIn m
+  entries-are =
+      rw (← append-nil (map Placed.start ps), ← append-nil (map Placed.end ps), ← append-nil (map place-of o)) (accepted-entries t ps m e g [] [] [] symbol-of place-of o
+      (machine-right ps o (reading-exact t ps .0 e .2) (parsed-done (map Placed.kind ps) o w)) c)
+
+  pub tables-are : tablesText t ≡ tablesIn m (linksOf (map symbol-of o) (payload t (map Placed.start ps) (map Placed.end ps) (map symbol-of o) (map place-of o)) (replicate itemsMost 0))
+  unfolding tablesAt tablesFrom
+  tables-are = rw (e, w) (ap (λ (x : List Entry). tablesOf x (linksOf (map symbol-of o) (payload t (map Placed.start ps) (map Placed.end ps) (map symbol-of o) (map place-of o)) (replicate itemsMost 0))) entries-are)
+
+  pub overlong-is : both (ltb normalMost (length t)) (overlong (front (laid (tablesText t) (replicate wideRoom 0)))) ≡ ltb normalMost (length (normal m))
+  overlong-is = rw tables-are (overlong-exact t ps m e g _)
+
+-- the normal text of an accepted text is not too long
+pub accepted-slim : (t : List ℕ) (a : Accepts t) → length (normal (a .tree)) ≤ normalMost
+accepted-slim t a = ltb-false normalMost (length (normal (a .tree))) (inv (overlong-is t (a .parts) (a .tree) (a .reads) (a .gram) (a .numbers) (a .written) (a .coded)) ∙ a .slim)
+
 -- ---- a text of an accepted text's tree that is not too deep is accepted
 pub same-tree : (t u : List ℕ) (a : Accepts t) (qs : List Placed) → reading u ≡ tokens qs → Gram (tokensIn u qs) (a .tree) → too-deep (tokensIn u qs) ≡ none → judgeOf u ≡ Accepted
 same-tree t u a qs e g d =
@@ -248,4 +276,5 @@ same-tree t u a qs e g d =
       coded = c;
       faultless = rw (← v, ← k) (places-free _ _ (map place-of o) (map place-of p) (a .faultless));
       within = rw (← v, ← k) (a .within);
+      slim = overlong-is u qs (a .tree) e g p w c ∙ le-ltb normalMost (length (normal (a .tree))) (accepted-slim t a);
     }

@@ -2,57 +2,31 @@
 -- what the reader leaves is the tables, and behind them what was there. Assumes nothing.
 use Prim.Native.Nat.{ℕ, _≤_}
 use mathlib.Core.Path.{_≡_, refl, sym as inv, ap, ap₂, _∙_}
-use mathlib.Core.List.{List, [], _++_, map, append-nil}
+use mathlib.Core.List.{List, _++_, map}
 use native.Mathlib.Omega.{arith}
 use lib.ListN.{length, drop}
 use Rattle.base_ceilings.specs.Ceilings.{tablesRoom}
-use Rattle.spec_text.specs.Placed.{Placed}
 use Rattle.spec_text.specs.Writing.{tokensIn}
-use Rattle.text_spacing_proof.proofs.Exact.{reading-exact}
 use Rattle.parse_code.specs.Code.{code}
-use Rattle.parse_machine_proof.specs.Machine.{symbol-of, place-of}
 use Rattle.parse_machine_proof.specs.Items.{read}
 use Rattle.base_pens.specs.Pen.{pen, puts}
-use Rattle.table_entries.specs.Entry.{Entry}
-use Rattle.table_entries.specs.Sources.{entriesOf}
-use Rattle.table_layout.specs.Tables.{tablesOf}
-use Rattle.table_layout.specs.Trees.{entriesIn, tablesIn}
+use Rattle.table_layout.specs.Trees.{tablesIn}
 use Rattle.table_layout.proofs.Fits.{written}
 use Rattle.table_proof.proofs.Accepted.{accepted-trees, accepted-fits}
-use Rattle.table_proof.proofs.Built.{accepted-entries}
-use Rattle.table_proof.proofs.Wrote.{machine-right}
-use Rattle.read_passes.specs.Judging.{laid, tablesFrom, tablesAt, tablesText}
+use Rattle.read_passes.specs.Judging.{laid, tablesText}
 use Rattle.read_accepts_proof.specs.Meaning.{Accepts, linksAt}
-use Rattle.read_accepts_proof.proofs.Alike.{parsed-done, same-codes, same-payload}
+use Rattle.read_accepts_proof.proofs.Alike.{tables-are, accepted-slim, same-codes, same-payload}
 
 pub equal-tables : (t u : List ℕ) (a : Accepts t) (b : Accepts u) (ls ms : List ℕ) → tablesIn (a .tree) ls ≡ tablesIn (b .tree) ms → a .tree ≡ b .tree
 equal-tables t u a b ls ms = accepted-trees t u (a .parts) (b .parts) (a .tree) (b .tree) (a .reads) (a .gram) (b .reads) (b .gram) ls ms
 
 -- ---- the tables that the passes build
 module _ (t : List ℕ) (a : Accepts t) where
-  abbrev ss : List ℕ
-  ss = map Placed.start (a .parts)
-
-  abbrev es : List ℕ
-  es = map Placed.end (a .parts)
-
-  abbrev cs : List ℕ
-  cs = map symbol-of (a .numbers)
-
-  abbrev ks : List ℕ
-  ks = map place-of (a .numbers)
-
-  entries-are : entriesOf t ss es cs ks ≡ entriesIn (a .tree)
-  entries-are =
-      rw (← append-nil ss, ← append-nil es, ← append-nil ks) (accepted-entries t (a .parts) (a .tree) (a .reads) (a .gram) [] [] [] symbol-of place-of (a .numbers)
-      (machine-right (a .parts) (a .numbers) (reading-exact t (a .parts) .0 (a .reads) .2) (parsed-done (map Placed.kind (a .parts)) (a .numbers) (a .written))) (a .coded))
-
   pub text-tables : tablesText t ≡ tablesIn (a .tree) (linksAt t a)
-  unfolding tablesAt tablesFrom
-  text-tables = rw (a .reads, a .written) (ap (λ (x : List Entry). tablesOf x (linksAt t a)) entries-are)
+  text-tables = tables-are t (a .parts) (a .tree) (a .reads) (a .gram) (a .numbers) (a .written) (a .coded)
 
   pub text-fits : length (tablesText t) ≤ tablesRoom
-  text-fits = rw text-tables (accepted-fits t (a .parts) (a .tree) (a .reads) (a .gram) (linksAt t a))
+  text-fits = rw text-tables (accepted-fits t (a .parts) (a .tree) (a .reads) (a .gram) (linksAt t a) (accepted-slim t a))
 
   -- in the room of document 01 the tables stand at the front, and behind them what was there
   pub text-laid : (old : List ℕ) → tablesRoom ≤ length old → laid (tablesText t) old ≡ tablesText t ++ drop (length (tablesText t)) old

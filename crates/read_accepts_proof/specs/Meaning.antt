@@ -5,8 +5,10 @@ use mathlib.Core.Option.{none}
 use mathlib.Core.Bool.{false}
 use mathlib.Core.List.{List, map}
 use Prim.Native.Nat.{ℕ}
-use lib.ListN.{replicate}
-use Rattle.base_ceilings.specs.Ceilings.{itemsMost}
+use lib.Dec.{ltb}
+use lib.ListN.{length, replicate}
+use Rattle.base_ceilings.specs.Ceilings.{itemsMost, normalMost}
+use Rattle.base_bytes.specs.Choice.{both}
 use Rattle.spec_grammar.specs.Tree.{Model}
 use Rattle.spec_grammar.specs.Grammar.{Gram}
 use Rattle.parse_code.specs.Code.{code}
@@ -20,8 +22,9 @@ use Rattle.parse_machine_proof.specs.Items.{read}
 use Rattle.rule_least.specs.Faults.{checked}
 use Rattle.rule_least.specs.declared.Fault.the-variants.{None}
 use Rattle.rule_ceilings.specs.Ceilings.{passed}
+use Rattle.normal_length.specs.Overlong.{overlong}
 use Rattle.link_items.specs.Links.{linksOf}
-use Rattle.read_passes.specs.Judging.{payload}
+use Rattle.read_passes.specs.Judging.{payload, laid, tablesText, wideRoom, front}
 
 -- a text that is right by its tokens and by the grammar, with its one tree and that tree's items
 pub record Grammatical (t : List ℕ) : Type 0 where
@@ -41,7 +44,7 @@ codesOf t g = map symbol-of (g .numbers)
 abbrev pub said : (t : List ℕ) → Grammatical t → List ℕ
 said t g = payload t (map Placed.start (g .parts)) (map Placed.end (g .parts)) (codesOf t g) (map place-of (g .numbers))
 
--- the text has tokens, they have a tree and are not too deep, and the items of that tree, in the tree's order, have no fault and pass no ceiling
+-- the text has tokens, they have a tree and are not too deep, and the items of that tree, in the tree's order, have no fault and pass no ceiling, and its normal text is not too long
 pub record Accepts (t : List ℕ) : Type 0 where
   pub parts : List Placed
   pub reads : reading t ≡ tokens parts
@@ -53,6 +56,7 @@ pub record Accepts (t : List ℕ) : Type 0 where
   pub coded : map (read (tokensIn t parts)) numbers ≡ code tree
   pub faultless : checked (map symbol-of numbers) (payload t (map Placed.start parts) (map Placed.end parts) (map symbol-of numbers) (map place-of numbers)) (map place-of numbers) ≡ None
   pub within : passed (map symbol-of numbers) (payload t (map Placed.start parts) (map Placed.end parts) (map symbol-of numbers) (map place-of numbers)) ≡ false
+  pub slim : both (ltb normalMost (length t)) (overlong (front (laid (tablesText t) (replicate wideRoom 0)))) ≡ false
 
 -- the links of an accepted text: of its items and what they say, so of its tree
 abbrev pub linksAt : (t : List ℕ) → Accepts t → List ℕ

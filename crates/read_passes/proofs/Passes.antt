@@ -8,8 +8,8 @@ use borrow.Author.Tests.{lt-ltb, le-ltb}
 use lib.Dec.{ltb}
 use lib.ListN.{length, getD, take, drop, replicate, length-append, length-map, length-drop}
 use lib.Seq.{take-at, length-take-le}
-use Rattle.base_ceilings.specs.Ceilings.{itemsMost, tokensMost}
-use Rattle.base_bytes.specs.Choice.{pick}
+use Rattle.base_ceilings.specs.Ceilings.{itemsMost, normalMost, tokensMost}
+use Rattle.base_bytes.specs.Choice.{pick, both}
 use Rattle.text_tokens.specs.Reading.{Reading, tokens, refused, reading}
 use Rattle.spec_text.specs.Placed.{Placed}
 use Rattle.text_tokens.specs.Answers.{lexing, Answered}
@@ -22,12 +22,13 @@ use Rattle.rule_least.specs.Faults.{checked}
 use Rattle.rule_least.specs.declared.Fault.{Fault}
 use Rattle.rule_least.specs.declared.Fault.the-variants.{None, At}
 use Rattle.rule_ceilings.specs.Ceilings.{passed}
+use Rattle.normal_length.specs.Overlong.{overlong}
 use Rattle.link_items.specs.Links.{linksOf}
 use Rattle.base_pens.specs.Pen.{Pen, pen, puts}
 use Rattle.table_entries.specs.Entry.{Entry}
 use Rattle.table_entries.specs.Sources.{entriesOf}
 use Rattle.table_layout.specs.Tables.{tablesOf}
-use Rattle.read_passes.specs.Judging.{payload, atToken, byRules, grammatical, byGrammar, lexical, judgeOf, laid, left, tablesFrom, tablesBy, tablesAt, tablesRead, tablesText}
+use Rattle.read_passes.specs.Judging.{payload, atToken, byRules, grammatical, byGrammar, lexical, passOf, laid, left, tablesFrom, tablesBy, tablesAt, tablesRead, tablesText, wideRoom, front, isWide, wideText, judgeOf}
 use Rattle.read_passes.specs.declared.Judged.{Judged}
 use Rattle.read_passes.specs.declared.Judged.the-variants.{Accepted, Refused}
 use Rattle.text_tokens.specs.declared.Lexed.the-variants as lexed
@@ -50,7 +51,7 @@ in-room t zk zs ze a b c = rw (a, b, c)
 
 module _ (t : List ℕ) (r : Lexed) (zk ks zs ss ze es : List ℕ) (z : Answered (lexing t zk zs ze) r zk ks zs ss ze es)
     (a : length zk ≡ tokensMost) (a′ : length ks ≡ tokensMost) (b : length zs ≡ tokensMost) (b′ : length ss ≡ tokensMost) (c : length ze ≡ tokensMost) (c′ : length es ≡ tokensMost) where
-  pub tokens-judged : (n m : ℕ) (j : Judged) → r ≡ lexed.Tokens n → m ≡ min n tokensMost → j ≡ byGrammar t (take m ks) (take m ss) (take m es) → j ≡ judgeOf t
+  pub tokens-judged : (n m : ℕ) (j : Judged) → r ≡ lexed.Tokens n → m ≡ min n tokensMost → j ≡ byGrammar t (take m ks) (take m ss) (take m es) → j ≡ passOf t
   tokens-judged n m j q h g = go (reading t) (rw (in-room t zk zs ze a b c) at z)
     where
       go : (x : Reading) → Answered x r zk ks zs ss ze es → j ≡ lexical t x
@@ -79,7 +80,7 @@ module _ (t : List ℕ) (r : Lexed) (zk ks zs ss ze es : List ℕ) (z : Answered
           ))
       go (refused x i k) y = absurd (let w = y .answer in let f : _≡_ {A = ℕ} 0 1 = cc in omega arith)
 
-  pub refused-judged : (x i n : ℕ) → r ≡ lexed.Refused x i n → Refused x i n ≡ judgeOf t
+  pub refused-judged : (x i n : ℕ) → r ≡ lexed.Refused x i n → Refused x i n ≡ passOf t
   refused-judged x i n q = go (reading t) (rw (in-room t zk zs ze a b c) at z)
     where
       go : (y : Reading) → Answered y r zk ks zs ss ze es → Refused x i n ≡ lexical t y
@@ -178,3 +179,28 @@ refused-left n ss es x k j ts old e = go (ltb k (length ss)) e
 
 pub built-laid : (es : List Entry) (ls ms old new : List ℕ) (r : ℕ) → ms ≡ ls → pen new r ≡ puts (tablesOf es ms) (pen old 0) → new ≡ laid (tablesOf es ls) old
 built-laid es ls ms old new r e p = ap (λ (w : Pen). w .list) p ∙ ap (λ (v : List ℕ). laid (tablesOf es v) old) e
+
+-- ---- the normal text
+pub let-through : (t : List ℕ) (j : Judged) (zeros tables : List ℕ) (n m : ℕ) (b : Bool) → j ≡ passOf t → j ≡ Accepted → zeros ≡ replicate wideRoom 0 → tables ≡ left j (tablesText t) zeros
+    → n ≡ getD tables 0 0 → m ≡ min n wideRoom → b ≡ overlong (take m tables) → b ≡ isWide (passOf t) (tablesText t)
+let-through t j zeros tables n m b e a z l en em eb =
+    let k : tables ≡ laid (tablesText t) (replicate wideRoom 0) = l ∙ ap (λ (x : Judged). left x (tablesText t) zeros) a ∙ ap (laid (tablesText t)) z in
+    let q : m ≡ min (getD tables 0 0) wideRoom = em ∙ ap (λ (x : ℕ). min x wideRoom) en in
+    eb ∙ ap (λ (x : ℕ). overlong (take x tables)) q ∙ ap (λ (l : List ℕ). overlong (front l)) k ∙ sym (ap (λ (x : Judged). isWide x (tablesText t)) (sym e ∙ a))
+
+pub not-let-through : (t : List ℕ) (j : Judged) (x i n : ℕ) → j ≡ passOf t → j ≡ Refused x i n → false ≡ isWide (passOf t) (tablesText t)
+not-let-through t j x i n e a = sym (ap (λ (y : Judged). isWide y (tablesText t)) (sym e ∙ a))
+
+pub short-text : (t : List ℕ) → length t ≤ normalMost → false ≡ wideText t
+unfolding wideText
+short-text t h = simp (le-ltb normalMost (length t) h)
+
+pub long-text : (t : List ℕ) (b : Bool) → normalMost < length t → b ≡ isWide (passOf t) (tablesText t) → b ≡ wideText t
+unfolding wideText
+long-text t b h e = e ∙ simp (lt-ltb normalMost (length t) h) refl
+
+pub too-wide : (t : List ℕ) (b : Bool) → b ≡ wideText t → b ≡ true → Refused 6 0 0 ≡ judgeOf t
+too-wide t b e q = simp (sym e ∙ q)
+
+pub not-wide : (t : List ℕ) (b : Bool) (j : Judged) → b ≡ wideText t → b ≡ false → j ≡ passOf t → j ≡ judgeOf t
+not-wide t b j e q f = f ∙ simp (sym e ∙ q)

@@ -1,14 +1,13 @@
 -- Mechanism, held to the specification by `read-legal`, `legal-read` (crate `legal_texts`), the tables by `tree-tables`, `tables-tree` (crate `read_accepts_proof`), `laid` by `text-laid` (same crate); `left` by no theorem.
 -- All passes of the reader in their order, and the place of each refusal: document 01, "What is answered, and what stays behind":
 -- "then length, then bytes and tokens (1, 2), then grammar with bracket and if/do depth (2, 3), then names and rules (2, 4, 5), then 6".
-use mathlib.Core.Bool.{Bool, true, false}
-use mathlib.Core.List.{List, [], _∷_, map}
-use mathlib.Core.Path.{_≡_}
-use Prim.Native.Nat.{ℕ, _+_, _-_, _≤_}
-use lib.Dec.{ltb, leb}
-use lib.ListN.{length, getD, take, drop, replicate}
-use Rattle.base_ceilings.specs.Ceilings.{itemsMost}
-use Rattle.base_bytes.specs.Choice.{pick}
+use mathlib.Core.Bool.{Bool, false}
+use mathlib.Core.List.{List, [], map}
+use Prim.Native.Nat.{ℕ, _-_, _*_, min}
+use lib.Dec.{ltb}
+use lib.ListN.{length, getD, take, replicate}
+use Rattle.base_ceilings.specs.Ceilings.{itemsMost, normalMost, tablesRoom}
+use Rattle.base_bytes.specs.Choice.{pick, both}
 use Rattle.text_tokens.specs.Reading.{Reading, tokens, refused, reading}
 use Rattle.spec_text.specs.Placed.{Placed}
 use Rattle.parse_machine_proof.specs.Machine.{symbol-of, place-of}
@@ -18,6 +17,7 @@ use Rattle.rule_least.specs.Faults.{checked}
 use Rattle.rule_least.specs.declared.Fault.{Fault}
 use Rattle.rule_least.specs.declared.Fault.the-variants.{None, At}
 use Rattle.rule_ceilings.specs.Ceilings.{passed}
+use Rattle.normal_length.specs.Overlong.{overlong}
 use Rattle.link_items.specs.Links.{linksOf}
 use Rattle.base_pens.specs.Pen.{pen, puts}
 use Rattle.table_entries.specs.Sources.{entriesOf}
@@ -56,8 +56,9 @@ abbrev pub lexical : List ℕ → Reading → Judged
 lexical t (tokens ps) = byGrammar t (map Placed.kind ps) (map Placed.start ps) (map Placed.end ps)
 lexical t (refused x i n) = Refused x i n
 
-abbrev pub judgeOf : List ℕ → Judged
-judgeOf t = lexical t (reading t)
+-- what all passes say
+abbrev pub passOf : List ℕ → Judged
+passOf t = lexical t (reading t)
 
 -- ---- the tables that are built of a text that is accepted, and what they leave in a lent list
 unfoldable pub tablesFrom : List ℕ → List ℕ → List ℕ → List ℕ → List ℕ → List ℕ
@@ -85,3 +86,22 @@ laid ts old = puts ts (pen old 0) .list
 abbrev pub left : Judged → List ℕ → List ℕ → List ℕ
 left Accepted ts old = laid ts old
 left (Refused x i n) ts old = old
+
+-- ---- "one whose normal text exceeds 8,192 is refused with 6" (request One): asked of a text that all passes let through, and only if it is itself longer, as none is shorter than its normal text
+-- room for the tables of any text of the grammar
+abbrev pub wideRoom : ℕ
+wideRoom = 2 * tablesRoom
+
+-- the tables that stand at the front of a list: their first number says how many there are
+abbrev pub front : List ℕ → List ℕ
+front l = take (min (getD l 0 0) wideRoom) l
+
+abbrev pub isWide : Judged → List ℕ → Bool
+isWide Accepted ts = overlong (front (laid ts (replicate wideRoom 0)))
+isWide (Refused x i n) ts = false
+
+unfoldable pub wideText : List ℕ → Bool
+wideText t = both (ltb normalMost (length t)) (isWide (passOf t) (tablesText t))
+
+abbrev pub judgeOf : List ℕ → Judged
+judgeOf t = pick (wideText t) (Refused 6 0 0) (passOf t)

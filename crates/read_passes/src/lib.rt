@@ -5,7 +5,7 @@ ghost use Rattle.base_ceilings.specs.Ceilings.{itemsMost};
 ghost use Rattle.link_items.specs.Links.{linksOf};
 ghost use Rattle.table_entries.specs.Sources.{entriesOf};
 ghost use Rattle.table_layout.specs.Tables.{tablesOf};
-ghost use Rattle.read_passes.specs.Judging.{atToken, byRules, byGrammar, judgeOf, laid, left, tablesFrom, tablesAt, tablesText};
+ghost use Rattle.read_passes.specs.Judging.{atToken, byRules, byGrammar, passOf, isWide, wideText, judgeOf, laid, left, tablesFrom, tablesAt, tablesText};
 use parse_items::Parsed;
 use rule_least::Fault;
 use text_tokens::Lexed;
@@ -15,6 +15,9 @@ pub enum Judged {
     Accepted,
     Refused(u8, usize, usize),
 }
+
+// Room for the tables of any text of the grammar, whatever names and strings it holds.
+const WIDE_ROOM: usize = 2 * base_ceilings::TABLES_ROOM;
 
 // A refusal at a token, or at the end of a text of n bytes.
 fn at_token(n: usize, starts: &[u32], ends: &[u32], x: u8, k: usize) -> Judged
@@ -90,9 +93,9 @@ fn by_grammar(text: &[u8], kinds: &[u8], starts: &[u32], ends: &[u32], out: &mut
     }
 }
 
-// Every pass in its order; the tables of an accepted text at the front of out, as far as it reaches.
-pub fn pass(text: &[u8], out: &mut [u32]) -> Judged
-    ensures { λ r. ⌜ r ≡ judgeOf (now (text .entry)) ⌝ }
+// Every pass in its order; the tables of a text that all let through at the front of out, as far as it reaches.
+fn through(text: &[u8], out: &mut [u32]) -> Judged
+    ensures { λ r. ⌜ r ≡ passOf (now (text .entry)) ⌝ }
     ensures { λ r. ⌜ now (out .exit) ≡ left r (tablesText (now (text .entry))) (now (out .entry)) ⌝ }
 {
     let mut kinds = [0u8; base_ceilings::TOKENS_MOST];
@@ -106,4 +109,40 @@ pub fn pass(text: &[u8], out: &mut [u32]) -> Judged
         }
         Lexed::Refused(x, i, n) => Judged::Refused(x, i, n),
     }
+}
+
+// Is the normal text of a text that all passes let through too long?
+fn writes_wide(text: &[u8]) -> bool
+    ensures { λ r. ⌜ r ≡ isWide (passOf (now (text .entry))) (tablesText (now (text .entry))) ⌝ }
+{
+    let mut tables = [0u32; WIDE_ROOM];
+    let j = through(text, &mut tables);
+    match j {
+        Judged::Accepted => {
+            let n = base_bytes::least(table_layout::length_of(&tables), WIDE_ROOM);
+            normal_length::is_overlong(&tables[..n])
+        }
+        Judged::Refused(_, _, _) => false,
+    }
+}
+
+// The same; no text is shorter than its normal text, so only a longer one is read to find out.
+fn is_wide(text: &[u8]) -> bool
+    ensures { λ r. ⌜ r ≡ wideText (now (text .entry)) ⌝ }
+{
+    if text.len() <= base_ceilings::NORMAL_MOST {
+        return false;
+    }
+    writes_wide(text)
+}
+
+// Is this a model? Every pass in its order, and then the length of its normal text; the tables of an accepted text at the front of out, as far as it reaches.
+pub fn pass(text: &[u8], out: &mut [u32]) -> Judged
+    ensures { λ r. ⌜ r ≡ judgeOf (now (text .entry)) ⌝ }
+    ensures { λ r. ⌜ now (out .exit) ≡ left r (tablesText (now (text .entry))) (now (out .entry)) ⌝ }
+{
+    if is_wide(text) {
+        return Judged::Refused(6, 0, 0);
+    }
+    through(text, out)
 }

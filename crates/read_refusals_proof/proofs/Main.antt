@@ -10,7 +10,8 @@ use borrow.Author.Tests.{lt-ltb, le-ltb}
 use lib.Dec.{ltb}
 use lib.ListN.{length, getD, take, length-map}
 use Rattle.base_ceilings.specs.Ceilings.{itemsMost, tablesRoom}
-use Rattle.base_bytes.specs.Choice.{pick}
+use Rattle.base_bytes.proofs.Tests.{left-holds, right-holds}
+use Rattle.base_bytes.specs.Choice.{pick, either}
 use Rattle.parse_machine_proof.proofs.Never.{lt-or-ge}
 use Rattle.text_tokens.specs.Reading.{Reading, tokens, refused, reading}
 use Rattle.spec_text.specs.Placed.{Placed}
@@ -30,12 +31,13 @@ use Rattle.rule_least.specs.Faults.{checked}
 use Rattle.rule_least.specs.declared.Fault.{Fault}
 use Rattle.rule_least.specs.declared.Fault.the-variants.{None, At}
 use Rattle.rule_ceilings.specs.Ceilings.{passed}
-use Rattle.read_passes.specs.declared.Judged.the-variants.{Refused}
-use Rattle.read_passes.specs.Judging.{atToken, ruled, byRules, grammatical, byGrammar, lexical, judgeOf}
-use Rattle.read_accepts_proof.proofs.Main.{kinds-are, all-proper, short as few}
+use Rattle.read_passes.specs.declared.Judged.{Judged}
+use Rattle.read_passes.specs.declared.Judged.the-variants.{Accepted, Refused}
+use Rattle.read_passes.specs.Judging.{atToken, ruled, byRules, grammatical, byGrammar, lexical, passOf, judgeOf}
+use Rattle.read_accepts_proof.proofs.Main.{kinds-are, all-proper, short as few, pass-means, means-pass, refused-stays, let-through}
 use Rattle.read_entry.specs.Entries.{readOf}
 use Rattle.spec_refusals.specs.Texts.{startAt, sizeAt}
-use Rattle.read_refusals_proof.specs.Rows.{Row, short, bytes, deep, stop, fault, ceiling}
+use Rattle.read_refusals_proof.specs.Rows.{wideAt, Row, short, bytes, deep, stop, fault, ceiling}
 use Rattle.read_refusals_proof.proofs.Numbers.{grammar-number}
 use Rattle.read_accepts_proof.specs.Meaning.{Grammatical, said}
 
@@ -66,7 +68,7 @@ module _ (t old : List ℕ) (x i n : ℕ) (enough : tablesRoom ≤ length old) w
       let q = inv (at-token t (g .parts) y k) ∙ e in
       let z : checked (map symbol-of (g .numbers)) (said t g) (map place-of (g .numbers)) ≡ At x k = rw (number-of q) c in
       fault g k enough z (place-is q) (length-is q)
-  by-rules g None true c p e = ceiling g enough c p (number-of e) (place-is e) (length-is e)
+  by-rules g None true c p e = ceiling g enough c (left-holds (passed (map symbol-of (g .numbers)) (said t g)) (wideAt t) p) (number-of e) (place-is e) (length-is e)
   by-rules g None false c p e = absurd (let z : _≡_ {A = ℕ} 0 1 = cc in omega arith)
 
   module _ (ps : List Placed) (e : reading t ≡ tokens ps) where
@@ -94,13 +96,22 @@ module _ (t old : List ℕ) (x i n : ℕ) (enough : tablesRoom ≤ length old) w
       let z : reading t ≡ refused x i n = rw (number-of q, place-is q, length-is q) e in
       bytes enough z
 
+  -- let through by all passes, and refused for its normal text
+  by-length : passOf t ≡ Accepted → (b : Bool) → wideAt t ≡ b → pick b (Refused 6 0 0) Accepted ≡ Refused x i n → Row t old x i n
+  by-length q true w e = let (g, f, o) = pass-means t q in ceiling g enough f (right-holds (passed (map symbol-of (g .numbers)) (said t g)) (wideAt t) w) (number-of e) (place-is e) (length-is e)
+  by-length q false w e = absurd (let z : _≡_ {A = ℕ} 0 1 = cc in omega arith)
+
+  by-passes : (j : Judged) → passOf t ≡ j → judgeOf t ≡ Refused x i n → Row t old x i n
+  by-passes Accepted q e = by-length q (wideAt t) refl (inv (let-through t q) ∙ e)
+  by-passes (Refused y k m) q e = by-bytes (reading t) refl (q ∙ inv (refused-stays t y k m q) ∙ e)
+
 pub answer-row : (t old : List ℕ) (x i n : ℕ) → readOf t old ≡ Refused x i n → Row t old x i n
 unfolding readOf
 answer-row t old x i n e = go (lt-or-ge (length old) tablesRoom)
   where
     go : (length old < tablesRoom) ⊎ (tablesRoom ≤ length old) → Row t old x i n
     go (inl h) = let q : Refused 7 0 0 ≡ Refused x i n = simp (lt-ltb (length old) tablesRoom h) at e in short h (number-of q) (place-is q) (length-is q)
-    go (inr h) = by-bytes t old x i n h (reading t) refl (simp (le-ltb (length old) tablesRoom h) at e)
+    go (inr h) = by-passes t old x i n h (passOf t) refl (simp (le-ltb (length old) tablesRoom h) at e)
 
 -- ---- the row, and its answer
 later-some : (d : Option ℕ) (k : ℕ) → one-later d ≡ some k → (j : ℕ) × (d ≡ some j) × (k ≡ suc j)
@@ -193,14 +204,24 @@ module _ (t old : List ℕ) (x i n : ℕ) (enough : tablesRoom ≤ length old) w
             let s = stops-same j k (v .place) (w .place) in
             at-token t ps y j ∙ rw (three, s .0, s .1)
 
+  passed-row : (g : Grammatical t) → checked (map symbol-of (g .numbers)) (said t g) (map place-of (g .numbers)) ≡ None → passed (map symbol-of (g .numbers)) (said t g) ≡ true → passOf t ≡ Refused 6 0 0
+  unfolding byGrammar byRules
+  passed-row g f p = ap (lexical t) (g .reads) ∙ rw (g .written, f, p)
+
+  -- the ceilings of the items first, then that of the normal text
+  over-row : (g : Grammatical t) → checked (map symbol-of (g .numbers)) (said t g) (map place-of (g .numbers)) ≡ None → (b : Bool) → passed (map symbol-of (g .numbers)) (said t g) ≡ b
+      → either b (wideAt t) ≡ true → judgeOf t ≡ Refused 6 0 0
+  over-row g f true p o = refused-stays t 6 0 0 (passed-row g f p)
+  over-row g f false p o = let-through t (means-pass t (g, f, p)) ∙ ap (λ (b : Bool). pick b (Refused 6 0 0) Accepted) o
+
   judged-row : Row t old x i n → judgeOf t ≡ Refused x i n
   unfolding byGrammar byRules
   judged-row (short h a b c) = absurd (omega arith)
-  judged-row (bytes h e) = rw e
-  judged-row (deep ps k h e w a b c) = ap (lexical t) e ∙ deep-answer ps e k w (parsed (map Placed.kind ps) itemsMost) refl ∙ rw (a, b, c)
-  judged-row (stop ps k h e w a b c) = ap (lexical t) e ∙ stop-answer ps e k w (parsed (map Placed.kind ps) itemsMost) refl ∙ rw (a, b, c)
-  judged-row (fault g k h f b c) = ap (lexical t) (g .reads) ∙ rw (g .written, f, b, c) (at-token t (g .parts) x k)
-  judged-row (ceiling g h f p a b c) = ap (lexical t) (g .reads) ∙ rw (g .written, f, p, a, b, c)
+  judged-row (bytes h e) = refused-stays t x i n (rw e)
+  judged-row (deep ps k h e w a b c) = refused-stays t x i n (ap (lexical t) e ∙ deep-answer ps e k w (parsed (map Placed.kind ps) itemsMost) refl ∙ rw (a, b, c))
+  judged-row (stop ps k h e w a b c) = refused-stays t x i n (ap (lexical t) e ∙ stop-answer ps e k w (parsed (map Placed.kind ps) itemsMost) refl ∙ rw (a, b, c))
+  judged-row (fault g k h f b c) = refused-stays t x i n (ap (lexical t) (g .reads) ∙ rw (g .written, f, b, c) (at-token t (g .parts) x k))
+  judged-row (ceiling g h f p a b c) = over-row g f (passed (map symbol-of (g .numbers)) (said t g)) refl p ∙ rw (a, b, c)
 
 pub row-answer : (t old : List ℕ) (x i n : ℕ) → Row t old x i n → readOf t old ≡ Refused x i n
 unfolding readOf

@@ -2,11 +2,12 @@
 -- The rows of document 01's table "What is answered, and what stays behind" that a reader can give, each with what it stands for, its place, and the passes that came before it:
 -- "7 first .., then length, then bytes and tokens (1, 2), then grammar with bracket and if/do depth (2, 3), then names and rules (2, 4, 5), then 6".
 use mathlib.Core.Path.{_≡_}
-use mathlib.Core.Bool.{true}
+use mathlib.Core.Bool.{Bool, true}
 use mathlib.Core.List.{List, map}
 use Prim.Native.Nat.{ℕ, _≤_, _<_}
-use lib.ListN.{length}
-use Rattle.base_ceilings.specs.Ceilings.{tablesRoom}
+use lib.Dec.{ltb}
+use lib.ListN.{length, replicate}
+use Rattle.base_ceilings.specs.Ceilings.{normalMost, tablesRoom}
 use Rattle.text_tokens.specs.Reading.{tokens, refused, reading}
 use Rattle.spec_text.specs.Placed.{Placed}
 use Rattle.spec_text.specs.Writing.{tokensIn}
@@ -15,8 +16,19 @@ use Rattle.parse_machine_proof.specs.Machine.{symbol-of, place-of}
 use Rattle.rule_least.specs.Faults.{checked}
 use Rattle.rule_least.specs.declared.Fault.the-variants.{None, At}
 use Rattle.rule_ceilings.specs.Ceilings.{passed}
+use Rattle.base_bytes.specs.Choice.{both, either}
+use Rattle.read_passes.specs.Judging.{laid, tablesText, wideRoom, front}
+use Rattle.normal_length.specs.Overlong.{overlong}
 use Rattle.spec_refusals.specs.Texts.{startAt, sizeAt}
 use Rattle.read_accepts_proof.specs.Meaning.{Grammatical, said}
+
+-- the normal text of a text that all passes let through is too long (request One)
+abbrev pub wideAt : List ℕ → Bool
+wideAt t = both (ltb normalMost (length t)) (overlong (front (laid (tablesText t) (replicate wideRoom 0))))
+
+-- a ceiling is passed that is judged last: one of the items, or that of the normal text
+abbrev pub overAt : (t : List ℕ) → Grammatical t → Bool
+overAt t g = either (passed (map symbol-of (g .numbers)) (said t g)) (wideAt t)
 
 -- a text and the tables that were lent are refused with number x, at place i, length n
 pub data Row (t old : List ℕ) (x i n : ℕ) : Type 0 where
@@ -33,4 +45,4 @@ pub data Row (t old : List ℕ) (x i n : ℕ) : Type 0 where
       → i ≡ startAt t (g .parts) k → n ≡ sizeAt t (g .parts) k → Row t old x i n
   -- 6 "any other ceiling passed, or no process starts": 0
   ceiling : (g : Grammatical t) → tablesRoom ≤ length old → checked (map symbol-of (g .numbers)) (said t g) (map place-of (g .numbers)) ≡ None
-      → passed (map symbol-of (g .numbers)) (said t g) ≡ true → x ≡ 6 → i ≡ 0 → n ≡ 0 → Row t old x i n
+      → overAt t g ≡ true → x ≡ 6 → i ≡ 0 → n ≡ 0 → Row t old x i n

@@ -15,7 +15,7 @@ use Rattle.base_bytes.specs.Choice.{pick}
 use Rattle.base_bytes.specs.Lists.{piece}
 use Rattle.base_kinds.specs.Kinds.{bytes}
 use Rattle.base_pens.specs.Pen.{Pen, write, puts}
-use Rattle.base_pens.proofs.Pen.{puts-append}
+use Rattle.base_pens.proofs.Pen.{puts-append, then-puts, one-put}
 use Rattle.spec_text.specs.Formats.{digitsOf}
 use Rattle.text_tokens.specs.Lines.{position, behind, positionOf}
 use Rattle.text_tokens.specs.declared.Position.{Position}
@@ -116,21 +116,6 @@ pub located-is : (l : List ℕ) → positionOf l (length l) ≡ position (ends l
 located-is l = let q : 1 + ends l ≡ ends l + 1 = omega arith in ap (behind 1 1) (take-length l) ∙ counted 1 [] l ∙ ap (λ k. position k (length (lastLine [] l) + 1)) q
 
 -- ---- one pen behind the other
-pub then-puts : (a b : List ℕ) (w x y : Pen) → x ≡ puts a w → y ≡ puts b x → y ≡ puts (a ++ b) w
-then-puts a b w x y e f = f ∙ ap (puts b) e ∙ sym (puts-append a b w)
-
-pub one-put : (b : ℕ) (w x : Pen) → x ≡ write b w → x ≡ puts (b ∷ []) w
-unfolding puts
-one-put b w x e = e
-
-pub times-more : (n k mark : ℕ) (w x : Pen) → k < n → x ≡ write mark w → puts (replicate (n - (k + 1)) mark) x ≡ puts (replicate (n - k) mark) w
-unfolding puts
-times-more n k mark w x h e = let q : n - k ≡ suc (n - (k + 1)) = omega arith in rw q (ap (puts (replicate (n - (k + 1)) mark)) e)
-
-pub times-end : (n k mark : ℕ) (w : Pen) → n ≤ k → puts (replicate (n - k) mark) w ≡ w
-unfolding puts
-times-end n k mark w h = let q : n - k ≡ 0 = omega arith in rw q refl
-
 pub under-more : (s : List ℕ) (k mark n : ℕ) (w x : Pen) → k < length s → n ≡ length (visible (getD s k 0)) → x ≡ puts (replicate n mark) w → puts (under mark (drop (k + 1) s)) x ≡ puts (under mark (drop k s)) w
 unfolding eachVisible
 under-more s k mark n w x h e g =

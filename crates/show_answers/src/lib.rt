@@ -2,7 +2,7 @@
 ghost use Prim.Native.Nat.{_≤_, _-_, min};
 ghost use mathlib.Core.Path.{_≡_};
 ghost use mathlib.Core.List.{[], _∷_, _++_};
-ghost use lib.ListN.{length, getD, replicate};
+ghost use lib.ListN.{length, getD};
 ghost use lib.Dec.{eqb};
 ghost use Rattle.base_bytes.specs.Choice.{pick};
 ghost use Rattle.base_pens.specs.Pen.{pen, puts};
@@ -16,8 +16,8 @@ use base_bytes::part;
 use show_words::put_count;
 use text_pens::put_all;
 
-// The most bytes of what is handed on at once.
-const HANDED_MOST: usize = 8 * base_ceilings::TEXT_MOST + 2048;
+// The most bytes of what is handed on at once: no normal text takes more where it is shown; a longer line of a text is not shown.
+const HANDED_MOST: usize = 8 * base_ceilings::NORMAL_MOST + 2048;
 
 // The most bytes of an error: a name has at most 4,096, which take four each where they cannot be shown.
 const ERROR_ROOM: usize = 16384 + 64;
@@ -117,19 +117,6 @@ fn last_line(s: &[u8]) -> &[u8]
     part(s, line_start(s), s.len())
 }
 
-// Writes a mark n times.
-fn put_times(mark: u8, n: usize, out: &mut [u8], p: usize) -> usize
-    ensures { λ r. ⌜ pen (now (out .exit)) r ≡ puts (replicate n mark) (pen (now (out .entry)) p) ⌝ }
-{
-    let mut q = p;
-    let mut k: usize = 0;
-    while k < n {
-        q = text_pens::put(out, q, mark);
-        k += 1;
-    }
-    q
-}
-
 // Writes as many of a mark as the bytes of s take when they are shown.
 fn put_under(s: &[u8], mark: u8, out: &mut [u8], p: usize) -> usize
     ensures { λ r. ⌜ pen (now (out .exit)) r ≡ puts (shown.under mark (now (s .entry))) (pen (now (out .entry)) p) ⌝ }
@@ -137,7 +124,7 @@ fn put_under(s: &[u8], mark: u8, out: &mut [u8], p: usize) -> usize
     let mut q = p;
     let mut k: usize = 0;
     while k < s.len() {
-        q = put_times(mark, show_printed::width(s[k]), out, q);
+        q = text_pens::put_times(mark, show_printed::width(s[k]), out, q);
         k += 1;
     }
     q

@@ -15,7 +15,7 @@ use Rattle.base_bytes.specs.Choice.{pick}
 use Rattle.base_kinds.specs.Kinds.{bytes}
 use Rattle.base_codes.specs.Codes.{c-decrement, c-end, c-increment, c-index, c-receive, c-run, c-send, c-set-run, c-target}
 use Rattle.base_pens.specs.Pen.{Pen, write, puts}
-use Rattle.base_pens.proofs.Pen.{puts-append}
+use Rattle.base_pens.proofs.Pen.{puts-append, none-put}
 use Rattle.base_values.specs.declared.Fault.{Fault}
 use Rattle.spec_text.specs.Formats.{digitsOf, decimalOf}
 use Rattle.table_layout.specs.Access.{codeOf, linkOf}
@@ -34,10 +34,6 @@ use Rattle.show_words.specs.Words.{messageIn}
 use Rattle.show_deeds.specs.Deeds.{indexIn, storeIn, passedIn, startedIn, storedIn, assignedIn, sentIn, targetIn, targetsIn, receivedIn, doneBy, deedsIn}
 
 -- ---- one word after the other
-pub none-put : (w : Pen) → w ≡ puts [] w
-unfolding puts
-none-put w = refl
-
 one : (b : ℕ) (w : Pen) → write b w ≡ puts (b ∷ []) w
 unfolding puts
 one b w = refl

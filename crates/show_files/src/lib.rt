@@ -70,6 +70,9 @@ fn is_plain(command: &[u8]) -> bool {
     if base_bytes::same(command, b"normal") {
         return true;
     }
+    if base_bytes::same(command, b"layout") {
+        return true;
+    }
     base_bytes::same(command, b"start")
 }
 

@@ -61,7 +61,7 @@ fn put_large(named: &[u8], out: &mut [u8], p: usize) -> usize {
 
 fn put_long(named: &[u8], out: &mut [u8], p: usize) -> usize {
     if named.len() == 0 {
-        return put_all(b"the text has more than 8192 bytes", out, p);
+        return put_all(b"the text has more than 65536 bytes", out, p);
     }
     let a = put_quoted(named, out, p);
     if base_ceilings::WORD_MOST < named.len() {
@@ -282,7 +282,10 @@ fn put_ceiling_of_processes(codes: &[u8], args: &[u32], out: &mut [u8], p: usize
     if base_ceilings::PROCESSES_MOST < rule_ceilings::amount(codes, args, 4) {
         return put_all(b"more than 16 processes start", out, p);
     }
-    put_all(b"more than 16 channels are made at the start", out, p)
+    if base_ceilings::CHANNELS_MOST < rule_ceilings::amount(codes, args, 5) {
+        return put_all(b"more than 16 channels are made at the start", out, p);
+    }
+    put_all(b"the normal text has more than 8192 bytes", out, p)
 }
 
 // Names, rules and ceilings of a text whose grammar is right.

@@ -13,7 +13,7 @@ use borrow.Author.Tests.{eq-eqb, ne-eqb}
 use Rattle.base_bytes.specs.Choice.{pick}
 use Rattle.base_kinds.specs.Kinds.{bytes}
 use Rattle.base_pens.specs.Pen.{Pen, write, puts}
-use Rattle.base_pens.proofs.Pen.{puts-append}
+use Rattle.base_pens.proofs.Pen.{puts-append, then-puts}
 use Rattle.spec_account.specs.Bytes.{eachVisible}
 use Rattle.spec_account.specs.Steps.{printedText}
 use Rattle.spec_machine.specs.Machine.{Step}
@@ -27,17 +27,6 @@ use Rattle.show_statement.specs.Statements.{statementIn}
 use Rattle.base_outcome.specs.declared.Taken.{Taken}
 use Rattle.state_layout.specs.Layout.{cellOf}
 use Rattle.show_steps.specs.Steps.{rowIn, stepIn, outcomeIn, printedIn, takenIn, otherIn, othersIn, anyOf, noneBy, standingIn}
-
-pub then-puts : (a b : List ℕ) (w x y : Pen) → x ≡ puts a w → y ≡ puts b x → y ≡ puts (a ++ b) w
-then-puts a b w x y e f = f ∙ ap (puts b) e ∙ sym (puts-append a b w)
-
-pub one-put : (b : ℕ) (w x : Pen) → x ≡ write b w → x ≡ puts (b ∷ []) w
-unfolding puts
-one-put b w x e = e
-
-pub none-put : (w : Pen) → w ≡ puts [] w
-unfolding puts
-none-put w = refl
 
 -- pens with what is written regrouped
 pub puts-same : (a b : List ℕ) (w x : Pen) → x ≡ puts a w → a ≡ b → x ≡ puts b w

@@ -5,13 +5,14 @@ use Prim.Native.Nat.{ℕ}
 use mathlib.Core.Bool.{true, false}
 use mathlib.Core.List.{List, [], _∷_}
 use lib.ListN.{replicate}
-use Rattle.base_ceilings.specs.Ceilings.{normalMost, tablesRoom}
+use Rattle.base_ceilings.specs.Ceilings.{normalMost, tablesRoom, textMost}
 use Rattle.base_bytes.specs.Choice.{pick}
 use Rattle.base_bytes.specs.Lists.{same}
 use Rattle.read_passes.specs.declared.Judged.{Judged}
 use Rattle.read_passes.specs.declared.Judged.the-variants as judged
 use Rattle.read_entry.specs.Entries.{readOf, leftOf}
 use Rattle.normal_entry.specs.Entries.{answerOf}
+use Rattle.layout_entry.specs.Entries as laying
 use Rattle.normal_entry.specs.declared.Written.{Written}
 use Rattle.normal_entry.specs.declared.Written.the-variants as written
 use Rattle.show_statuses.specs.declared.Answer.the-variants as answer
@@ -25,12 +26,18 @@ writtenStatus (written.Refused x i n) = statusOf answer.Refused
 unfoldable pub normalStatus : List ℕ → ℕ
 normalStatus text = writtenStatus (answerOf text (replicate normalMost 0))
 
+unfoldable pub layoutStatus : List ℕ → ℕ
+layoutStatus text = writtenStatus (laying.answerOf text (replicate textMost 0))
+
 -- the commands' words
 abbrev pub w-read : List ℕ
 w-read = 114 ∷ 101 ∷ 97 ∷ 100 ∷ []
 
 abbrev pub w-normal : List ℕ
 w-normal = 110 ∷ 111 ∷ 114 ∷ 109 ∷ 97 ∷ 108 ∷ []
+
+abbrev pub w-layout : List ℕ
+w-layout = 108 ∷ 97 ∷ 121 ∷ 111 ∷ 117 ∷ 116 ∷ []
 
 abbrev pub w-start : List ℕ
 w-start = 115 ∷ 116 ∷ 97 ∷ 114 ∷ 116 ∷ []
@@ -64,4 +71,6 @@ judgedStatus (judged.Refused x i n) y = modelStatus false y
 
 unfoldable pub textStatus : List ℕ → List ℕ → List ℕ → ℕ → ℕ
 textStatus command text trail limit =
-    pick (same command w-normal) (normalStatus text) (judgedStatus (readOf text (replicate tablesRoom 0)) (commandStatus command (leftOf text (replicate tablesRoom 0)) trail limit))
+    pick (same command w-normal) (normalStatus text)
+    (pick (same command w-layout) (layoutStatus text)
+    (judgedStatus (readOf text (replicate tablesRoom 0)) (commandStatus command (leftOf text (replicate tablesRoom 0)) trail limit)))

@@ -9,7 +9,7 @@ use show_statuses::Answer;
 use show_statuses::status;
 
 // The most bytes of what is shown of a refused text, and of an answer.
-const REFUSAL_ROOM: usize = 8 * base_ceilings::TEXT_MOST + 2048;
+const REFUSAL_ROOM: usize = 8 * base_ceilings::NORMAL_MOST + 2048;
 
 const ANSWER_ROOM: usize = 64;
 
@@ -24,11 +24,12 @@ fn put_place(text: &[u8], x: u8, place: usize, len: usize, out: &mut [u8]) -> us
     show_answers::put_refused(text, place, len, out, 0)
 }
 
-// Shows where the part stands for which a model is refused, and in a sentence what was found.
+// Shows where the part stands for which a model is refused, and in a sentence what was found, which is shown even where the part's line is too long for it.
 fn explain(text: &[u8], x: u8, place: usize, len: usize) {
     let mut out = [0u8; REFUSAL_ROOM];
     let a = put_place(text, x, place, len, &mut out);
-    let b = show_sentences::put_sentence(text, place, len, &mut out, a);
+    show_answers::hand_on(&out, a);
+    let b = show_sentences::put_sentence(text, place, len, &mut out, 0);
     show_answers::hand_on(&out, b);
 }
 
@@ -58,6 +59,24 @@ fn show_normal(text: &[u8]) -> u8
         Written::Text(n) => {
             put(part(&out, 0, n));
             put(b"\n");
+            status(Answer::Text)
+        }
+        Written::Refused(x, place, len) => {
+            refuse(text, x, place, len);
+            status(Answer::Refused)
+        }
+    }
+}
+
+// `layout MODEL`: its bytes and no others, since each of its lines has its end
+fn show_layout(text: &[u8]) -> u8
+    ensures { λ r. ⌜ r ≡ statuses.layoutStatus (now (text .entry)) ⌝ }
+{
+    let mut out = [0u8; base_ceilings::TEXT_MOST];
+    let w = layout_entry::layout(text, &mut out);
+    match w {
+        Written::Text(n) => {
+            put(part(&out, 0, n));
             status(Answer::Text)
         }
         Written::Refused(x, place, len) => {
@@ -99,6 +118,9 @@ pub fn perform_text(command: &[u8], text: &[u8], trail: &[u8], limit: u32) -> u8
 {
     if base_bytes::same(command, b"normal") {
         return show_normal(text);
+    }
+    if base_bytes::same(command, b"layout") {
+        return show_layout(text);
     }
     let mut tables = [0u32; base_ceilings::TABLES_ROOM];
     let j = read_entry::read(text, &mut tables);

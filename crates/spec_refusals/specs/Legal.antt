@@ -1,15 +1,18 @@
 -- WHICH TEXTS ARE MODELS, said of texts and trees alone: document 01, "What is answered", all rows that refuse a text turned round. It is laid out in tokens within their ceilings, they have a tree
--- and do not nest too deep, and that tree is lawful and modest.
+-- and do not nest too deep, that tree is lawful and modest, and its normal text is not too long (request One).
 use mathlib.Core.Path.{_≡_}
 use mathlib.Core.Option.{none}
 use mathlib.Core.Bool.{true}
 use mathlib.Core.List.{List}
-use Prim.Native.Nat.{ℕ}
+use Prim.Native.Nat.{ℕ, _≤_}
+use lib.ListN.{length}
+use Rattle.base_ceilings.specs.Ceilings.{normalMost}
 use Rattle.spec_text.specs.Placed.{Placed}
 use Rattle.spec_text.specs.Writing.{tokensIn}
 use Rattle.spec_grammar.specs.Tree.{Model}
 use Rattle.spec_grammar.specs.Grammar.{Gram}
 use Rattle.spec_grammar.specs.Depth.{too-deep}
+use Rattle.spec_normal.specs.Normal.{normal}
 use Rattle.spec_rules.specs.Units.{modelLawful}
 use Rattle.spec_rules.specs.Ceilings as ceilings
 use Rattle.spec_refusals.specs.Texts.{Tokens}
@@ -22,3 +25,4 @@ pub record Legal (t : List ℕ) : Type 0 where
   pub shallow : too-deep (tokensIn t parts) ≡ none
   pub lawful : modelLawful tree ≡ true
   pub modest : ceilings.modest tree ≡ true
+  pub slim : length (normal tree) ≤ normalMost

@@ -1,4 +1,4 @@
--- A text as tokens within the ceilings, and where they stand: document 01, "Text 8,192 bytes; tokens 2,048" and the column "Place" of "What is answered".
+-- A text as tokens within the ceilings, and where they stand: request One, "texts up to 65,536 bytes", document 01, "tokens 2,048" and the column "Place" of "What is answered".
 use Prim.Native.Nat.{ℕ, _-_, _≤_}
 use mathlib.Core.List.{List, map}
 use lib.Dec.{ltb}

@@ -125,9 +125,9 @@ string-65 = at-start (omega arith) (long-string [] (letters 65) (omega arith))
 unclosed-65 : Spoils (quote ∷ replicate 65 97) 1 0 66
 unclosed-65 = at-start (omega arith) (unclosed-string (letters 65))
 
--- ## "0 for the length of text": 8,193 blanks
-text-8193 : Spoils (replicate 8193 32) 2 0 0
-text-8193 = too-long (omega (arith, length-replicate {A = ℕ} 8193 32))
+-- ## "0 for the length of text": 65,537 blanks
+text-65537 : Spoils (replicate 65537 32) 2 0 0
+text-65537 = too-long (omega (arith, length-replicate {A = ℕ} 65537 32))
 
 -- ## "token .. ceiling passed", where one token may come: 2 at the second, and 1 where what stands there is none
 second-token : Breaks 1 0 (bytes "a b") 2 2 1

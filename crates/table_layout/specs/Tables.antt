@@ -2,7 +2,7 @@
 -- The tables of a model: numbers that hold exactly what its tree holds (document 01, "Ceilings").
 --   [0] how many numbers the tables have; [1] N, how many items; [2] K, how many of them are numbers; [3] P, how many words the pool has
 --   N words, one for each item: its code + 256 * its argument, where the argument is for a name (70) or a string (72) the length of its bytes + 128 * their offset
---     in the pool of bytes (at most 16,383), for a number (71) its index among the numbers, else 0
+--     in the pool of bytes (at most 131,071), for a number (71) its index among the numbers, else 0
 --   N links, one for each item; what a link means is said elsewhere
 --   K values, those of the numbers in order
 --   P words, the pool: the bytes of all names and strings (strings without their quotes) in order, no spelling shared, four to a word, lowest first, zeros at the end

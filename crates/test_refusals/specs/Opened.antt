@@ -49,6 +49,7 @@ unfolding
     faults.placeBy faults.sooner faults.joined faults.leastFrom faults.leastOf faults.checked
     ceilings.numbersAt ceilings.numbers ceilings.startsAt ceilings.makesAt ceilings.wideAt ceilings.heavyAt ceilings.one ceilings.weight ceilings.total ceilings.anyPassed
     ceilings.passed
+    judging.wideText
     judging.atToken judging.byRules judging.byGrammar
 reads = tt
 

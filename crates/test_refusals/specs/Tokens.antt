@@ -22,8 +22,8 @@ tokens-refused :
     (bytes "init{printf(\"" ++ replicate 65 97, Refused 1 12 66) ∷
     -- number 2,147,483,647
     (bytes "int x=2147483647;init{skip}", Accepted) ∷ (bytes "int x=2147483648;init{skip}", Refused 2 6 10) ∷
-    -- text 8,192 bytes
-    (replicate 8193 32, Refused 2 0 0) ∷
+    -- text 65,536 bytes
+    (replicate 65537 32, Refused 2 0 0) ∷
     -- tokens 2,048: the next is refused, although none of them can begin a text
     (replicate 2049 59, Refused 2 2048 1) ∷ [])
 unfolding reads

@@ -73,6 +73,7 @@ unfolding
     pens.four pens.packed
     tablesAccess.codeOf tablesTables.argument tablesTables.itemWord tablesTables.one tablesTables.itemWords tablesTables.linked tablesTables.numbers tablesTables.pool
     tablesTables.tablesOf
+    judging.wideText
     judging.byRules judging.byGrammar judging.tablesFrom judging.tablesAt
     reader.readOf
 reads = tt

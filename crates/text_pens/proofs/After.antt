@@ -9,7 +9,7 @@ use Rattle.spec_text.specs.Spelled.{joins}
 use Rattle.spec_text.specs.Writing.{spell, apart, writeBehind, write}
 use Rattle.text_pens.specs.After.{joinsBy, writeAfter}
 
-kind-decides : (a : Token) (c : ℕ) → joins (kindOf a) (spell a) c ≡ joinsBy (kindOf a) c
+pub kind-decides : (a : Token) (c : ℕ) → joins (kindOf a) (spell a) c ≡ joinsBy (kindOf a) c
 unfolding joinsBy
 kind-decides (sym k) c = refl
 kind-decides (name w) c = refl

@@ -1,7 +1,7 @@
 // Writing bytes one after the other to a lent slice that may end too soon: numbers in decimal, fixed spellings; and whether a byte would join what stands before it.
 ghost use mathlib.Core.Path.{_≡_};
 ghost use Prim.Native.Nat.{_+_, _-_, _%_, _<_};
-ghost use lib.ListN.{length, getD};
+ghost use lib.ListN.{length, getD, replicate};
 ghost use Rattle.base_pens.specs.Pen.{pen, write, puts};
 ghost use Rattle.spec_text.specs.Bytes.{isWord};
 ghost use Rattle.spec_text.specs.Formats.{digitsBy};
@@ -115,6 +115,19 @@ pub fn put_all(s: &[u8], out: &mut [u8], p: usize) -> usize
     let mut k: usize = 0;
     while k < s.len() {
         q = put(out, q, s[k]);
+        k += 1;
+    }
+    q
+}
+
+// Writes a byte n times.
+pub fn put_times(b: u8, n: usize, out: &mut [u8], p: usize) -> usize
+    ensures { λ r. ⌜ pen (now (out .exit)) r ≡ puts (replicate n b) (pen (now (out .entry)) p) ⌝ }
+{
+    let mut q = p;
+    let mut k: usize = 0;
+    while k < n {
+        q = put(out, q, b);
         k += 1;
     }
     q

@@ -50,6 +50,9 @@ joins-nothing q t c e s w d (mark {k = k} {x = x} f) = joins-mark k x c f ∙ ma
 pub joins-space : {k : ℕ} {x : List ℕ} → Spelled k x → joins k x 32 ≡ false
 joins-space z = joins-nothing (eqb 32) refl 32 refl refl refl refl z
 
+pub joins-line : {k : ℕ} {x : List ℕ} → Spelled k x → joins k x 10 ≡ false
+joins-line z = joins-nothing (eqb 10) refl 10 refl refl refl refl z
+
 pub joins-end : {k : ℕ} {x : List ℕ} → Spelled k x → joins k x 0 ≡ false
 joins-end z = joins-nothing (eqb 0) refl 0 refl refl refl refl z
 

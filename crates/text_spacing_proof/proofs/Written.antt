@@ -126,30 +126,33 @@ written-shortest t ps e =
     rw (contents-in [] L refl) (laid-short L)
 
 -- ---- WHAT IS WRITTEN READS BACK
-record Back (pre w : List ℕ) (ts : List Token) : Type 0 where
-  ps : List Placed
-  laid : Laid (length pre) w ps
-  same : tokensIn (pre ++ w) ps ≡ ts
-  count : length ps ≡ length ts
+pub record Back (pre w : List ℕ) (ts : List Token) : Type 0 where
+  pub ps : List Placed
+  pub laid : Laid (length pre) w ps
+  pub same : tokensIn (pre ++ w) ps ≡ ts
+  pub count : length ps ≡ length ts
 
-space-gap : (b : Bool) → Gap (spaceIf b)
+pub back-reads : (w : List ℕ) (ts : List Token) → Back [] w ts → length w ≤ textMost → length ts ≤ tokensMost → (ps : List Placed) × (reading w ≡ tokens ps) × (tokensIn w ps ≡ ts)
+back-reads w ts r h k = (r .ps, reading-exact w (r .ps) .1 (r .laid, h, omega (arith, r .count)), r .same)
+
+pub space-gap : (b : Bool) → Gap (spaceIf b)
 space-gap true = blank refl none
 space-gap false = none
 
-put-before : (pre : List ℕ) (b : Bool) (a : Token) (s : List ℕ) (ts : List Token) → Sound a → joins (kindOf a) (spell a) (getD s 0 0) ≡ false → Back (pre ++ (spaceIf b ++ spell a)) s ts → Back pre (spaceIf b ++ (spell a ++ s)) (a ∷ ts)
-put-before pre b a s ts z j r =
-    let sp = spaceIf b in
+-- a token behind any gap, before what reads back and joins it not
+pub put-before : (pre g : List ℕ) (a : Token) (s : List ℕ) (ts : List Token) → Gap g → Sound a → joins (kindOf a) (spell a) (getD s 0 0) ≡ false → Back (pre ++ (g ++ spell a)) s ts → Back pre (g ++ (spell a ++ s)) (a ∷ ts)
+put-before pre g a s ts G z j r =
     let x = spell a in
-    let l : length (pre ++ (sp ++ x)) ≡ length pre + length sp + length x = omega (arith, length-append pre (sp ++ x), length-append sp x) in
+    let l : length (pre ++ (g ++ x)) ≡ length pre + length g + length x = omega (arith, length-append pre (g ++ x), length-append g x) in
     record {
-      ps = placed (kindOf a) (length pre + length sp) (length x) ∷ r .ps;
-      laid = token (space-gap b) (sound-spelled a z) (joins-longest (sound-spelled a z) s j) (rw l at (r .laid));
-      same = rw (part-is pre sp x s (length pre + length sp) refl, token-back a z) (ap (a ∷_) (ap (λ (t : List ℕ). tokensIn t (r .ps)) (regroup pre sp x s) ∙ r .same));
+      ps = placed (kindOf a) (length pre + length g) (length x) ∷ r .ps;
+      laid = token G (sound-spelled a z) (joins-longest (sound-spelled a z) s j) (rw l at (r .laid));
+      same = rw (part-is pre g x s (length pre + length g) refl, token-back a z) (ap (a ∷_) (ap (λ (t : List ℕ). tokensIn t (r .ps)) (regroup pre g x s) ∙ r .same));
       count = ap suc (r .count);
     }
 
 -- what comes behind a token joins it not
-unjoined : (a b : Token) (s : List ℕ) → Sound a → Sound b → joins (kindOf a) (spell a) (getD (spaceIf (apart a b) ++ (spell b ++ s)) 0 0) ≡ false
+pub unjoined : (a b : Token) (s : List ℕ) → Sound a → Sound b → joins (kindOf a) (spell a) (getD (spaceIf (apart a b) ++ (spell b ++ s)) 0 0) ≡ false
 unjoined a b s y z = go (apart a b) refl
   where
     go : (t : Bool) → apart a b ≡ t → joins (kindOf a) (spell a) (getD (spaceIf t ++ (spell b ++ s)) 0 0) ≡ false
@@ -158,9 +161,9 @@ unjoined a b s y z = go (apart a b) refl
 
 written-back : (pre : List ℕ) (b : Bool) (a : Token) (ts : List Token) → Sound a → AllSound ts → Back pre (spaceIf b ++ (spell a ++ writeBehind a ts)) (a ∷ ts)
 unfolding writeBehind
-written-back pre b a [] y z = put-before pre b a [] [] y (joins-end (sound-spelled a y)) (record { ps = []; laid = ends none; same = refl; count = refl })
+written-back pre b a [] y z = put-before pre (spaceIf b) a [] [] (space-gap b) y (joins-end (sound-spelled a y)) (record { ps = []; laid = ends none; same = refl; count = refl })
 written-back pre b a (c ∷ ts) y z =
-    put-before pre b a (spaceIf (apart a c) ++ (spell c ++ writeBehind c ts)) (c ∷ ts) y (unjoined a c (writeBehind c ts) y (z .0))
+    put-before pre (spaceIf b) a (spaceIf (apart a c) ++ (spell c ++ writeBehind c ts)) (c ∷ ts) (space-gap b) y (unjoined a c (writeBehind c ts) y (z .0))
     (written-back (pre ++ (spaceIf b ++ spell a)) (apart a c) c ts (z .0) (z .1))
 
 whole-back : (ts : List Token) → AllSound ts → Back [] (write ts) ts
@@ -168,9 +171,7 @@ whole-back [] z = record { ps = []; laid = ends none; same = refl; count = refl 
 whole-back (a ∷ ts) z = written-back [] false a ts (z .0) (z .1)
 
 pub reads-back : (ts : List Token) → AllSound ts → length (write ts) ≤ textMost → length ts ≤ tokensMost → (ps : List Placed) × (reading (write ts) ≡ tokens ps) × (tokensIn (write ts) ps ≡ ts)
-reads-back ts z h k =
-    let r = whole-back ts z in
-    (r .ps, reading-exact (write ts) (r .ps) .1 (r .laid, h, omega (arith, r .count)), r .same)
+reads-back ts z h k = back-reads (write ts) ts (whole-back ts z) h k
 
 -- ---- EACH SPACE IS NEEDED: without it the first token is not read
 pub space-needed : (a b : Token) (rest : List ℕ) → Sound a → Sound b → apart a b ≡ true → pieceOf (spell a ++ (spell b ++ rest)) ≡ Take (kindOf a) (length (spell a)) → ⊥

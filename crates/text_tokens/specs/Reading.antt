@@ -34,6 +34,6 @@ readFrom i left passed [] = tokens []
 readFrom i left (suc m) (b ∷ s) = readFrom (i + 1) left m s
 readFrom i left zero (b ∷ s) = follow (pieceOf (b ∷ s)) i left (λ n l. readFrom (i + 1) l (n - 1) s)
 
--- the whole text; "Text 8,192 bytes", whose place is 0
+-- the whole text; "texts up to 65,536 bytes" (request One), and the place of a longer one is 0
 abbrev pub reading : List ℕ → Reading
 reading t = pick (ltb textMost (length t)) (refused 2 0 0) (readFrom 0 tokensMost 0 t)

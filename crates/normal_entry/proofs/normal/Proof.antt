@@ -1,3 +1,4 @@
+use Rattle.normal_writer.specs.Normal.{normalOf}
 use mathlib.Core.Path.{refl}
 use denote.Ref.{now}
 use Rattle.normal_entry.proofs.Laws as laws
@@ -9,10 +10,10 @@ lay-requires : tie.Need-lay-requires
 lay-requires c κs = laws.text-room (now (c .before .before .before .before .before .before .before .before .before .before .args .text)) _ _ (c .before .before .before .before .before .before .read .result) refl (c .before .before .before .before .before .before .read .ensures .0) (c .before .before .before .before .before .before .read .ensures .1) _ (c .before .before .before .enum-told .given .1) (c .before .written .ensures)
 
 returns : tie.Need-returns
-returns c = laws.text-written (now (c .before .before .before .before .before .before .before .before .before .before .before .before .before .args .text)) _ _ (c .before .before .before .before .before .before .before .before .before .read .result) refl (c .before .before .before .before .before .before .before .before .before .read .ensures .0) (c .before .before .before .before .before .before .before .before .before .read .ensures .1) _ (now (c .before .before .before .before .before .before .before .before .before .before .before .before .before .args .out)) _ (c .before .before .lay .result) (c .before .before .before .before .before .before .enum-told .given .1) (c .before .before .before .before .written .ensures) (c .before .before .lay .ensures .0) (c .before .before .lay .ensures .1)
+returns c = laws.text-written (now (c .before .before .before .before .before .before .before .before .before .before .before .before .before .args .text)) _ _ (c .before .before .before .before .before .before .before .before .before .read .result) refl (c .before .before .before .before .before .before .before .before .before .read .ensures .0) (c .before .before .before .before .before .before .before .before .before .read .ensures .1) normalOf _ (now (c .before .before .before .before .before .before .before .before .before .before .before .before .before .args .out)) _ (c .before .before .lay .result) (c .before .before .before .before .before .before .enum-told .given .1) (c .before .before .before .before .written .ensures) (c .before .before .lay .ensures .0) (c .before .before .lay .ensures .1)
 
 returns-2 : tie.Need-returns-2
-returns-2 c = laws.text-refused (now (c .before .before .before .before .before .before .before .before .args .text)) _ _ (c .before .before .before .before .read .result) refl (c .before .before .before .before .read .ensures .0) (c .before .before .before .before .read .ensures .1) _ _ _ (now (c .before .before .before .before .before .before .before .before .args .out)) (c .before .j .given .1)
+returns-2 c = laws.text-refused (now (c .before .before .before .before .before .before .before .before .args .text)) _ _ (c .before .before .before .before .read .result) refl (c .before .before .before .before .read .ensures .0) (c .before .before .before .before .read .ensures .1) normalOf _ _ _ (now (c .before .before .before .before .before .before .before .before .args .out)) (c .before .j .given .1)
 
 pub normal-spec : {M : Type 1} → statement M
 normal-spec =

@@ -1,37 +1,17 @@
-use Prim.Native.Nat.{min}
 use Rattle.normal_writer.proofs.Tokens as laws
-use mathlib.Core.Path.{refl, ap, _∙_}
-use Rattle.normal_rows.proofs.Laid.{cells-laid}
-use Rattle.base_ceilings.specs.Ceilings.{itemsMost}
-use lib.ListN.{replicate}
 use borrow.Author.Needs.{needs}
 use Rattle.normal_writer.proofs.write_tokens.Statement.{statement}
 use Rattle.normal_writer.proofs.write_tokens.Tie as tie
 
-turn-requires : tie.Need-turn-requires
-turn-requires c κs = (c .before .before .before .before .before .before .before .before .before .lay-cells .ensures ∙ cells-laid (replicate 1340 0) refl, search needs, search needs, search needs)
-
 returns : tie.Need-returns
-returns c = laws.tokens-are (c .before .before .before .before .before .before .before .before .before .before .before .before .before .before .before .before .before .before .before .before .before .before .before .before .before .args .t .now) _ _ _ (c .before .before .before .before .before .before .before .before .before .before .before .before .before .before .before .before .before .before .before .before .before .before .before .before .before .args .symbol) (c .before .before .before .before .before .before .before .before .before .before .before .before .before .before .before .before .before .before .before .before .before .before .before .before .before .args .from) (c .before .before .before .before .before .before .before .before .before .before .before .before .before .before .before .before .before .before .before .before .before .before .before .before .before .args .to) (c .before .before .before .before .before .before .before .before .before .before .before .before .before .before .before .before .before .before .before .before .before .least .result) (c .before .before .before .before .before .before .before .before .before .before .before .before .before .before .before .before .before .before .before .before .least2 .result) (c .before .before .before .before .before .before .before .before .turn .result) _ _ (c .before .before .before .before .before .before .before .before .before .before .before .before .before .before .before .before .before .before .before .before .before .least .ensures ∙ ap (min itemsMost) (c .before .before .before .before .before .before .before .before .before .before .before .before .before .before .before .before .before .before .before .before .before .before .items .ensures .0)) (c .before .before .before .before .before .before .before .before .before .before .before .before .before .before .before .before .before .before .before .before .least2 .ensures) (c .before .before .before .before .before .before .before .before .before .before .before .before .before .before .before .mark .ensures) refl (c .before .before .before .before .before .before .before .before .turn .ensures .1) (c .before .before .before .before .before .before .before .before .turn .kept .1 .1 .1 .1 .0) (c .before .before .put-tokens .ensures)
+returns c = laws.tokens-written (c .before .before .before .before .before .before .before .before .before .before .before .args .t .now) _ (c .before .before .before .before .before .before .before .before .before .before .before .args .symbol) (c .before .before .before .before .before .before .before .before .before .before .before .args .from) (c .before .before .before .before .before .before .before .before .before .before .before .args .to) (c .before .before .before .before .before .before .before .tokens-of .result) (c .before .before .before .before .before .before .before .tokens-of .ensures .1) (c .before .before .before .before .before .before .before .tokens-of .kept .1 .1 .1 .1 .0) _ _ (c .before .before .put-tokens .ensures)
 
 pub write-tokens-spec : {M : Type 1} → statement M
 write-tokens-spec =
     tie.close
     (tie.spec
-    (λ c κs. search needs)
-    (λ c κs. search needs)
-    (λ c κs. search needs)
     (λ c. search needs)
     (λ c κs. search needs)
-    (λ c. search needs)
-    (λ c κs. search needs)
-    (λ c. search needs)
-    (λ c. search needs)
-    (λ c. search needs)
-    (λ c. search needs)
-    (λ c. search needs)
-    (λ c. search needs)
-    turn-requires
     (λ c. search needs)
     (λ c. search needs)
     (λ c. search needs)

@@ -1,44 +1,22 @@
-use mathlib.Core.Path.{refl}
-use Rattle.base_ceilings.specs.Ceilings.{tokensMost}
-use Rattle.read_passes.proofs.Passes as laws
 use denote.Ref.{now}
+use mathlib.Core.Path.{refl}
+use Rattle.read_passes.proofs.Passes as laws
 use borrow.Author.Needs.{needs}
 use Rattle.read_passes.proofs.pass.Statement.{statement}
 use Rattle.read_passes.proofs.pass.Tie as tie
 
-slice-aggregate-by-grammar : tie.Need-slice-aggregate-by-grammar
-slice-aggregate-by-grammar c = laws.front-size _ _ tokensMost _ (c .before .least .ensures) (c .before .before .before .before .before .before .before .before .lex .kept .1 .0)
-
-slice-aggregate-by-grammar-2 : tie.Need-slice-aggregate-by-grammar-2
-slice-aggregate-by-grammar-2 c = laws.front-size _ _ tokensMost _ (c .before .before .least .ensures) (c .before .before .before .before .before .before .before .before .before .lex .kept .1 .1 .0)
-
-slice-aggregate-by-grammar-3 : tie.Need-slice-aggregate-by-grammar-3
-slice-aggregate-by-grammar-3 c = laws.front-size _ _ tokensMost _ (c .before .before .before .least .ensures) (c .before .before .before .before .before .before .before .before .before .before .lex .kept .1 .1 .1 .0)
-
 returns : tie.Need-returns
-returns c = (laws.tokens-judged (now (c .before .before .before .before .before .before .before .before .before .before .before .before .before .before .before .before .before .before .before .before .args .text)) (c .before .before .before .before .before .before .before .before .before .before .before .before .before .before .lex .result) _ _ _ _ _ _ (c .before .before .before .before .before .before .before .before .before .before .before .before .before .before .lex .ensures) refl (c .before .before .before .before .before .before .before .before .before .before .before .before .before .before .lex .kept .1 .0) refl (c .before .before .before .before .before .before .before .before .before .before .before .before .before .before .lex .kept .1 .1 .0) refl (c .before .before .before .before .before .before .before .before .before .before .before .before .before .before .lex .kept .1 .1 .1 .0) (c .before .before .before .before .before .before .before .before .before .a .given .0 .0) (c .before .before .before .before .before .before .before .least .result) (c .before .before .by-grammar .result) (c .before .before .before .before .before .before .before .before .before .a .given .1) (c .before .before .before .before .before .before .before .least .ensures) (c .before .before .by-grammar .ensures .0), laws.tokens-left (now (c .before .before .before .before .before .before .before .before .before .before .before .before .before .before .before .before .before .before .before .before .args .text)) (c .before .before .before .before .before .before .before .before .before .before .before .before .before .before .lex .result) _ _ _ _ _ _ (c .before .before .before .before .before .before .before .before .before .before .before .before .before .before .lex .ensures) refl (c .before .before .before .before .before .before .before .before .before .before .before .before .before .before .lex .kept .1 .0) refl (c .before .before .before .before .before .before .before .before .before .before .before .before .before .before .lex .kept .1 .1 .0) refl (c .before .before .before .before .before .before .before .before .before .before .before .before .before .before .lex .kept .1 .1 .1 .0) (c .before .before .before .before .before .before .before .before .before .a .given .0 .0) (c .before .before .before .before .before .before .before .least .result) (c .before .before .by-grammar .result) _ _ (c .before .before .before .before .before .before .before .before .before .a .given .1) (c .before .before .before .before .before .before .before .least .ensures) (c .before .before .by-grammar .ensures .1))
+returns c = (laws.too-wide (now (c .before .before .before .before .args .text)) _ (c .before .is-wide .ensures) (c .if1 .taken), refl)
 
 returns-2 : tie.Need-returns-2
-returns-2 c = (laws.refused-judged (now (c .before .before .before .before .before .before .before .before .before .before .before .before .args .text)) (c .before .before .before .before .before .before .lex .result) _ _ _ _ _ _ (c .before .before .before .before .before .before .lex .ensures) refl (c .before .before .before .before .before .before .lex .kept .1 .0) refl (c .before .before .before .before .before .before .lex .kept .1 .1 .0) refl (c .before .before .before .before .before .before .lex .kept .1 .1 .1 .0) _ _ _ (c .before .a2 .given .1), refl)
+returns-2 c = (laws.not-wide (now (c .before .before .before .before .before .before .before .before .args .text)) _ _ (c .before .before .before .before .before .is-wide .ensures) (c .before .before .before .before .if1 .left) (c .before .before .through .ensures .0), c .before .before .through .ensures .1)
 
 pub pass-spec : {M : Type 1} → statement M
 pass-spec =
     tie.close
     (tie.spec
-    (λ c. search needs)
-    (λ c. search needs)
-    (λ c. search needs)
     (λ c κs. search needs)
-    (λ c. search needs)
-    (λ c κs. search needs)
-    (λ c. search needs)
-    slice-aggregate-by-grammar
-    (λ c. search needs)
-    slice-aggregate-by-grammar-2
-    (λ c. search needs)
-    slice-aggregate-by-grammar-3
-    (λ c κs. search needs)
-    (λ c. search needs)
-    (λ c. search needs)
     returns
+    (λ c κs. search needs)
+    (λ c. search needs)
     returns-2)

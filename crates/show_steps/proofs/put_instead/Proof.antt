@@ -1,3 +1,4 @@
+use Rattle.base_pens.proofs.Pen as pens
 use Rattle.show_steps.proofs.Laws as laws
 use Rattle.show_steps.specs.Steps.{listedIn, othersIn}
 use Rattle.step_all.specs.Moving.{processes}
@@ -13,7 +14,7 @@ returns : tie.Need-returns
 returns c = rw (le-ltb (c .before .before .before .before .before .before .before .before .args .process) (processes (c .before .before .before .before .before .before .before .before .args .s .now)) (omega (arith, c .before .before .before .before .before .count .ensures, c .before .before .before .before .if1 .taken))) (c .before .before .put-nobody .ensures)
 
 returns-2 : tie.Need-returns-2
-returns-2 c = rw (lt-ltb (c .before .before .before .before .before .before .before .before .before .before .before .before .before .before .before .before .before .before .before .before .before .before .before .before .before .before .before .args .process) (processes (c .before .before .before .before .before .before .before .before .before .before .before .before .before .before .before .before .before .before .before .before .before .before .before .before .before .before .before .args .s .now)) (omega (arith, c .before .before .before .before .before .before .before .before .before .before .before .before .before .before .before .before .before .before .before .before .before .before .before .before .count .ensures, c .before .before .before .before .before .before .before .before .before .before .before .before .before .before .before .before .before .before .before .before .before .before .before .if1 .left))) (laws.then-puts (bytes "  process ") _ _ _ _ (c .before .before .before .before .before .before .before .before .before .before .before .before .before .before .before .before .before .before .before .before .put-all .ensures) (laws.then-puts (digitsOf (c .before .before .before .before .before .before .before .before .before .before .before .before .before .before .before .before .before .before .before .before .before .before .before .before .before .before .before .args .process)) _ _ _ _ (c .before .before .before .before .before .before .before .before .before .before .before .before .before .before .before .before .put-count .ensures) (laws.then-puts (bytes " was offered instead:\n") _ _ _ _ (c .before .before .before .before .before .before .before .before .before .before .before .put-all2 .ensures) (laws.then-puts (othersIn (c .before .before .before .before .before .before .before .before .before .before .before .before .before .before .before .before .before .before .before .before .before .before .before .before .before .before .before .args .t .now) (c .before .before .before .before .before .before .before .before .before .before .before .before .before .before .before .before .before .before .before .before .before .before .before .before .before .before .before .args .process) (listedIn (c .before .before .before .before .before .before .before .before .before .before .before .before .before .before .before .before .before .before .before .before .before .before .before .before .before .before .before .args .t .now) (c .before .before .before .before .before .before .before .before .before .before .before .before .before .before .before .before .before .before .before .before .before .before .before .before .before .before .before .args .s .now))) _ _ _ _ (c .before .before .before .before .before .before .before .put-others .ensures) (laws.none-by _ _ _ _ (c .before .before .before .before .is-any .ensures) (c .before .before .put-none .ensures))))))
+returns-2 c = rw (lt-ltb (c .before .before .before .before .before .before .before .before .before .before .before .before .before .before .before .before .before .before .before .before .before .before .before .before .before .before .before .args .process) (processes (c .before .before .before .before .before .before .before .before .before .before .before .before .before .before .before .before .before .before .before .before .before .before .before .before .before .before .before .args .s .now)) (omega (arith, c .before .before .before .before .before .before .before .before .before .before .before .before .before .before .before .before .before .before .before .before .before .before .before .before .count .ensures, c .before .before .before .before .before .before .before .before .before .before .before .before .before .before .before .before .before .before .before .before .before .before .before .if1 .left))) (pens.then-puts (bytes "  process ") _ _ _ _ (c .before .before .before .before .before .before .before .before .before .before .before .before .before .before .before .before .before .before .before .before .put-all .ensures) (pens.then-puts (digitsOf (c .before .before .before .before .before .before .before .before .before .before .before .before .before .before .before .before .before .before .before .before .before .before .before .before .before .before .before .args .process)) _ _ _ _ (c .before .before .before .before .before .before .before .before .before .before .before .before .before .before .before .before .put-count .ensures) (pens.then-puts (bytes " was offered instead:\n") _ _ _ _ (c .before .before .before .before .before .before .before .before .before .before .before .put-all2 .ensures) (pens.then-puts (othersIn (c .before .before .before .before .before .before .before .before .before .before .before .before .before .before .before .before .before .before .before .before .before .before .before .before .before .before .before .args .t .now) (c .before .before .before .before .before .before .before .before .before .before .before .before .before .before .before .before .before .before .before .before .before .before .before .before .before .before .before .args .process) (listedIn (c .before .before .before .before .before .before .before .before .before .before .before .before .before .before .before .before .before .before .before .before .before .before .before .before .before .before .before .args .t .now) (c .before .before .before .before .before .before .before .before .before .before .before .before .before .before .before .before .before .before .before .before .before .before .before .before .before .before .before .args .s .now))) _ _ _ _ (c .before .before .before .before .before .before .before .put-others .ensures) (laws.none-by _ _ _ _ (c .before .before .before .before .is-any .ensures) (c .before .before .put-none .ensures))))))
 
 pub put-instead-spec : {M : Type 1} → statement M
 put-instead-spec =

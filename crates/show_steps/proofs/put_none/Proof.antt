@@ -1,10 +1,10 @@
-use Rattle.show_steps.proofs.Laws as laws
+use Rattle.base_pens.proofs.Pen as pens
 use borrow.Author.Needs.{needs}
 use Rattle.show_steps.proofs.put_none.Statement.{statement}
 use Rattle.show_steps.proofs.put_none.Tie as tie
 
 returns : tie.Need-returns
-returns c = rw (c .if1 .taken) (laws.none-put _)
+returns c = rw (c .if1 .taken) (pens.none-put _)
 
 returns-2 : tie.Need-returns-2
 returns-2 c = rw (c .before .before .before .before .before .if1 .left) (c .before .before .put-all .ensures)

@@ -1,10 +1,10 @@
-use Rattle.show_steps.proofs.Laws as laws
+use Rattle.base_pens.proofs.Pen as pens
 use borrow.Author.Needs.{needs}
 use Rattle.show_steps.proofs.put_outcome.Statement.{statement}
 use Rattle.show_steps.proofs.put_outcome.Tie as tie
 
 returns : tie.Need-returns
-returns c = rw (c .before .before .before .before .before .before .before .before .enum-told .given .1) (laws.then-puts _ _ _ _ _ (c .before .before .before .before .before .before .put-deeds .ensures) (c .before .before .put-printed .ensures))
+returns c = rw (c .before .before .before .before .before .before .before .before .enum-told .given .1) (pens.then-puts _ _ _ _ _ (c .before .before .before .before .before .before .put-deeds .ensures) (c .before .before .put-printed .ensures))
 
 returns-2 : tie.Need-returns-2
 returns-2 c = rw (c .before .before .before .before .before .enum-told2 .given .1) (c .before .before .put-all .ensures)
@@ -13,7 +13,7 @@ returns-3 : tie.Need-returns-3
 returns-3 c = rw (c .before .before .before .before .before .r .given .1) (c .before .before .put-fault .ensures)
 
 returns-4 : tie.Need-returns-4
-returns-4 c = rw (c .enum-told3 .given .1) (laws.none-put _)
+returns-4 c = rw (c .enum-told3 .given .1) (pens.none-put _)
 
 pub put-outcome-spec : {M : Type 1} → statement M
 put-outcome-spec =

@@ -1,3 +1,4 @@
+use Rattle.base_pens.proofs.Pen as pens
 use Rattle.show_steps.proofs.Laws as laws
 use Rattle.base_kinds.specs.Kinds.{bytes}
 use borrow.Author.Needs.{needs}
@@ -8,7 +9,7 @@ returns : tie.Need-returns
 returns c = laws.ended-put _ _ _ _ _ (c .before .before .before .before .before .before .code .ensures) (c .before .before .before .before .before .if1 .taken) (c .before .before .put-all .ensures)
 
 returns-2 : tie.Need-returns-2
-returns-2 c = laws.at-put _ _ _ _ _ (c .before .before .before .before .before .before .before .before .before .before .code .ensures) (c .before .before .before .before .before .before .before .before .before .if1 .left) (laws.then-puts (bytes " at ") _ _ _ _ (c .before .before .before .before .before .before .put-all2 .ensures) (c .before .before .put-statement .ensures))
+returns-2 c = laws.at-put _ _ _ _ _ (c .before .before .before .before .before .before .before .before .before .before .code .ensures) (c .before .before .before .before .before .before .before .before .before .if1 .left) (pens.then-puts (bytes " at ") _ _ _ _ (c .before .before .before .before .before .before .put-all2 .ensures) (c .before .before .put-statement .ensures))
 
 pub put-standing-spec : {M : Type 1} → statement M
 put-standing-spec =

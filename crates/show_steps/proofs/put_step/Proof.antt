@@ -1,3 +1,4 @@
+use Rattle.base_pens.proofs.Pen as pens
 use denote.Ref.{now}
 use Rattle.show_steps.proofs.Laws as laws
 use Rattle.show_steps.specs.Steps.{titleAt, rowIn}
@@ -9,7 +10,7 @@ use Rattle.show_steps.proofs.put_step.Statement.{statement}
 use Rattle.show_steps.proofs.put_step.Tie as tie
 
 returns : tie.Need-returns
-returns c = laws.then-puts (rowIn (c .before .before .before .before .before .before .before .before .before .before .before .before .before .before .before .before .before .before .before .before .before .before .before .before .args .i) (c .before .before .before .before .before .before .before .before .before .before .before .before .before .before .before .before .before .before .before .before .before .before .before .before .args .x .process) (c .before .before .before .before .before .before .before .before .before .before .before .before .before .before .before .before .before .before .before .before .before .before .before .before .args .x .number)) _ _ _ _ (c .before .before .before .before .before .before .before .before .before .before .before .before .before .before .before .before .before .before .before .before .put-row .ensures) (laws.then-puts (titleAt (now (c .before .before .before .before .before .before .before .before .before .before .before .before .before .before .before .before .before .before .before .before .before .before .before .before .args .t)) (now (c .before .before .before .before .before .before .before .before .before .before .before .before .before .before .before .before .before .before .before .before .before .before .before .before .args .s)) (c .before .before .before .before .before .before .before .before .before .before .before .before .before .before .before .before .before .before .before .before .before .before .before .before .args .x .process)) _ _ _ _ (c .before .before .before .before .before .before .before .before .before .before .before .before .before .before .before .before .put-owner .ensures) (laws.then-puts (9 ∷ []) _ _ _ _ (laws.one-put 9 _ _ (c .before .before .before .before .before .before .before .before .before .before .before .before .put .ensures)) (laws.then-puts _ _ _ _ _ (laws.count-put _ _ _ _ (c .before .before .before .before .before .before .before .before .minus .ensures ∙ ap (λ n. c .before .before .before .before .before .before .before .before .before .before .before .before .before .before .before .before .before .before .before .before .before .before .before .before .args .whole - n) (c .before .before .before .before .before .before .before .before .before .length-from .ensures)) (c .before .before .before .before .before .before .put-count .ensures)) (c .before .before .put-last .ensures))))
+returns c = pens.then-puts (rowIn (c .before .before .before .before .before .before .before .before .before .before .before .before .before .before .before .before .before .before .before .before .before .before .before .before .args .i) (c .before .before .before .before .before .before .before .before .before .before .before .before .before .before .before .before .before .before .before .before .before .before .before .before .args .x .process) (c .before .before .before .before .before .before .before .before .before .before .before .before .before .before .before .before .before .before .before .before .before .before .before .before .args .x .number)) _ _ _ _ (c .before .before .before .before .before .before .before .before .before .before .before .before .before .before .before .before .before .before .before .before .put-row .ensures) (pens.then-puts (titleAt (now (c .before .before .before .before .before .before .before .before .before .before .before .before .before .before .before .before .before .before .before .before .before .before .before .before .args .t)) (now (c .before .before .before .before .before .before .before .before .before .before .before .before .before .before .before .before .before .before .before .before .before .before .before .before .args .s)) (c .before .before .before .before .before .before .before .before .before .before .before .before .before .before .before .before .before .before .before .before .before .before .before .before .args .x .process)) _ _ _ _ (c .before .before .before .before .before .before .before .before .before .before .before .before .before .before .before .before .put-owner .ensures) (pens.then-puts (9 ∷ []) _ _ _ _ (pens.one-put 9 _ _ (c .before .before .before .before .before .before .before .before .before .before .before .before .put .ensures)) (pens.then-puts _ _ _ _ _ (laws.count-put _ _ _ _ (c .before .before .before .before .before .before .before .before .minus .ensures ∙ ap (λ n. c .before .before .before .before .before .before .before .before .before .before .before .before .before .before .before .before .before .before .before .before .before .before .before .before .args .whole - n) (c .before .before .before .before .before .before .before .before .before .length-from .ensures)) (c .before .before .before .before .before .before .put-count .ensures)) (c .before .before .put-last .ensures))))
 
 pub put-step-spec : {M : Type 1} → statement M
 put-step-spec =

@@ -1,0 +1,1 @@
+// Tokens laid out in lines: theorems alone (proofs/).

@@ -1,0 +1,1 @@
+// The layout of tokens is that of their tree: definitions and theorems alone (specs/ and proofs/).

@@ -1,0 +1,1 @@
+// Whether a normal text is too long: a theorem alone (proofs/).
