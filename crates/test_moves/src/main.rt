@@ -1,8 +1,8 @@
 // Walks through each model on standard input by the entries of the stepper; then the automatic run, and steps that are refused (crate `test_walks`).
 use read_passes::Judged;
+use test_answers::put;
+use test_answers::show_run;
 use test_cases::Case;
-use test_walks::put;
-use test_walks::show_run;
 
 // The limit of a run.
 const LIMIT: u32 = 60;
@@ -14,7 +14,7 @@ fn each(text: &[u8]) {
             let mut state = [0i32; 2048];
             step_entry::start(&tables, &mut state);
             test_walks::walk(&tables, &mut state);
-            test_walks::show_standing(step_entry::verdict(&tables, &state));
+            test_answers::show_standing(step_entry::verdict(&tables, &state));
             step_entry::start(&tables, &mut state);
             show_run(run_entry::run(&tables, &mut state, LIMIT));
             test_walks::corners(&tables);

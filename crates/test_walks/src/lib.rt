@@ -1,51 +1,16 @@
-// Walks by the entries of the stepper: how many steps are offered, the one that is taken, what it prints. How a run's answer is shown; and steps and runs that are refused. One crate holds them all,
-// since what costs is loading the stepper.
-use libc::STDOUT_FILENO;
-use run_entry::Ending;
-use run_entry::Ran;
+// Walks by the entries of the stepper: how many steps are offered, and the one that is taken; and steps and runs that are refused. One crate holds them all, since what costs is loading the stepper.
 use step_entry::Listed;
-use step_entry::Standing;
-use step_entry::Stepped;
+use test_answers::show_run;
+use test_answers::show_step;
 
 // The moves of a walk.
 const MOVES: usize = 24;
-
-pub fn put(s: &[u8]) {
-    io::write_all(STDOUT_FILENO, s);
-}
 
 fn how_many(tables: &[u32], state: &[i32]) -> u32 {
     match step_entry::offered(tables, state, 4294967295) {
         Listed::Only(n) => n,
         Listed::Step(_) => 0,
         Listed::Refused(_) => 0,
-    }
-}
-
-// Shows an answer; does the walk go on?
-fn show_step(r: Stepped, printed: &[u8]) -> bool {
-    match r {
-        Stepped::Took(n) => {
-            if n > 0 {
-                put(b"<");
-                put(test_cases::front(printed, n));
-                put(b">");
-            }
-            true
-        }
-        Stepped::Assert => {
-            put(b" assert");
-            false
-        }
-        Stepped::Fault(_) => {
-            put(b" fault");
-            false
-        }
-        Stepped::Refused(x) => {
-            put(b" refused");
-            test_cases::number(b' ', x as usize);
-            false
-        }
     }
 }
 
@@ -82,43 +47,6 @@ pub fn walk(tables: &[u32], state: &mut [i32]) {
         test_cases::number(b'/', n as usize);
         i += 1;
     }
-}
-
-pub fn show_standing(v: Standing) {
-    match v {
-        Standing::Finished => put(b" finished\n"),
-        Standing::Blocked => put(b" blocked\n"),
-        Standing::Open => put(b" open\n"),
-        Standing::Refused(x) => {
-            put(b" refused");
-            test_cases::number(b' ', x as usize);
-            put(b"\n");
-        }
-    }
-}
-
-fn show_ending(e: Ending) {
-    match e {
-        Ending::Finished => put(b"run finished"),
-        Ending::Blocked => put(b"run blocked"),
-        Ending::Open => put(b"run open"),
-        Ending::Assert => put(b"run assert"),
-        Ending::Fault(_) => put(b"run fault"),
-    }
-}
-
-pub fn show_run(r: Ran) {
-    match r {
-        Ran::Ended(e, n) => {
-            show_ending(e);
-            test_cases::number(b' ', n as usize);
-        }
-        Ran::Refused(x) => {
-            put(b"run refused");
-            test_cases::number(b' ', x as usize);
-        }
-    }
-    put(b"\n");
 }
 
 // Steps that are never offered, too little room, numbers that are no state, and tables of no model.
