@@ -1,41 +1,63 @@
--- Looking spellings up: one entry more, one table behind another, and two bytes as one number.
+-- Looking spellings up: among those that begin as a word does, none of another length or second byte; and two bytes as one number.
 use mathlib.Core.Path.{_≡_, refl, sym, ap, _∙_}
 use mathlib.Core.Bool.{Bool, true, false}
-use mathlib.Core.List.{List, [], _∷_, _++_}
-use Prim.Native.Nat.{ℕ, suc, _+_, _*_, _<_}
+use mathlib.Core.List.{List, [], _∷_}
+use Prim.Native.Nat.{ℕ, _+_, _*_, _<_}
 use native.Mathlib.Omega.{arith}
 use native.Mathlib.Decide.{ℕ-discrete}
-use borrow.Author.Tests.{eq-eqb, ne-eqb}
-use lib.Dec.{eqb}
-use lib.ListN.{length, take, drop}
+use borrow.Author.Tests.{eq-eqb, ne-eqb, ltb-true}
+use lib.Dec.{eqb, ltb}
+use lib.ListN.{length, getD}
 use Rattle.base_bytes.specs.Choice.{pick, both}
 use Rattle.base_bytes.specs.Lists.{same}
+use Rattle.base_bytes.proofs.Lists.{same-eq, same-differ}
+use Rattle.base_bytes.proofs.Tests.{both-true, true-false}
 use Rattle.base_kinds.specs.Kinds.{keywords}
-use Rattle.spec_text.specs.Find.{find, orElse, keywordOf}
+use Rattle.spec_text.specs.Find.{find, keywordOf}
+use Rattle.text_spellings.specs.First.{among}
 
-pub find-append : (w : List ℕ) (xs ys : List (List ℕ)) (k : ℕ) → 0 < k → find w (xs ++ ys) k ≡ orElse (find w xs k) (find w ys (k + length xs))
-unfolding find
-find-append w [] ys k h = ap (find w ys) (omega arith)
-find-append w (x ∷ xs) ys k h = go (same w x) (find-append w xs ys (k + 1) (omega arith))
+-- a word and a spelling that differ in something are not the same
+pub unlike : (f : List ℕ → ℕ) (w x : List ℕ) → (f w ≡ f x → ⊥) → same w x ≡ false
+unlike f w x h = go (same w x) refl
   where
-    here : orElse k (find w ys (k + suc (length xs))) ≡ k
-    here = rw (ne-eqb k 0 (omega arith))
+    go : (t : Bool) → same w x ≡ t → same w x ≡ false
+    go true e = absurd (h (ap f (same-eq w x e)))
+    go false e = e
 
-    shift : find w ys (k + 1 + length xs) ≡ find w ys (k + suc (length xs))
-    shift = ap (find w ys) (omega arith)
+pub told-apart : (f : List ℕ → ℕ) (w x : List ℕ) {n : ℕ} → f w ≡ n → eqb n (f x) ≡ false → same w x ≡ false
+told-apart f w x {n} d e = unlike f w x (λ h. true-false (sym (eq-eqb n (f x) (sym d ∙ h)) ∙ e))
 
-    go : (t : Bool) → find w (xs ++ ys) (k + 1) ≡ orElse (find w xs (k + 1)) (find w ys (k + 1 + length xs)) →
-        pick t k (find w (xs ++ ys) (k + 1)) ≡ orElse (pick t k (find w xs (k + 1))) (find w ys (k + suc (length xs)))
-    go true e = sym here
-    go false e = e ∙ ap (orElse (find w xs (k + 1))) shift
+abbrev pub second : List ℕ → ℕ
+second w = getD w 1 0
 
-pub keyword-parts : (w : List ℕ) → keywordOf w ≡
-    orElse (find w (take 8 (drop 0 keywords)) 38) (orElse (find w (take 8 (drop 8 keywords)) 46) (orElse (find w (take 8 (drop 16 keywords)) 54) (find w (take 8 (drop 24 keywords)) 62)))
-keyword-parts w =
-    find-append w (take 8 keywords) (drop 8 keywords) 38 (omega arith)
-    ∙ ap (orElse (find w (take 8 keywords) 38))
-    (find-append w (take 8 (drop 8 keywords)) (drop 16 keywords) 46 (omega arith)
-    ∙ ap (orElse (find w (take 8 (drop 8 keywords)) 46)) (find-append w (take 8 (drop 16 keywords)) (drop 24 keywords) 54 (omega arith)))
+pub find-among : (w : List ℕ) (xs : List (List ℕ)) (k : ℕ) → find w xs k ≡ among (getD w 0 0) w xs k
+unfolding find
+find-among w [] k = refl
+find-among w (x ∷ xs) k = go (ℕ-discrete (getD w 0 0) (getD x 0 0)) (find-among w xs (k + 1))
+  where
+    go : Dec (getD w 0 0 ≡ getD x 0 0) → find w xs (k + 1) ≡ among (getD w 0 0) w xs (k + 1) →
+        pick (same w x) k (find w xs (k + 1)) ≡ pick (both (eqb (getD w 0 0) (getD x 0 0)) (same w x)) k (among (getD w 0 0) w xs (k + 1))
+    go (yes p) e = rw (eq-eqb (getD w 0 0) (getD x 0 0) p, e) refl
+    go (no p) e = rw (ne-eqb (getD w 0 0) (getD x 0 0) p, unlike (λ z. getD z 0 0) w x p) e
+
+pub by-first : (w : List ℕ) {b a : ℕ} → b ≡ a → b ≡ getD w 0 0 → among a w keywords 38 ≡ keywordOf w
+by-first w d e = rw (← d, e) (sym (find-among w keywords 38))
+
+-- a word that is shorter than every spelling
+unfoldable longer : List (List ℕ) → Bool
+longer [] = true
+longer (x ∷ xs) = both (ltb 1 (length x)) (longer xs)
+
+shorter : (w : List ℕ) (xs : List (List ℕ)) (k : ℕ) → length w < 2 → longer xs ≡ true → find w xs k ≡ 0
+unfolding find longer
+shorter w [] k h e = refl
+shorter w (x ∷ xs) k h e =
+    let (p, q) = both-true (ltb 1 (length x)) (longer xs) e in
+    rw (same-differ w x (λ d. omega (arith, ltb-true 1 (length x) p))) (shorter w xs (k + 1) h q)
+
+pub too-short : (w : List ℕ) → length w < 2 → keywordOf w ≡ 0
+unfolding longer
+too-short w h = shorter w keywords 38 h refl
 
 -- ---- marks of two bytes, as one number
 pub two-split : (a b x y : ℕ) → b < 256 → y < 256 → a * 256 + b ≡ x * 256 + y → (a ≡ x) × (b ≡ y)

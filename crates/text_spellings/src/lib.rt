@@ -1,148 +1,177 @@
 // What the fixed spellings of marks and keywords are called: the kind of a word or a mark, 0 where it is none.
 ghost use mathlib.Core.Path.{_≡_};
 ghost use mathlib.Core.List.{[], _∷_};
-ghost use lib.ListN.{take, drop};
+ghost use Rattle.base_bytes.specs.Choice.{pick};
+ghost use Rattle.base_bytes.specs.Lists.{same};
 ghost use Rattle.base_kinds.specs.Kinds.{marks, keywords};
 ghost use Rattle.spec_text.specs.Find.{find, keywordOf};
+ghost use Rattle.text_spellings.specs.First.{among};
 
-// Keywords, each a fixed spelling compared byte for byte with the word; 0 where it is none of these.
-fn type_kind(w: &[u8]) -> u8
-    ensures { λ r. ⌜ r ≡ find (now (w .entry)) (take 8 (drop 0 keywords)) 38 ⌝ }
+// A word that may be one keyword: its kind, 0 where it is spelled otherwise.
+fn only(w: &[u8], x: &[u8], k: u8) -> u8
+    ensures { λ r. ⌜ r ≡ pick (same (now (w .entry)) (now (x .entry))) k 0 ⌝ }
 {
-    if base_bytes::same(w, b"bit") {
-        return base_kinds::BIT;
-    }
-    if base_bytes::same(w, b"bool") {
-        return base_kinds::BOOL;
-    }
-    if base_bytes::same(w, b"byte") {
-        return base_kinds::BYTE;
-    }
-    if base_bytes::same(w, b"mtype") {
-        return base_kinds::MTYPE;
-    }
-    if base_bytes::same(w, b"pid") {
-        return base_kinds::PID;
-    }
-    if base_bytes::same(w, b"chan") {
-        return base_kinds::CHAN;
-    }
-    if base_bytes::same(w, b"short") {
-        return base_kinds::SHORT;
-    }
-    if base_bytes::same(w, b"int") {
-        return base_kinds::INT;
-    }
-    0
+    if base_bytes::same(w, x) { k } else { 0 }
 }
 
-fn word_kind_a(w: &[u8]) -> u8
-    ensures { λ r. ⌜ r ≡ find (now (w .entry)) (take 8 (drop 8 keywords)) 46 ⌝ }
+// A word that may be one of two.
+fn either(w: &[u8], x: &[u8], k: u8, y: &[u8], j: u8) -> u8
+    ensures { λ r. ⌜ r ≡ pick (same (now (w .entry)) (now (x .entry))) k (pick (same (now (w .entry)) (now (y .entry))) j 0) ⌝ }
 {
-    if base_bytes::same(w, b"active") {
-        return base_kinds::ACTIVE;
+    if base_bytes::same(w, x) {
+        k
+    } else {
+        only(w, y, j)
     }
-    if base_bytes::same(w, b"assert") {
-        return base_kinds::ASSERT;
-    }
-    if base_bytes::same(w, b"break") {
-        return base_kinds::BREAK;
-    }
-    if base_bytes::same(w, b"do") {
-        return base_kinds::DO;
-    }
-    if base_bytes::same(w, b"else") {
-        return base_kinds::ELSE;
-    }
-    if base_bytes::same(w, b"eval") {
-        return base_kinds::EVAL;
-    }
-    if base_bytes::same(w, b"false") {
-        return base_kinds::FALSE;
-    }
-    if base_bytes::same(w, b"fi") {
-        return base_kinds::FI;
-    }
-    0
 }
 
-fn word_kind_b(w: &[u8]) -> u8
-    ensures { λ r. ⌜ r ≡ find (now (w .entry)) (take 8 (drop 16 keywords)) 54 ⌝ }
+// The keywords that begin with one letter, by their length: then the word is compared byte for byte with the fixed spelling that is left, in four places with two or three.
+fn from_a(w: &[u8]) -> u8
+    ensures { λ r. ⌜ r ≡ among 97 (now (w .entry)) keywords 38 ⌝ }
 {
-    if base_bytes::same(w, b"goto") {
-        return base_kinds::GOTO;
+    match w.len() {
+        6 => {
+            if base_bytes::same(w, b"active") {
+                base_kinds::ACTIVE
+            } else {
+                either(
+                    w,
+                    b"assert",
+                    base_kinds::ASSERT,
+                    b"atomic",
+                    base_kinds::ATOMIC,
+                )
+            }
+        },
+        _ => 0,
     }
-    if base_bytes::same(w, b"if") {
-        return base_kinds::IF;
-    }
-    if base_bytes::same(w, b"init") {
-        return base_kinds::INIT;
-    }
-    if base_bytes::same(w, b"len") {
-        return base_kinds::LEN;
-    }
-    if base_bytes::same(w, b"od") {
-        return base_kinds::OD;
-    }
-    if base_bytes::same(w, b"of") {
-        return base_kinds::OF;
-    }
-    if base_bytes::same(w, b"printf") {
-        return base_kinds::PRINTF;
-    }
-    if base_bytes::same(w, b"proctype") {
-        return base_kinds::PROCTYPE;
-    }
-    0
 }
 
-fn word_kind_c(w: &[u8]) -> u8
-    ensures { λ r. ⌜ r ≡ find (now (w .entry)) (take 8 (drop 24 keywords)) 62 ⌝ }
+fn from_b(w: &[u8]) -> u8
+    ensures { λ r. ⌜ r ≡ among 98 (now (w .entry)) keywords 38 ⌝ }
 {
-    if base_bytes::same(w, b"run") {
-        return base_kinds::RUN;
+    match w.len() {
+        3 => only(w, b"bit", base_kinds::BIT),
+        4 => either(w, b"bool", base_kinds::BOOL, b"byte", base_kinds::BYTE),
+        5 => only(w, b"break", base_kinds::BREAK),
+        _ => 0,
     }
-    if base_bytes::same(w, b"skip") {
-        return base_kinds::SKIP;
-    }
-    if base_bytes::same(w, b"timeout") {
-        return base_kinds::TIMEOUT;
-    }
-    if base_bytes::same(w, b"true") {
-        return base_kinds::TRUE;
-    }
-    if base_bytes::same(w, b"atomic") {
-        return base_kinds::ATOMIC;
-    }
-    if base_bytes::same(w, b"d_step") {
-        return base_kinds::D_STEP;
-    }
-    if base_bytes::same(w, b"typedef") {
-        return base_kinds::TYPEDEF;
-    }
-    if base_bytes::same(w, b"unless") {
-        return base_kinds::UNLESS;
-    }
-    0
 }
 
-// The kind of a word that is a keyword, or 0.
+fn from_d(w: &[u8]) -> u8
+    ensures { λ r. ⌜ r ≡ among 100 (now (w .entry)) keywords 38 ⌝ }
+{
+    match w.len() {
+        2 => only(w, b"do", base_kinds::DO),
+        6 => only(w, b"d_step", base_kinds::D_STEP),
+        _ => 0,
+    }
+}
+
+fn from_e(w: &[u8]) -> u8
+    ensures { λ r. ⌜ r ≡ among 101 (now (w .entry)) keywords 38 ⌝ }
+{
+    match w.len() {
+        4 => either(w, b"else", base_kinds::ELSE, b"eval", base_kinds::EVAL),
+        _ => 0,
+    }
+}
+
+fn from_f(w: &[u8]) -> u8
+    ensures { λ r. ⌜ r ≡ among 102 (now (w .entry)) keywords 38 ⌝ }
+{
+    match w.len() {
+        2 => only(w, b"fi", base_kinds::FI),
+        5 => only(w, b"false", base_kinds::FALSE),
+        _ => 0,
+    }
+}
+
+fn from_i(w: &[u8]) -> u8
+    ensures { λ r. ⌜ r ≡ among 105 (now (w .entry)) keywords 38 ⌝ }
+{
+    match w.len() {
+        2 => only(w, b"if", base_kinds::IF),
+        3 => only(w, b"int", base_kinds::INT),
+        4 => only(w, b"init", base_kinds::INIT),
+        _ => 0,
+    }
+}
+
+// Both have two bytes, so the second tells them apart.
+fn from_o(w: &[u8]) -> u8
+    ensures { λ r. ⌜ r ≡ among 111 (now (w .entry)) keywords 38 ⌝ }
+{
+    match base_bytes::byte_at(w, 1) {
+        b'd' => only(w, b"od", base_kinds::OD),
+        b'f' => only(w, b"of", base_kinds::OF),
+        _ => 0,
+    }
+}
+
+fn from_p(w: &[u8]) -> u8
+    ensures { λ r. ⌜ r ≡ among 112 (now (w .entry)) keywords 38 ⌝ }
+{
+    match w.len() {
+        3 => only(w, b"pid", base_kinds::PID),
+        6 => only(w, b"printf", base_kinds::PRINTF),
+        8 => only(w, b"proctype", base_kinds::PROCTYPE),
+        _ => 0,
+    }
+}
+
+fn from_s(w: &[u8]) -> u8
+    ensures { λ r. ⌜ r ≡ among 115 (now (w .entry)) keywords 38 ⌝ }
+{
+    match w.len() {
+        4 => only(w, b"skip", base_kinds::SKIP),
+        5 => only(w, b"short", base_kinds::SHORT),
+        _ => 0,
+    }
+}
+
+fn from_t(w: &[u8]) -> u8
+    ensures { λ r. ⌜ r ≡ among 116 (now (w .entry)) keywords 38 ⌝ }
+{
+    match w.len() {
+        4 => only(w, b"true", base_kinds::TRUE),
+        7 => either(
+            w,
+            b"timeout",
+            base_kinds::TIMEOUT,
+            b"typedef",
+            base_kinds::TYPEDEF,
+        ),
+        _ => 0,
+    }
+}
+
+// The kind of a word that is a keyword, or 0: by its first letter, then by its length.
 pub fn keyword(w: &[u8]) -> u8
     ensures { λ r. ⌜ r ≡ keywordOf (now (w .entry)) ⌝ }
 {
-    let a = type_kind(w);
-    if a != 0 {
-        return a;
+    if w.len() < 2 {
+        return 0;
     }
-    let b = word_kind_a(w);
-    if b != 0 {
-        return b;
+    match base_bytes::byte_at(w, 0) {
+        b'a' => from_a(w),
+        b'b' => from_b(w),
+        b'c' => only(w, b"chan", base_kinds::CHAN),
+        b'd' => from_d(w),
+        b'e' => from_e(w),
+        b'f' => from_f(w),
+        b'g' => only(w, b"goto", base_kinds::GOTO),
+        b'i' => from_i(w),
+        b'l' => only(w, b"len", base_kinds::LEN),
+        b'm' => only(w, b"mtype", base_kinds::MTYPE),
+        b'o' => from_o(w),
+        b'p' => from_p(w),
+        b'r' => only(w, b"run", base_kinds::RUN),
+        b's' => from_s(w),
+        b't' => from_t(w),
+        b'u' => only(w, b"unless", base_kinds::UNLESS),
+        _ => 0,
     }
-    let c = word_kind_b(w);
-    if c != 0 {
-        return c;
-    }
-    word_kind_c(w)
 }
 
 // The kind of a mark of two bytes, or 0.
