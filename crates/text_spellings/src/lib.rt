@@ -58,6 +58,15 @@ fn from_b(w: &[u8]) -> u8
     }
 }
 
+fn from_c(w: &[u8]) -> u8
+    ensures { λ r. ⌜ r ≡ among 99 (now (w .entry)) keywords 38 ⌝ }
+{
+    match w.len() {
+        4 => only(w, b"chan", base_kinds::CHAN),
+        _ => 0,
+    }
+}
+
 fn from_d(w: &[u8]) -> u8
     ensures { λ r. ⌜ r ≡ among 100 (now (w .entry)) keywords 38 ⌝ }
 {
@@ -87,6 +96,15 @@ fn from_f(w: &[u8]) -> u8
     }
 }
 
+fn from_g(w: &[u8]) -> u8
+    ensures { λ r. ⌜ r ≡ among 103 (now (w .entry)) keywords 38 ⌝ }
+{
+    match w.len() {
+        4 => only(w, b"goto", base_kinds::GOTO),
+        _ => 0,
+    }
+}
+
 fn from_i(w: &[u8]) -> u8
     ensures { λ r. ⌜ r ≡ among 105 (now (w .entry)) keywords 38 ⌝ }
 {
@@ -94,6 +112,24 @@ fn from_i(w: &[u8]) -> u8
         2 => only(w, b"if", base_kinds::IF),
         3 => only(w, b"int", base_kinds::INT),
         4 => only(w, b"init", base_kinds::INIT),
+        _ => 0,
+    }
+}
+
+fn from_l(w: &[u8]) -> u8
+    ensures { λ r. ⌜ r ≡ among 108 (now (w .entry)) keywords 38 ⌝ }
+{
+    match w.len() {
+        3 => only(w, b"len", base_kinds::LEN),
+        _ => 0,
+    }
+}
+
+fn from_m(w: &[u8]) -> u8
+    ensures { λ r. ⌜ r ≡ among 109 (now (w .entry)) keywords 38 ⌝ }
+{
+    match w.len() {
+        5 => only(w, b"mtype", base_kinds::MTYPE),
         _ => 0,
     }
 }
@@ -116,6 +152,15 @@ fn from_p(w: &[u8]) -> u8
         3 => only(w, b"pid", base_kinds::PID),
         6 => only(w, b"printf", base_kinds::PRINTF),
         8 => only(w, b"proctype", base_kinds::PROCTYPE),
+        _ => 0,
+    }
+}
+
+fn from_r(w: &[u8]) -> u8
+    ensures { λ r. ⌜ r ≡ among 114 (now (w .entry)) keywords 38 ⌝ }
+{
+    match w.len() {
+        3 => only(w, b"run", base_kinds::RUN),
         _ => 0,
     }
 }
@@ -146,6 +191,15 @@ fn from_t(w: &[u8]) -> u8
     }
 }
 
+fn from_u(w: &[u8]) -> u8
+    ensures { λ r. ⌜ r ≡ among 117 (now (w .entry)) keywords 38 ⌝ }
+{
+    match w.len() {
+        6 => only(w, b"unless", base_kinds::UNLESS),
+        _ => 0,
+    }
+}
+
 // The kind of a word that is a keyword, or 0: by its first letter, then by its length.
 pub fn keyword(w: &[u8]) -> u8
     ensures { λ r. ⌜ r ≡ keywordOf (now (w .entry)) ⌝ }
@@ -156,20 +210,20 @@ pub fn keyword(w: &[u8]) -> u8
     match base_bytes::byte_at(w, 0) {
         b'a' => from_a(w),
         b'b' => from_b(w),
-        b'c' => only(w, b"chan", base_kinds::CHAN),
+        b'c' => from_c(w),
         b'd' => from_d(w),
         b'e' => from_e(w),
         b'f' => from_f(w),
-        b'g' => only(w, b"goto", base_kinds::GOTO),
+        b'g' => from_g(w),
         b'i' => from_i(w),
-        b'l' => only(w, b"len", base_kinds::LEN),
-        b'm' => only(w, b"mtype", base_kinds::MTYPE),
+        b'l' => from_l(w),
+        b'm' => from_m(w),
         b'o' => from_o(w),
         b'p' => from_p(w),
-        b'r' => only(w, b"run", base_kinds::RUN),
+        b'r' => from_r(w),
         b's' => from_s(w),
         b't' => from_t(w),
-        b'u' => only(w, b"unless", base_kinds::UNLESS),
+        b'u' => from_u(w),
         _ => 0,
     }
 }
