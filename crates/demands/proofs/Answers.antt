@@ -15,7 +15,7 @@ use Rattle.step_entry.specs.declared.Stepped.the-variants as stepped
 use Rattle.spec_machine.specs.Machine.{Step, Verdict, finished, blocked, «open»}
 use Rattle.step_take.proofs.Still.{Still}
 use Rattle.agree_machine.proofs.Step.{Silent}
-use Rattle.demands.specs.Answers.{standingBy, listedBy, doneBy}
+use Rattle.demands.proofs.Entries.{standingBy, listedBy, doneBy}
 
 pub as-standing : (v : Verdict) → standingOf (verdictAs v) ≡ standingBy v
 as-standing finished = refl

@@ -1,5 +1,5 @@
 -- DEMAND 1, proved.
-use Prim.Native.Nat.{ℕ, _+_, _≤_, _<_}
+use Prim.Native.Nat.{ℕ, _+_, _-_, _≤_, _<_}
 use native.Mathlib.Omega.{arith}
 use mathlib.Core.Path.{_≡_, refl, sym, ap, ap₂, subst, _∙_}
 use mathlib.Core.Bool.{Bool, true, false}
@@ -8,8 +8,8 @@ use native.Mathlib.Decide.{decLt}
 use mathlib.Core.Logic.{_⊎_, inl, inr, _↔_}
 use mathlib.Core.List.{List}
 use borrow.Author.Tests.{lt-ltb, le-ltb, ltb-true, ltb-false, le-leb}
-use lib.Dec.{ltb, leb}
-use lib.ListN.{length, replicate, length-replicate}
+use lib.Dec.{ltb}
+use lib.ListN.{length, take, drop, length-replicate}
 use Rattle.base_ceilings.specs.Ceilings.{normalMost, tablesRoom}
 use Rattle.base_bytes.specs.Choice.{pick}
 use Rattle.base_bytes.proofs.Tests.{true-false}
@@ -28,7 +28,7 @@ use Rattle.read_passes.specs.declared.Judged.{Judged}
 use Rattle.read_passes.specs.declared.Judged.the-variants as judged
 use Rattle.read_passes.specs.Judging.{judgeOf, tablesText}
 use Rattle.read_entry.specs.Entries as reading
-use Rattle.read_entry.specs.Entries.{readOf, stays, partStart, partEnd}
+use Rattle.read_entry.specs.Entries.{readOf, stays, partStart}
 use Rattle.spec_normal.specs.Normal.{normal}
 use Rattle.spec_layout.specs.Layout.{layout}
 use Rattle.normal_entry.specs.Entries.{roomy, put, writtenBy, textAnswer, textLeft, tablesAnswer, tablesLeft}
@@ -40,8 +40,8 @@ use Rattle.legal_texts.proofs.Main.{read-legal}
 use Rattle.legal_texts.proofs.Refusals.{refused-exact}
 use Rattle.legal_texts.proofs.Within.{refusal-within}
 use Rattle.demands.specs.Said as said
-use Rattle.demands.specs.Said.{Said, refusal, values}
-use Rattle.demands.specs.Lent.{Tables}
+use Rattle.demands.specs.Said.{refusal}
+use Rattle.demands.proofs.Told.{not-values}
 use Rattle.demands.specs.Demand1 as one
 use Rattle.demands.specs.Demand1.{Reader, Writer, TablesWriter}
 use Rattle.demands.proofs.Owned.{blank, judged-by, legal-judged, left-wrote}
@@ -49,14 +49,7 @@ use Rattle.demands.proofs.Lent.{owner, tables-genuine}
 use Rattle.demands.proofs.Stepper.{stepper}
 use Rattle.demands.proofs.Replayed.{trail-refused}
 use Rattle.demands.proofs.Demand3.{normal-is, layout-is}
-
--- ---- answers told apart
-abbrev isRefusal : Said → ℕ
-isRefusal (refusal x i n) = 1
-isRefusal (values l) = 0
-
-not-values : {X : Type 0} {l : List ℕ} {x i n : ℕ} → values l ≡ refusal x i n → X
-not-values e = absurd (let z : _≡_ {A = ℕ} 0 1 = ap isRefusal e in omega arith)
+use Rattle.demands.specs.Lent.{Tables}
 
 -- ---- the reader
 reader-said : (j : Judged) (x i n : ℕ) → (said.reader j ≡ refusal x i n) ↔ (j ≡ judged.Refused x i n)
@@ -97,11 +90,13 @@ module _ (t : List ℕ) where
   unfolding reading.leftOf
   reader-unchanged old x i n e = ap (λ (j : Judged). stays j (tablesText t) old) (reader-said (readOf t old) x i n .0 e)
 
-  part-is : (x i n : ℕ) → Refusal t x i n → (partStart (length t) (judgeOf t) ≡ i) × (partEnd (length t) (judgeOf t) ≡ i + n)
+  part-is : (x i n : ℕ) → Refusal t x i n → (reading.part t (judgeOf t) ≡ take n (drop i t)) × (partStart (length t) (judgeOf t) ≡ i) × (i + n ≤ length t)
   part-is x i n r =
       let e = judged-exact t x i n .1 r in
-      let h = le-leb (i + n) (length t) (refusal-within r) in
-      (ap (partStart (length t)) e ∙ rw h refl, ap (partEnd (length t)) e ∙ rw h refl)
+      let w = refusal-within r in
+      let h = le-leb (i + n) (length t) w in
+      let z : i + n - i ≡ n = omega arith in
+      (ap (reading.part t) e ∙ ap (λ (b : Bool). take (pick b (i + n) 0 - pick b i 0) (drop (pick b i 0) t)) h ∙ ap (λ (k : ℕ). take k (drop i t)) z, ap (partStart (length t)) e ∙ rw h refl, w)
 
   reader : Reader t
   reader =
@@ -110,7 +105,7 @@ module _ (t : List ℕ) where
         six = reader-six;
         unchanged = reader-unchanged;
         part = part-is;
-        no-part = λ l. (let e = legal-judged t l in (ap (partStart (length t)) e, ap (partEnd (length t)) e));
+        no-part = λ l. (let e = legal-judged t l in (ap (reading.part t) e, ap (partStart (length t)) e));
       }
 
 -- ---- normal text and layout

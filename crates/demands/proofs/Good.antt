@@ -31,13 +31,13 @@ use Rattle.agree_machine.proofs.Prints.{text-busy}
 use Rattle.agree_machine.proofs.Entries as entries
 use Rattle.agree_machine.proofs.Step.{step-still}
 use Rattle.demands.proofs.Owned.{Own, of-text, owned}
-use Rattle.demands.specs.Lent.{Rooms, Tables}
 use Rattle.demands.specs.Walks as walks
 use Rattle.demands.specs.Walks.{Nth, here, later, chosen, Offers, asserted, faulty, Walks, fails, goes-on}
-use Rattle.demands.proofs.Lent.{own-genuine, tables-genuine}
+use Rattle.demands.proofs.Lent.{own-genuine}
 use Rattle.demands.proofs.Offers.{offers-asked}
 use Rattle.demands.proofs.TextOrder.{Ascends, offers-ascend, nth-alone}
 use Rattle.demands.proofs.Walks.{Good}
+use Rattle.demands.specs.Lent.{Rooms, Tables}
 
 nth-in : {A : Type 0} {y : A} {k : ℕ} {l : List A} → Nth y k l → In y l
 nth-in here = first

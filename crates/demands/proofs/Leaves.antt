@@ -11,14 +11,13 @@ use lib.Dec.{ltb}
 use Rattle.base_ceilings.specs.Ceilings.{printRoom, stateRoom}
 use Rattle.base_bytes.specs.Choice.{pick}
 use Rattle.spec_grammar.specs.Tree.{Model}
-use Rattle.table_genuine.specs.Genuine.{written}
-use Rattle.state_check.specs.Standing.{isStateOf}
 use Rattle.base_outcome.specs.declared.Taken.{Taken}
 use Rattle.base_outcome.specs.declared.Taken.the-variants.{Done, Refuted, Faulted, Idle}
 use Rattle.step_entry.specs.Entries.{foreignOf, startLeft, Outcome, refusedBy, outcomeOf}
 use Rattle.step_entry.specs.declared.Stepped.the-variants as stepped
 use Rattle.run_entry.specs.Entries.{ranOf}
 use Rattle.trail_form.specs.Forms.{form, formOf}
+use Rattle.trail_form.proofs.Exact.{form-exact}
 use Rattle.trail_replay.specs.Entries.{replayedOf}
 use Rattle.spec_machine.specs.State.{State}
 use Rattle.spec_machine.specs.Begins.{initial}
@@ -31,12 +30,11 @@ use Rattle.spec_trails.specs.Runs.{runFrom}
 use Rattle.spec_machine.specs.Steps.{machineOf}
 use Rattle.agree_machine.proofs.Entries as entries
 use Rattle.demands.proofs.Owned.{Own, of-text, owned}
-use Rattle.demands.specs.Lent.{Rooms, Tables, Holds, Lent, no-room, no-model, no-state, a-state}
-use Rattle.demands.specs.Answers.{doneBy}
-use Rattle.demands.specs.Entries.{leaves, takenBy, formedBy, refusalBy, steppedBy}
-use Rattle.demands.specs.InWords.{Unchanged, Leaves}
-use Rattle.demands.proofs.Lent.{own-genuine, tables-genuine, numbers-state, state-is, foreign-room, foreign-is}
-use Rattle.demands.proofs.Demand2.{demand2}
+use Rattle.demands.specs.InWords.{IsState, StatesLeft}
+use Rattle.demands.proofs.Lent.{own-genuine, found, numbers-state, foreign-room, foreign-is}
+use Rattle.demands.proofs.ByCases.{by-cases}
+use Rattle.demands.specs.Lent.{Rooms, Tables, Holds, leaves}
+use Rattle.demands.proofs.Entries.{Lent, no-room, no-model, no-state, a-state, doneBy, takenBy, formedBy, refusalBy, steppedBy}
 
 -- ---- what a step that was not taken leaves
 abbrev Keeps : List ℤ → List ℕ → Outcome → Type 0
@@ -65,20 +63,19 @@ module _ (s : List ℤ) (out : List ℕ) where
   room-keeps true o h g = (refl, refl)
   room-keeps false o h g = h g
 
-pub unchanged : Unchanged
+-- "A refusal changes no lent number or byte", "A failed assertion or fault changes no state and prints nothing"
+pub unchanged : (ts : List ℕ) (s : List ℤ) (p k : ℕ) (out : List ℕ) → ((n : ℕ) → outcomeOf ts s p k out .answer ≡ stepped.Took n → ⊥)
+    → (outcomeOf ts s p k out .state ≡ s) × (outcomeOf ts s p k out .printed ≡ out)
 unchanged ts s p k out =
-    let D = demand2 ts s in
-    let x = D .cases .some-case in
+    let D = by-cases ts s in
+    let x = D .some-case in
     subst (Keeps s out) (inv (D .step x p k out)) (room-keeps s out (ltb (length out) printRoom) (steppedBy x p k out) (stepped-keeps s out x p k))
 
 -- ---- what is left is a state of the model
 module _ (ts : List ℕ) (s : List ℤ) where
-  abbrev LetThrough : List ℤ → Type 0
-  LetThrough l = isStateOf (written ts) l ≡ true
-
-  left : (m : Model) → Tables ts m → (τ : State) → Fits (Belongs m) m τ → LetThrough (leaves s m τ)
+  left : (m : Model) → Tables ts m → (τ : State) → Fits (Belongs m) m τ → IsState ts (leaves s m τ)
   unfolding leaves
-  left m h τ f = numbers-state ts m τ (drop stateRoom s) h f
+  left m h τ f = let x = found ts m _ h (numbers-state ts m τ (drop stateRoom s) h f) in (m, x .state, h, x .numbers)
 
   initial-fits-own : (m : Model) → Rooms ts s → Own ts m → Fits (Belongs m) m (initial m)
   initial-fits-own m r (of-text t a e) = entries.initially ts (r .tables) (own-genuine ts (a .tree) (of-text t a e)) t a e
@@ -107,71 +104,71 @@ module _ (ts : List ℕ) (s : List ℤ) where
   replay-fits m r o c l = replay-fits-own m r (owned ts m o) c l
 
   module _ (m : Model) (σ : State) (h : Holds ts s m σ) where
-    same : LetThrough s
-    same = state-is ts m s σ (h .tables) (h .numbers)
+    same : IsState ts s
+    same = (m, σ, h .tables, h .numbers)
 
-    done : (out : List ℕ) (k : Taken) (τ : State) (text : List ℕ) → Fits (Belongs m) m τ → LetThrough (doneBy s out k (leaves s m τ) text .state)
+    done : (out : List ℕ) (k : Taken) (τ : State) (text : List ℕ) → Fits (Belongs m) m τ → IsState ts (doneBy s out k (leaves s m τ) text .state)
     done out Done τ text f = left m (h .tables) τ f
     done out Refuted τ text f = same
     done out (Faulted g) τ text f = same
     done out Idle τ text f = same
 
-    taken : (p k : ℕ) (out : List ℕ) (o : Option Step) → asked (machineOf m) p k (offered (machineOf m) σ) ≡ o → LetThrough (takenBy s m σ out o .state)
+    taken : (p k : ℕ) (out : List ℕ) (o : Option Step) → asked (machineOf m) p k (offered (machineOf m) σ) ≡ o → IsState ts (takenBy s m σ out o .state)
     taken p k out none e = same
     taken p k out (some x) e =
         let T = advance (machineOf m) σ x in
         done out (T .0) (T .1) (machineOf m .printed σ x) (step-fits m σ (h .rooms) (h .tables) (h .numbers .fits) p k x e)
 
-    roomy : (out : List ℕ) (b : Bool) (o : Outcome) → LetThrough (o .state) → LetThrough (pick b (refusedBy 7 s out) o .state)
+    roomy : (out : List ℕ) (b : Bool) (o : Outcome) → IsState ts (o .state) → IsState ts (pick b (refusedBy 7 s out) o .state)
     roomy out true o g = same
     roomy out false o g = g
 
-    stepping : (p k : ℕ) (out : List ℕ) → LetThrough (outcomeOf ts s p k out .state)
+    stepping : (p k : ℕ) (out : List ℕ) → IsState ts (outcomeOf ts s p k out .state)
     stepping p k out =
-        subst (λ (o : Outcome). LetThrough (o .state)) (inv (demand2 ts s .step (a-state m σ h) p k out))
+        subst (λ (o : Outcome). IsState ts (o .state)) (inv (by-cases ts s .step (a-state m σ h) p k out))
         (roomy out (ltb (length out) printRoom) (steppedBy (a-state m σ h) p k out) (taken p k out (asked (machineOf m) p k (offered (machineOf m) σ)) refl))
 
-    ran : (n : ℕ) → LetThrough (ranOf ts s n .1)
+    ran : (n : ℕ) → IsState ts (ranOf ts s n .1)
     ran n =
-        subst LetThrough (inv (ap (λ r. r .1) (demand2 ts s .run (a-state m σ h) n))) (left m (h .tables) (runFrom (machineOf m) n σ .state) (run-fits m σ (h .rooms) (h .tables) (h .numbers .fits) n))
+        subst (IsState ts) (inv (ap (λ r. r .1) (by-cases ts s .run (a-state m σ h) n))) (left m (h .tables) (runFrom (machineOf m) n σ .state) (run-fits m σ (h .rooms) (h .tables) (h .numbers .fits) n))
 
-  started : (x : Lent ts s) → foreignOf ts s ≡ 0 → LetThrough (startLeft ts s)
+  started : (x : Lent ts s) → foreignOf ts s ≡ 0 → IsState ts (startLeft ts s)
   started (no-room h) e = let f = foreign-room ts s h in absurd (omega arith)
   started (no-model r h) e = let f = foreign-is ts s r h in absurd (omega arith)
-  started (no-state m r h g) e = subst LetThrough (inv (ap (λ z. z .1) (demand2 ts s .start (no-state m r h g)))) (left m h (initial m) (initial-fits m r h))
-  started (a-state m σ h) e = subst LetThrough (inv (ap (λ z. z .1) (demand2 ts s .start (a-state m σ h)))) (left m (h .tables) (initial m) (initial-fits m (h .rooms) (h .tables)))
+  started (no-state m r h g) e = subst (IsState ts) (inv (ap (λ z. z .1) (by-cases ts s .start (no-state m r h g)))) (left m h (initial m) (initial-fits m r h))
+  started (a-state m σ h) e = subst (IsState ts) (inv (ap (λ z. z .1) (by-cases ts s .start (a-state m σ h)))) (left m (h .tables) (initial m) (initial-fits m (h .rooms) (h .tables)))
 
   replayed : (m : Model) → Rooms ts s → Tables ts m → (trail : List ℕ) (l : List Recorded) (v : ℕ) → formOf trail ≡ form l v → replayedOf ts trail s ≡ formedBy s m (formOf trail)
-      → LetThrough (replayedOf ts trail s .1)
+      → IsState ts (replayedOf ts trail s .1)
   replayed m r h trail l v e d =
       let R = replayFrom (machineOf m) (claimBy v) l 1 none (initial m) in
-      subst LetThrough (inv (ap (λ z. z .1) (d ∙ ap (formedBy s m) e))) (left m h (R .1) (replay-fits m r h (claimBy v) l))
+      subst (IsState ts) (inv (ap (λ z. z .1) (d ∙ ap (formedBy s m) e))) (left m h (R .1) (replay-fits m r h (claimBy v) l))
 
-  by-replay : (x : Lent ts s) → foreignOf ts s ≡ 0 → (trail : List ℕ) (l : List Recorded) (v : ℕ) → formOf trail ≡ form l v → LetThrough (replayedOf ts trail s .1)
+  by-replay : (x : Lent ts s) → foreignOf ts s ≡ 0 → (trail : List ℕ) (l : List Recorded) (v : ℕ) → formOf trail ≡ form l v → IsState ts (replayedOf ts trail s .1)
   by-replay (no-room h) e trail l v q = let f = foreign-room ts s h in absurd (omega arith)
   by-replay (no-model r h) e trail l v q = let f = foreign-is ts s r h in absurd (omega arith)
-  by-replay (no-state m r h g) e trail l v q = replayed m r h trail l v q (demand2 ts s .replay (no-state m r h g) trail)
-  by-replay (a-state m σ h) e trail l v q = replayed m (h .rooms) (h .tables) trail l v q (demand2 ts s .replay (a-state m σ h) trail)
+  by-replay (no-state m r h g) e trail l v q = replayed m r h trail l v q (by-cases ts s .replay (no-state m r h g) trail)
+  by-replay (a-state m σ h) e trail l v q = replayed m (h .rooms) (h .tables) trail l v q (by-cases ts s .replay (a-state m σ h) trail)
 
-  by-step : (x : Lent ts s) → refusalBy x ≡ 0 → (p k : ℕ) (out : List ℕ) → LetThrough (outcomeOf ts s p k out .state)
+  by-step : (x : Lent ts s) → refusalBy x ≡ 0 → (p k : ℕ) (out : List ℕ) → IsState ts (outcomeOf ts s p k out .state)
   by-step (no-room h) e p k out = absurd (omega arith)
   by-step (no-model r h) e p k out = absurd (omega arith)
   by-step (no-state m r h g) e p k out = absurd (omega arith)
   by-step (a-state m σ h) e p k out = stepping m σ h p k out
 
-  by-run : (x : Lent ts s) → refusalBy x ≡ 0 → (n : ℕ) → LetThrough (ranOf ts s n .1)
+  by-run : (x : Lent ts s) → refusalBy x ≡ 0 → (n : ℕ) → IsState ts (ranOf ts s n .1)
   by-run (no-room h) e n = absurd (omega arith)
   by-run (no-model r h) e n = absurd (omega arith)
   by-run (no-state m r h g) e n = absurd (omega arith)
   by-run (a-state m σ h) e n = ran m σ h n
 
-  pub states-left : Leaves ts s
+  pub states-left : StatesLeft ts s
   states-left =
-      let D = demand2 ts s in
-      let x = D .cases .some-case in
+      let D = by-cases ts s in
+      let x = D .some-case in
       record {
         start = started x;
         step = λ e. by-step x (inv (D .refusal x) ∙ e);
         run = λ e. by-run x (inv (D .refusal x) ∙ e);
-        replay = by-replay x;
+        replay = λ e trail l v f. by-replay x e trail l v (form-exact trail l v .1 f);
       }

@@ -1,5 +1,5 @@
 -- EVERY LENT PAIR IS IN ONE CASE, and refusals 7, 8 and 9 are given in theirs.
-use Prim.Native.Nat.{ℕ, _+_, _<_}
+use Prim.Native.Nat.{ℕ, _<_}
 use native.Mathlib.Omega.{arith}
 use mathlib.Core.Path.{_≡_, refl, sym as inv, ap, ap₂, _∙_, subst}
 use mathlib.Core.Bool.{Bool, true, false}
@@ -26,10 +26,10 @@ use Rattle.spec_machine.specs.Places.{Belongs}
 use Rattle.spec_machine.specs.Fits.{Fits}
 use Rattle.agree_states.proofs.Texts.{text-holds, text-held-state, text-single}
 use Rattle.agree_machine.proofs.Survey.{text-modest, text-surveyed}
-use Rattle.demands.specs.Lent.{Rooms, Tables, Numbers, Lent, no-room, no-model, no-state, a-state, nine, holds, caseOf}
 use Rattle.demands.proofs.Owned.{Own, of-text, owned, own-tables}
-use Rattle.demands.specs.Entries.{refusalBy}
-use Rattle.demands.specs.Demand2.{OneCase}
+use Rattle.demands.specs.Lent.{Rooms, Tables, Numbers, Holds, Refuses, OneCase}
+use Rattle.demands.specs.Lent as lent
+use Rattle.demands.proofs.Entries.{Lent, no-room, no-model, no-state, a-state, nine, holds, caseOf, refusalBy}
 
 -- ---- 8: exactly when no accepted text has these tables
 pub own-genuine : (ts : List ℕ) (m : Model) → Own ts m → genuine ts ≡ true
@@ -55,16 +55,16 @@ pub one-model : (ts : List ℕ) (m n : Model) → Tables ts m → Tables ts n �
 one-model ts m n h g = one-own ts m n (owned ts m h) (owned ts n g)
 
 -- ---- 9: exactly when the numbers are those of no state that fits
-record Found (m : Model) (s : List ℤ) : Type 0 where
-  state : State
-  numbers : Numbers m s state
+pub record Found (m : Model) (s : List ℤ) : Type 0 where
+  pub state : State
+  pub numbers : Numbers m s state
 
 found-own : (ts : List ℕ) (m : Model) (s : List ℤ) → Own ts m → isStateOf (written ts) s ≡ true → Found m s
 found-own ts m s (of-text t a e) h =
     let r = text-holds t a (text-modest t a) (text-surveyed t a) s (ap (λ w. isStateOf w s) (inv e) ∙ h) in
     record { state = r .0; numbers = record { fits = r .1 .0; are = r .1 .1 } }
 
-found : (ts : List ℕ) (m : Model) (s : List ℤ) → Tables ts m → isStateOf (written ts) s ≡ true → Found m s
+pub found : (ts : List ℕ) (m : Model) (s : List ℤ) → Tables ts m → isStateOf (written ts) s ≡ true → Found m s
 found ts m s o h = found-own ts m s (owned ts m o) h
 
 numbers-state-own : (ts : List ℕ) (m : Model) (σ : State) (rest : List ℤ) → Own ts m → Fits (Belongs m) m σ → isStateOf (written ts) (encode m σ ++ rest) ≡ true
@@ -93,7 +93,7 @@ module _ (ts : List ℕ) (s : List ℤ) where
   by-tables r true e = let o = owner ts e in by-numbers (o .tree) r (o .tables) (isStateOf (written ts) s) refl
   by-tables r false e = no-model r (λ m h. true-false (inv (tables-genuine ts m h) ∙ e))
 
-  some-case : Lent ts s
+  pub some-case : Lent ts s
   some-case = go (ltb (length ts) tablesRoom) (ltb (length s) stateRoom) refl refl
     where
       go : (b c : Bool) → ltb (length ts) tablesRoom ≡ b → ltb (length s) stateRoom ≡ c → Lent ts s
@@ -139,7 +139,7 @@ module _ (ts : List ℕ) (s : List ℤ) where
       ap (λ i. pick (eqb i 0) (pick (isStateOf (written ts) s) 0 9) i) (foreign-none m (h .rooms) (h .tables)) ∙ ap (λ b. pick b 0 9) (state-is ts m s σ (h .tables) (h .numbers))
 
   -- ---- no pair is in two
-  one-case : (x y : Lent ts s) → caseOf x ≡ caseOf y
+  pub one-case : (x y : Lent ts s) → caseOf x ≡ caseOf y
   one-case x y = go x y (inv (refusal-is x) ∙ refusal-is y)
     where
       go : (x y : Lent ts s) → refusalBy x ≡ refusalBy y → caseOf x ≡ caseOf y
@@ -162,5 +162,29 @@ module _ (ts : List ℕ) (s : List ℤ) where
           let z = one-model ts m n (h .tables) (g .tables) in
           ap₂ holds z (one-state ts n s σ τ (g .tables) (subst (λ k. Numbers k s σ) z (h .numbers)) (g .numbers))
 
+  -- ---- the cases as the statement has them
+  pub to-case : {x : ℕ} → Refuses ts s x → (c : Lent ts s) × (refusalBy c ≡ x) × (0 < x)
+  to-case (lent.no-room h) = (no-room h, refl, omega arith)
+  to-case (lent.no-model r h) = (no-model r h, refl, omega arith)
+  to-case (lent.no-state m r h g) = (no-state m r h g, refl, omega arith)
+
+  pub of-case : (c : Lent ts s) (x : ℕ) → refusalBy c ≡ x → 0 < x → Refuses ts s x
+  of-case (no-room h) x e p = subst (Refuses ts s) e (lent.no-room h)
+  of-case (no-model r h) x e p = subst (Refuses ts s) e (lent.no-model r h)
+  of-case (no-state m r h g) x e p = subst (Refuses ts s) e (lent.no-state m r h g)
+  of-case (a-state m σ h) x e p = absurd (omega arith)
+
   pub cases : OneCase ts s
-  cases = record { some-case = some-case; one-case = one-case }
+  cases =
+      record {
+        some-case = go some-case;
+        never-both = λ x m σ r h. (let c = to-case r in let z : refusalBy (c .0) ≡ 0 = inv (refusal-is (c .0)) ∙ refusal-is (a-state m σ h) in omega (arith, c .1, c .2));
+        one-model = one-model ts;
+        one-state = λ m σ τ h. one-state ts m s σ τ h;
+      }
+    where
+      go : Lent ts s → ((x : ℕ) × Refuses ts s x) ⊎ ((m : Model) × (σ : State) × Holds ts s m σ)
+      go (no-room h) = inl (7, lent.no-room h)
+      go (no-model r h) = inl (8, lent.no-model r h)
+      go (no-state m r h g) = inl (9, lent.no-state m r h g)
+      go (a-state m σ h) = inr (m, σ, h)

@@ -1,5 +1,5 @@
 -- WHICH STEPS ARE LISTED AND ASKED FOR, of any machine: exactly those that it offers, by process number, then by their number.
-use Prim.Native.Nat.{ℕ, zero, suc, _+_, _-_, _<_}
+use Prim.Native.Nat.{ℕ, zero, suc, _+_, _<_}
 use native.Mathlib.Omega.{arith}
 use mathlib.Core.Path.{_≡_, refl, sym as inv, ap, _∙_, subst}
 use mathlib.Core.Bool.{Bool, true, false}
@@ -9,12 +9,8 @@ use mathlib.Core.List.{List, [], _∷_, _++_}
 use lib.ListN.{length}
 use lib.Dec.{eqb}
 use Rattle.base_bytes.specs.Choice.{pick}
-use Rattle.base_outcome.specs.declared.Partner.the-variants.{Nobody}
-use Rattle.step_entry.specs.declared.Listed.{Listed}
-use Rattle.step_entry.specs.declared.Listed.the-variants as listed
 use Rattle.spec_machine.specs.Machine.{Move, Machine, Step, stepOf, moveOf, numbered, late, listFrom, offered, asked}
 use Rattle.step_all.proofs.Asked.{moveAt, stepAs, one-asked, asked-given}
-use Rattle.demands.specs.Answers.{listedBy}
 use Rattle.demands.specs.Walks.{Nth, here, later, Offers}
 
 -- ---- the k-th of a list
@@ -39,37 +35,13 @@ pub data Among (x : Step) : List Step → Type 0 where
   front : {l : List Step} → Among x (x ∷ l)
   back : {y : Step} {l : List Step} → Among x l → Among x (y ∷ l)
 
-abbrev isStep : Listed → ℕ
-isStep (listed.Step x) = 1
-isStep (listed.Only n) = 0
-isStep (listed.Refused i) = 0
+nth-among : {x : Step} {k : ℕ} {l : List Step} → Nth x k l → Among x l
+nth-among here = front
+nth-among (later h) = back (nth-among h)
 
-abbrev noStep : Step
-noStep = record { process = 0; number = 0; place = 0; partner = Nobody }
-
-abbrev stepIn : Listed → Step
-stepIn (listed.Step x) = x
-stepIn (listed.Only n) = noStep
-stepIn (listed.Refused i) = noStep
-
-abbrev shown : Step → Listed
-shown x = listed.Step x
-
-no-step : (n : ℕ) (x : Step) → listed.Only n ≡ shown x → ⊥
-no-step n x e = let z : _≡_ {A = ℕ} 0 1 = ap isStep e in omega arith
-
-listed-among : (all n : ℕ) (x : Step) (l : List Step) → listedBy all n l ≡ shown x → Among x l
-listed-among all n x [] e = absurd (no-step all x e)
-listed-among all zero x (y ∷ l) e = subst (λ z. Among x (z ∷ l)) (inv (ap stepIn e)) front
-listed-among all (suc n) x (y ∷ l) e = back (listed-among all n x l e)
-
-record Listing (all : ℕ) (x : Step) (l : List Step) : Type 0 where
-  at : ℕ
-  is : listedBy all at l ≡ shown x
-
-among-listed : (all : ℕ) {x : Step} {l : List Step} → Among x l → Listing all x l
-among-listed all front = record { at = 0; is = refl }
-among-listed all (back h) = let r = among-listed all h in record { at = suc (r .at); is = r .is }
+among-nth : {x : Step} {l : List Step} → Among x l → (k : ℕ) × Nth x k l
+among-nth front = (1, here)
+among-nth (back h) = let r = among-nth h in (suc (r .0), later (r .1))
 
 in-nothing : {A : Type 0} {x : Step} → Among x [] → A
 in-nothing {x = x} h = absurd (go h refl)
@@ -136,11 +108,8 @@ module _ {S : Type 0} (M : Machine S) (s : S) where
       go false c e f = back (f e)
 
   -- ---- listed
-  pub listed-exactly : (all : ℕ) (x : Step) → ((n : ℕ) × (listedBy all n (offered M s) ≡ listed.Step x)) ↔ Offers M s x
-  listed-exactly all x = (
-    (λ r. among-offers x (listed-among all (r .0) x (offered M s) (r .1))),
-    (λ h. let r = among-listed all (asked-among (x .process) (x .number) x (offered M s) (offers-asked x h)) in (r .at, r .is)),
-  )
+  pub listed-exactly : (x : Step) → ((k : ℕ) × Nth x k (offered M s)) ↔ Offers M s x
+  listed-exactly x = (λ r. among-offers x (nth-among (r .1)), λ h. among-nth (asked-among (x .process) (x .number) x (offered M s) (offers-asked x h)))
 
   pub none-listed : offered M s ≡ [] → (x : Step) → Offers M s x → ⊥
   none-listed e x h = in-nothing (subst (Among x) e (asked-among (x .process) (x .number) x (offered M s) (offers-asked x h)))
@@ -187,18 +156,15 @@ module _ {S : Type 0} (M : Machine S) (s : S) where
   unfolding offered
   rising-offered = rising-list (late M s) 0 (M .processes s)
 
-above-listed : (all p k n : ℕ) (x : Step) (l : List Step) → Above p k l → listedBy all n l ≡ shown x → Before p k (x .process) (x .number)
-above-listed all p k n x [] h e = absurd (no-step all x e)
-above-listed all p k zero x (y ∷ l) h e = subst (λ z. Before p k (z .process) (z .number)) (ap stepIn e) (h .0)
-above-listed all p k (suc n) x (y ∷ l) h e = above-listed all p k n x l (h .1) e
+above-nth : {p k k′ : ℕ} {x : Step} {l : List Step} → Nth x k′ l → Above p k l → Before p k (x .process) (x .number)
+above-nth here h = h .0
+above-nth (later n) h = above-nth n (h .1)
 
-rising-order : (all n n′ : ℕ) (x y : Step) (l : List Step) → Rising l → n < n′ → listedBy all n l ≡ shown x → listedBy all n′ l ≡ shown y → Before (x .process) (x .number) (y .process) (y .number)
-rising-order all n n′ x y [] h i e f = absurd (no-step all x e)
-rising-order all zero zero x y (z ∷ l) h i e f = absurd (omega arith)
-rising-order all zero (suc n′) x y (z ∷ l) h i e f = above-listed all (x .process) (x .number) n′ y l (subst (λ w. Above (w .process) (w .number) l) (ap stepIn e) (h .0)) f
-rising-order all (suc n) zero x y (z ∷ l) h i e f = absurd (omega arith)
-rising-order all (suc n) (suc n′) x y (z ∷ l) h i e f = rising-order all n n′ x y l (h .1) (omega arith) e f
+rising-nth : {k k′ : ℕ} {x y : Step} {l : List Step} → Nth x k l → Nth y k′ l → Rising l → k < k′ → Before (x .process) (x .number) (y .process) (y .number)
+rising-nth here here h i = absurd (omega arith)
+rising-nth here (later n) h i = above-nth n (h .0)
+rising-nth (later m) here h i = absurd (omega arith)
+rising-nth (later m) (later n) h i = rising-nth m n (h .1) (omega arith)
 
-pub listed-in-order : {S : Type 0} (M : Machine S) (s : S) (all n n′ : ℕ) (x y : Step) → n < n′ → listedBy all n (offered M s) ≡ listed.Step x → listedBy all n′ (offered M s) ≡ listed.Step y
-    → Before (x .process) (x .number) (y .process) (y .number)
-listed-in-order M s all n n′ x y h e f = rising-order all n n′ x y (offered M s) (rising-offered M s) h e f
+pub listed-in-order : {S : Type 0} (M : Machine S) (s : S) {k k′ : ℕ} {x y : Step} → k < k′ → Nth x k (offered M s) → Nth y k′ (offered M s) → Before (x .process) (x .number) (y .process) (y .number)
+listed-in-order M s h m n = rising-nth m n (rising-offered M s) h

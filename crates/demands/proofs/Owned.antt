@@ -1,7 +1,7 @@
 -- A LEGAL TEXT IS ACCEPTED, and the tables that the reader leaves of it are those of its tree.
 use Prim.Native.Nat.{ℕ, _≤_}
 use native.Mathlib.Omega.{arith}
-use mathlib.Core.Path.{_≡_, refl, sym, ap, subst, _∙_}
+use mathlib.Core.Path.{_≡_, sym, ap, subst, _∙_}
 use mathlib.Core.Bool.{Bool, false}
 use mathlib.Core.List.{List, [], _++_}
 use borrow.Author.Tests.{le-ltb}
@@ -55,7 +55,7 @@ tree-is t l =
 
 -- ---- what an accepted text leaves in lent tables that have the room
 module _ (t old : List ℕ) (ok : judgeOf t ≡ judged.Accepted) (r : tablesRoom ≤ length old) where
-  left-is : reader.leftOf t old ≡ tablesText t ++ drop (length (tablesText t)) old
+  pub left-is : reader.leftOf t old ≡ tablesText t ++ drop (length (tablesText t)) old
   unfolding reader.leftOf
   left-is = ap (λ (j : Judged). stays j (tablesText t) old) (judged-by t old r ∙ ok)
 

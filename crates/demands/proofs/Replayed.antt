@@ -1,16 +1,16 @@
 -- REPLAY refuses exactly as the table says: number, line, and the numbers left.
-use Prim.Native.Nat.{ℕ, suc, _≤_, _<_}
+use Prim.Native.Nat.{ℕ, suc, _<_}
 use native.Mathlib.Omega.{arith}
 use mathlib.Core.Path.{_≡_, refl, sym, ap, ap₂, subst, _∙_}
 use mathlib.Core.Bool.{Bool, true, false}
-use mathlib.Core.Logic.{_⊎_, inl, inr, _↔_}
+use mathlib.Core.Logic.{_⊎_, inl, inr}
 use mathlib.Core.Option.{none}
 use mathlib.Core.List.{List}
 use borrow.Author.Tests.{lt-ltb, le-ltb, ltb-true, ltb-false}
 use lib.Dec.{ltb}
 use lib.ListN.{length}
 use lib.IntN.{ℤ}
-use Rattle.base_ceilings.specs.Ceilings.{stateRoom, stepsMost, tablesRoom, trailMost}
+use Rattle.base_ceilings.specs.Ceilings.{stateRoom, tablesRoom, trailMost}
 use Rattle.base_bytes.specs.Choice.{pick}
 use Rattle.spec_grammar.specs.Tree.{Model}
 use Rattle.spec_machine.specs.State.{State}
@@ -18,9 +18,7 @@ use Rattle.spec_machine.specs.Begins.{initial}
 use Rattle.spec_machine.specs.Places.{Belongs}
 use Rattle.spec_machine.specs.Fits.{Fits}
 use Rattle.spec_machine.specs.Steps.{machineOf}
-use Rattle.spec_trails.specs.Trails.{Recorded}
-use Rattle.spec_trails.specs.Texts.{TextOf}
-use Rattle.spec_trails.specs.Replays.{claimed, claimBy, Replayed, accepted, refused, replayFrom}
+use Rattle.spec_trails.specs.Replays.{claimBy, Replayed, accepted, refused, replayFrom}
 use Rattle.spec_refusals.specs.Trails as forms
 use Rattle.trail_form.specs.Forms.{Form, form, spoiled, formOf}
 use Rattle.trail_form.proofs.Exact.{claim-back, form-exact}
@@ -30,23 +28,20 @@ use Rattle.trail_replay.specs.Entries.{replayedOf}
 use Rattle.trail_replay.specs.declared.Replayed as trails
 use Rattle.trail_replay.specs.declared.Replayed.the-variants as replayed
 use Rattle.demands.specs.Said as said
-use Rattle.demands.specs.Said.{Said, refusal, values}
-use Rattle.demands.specs.Lent.{Rooms, Tables, Lent}
-use Rattle.demands.specs.Lent as lent
-use Rattle.demands.specs.Entries.{leaves, answeredBy, formedBy, replayBy}
+use Rattle.demands.specs.Said.{refusal}
+use Rattle.demands.proofs.Told.{not-values}
+use Rattle.demands.proofs.Entries as lent
 use Rattle.demands.specs.Walks.{Stops}
 use Rattle.demands.specs.Demand1.{TrailRefused, no-room, too-long, no-model, misformed, stops, Replay}
 use Rattle.demands.proofs.Walks.{stop-refused, refused-stop}
 use Rattle.demands.proofs.Good.{good-step}
 use Rattle.demands.proofs.Leaves.{initial-fits}
-use Rattle.demands.proofs.Demand2.{replays, demand2}
-
-abbrev kind : Said → ℕ
-kind (refusal x i n) = 1
-kind (values l) = 0
+use Rattle.demands.proofs.ByCases.{replays, by-cases}
+use Rattle.demands.specs.Lent.{Rooms, Tables, leaves}
+use Rattle.demands.proofs.Entries.{Lent, answeredBy, formedBy, replayBy}
 
 said-so : (a : trails.Replayed) (x line : ℕ) → said.replay a ≡ refusal x line 0 → a ≡ replayed.Refused x line
-said-so (replayed.Accepted v) x line e = absurd (let z : _≡_ {A = ℕ} 0 1 = ap kind e in omega arith)
+said-so (replayed.Accepted v) x line e = not-values e
 said-so (replayed.Refused y l) x line e = let a : y ≡ x = cc in let b : l ≡ line = cc in rw (a, b) refl
 
 -- answers by numbers, to tell them apart
@@ -113,27 +108,27 @@ module _ (ts trail : List ℕ) (s : List ℤ) where
   spoils m r h x line z = replays ts s m r h trail ∙ ap (formedBy s m) (form-misformed trail x line .1 z)
 
   from : {x line : ℕ} {left : List ℤ} → TrailRefused ts trail s x line left → replayedOf ts trail s ≡ (replayed.Refused x line, left)
-  from (no-room n) = go (demand2 ts s .cases .some-case)
+  from (no-room n) = go (by-cases ts s .some-case)
     where
       go : Lent ts s → replayedOf ts trail s ≡ (replayed.Refused 7 0, s)
-      go (lent.no-room h) = demand2 ts s .replay (lent.no-room h) trail
+      go (lent.no-room h) = by-cases ts s .replay (lent.no-room h) trail
       go (lent.no-model r h) = absurd (n r)
       go (lent.no-state m r h g) = absurd (n r)
       go (lent.a-state m σ h) = absurd (n (h .rooms))
-  from (too-long r g) = go (demand2 ts s .cases .some-case)
+  from (too-long r g) = go (by-cases ts s .some-case)
     where
       go : Lent ts s → replayedOf ts trail s ≡ (replayed.Refused 2 0, s)
       go (lent.no-room h) = absurd (no-rooms h r)
       go (lent.no-model q h) =
-          demand2 ts s .replay (lent.no-model q h) trail ∙ ap (λ (b : Bool). pick b (replayed.Refused 2 0, s) (replayed.Refused 8 0, s)) (lt-ltb trailMost (length trail) g)
+          by-cases ts s .replay (lent.no-model q h) trail ∙ ap (λ (b : Bool). pick b (replayed.Refused 2 0, s) (replayed.Refused 8 0, s)) (lt-ltb trailMost (length trail) g)
       go (lent.no-state m q h f) = spoils m q h 2 0 (forms.too-long g)
       go (lent.a-state m σ h) = spoils m (h .rooms) (h .tables) 2 0 (forms.too-long g)
-  from (no-model r g n) = go (demand2 ts s .cases .some-case)
+  from (no-model r g n) = go (by-cases ts s .some-case)
     where
       go : Lent ts s → replayedOf ts trail s ≡ (replayed.Refused 8 0, s)
       go (lent.no-room h) = absurd (no-rooms h r)
       go (lent.no-model q h) =
-          demand2 ts s .replay (lent.no-model q h) trail ∙ ap (λ (b : Bool). pick b (replayed.Refused 2 0, s) (replayed.Refused 8 0, s)) (le-ltb trailMost (length trail) g)
+          by-cases ts s .replay (lent.no-model q h) trail ∙ ap (λ (b : Bool). pick b (replayed.Refused 2 0, s) (replayed.Refused 8 0, s)) (le-ltb trailMost (length trail) g)
       go (lent.no-state m q h f) = absurd (n m h)
       go (lent.a-state m σ h) = absurd (n m (h .tables))
   from {x} {line} (misformed m r h g z) = spoils m r h x line z
@@ -144,7 +139,7 @@ module _ (ts trail : List ℕ) (s : List ℤ) where
 
   pub trail-refused : Replay ts trail s
   trail-refused x line left = (
-    λ e. (let c = demand2 ts s .cases .some-case in
-        to x line left c (sym (demand2 ts s .replay c trail) ∙ ap₂ (λ (a : trails.Replayed) (b : List ℤ). (a, b)) (said-so (replayedOf ts trail s .0) x line (e .0)) (e .1))),
+    λ e. (let c = by-cases ts s .some-case in
+        to x line left c (sym (by-cases ts s .replay c trail) ∙ ap₂ (λ (a : trails.Replayed) (b : List ℤ). (a, b)) (said-so (replayedOf ts trail s .0) x line (e .0)) (e .1))),
     λ r. (let e = from r in (ap (λ p. said.replay (p .0)) e, ap (λ p. p .1) e)),
   )

@@ -16,43 +16,21 @@ use Rattle.base_outcome.specs.declared.Taken.{Taken}
 use Rattle.base_outcome.specs.declared.Taken.the-variants.{Done, Refuted, Faulted, Idle}
 use Rattle.spec_grammar.specs.Tree.{Model}
 use Rattle.spec_machine.specs.State.{State}
-use Rattle.spec_machine.specs.Machine.{Move, Step, Verdict, finished, blocked, «open», offered, advance, verdict, asked, stepOf}
+use Rattle.spec_machine.specs.Machine.{Step, Verdict, finished, blocked, «open», offered, advance, verdict, asked}
 use Rattle.spec_machine.specs.Steps.{machineOf}
-use Rattle.spec_trails.specs.Runs.{Ending, stood, refuted, faulted, runFrom}
-use Rattle.step_entry.specs.Entries.{Outcome, refusedBy, foreignOf, refusalOf, startLeft, offeredOf, verdictFor, outcomeOf}
-use Rattle.step_entry.specs.declared.Stepped.{Stepped}
+use Rattle.step_entry.specs.Entries.{Outcome, refusedBy, foreignOf, startLeft, offeredOf, verdictFor, outcomeOf}
 use Rattle.step_entry.specs.declared.Stepped.the-variants as stepped
-use Rattle.step_entry.specs.declared.Listed.the-variants as listed
 use Rattle.run_entry.specs.Entries.{ranOf}
-use Rattle.run_entry.specs.Runs.{endingAs}
-use Rattle.run_entry.specs.declared.Ran.{Ran}
 use Rattle.demands.specs.Said as said
 use Rattle.demands.specs.Said.{Said, refusal, values}
-use Rattle.demands.specs.Lent.{Holds, Lent, no-room, no-model, no-state, a-state}
-use Rattle.demands.specs.Answers.{standingBy, listedBy, doneBy}
-use Rattle.demands.specs.Entries.{leaves, takenBy, refusalBy, startBy, offeredBy, verdictBy, steppedBy, stepBy, runBy}
-use Rattle.demands.specs.Walks.{Offers}
-use Rattle.demands.specs.Demand1.{Refuses, NotTaken, no-paper, lent, not-offered, Stepper}
-use Rattle.demands.proofs.Lent.{refusal-is}
+use Rattle.demands.proofs.Told.{number, valuesIn, not-values}
+use Rattle.demands.specs.Demand1.{NotTaken, no-paper, lent, not-offered, Stepper}
+use Rattle.demands.proofs.Lent.{refusal-is, to-case, of-case}
 use Rattle.demands.proofs.Leaves.{unchanged}
-use Rattle.demands.proofs.InWords.{taking}
-use Rattle.demands.proofs.Demand2.{demand2}
-
--- ---- answers told apart
-abbrev kind : Said → ℕ
-kind (refusal x i n) = 1
-kind (values l) = 0
-
-abbrev number : Said → ℕ
-number (refusal x i n) = x
-number (values l) = 0
-
-abbrev valuesIn : Said → List ℕ
-valuesIn (refusal x i n) = []
-valuesIn (values l) = l
-
-not-values : {X : Type 0} {l : List ℕ} {x : ℕ} → values l ≡ refusal x 0 0 → X
-not-values e = absurd (let z : _≡_ {A = ℕ} 0 1 = ap kind e in omega arith)
+use Rattle.demands.proofs.Moving as moving
+use Rattle.demands.proofs.ByCases.{by-cases}
+use Rattle.demands.specs.Lent.{Refuses, leaves}
+use Rattle.demands.proofs.Entries.{Lent, no-room, no-model, no-state, a-state, standingBy, listedBy, doneBy, takenBy, refusalBy, startBy, offeredBy, verdictBy, steppedBy, runBy}
 
 module _ (ts : List ℕ) (s : List ℤ) where
   -- what is said in each case
@@ -80,12 +58,12 @@ module _ (ts : List ℕ) (s : List ℤ) where
 
   refuses-so : (A : Said) (l : List ℕ) (c : Lent ts s) → A ≡ caseSaid c l → (x : ℕ) → (A ≡ refusal x 0 0) ↔ Refuses ts s x
   refuses-so A l c q x = (
-    λ e. (let z = said-number c l x (sym q ∙ e) in (c, z .0, z .1)),
-    λ r. q ∙ number-said c l x (same-number c (r .0) ∙ r .1) (r .2),
+    λ e. (let z = said-number c l x (sym q ∙ e) in of-case ts s c x (z .0) (z .1)),
+    λ r. (let d = to-case ts s r in q ∙ number-said c l x (same-number c (d .0) ∙ d .1) (d .2)),
   )
 
   the-case : Lent ts s
-  the-case = demand2 ts s .cases .some-case
+  the-case = by-cases ts s .some-case
 
   -- ---- each entry
   list-said : (c : Lent ts s) (n : ℕ) → said.list (offeredBy c n) ≡ caseSaid c (valuesIn (said.list (offeredBy c n)))
@@ -124,11 +102,11 @@ module _ (ts : List ℕ) (s : List ℤ) where
 
   -- ---- `start`
   start-refuses : (x : ℕ) → 0 < x → (foreignOf ts s ≡ x) ↔ Refuses ts s x × ((x ≡ 9) → ⊥)
-  start-refuses x p = (λ e. to the-case (ap (λ r. r .0) (demand2 ts s .start the-case)) e, λ r. from the-case (ap (λ r. r .0) (demand2 ts s .start the-case)) (same-number the-case (r .0 .0) ∙ r .0 .1) (r .1))
+  start-refuses x p = (λ e. to the-case (ap (λ r. r .0) (by-cases ts s .start the-case)) e, λ r. (let d = to-case ts s (r .0) in from the-case (ap (λ r. r .0) (by-cases ts s .start the-case)) (same-number the-case (d .0) ∙ d .1) (r .1)))
     where
       to : (c : Lent ts s) → foreignOf ts s ≡ startBy c .0 → foreignOf ts s ≡ x → Refuses ts s x × ((x ≡ 9) → ⊥)
-      to (no-room h) q e = let z : 7 ≡ x = sym q ∙ e in ((no-room h, z, p), λ n. omega arith)
-      to (no-model r h) q e = let z : 8 ≡ x = sym q ∙ e in ((no-model r h, z, p), λ n. omega arith)
+      to (no-room h) q e = let z : 7 ≡ x = sym q ∙ e in (of-case ts s (no-room h) x z p, λ n. omega arith)
+      to (no-model r h) q e = let z : 8 ≡ x = sym q ∙ e in (of-case ts s (no-model r h) x z p, λ n. omega arith)
       to (no-state m r h g) q e = absurd (let z : 0 ≡ x = sym q ∙ e in omega arith)
       to (a-state m σ h) q e = absurd (let z : 0 ≡ x = sym q ∙ e in omega arith)
 
@@ -139,7 +117,7 @@ module _ (ts : List ℕ) (s : List ℤ) where
       from (a-state m σ h) q e n = absurd (omega arith)
 
   start-left : (x : ℕ) → 0 < x → foreignOf ts s ≡ x → startLeft ts s ≡ s
-  start-left x p e = go the-case (demand2 ts s .start the-case)
+  start-left x p e = go the-case (by-cases ts s .start the-case)
     where
       go : (c : Lent ts s) → (foreignOf ts s, startLeft ts s) ≡ startBy c → startLeft ts s ≡ s
       go (no-room h) q = ap (λ r. r .1) q
@@ -164,21 +142,21 @@ module _ (ts : List ℕ) (s : List ℤ) where
         go (some y) e = done (advance (machineOf m) σ y .0) (leaves s m (advance (machineOf m) σ y .1)) (machineOf m .printed σ y) e
 
     narrow : length out < printRoom → (c : Lent ts s) → outcomeOf ts s p k out .answer ≡ stepped.Refused 7
-    narrow h c = ap (λ (o : Outcome). o .answer) (demand2 ts s .step c p k out) ∙ ap (λ (b : Bool). pick b (refusedBy 7 s out) (steppedBy c p k out) .answer) (lt-ltb (length out) printRoom h)
+    narrow h c = ap (λ (o : Outcome). o .answer) (by-cases ts s .step c p k out) ∙ ap (λ (b : Bool). pick b (refusedBy 7 s out) (steppedBy c p k out) .answer) (lt-ltb (length out) printRoom h)
 
     wide : printRoom ≤ length out → (c : Lent ts s) → outcomeOf ts s p k out .answer ≡ steppedBy c p k out .answer
-    wide h c = ap (λ (o : Outcome). o .answer) (demand2 ts s .step c p k out) ∙ ap (λ (b : Bool). pick b (refusedBy 7 s out) (steppedBy c p k out) .answer) (le-ltb (length out) printRoom h)
+    wide h c = ap (λ (o : Outcome). o .answer) (by-cases ts s .step c p k out) ∙ ap (λ (b : Bool). pick b (refusedBy 7 s out) (steppedBy c p k out) .answer) (le-ltb (length out) printRoom h)
 
     to-taken : said.step (outcomeOf ts s p k out .answer) ≡ refusal x 0 0 → NotTaken ts s p k (length out) x
     to-taken e = go (ltb (length out) printRoom) refl
       where
         by-case : printRoom ≤ length out → (c : Lent ts s) → NotTaken ts s p k (length out) x
-        by-case h (no-room g) = let z : 7 ≡ x = ap number (ap said.step (sym (wide h (no-room g))) ∙ e) in lent h (no-room g, z, omega arith)
-        by-case h (no-model r g) = let z : 8 ≡ x = ap number (ap said.step (sym (wide h (no-model r g))) ∙ e) in lent h (no-model r g, z, omega arith)
-        by-case h (no-state m r g f) = let z : 9 ≡ x = ap number (ap said.step (sym (wide h (no-state m r g f))) ∙ e) in lent h (no-state m r g f, z, omega arith)
+        by-case h (no-room g) = let z : 7 ≡ x = ap number (ap said.step (sym (wide h (no-room g))) ∙ e) in lent h (of-case ts s (no-room g) x z (omega arith))
+        by-case h (no-model r g) = let z : 8 ≡ x = ap number (ap said.step (sym (wide h (no-model r g))) ∙ e) in lent h (of-case ts s (no-model r g) x z (omega arith))
+        by-case h (no-state m r g f) = let z : 9 ≡ x = ap number (ap said.step (sym (wide h (no-state m r g f))) ∙ e) in lent h (of-case ts s (no-state m r g f) x z (omega arith))
         by-case h (a-state m σ g) =
             let z = refused-eleven m σ (ap said.step (sym (wide h (a-state m σ g))) ∙ e) in
-            subst (NotTaken ts s p k (length out)) (sym (z .1)) (not-offered m σ h g (taking ts s m σ g p k out h .not-offered .0 (wide h (a-state m σ g) ∙ z .0)))
+            subst (NotTaken ts s p k (length out)) (sym (z .1)) (not-offered m σ h g (moving.not-offered ts s m σ g p k out h .0 (wide h (a-state m σ g) ∙ z .0)))
 
         go : (b : Bool) → ltb (length out) printRoom ≡ b → NotTaken ts s p k (length out) x
         go true h =
@@ -189,24 +167,28 @@ module _ (ts : List ℕ) (s : List ℤ) where
 
   from-taken : (p k : ℕ) (out : List ℕ) (x : ℕ) → NotTaken ts s p k (length out) x → said.step (outcomeOf ts s p k out .answer) ≡ refusal x 0 0
   from-taken p k out _ (no-paper h) = ap said.step (narrow p k out 7 h the-case)
-  from-taken p k out x (lent h (d, e, g)) = ap said.step (wide p k out x h d) ∙ go d e
+  from-taken p k out x (lent h r) = let d = to-case ts s r in ap said.step (wide p k out x h (d .0)) ∙ go (d .0) (d .1) (d .2)
     where
-      go : (c : Lent ts s) → refusalBy c ≡ x → said.step (steppedBy c p k out .answer) ≡ refusal x 0 0
-      go (no-room q) e = ap (λ y. refusal y 0 0) e
-      go (no-model r q) e = ap (λ y. refusal y 0 0) e
-      go (no-state m r q f) e = ap (λ y. refusal y 0 0) e
-      go (a-state m σ q) e = absurd (omega arith)
-  from-taken p k out _ (not-offered m σ h g n) = ap said.step (taking ts s m σ g p k out h .not-offered .1 n)
+      go : (c : Lent ts s) → refusalBy c ≡ x → 0 < x → said.step (steppedBy c p k out .answer) ≡ refusal x 0 0
+      go (no-room q) e g = ap (λ y. refusal y 0 0) e
+      go (no-model r q) e g = ap (λ y. refusal y 0 0) e
+      go (no-state m r q f) e g = ap (λ y. refusal y 0 0) e
+      go (a-state m σ q) e g = absurd (omega arith)
+  from-taken p k out _ (not-offered m σ h g n) = ap said.step (moving.not-offered ts s m σ g p k out h .1 n)
 
   pub stepper : Stepper ts s
   stepper =
       record {
+        number = λ x p. (
+          λ e. of-case ts s the-case x (sym (refusal-is ts s the-case) ∙ e) p,
+          λ r. (let d = to-case ts s r in refusal-is ts s (d .0) ∙ d .1),
+        );
         start = start-refuses;
         start-unchanged = start-left;
-        offered = λ n x. refuses-so (said.list (offeredOf ts s n)) _ the-case (ap said.list (demand2 ts s .offered the-case n) ∙ list-said the-case n) x;
-        verdict = λ x. refuses-so (said.verdict (verdictFor ts s)) _ the-case (ap said.verdict (demand2 ts s .verdict the-case) ∙ verdict-said the-case) x;
+        offered = λ n x. refuses-so (said.list (offeredOf ts s n)) _ the-case (ap said.list (by-cases ts s .offered the-case n) ∙ list-said the-case n) x;
+        verdict = λ x. refuses-so (said.verdict (verdictFor ts s)) _ the-case (ap said.verdict (by-cases ts s .verdict the-case) ∙ verdict-said the-case) x;
         step = λ p k out x. (to-taken p k out x, from-taken p k out x);
         step-unchanged = λ p k out x e. unchanged ts s p k out (λ n q. not-values (sym (ap said.step q) ∙ e));
-        run = λ n x. refuses-so (said.run (ranOf ts s n .0)) _ the-case (ap (λ r. said.run (r .0)) (demand2 ts s .run the-case n) ∙ run-said the-case n) x;
-        run-unchanged = λ n x e. ap (λ r. r .1) (demand2 ts s .run the-case n) ∙ run-left the-case n x (sym (ap (λ r. said.run (r .0)) (demand2 ts s .run the-case n)) ∙ e);
+        run = λ n x. refuses-so (said.run (ranOf ts s n .0)) _ the-case (ap (λ r. said.run (r .0)) (by-cases ts s .run the-case n) ∙ run-said the-case n) x;
+        run-unchanged = λ n x e. ap (λ r. r .1) (by-cases ts s .run the-case n) ∙ run-left the-case n x (sym (ap (λ r. said.run (r .0)) (by-cases ts s .run the-case n)) ∙ e);
       }

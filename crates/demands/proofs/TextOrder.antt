@@ -85,7 +85,7 @@ nth-from : {q k : ℕ} {l : List ℕ} → Nth q k l → (i e : ℕ) → Ascends 
 nth-from here i e a = a .0
 nth-from (later n) i e a = omega (arith, a .0, nth-from n _ e (a .1))
 
-one-at-least : {q k : ℕ} {l : List ℕ} → Nth q k l → 1 ≤ k
+pub one-at-least : {A : Type 0} {y : A} {k : ℕ} {l : List A} → Nth y k l → 1 ≤ k
 one-at-least here = omega arith
 one-at-least (later n) = omega arith
 

@@ -4,14 +4,15 @@ use native.Mathlib.Omega.{arith}
 use mathlib.Core.Path.{_≡_, refl, sym as inv, ap, ap₂, _∙_, subst}
 use mathlib.Core.Bool.{Bool, true, false}
 use mathlib.Core.Option.{none}
-use mathlib.Core.List.{List}
+use mathlib.Core.List.{List, [], _∷_}
+use mathlib.Core.Logic.{_↔_}
 use lib.ListN.{length}
 use lib.IntN.{ℤ}
 use lib.Dec.{ltb}
 use Rattle.base_bytes.specs.Choice.{pick}
 use Rattle.spec_grammar.specs.Tree.{Model}
 use Rattle.trail_form.specs.Forms.{Form, form, spoiled, formOf}
-use Rattle.spec_trails.specs.Trails.{Recorded, trailOf, Small}
+use Rattle.spec_trails.specs.Trails.{Recorded, trailOf}
 use Rattle.spec_trails.specs.Texts.{TextOf}
 use Rattle.trail_replay.specs.Replay.{replayedAs}
 use Rattle.trail_replay.specs.Entries.{replayedOf}
@@ -22,17 +23,20 @@ use Rattle.spec_machine.specs.Places.{Belongs}
 use Rattle.spec_machine.specs.Fits.{Fits}
 use Rattle.spec_trails.specs.Replays.{Claim, claimed, claimBy, Replayed, accepted, refused, replayFrom}
 use Rattle.spec_machine.specs.Steps.{machineOf}
-use Rattle.demands.specs.Lent.{Rooms, Tables, Lent, no-room, no-model, no-state, a-state}
-use Rattle.demands.specs.Entries.{leaves, answeredBy, formedBy, replayBy}
-use Rattle.demands.specs.Walks.{Walks, Stops}
-use Rattle.demands.specs.Trails.{Acceptable, Acceptance, Stopping, WalksAccepted, OnTrails}
-use Rattle.demands.proofs.Walks.{walk-accepted, stop-refused, accepted-walk, refused-stop}
+use Rattle.demands.specs.Walks.{Walks}
+use Rattle.demands.specs.Said as said
+use Rattle.demands.specs.Said.{values}
+use Rattle.demands.specs.Demand2.{Acceptable}
+use Rattle.demands.proofs.Told.{valuesIn, not-refusal}
+use Rattle.demands.proofs.Walks.{walk-accepted, accepted-walk}
 use Rattle.demands.proofs.Good.{good-step, walk-small}
 use Rattle.demands.proofs.Leaves.{initial-fits}
-use Rattle.demands.proofs.Demand2.{replays, demand2}
+use Rattle.demands.proofs.ByCases.{replays, by-cases}
 use Rattle.base_ceilings.specs.Ceilings.{stepsMost, trailMost}
 use Rattle.trail_replay.specs.declared.Replayed as trails
 use Rattle.trail_replay.specs.declared.Replayed.the-variants as replayed
+use Rattle.demands.specs.Lent.{Rooms, Tables, leaves}
+use Rattle.demands.proofs.Entries.{Lent, no-room, no-model, no-state, a-state, answeredBy, formedBy, replayBy}
 
 -- answers by numbers, to tell them apart
 abbrev verdictIn : trails.Replayed → ℕ
@@ -90,64 +94,33 @@ module _ (ts trail : List ℕ) (s : List ℤ) (v : ℕ) (left : List ℤ) where
       ∙ ap (answeredBy s m v) (walk-accepted (machineOf m) (a .walk) 1)
       ∙ ap (λ (l : List ℤ). (replayed.Accepted v, l)) (inv (a .is-left))
 
-pub acceptance : Acceptance
-acceptance ts trail s v left =
-    let D = demand2 ts s in
-    let x = D .cases .some-case in
-    ((λ e. from-answer ts trail s v left x (inv (D .replay x trail) ∙ e)), (λ a. to-answer ts trail s v left a))
-
--- ---- a trail that is refused at one of its records, or at its claim
-abbrev numberIn : trails.Replayed → ℕ
-numberIn (replayed.Accepted v) = 0
-numberIn (replayed.Refused x line) = suc x
-
-abbrev lineIn : trails.Replayed → ℕ
-lineIn (replayed.Accepted v) = 0
-lineIn (replayed.Refused x line) = line
-
-abbrev written-text : (l : List Recorded) (c : Claim) → Small l → length l ≤ stepsMost → TextOf stepsMost (trailOf l (claimed c)) l (claimed c)
-written-text l c small few = record { claim = c; verdict = refl; text = refl; small = small; few = few }
-
-pub stopping : Stopping
-stopping ts s m l c r h small few x line left = (
-  (λ e. go (R .0) (R .1) refl (inv answer ∙ e)),
-  (λ w. answer ∙ ap (answeredBy s m (claimed c)) (stop-refused (machineOf m) (w .1)) ∙ ap (λ (y : List ℤ). (replayed.Refused x line, y)) (inv (w .2))),
-)
+accepted-said : (a : trails.Replayed) (v : ℕ) → said.replay a ≡ values (v ∷ []) → a ≡ replayed.Accepted v
+accepted-said (replayed.Accepted w) v e = ap replayed.Accepted (ap (λ x. first (valuesIn x)) e)
   where
-    R : Replayed × State
-    R = replayFrom (machineOf m) c l 1 none (initial m)
+    first : List ℕ → ℕ
+    first [] = 0
+    first (x ∷ l) = x
+accepted-said (replayed.Refused x line) v e = not-refusal e
 
-    answer : replayedOf ts (trailOf l (claimed c)) s ≡ answeredBy s m (claimed c) (replayFrom (machineOf m) c l 1 none (initial m))
-    answer =
-        replays ts s m r h (trailOf l (claimed c)) ∙ ap (formedBy s m) (form-exact (trailOf l (claimed c)) l (claimed c) .1 (written-text l c small few))
-        ∙ ap (λ d. answeredBy s m (claimed c) (replayFrom (machineOf m) d l 1 none (initial m))) (claim-back c)
+pub acceptance : (ts trail : List ℕ) (s : List ℤ) (v : ℕ) (left : List ℤ) → ((said.replay (replayedOf ts trail s .0) ≡ values (v ∷ [])) × (replayedOf ts trail s .1 ≡ left)) ↔ Acceptable ts trail s v left
+acceptance ts trail s v left =
+    let D = by-cases ts s in
+    let x = D .some-case in (
+      (λ e. from-answer ts trail s v left x (inv (D .replay x trail) ∙ ap₂ (λ (a : trails.Replayed) (l : List ℤ). (a, l)) (accepted-said (replayedOf ts trail s .0) v (e .0)) (e .1))),
+      (λ a. let e = to-answer ts trail s v left a in (ap (λ r. said.replay (r .0)) e, ap (λ r. r .1) e)),
+    )
 
-    go : (a : Replayed) (τ : State) → replayFrom (machineOf m) c l 1 none (initial m) ≡ (a, τ) → _≡_ {A = trails.Replayed × List ℤ} (replayedAs (claimed c) a, leaves s m τ) (replayed.Refused x line, left)
-        → (τ : State) × Stops (machineOf m) c l 1 (initial m) x line τ × (left ≡ leaves s m τ)
-    go accepted τ d e = absurd (let z : _≡_ {A = ℕ} 0 (suc x) = ap (λ p. numberIn (p .0)) e in omega arith)
-    go (refused y n) τ d e =
-        let z : suc y ≡ suc x = ap (λ p. numberIn (p .0)) e in
-        let a : y ≡ x = omega arith in
-        let b : n ≡ line = ap (λ p. lineIn (p .0)) e in (
-          τ,
-          refused-stop (machineOf m) (Fits (Belongs m) m) (good-step ts s m r h) c l 1 (initial m) x line τ (initial-fits ts s m r h)
-              (d ∙ ap₂ (λ (i j : ℕ). (refused i j, τ)) a b),
-          inv (ap (λ p. p .1) e),
-        )
-
-pub walks-accepted : WalksAccepted
-walks-accepted ts s m l c τ r h few w =
-    to-answer ts _ s (claimed c) (leaves s m τ)
-    (record {
+-- every walk is small enough to be written
+pub walk-acceptable : (ts : List ℕ) (s : List ℤ) (m : Model) (l : List Recorded) (c : Claim) (τ : State) → Rooms ts s → Tables ts m → length l ≤ stepsMost → Walks (machineOf m) l (initial m) c τ
+    → Acceptable ts (trailOf l (claimed c)) s (claimed c) (leaves s m τ)
+walk-acceptable ts s m l c τ r h few w =
+    record {
       rooms = r;
       model = m;
       tables = h;
       records = l;
-      formed = written-text l c (walk-small ts s m r h (initial-fits ts s m r h) w) few;
+      formed = record { claim = c; verdict = refl; text = refl; small = walk-small ts s m r h (initial-fits ts s m r h) w; few = few };
       reached = τ;
       walk = w;
       is-left = refl;
-    })
-
-pub on-trails : OnTrails
-on-trails = record { forming = form-exact; acceptance = acceptance; stopping = stopping; walks-accepted = walks-accepted }
+    }

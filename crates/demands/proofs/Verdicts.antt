@@ -9,19 +9,15 @@ use mathlib.Core.List.{List, [], _∷_}
 use lib.ListN.{length}
 use Rattle.base_bytes.specs.Choice.{pick}
 use Rattle.base_bytes.proofs.Tests.{true-false}
-use Rattle.step_entry.specs.declared.Standing.{Standing}
-use Rattle.step_entry.specs.declared.Standing.the-variants as standing
-use Rattle.spec_machine.specs.Machine.{Machine, Step, late, offered, endedFrom, verdictBy, verdict}
-use Rattle.demands.specs.Answers.{standingBy}
+use Rattle.spec_machine.specs.Machine.{Machine, Step, Verdict, finished, blocked, «open», late, offered, endedFrom, verdictBy, verdict}
 use Rattle.demands.specs.Walks.{Nth, here, later, Offers}
 use Rattle.demands.proofs.Offers.{none-listed, first-offers}
 
 -- verdicts by numbers, to tell them apart
-abbrev rank : Standing → ℕ
-rank standing.Finished = 1
-rank standing.Blocked = 2
-rank standing.Open = 3
-rank (standing.Refused x) = 4
+abbrev rank : Verdict → ℕ
+rank finished = 1
+rank blocked = 2
+rank «open» = 3
 
 none-nth : {A : Type 0} {y : A} {k : ℕ} {l : List A} → Nth y k l → l ≡ [] → ⊥
 none-nth (here {l = l}) e = let n : suc (length l) ≡ 0 = ap length e in omega arith
@@ -62,21 +58,21 @@ module _ {S : Type 0} (M : Machine S) (s : S) (rests : (p : ℕ) → M .ended s 
   abbrev allEnded : Bool
   allEnded = endedFrom M s 0 (M .processes s)
 
-  judged : (b : Bool) (l : List Step) → allEnded ≡ b → offered M s ≡ l → standingBy (verdict M s) ≡ standingBy (verdictBy M b l)
+  judged : (b : Bool) (l : List Step) → allEnded ≡ b → offered M s ≡ l → verdict M s ≡ verdictBy M b l
   unfolding verdict
-  judged b l e f = ap (λ c. standingBy (verdictBy M c (offered M s))) e ∙ ap (λ k. standingBy (verdictBy M b k)) f
+  judged b l e f = ap (λ c. verdictBy M c (offered M s)) e ∙ ap (λ k. verdictBy M b k) f
 
   none-offered : allEnded ≡ true → (x : Step) → Offers M s x → ⊥
   none-offered e x h = let l = h .there in none-nth (h .listed) (rests (x .process) (ended-all 0 (M .processes s) e (x .process) (omega arith) (omega arith)))
 
   -- a case of the verdict, and what it means
-  pub finished-exactly : standingBy (verdict M s) ≡ standing.Finished ↔ ((p : ℕ) → p < M .processes s → M .ended s p ≡ true)
+  pub finished-exactly : verdict M s ≡ finished ↔ ((p : ℕ) → p < M .processes s → M .ended s p ≡ true)
   finished-exactly = (
     (λ e. go allEnded (offered M s) refl refl e),
     (λ h. judged true (offered M s) (all-ended 0 (M .processes s) (λ i a b. h i (omega arith))) refl),
   )
     where
-      go : (b : Bool) (l : List Step) → endedFrom M s 0 (M .processes s) ≡ b → offered M s ≡ l → standingBy (verdict M s) ≡ standing.Finished → (p : ℕ) → p < M .processes s → M .ended s p ≡ true
+      go : (b : Bool) (l : List Step) → endedFrom M s 0 (M .processes s) ≡ b → offered M s ≡ l → verdict M s ≡ finished → (p : ℕ) → p < M .processes s → M .ended s p ≡ true
       go true l u v e p h = ended-all 0 (M .processes s) u p (omega arith) (omega arith)
       go false [] u v e p h = absurd (let z : _≡_ {A = ℕ} 2 1 = ap rank (inv (judged false [] u v) ∙ e) in omega arith)
       go false (x ∷ l) u v e p h = absurd (let z : _≡_ {A = ℕ} 3 1 = ap rank (inv (judged false (x ∷ l) u v) ∙ e) in omega arith)
@@ -84,30 +80,30 @@ module _ {S : Type 0} (M : Machine S) (s : S) (rests : (p : ℕ) → M .ended s 
   abbrev pub Blocked : Type 0
   Blocked = ((x : Step) → Offers M s x → ⊥) × ((p : ℕ) × (p < M .processes s) × (M .ended s p ≡ false))
 
-  pub blocked-exactly : standingBy (verdict M s) ≡ standing.Blocked ↔ Blocked
+  pub blocked-exactly : verdict M s ≡ blocked ↔ Blocked
   blocked-exactly = ((λ e. go allEnded (offered M s) refl refl e), (λ h. back h allEnded (offered M s) refl refl))
     where
-      go : (b : Bool) (l : List Step) → endedFrom M s 0 (M .processes s) ≡ b → offered M s ≡ l → standingBy (verdict M s) ≡ standing.Blocked
+      go : (b : Bool) (l : List Step) → endedFrom M s 0 (M .processes s) ≡ b → offered M s ≡ l → verdict M s ≡ blocked
           → ((x : Step) → Offers M s x → ⊥) × ((p : ℕ) × (p < M .processes s) × (M .ended s p ≡ false))
       go true l u v e = absurd (let z : _≡_ {A = ℕ} 1 2 = ap rank (inv (judged true l u v) ∙ e) in omega arith)
       go false [] u v e = let r = some-unended 0 (M .processes s) u in let h = r .most in (none-listed M s v, (r .process, omega arith, r .not))
       go false (x ∷ l) u v e = absurd (let z : _≡_ {A = ℕ} 3 2 = ap rank (inv (judged false (x ∷ l) u v) ∙ e) in omega arith)
 
       back : ((x : Step) → Offers M s x → ⊥) × ((p : ℕ) × (p < M .processes s) × (M .ended s p ≡ false)) → (b : Bool) (l : List Step) → endedFrom M s 0 (M .processes s) ≡ b → offered M s ≡ l
-          → standingBy (verdict M s) ≡ standing.Blocked
+          → verdict M s ≡ blocked
       back h true l u v = let i = h .1 .1 in absurd (true-false (inv (ended-all 0 (M .processes s) u (h .1 .0) (omega arith) (omega arith)) ∙ h .1 .2))
       back h false [] u v = judged false [] u v
       back h false (x ∷ l) u v = absurd (h .0 x (first-offers M s x l v))
 
-  pub opened-exactly : standingBy (verdict M s) ≡ standing.Open ↔ (x : Step) × Offers M s x
+  pub opened-exactly : verdict M s ≡ «open» ↔ (x : Step) × Offers M s x
   opened-exactly = ((λ e. go allEnded (offered M s) refl refl e), (λ h. back h allEnded (offered M s) refl refl))
     where
-      go : (b : Bool) (l : List Step) → endedFrom M s 0 (M .processes s) ≡ b → offered M s ≡ l → standingBy (verdict M s) ≡ standing.Open → (x : Step) × Offers M s x
+      go : (b : Bool) (l : List Step) → endedFrom M s 0 (M .processes s) ≡ b → offered M s ≡ l → verdict M s ≡ «open» → (x : Step) × Offers M s x
       go true l u v e = absurd (let z : _≡_ {A = ℕ} 1 3 = ap rank (inv (judged true l u v) ∙ e) in omega arith)
       go false [] u v e = absurd (let z : _≡_ {A = ℕ} 2 3 = ap rank (inv (judged false [] u v) ∙ e) in omega arith)
       go false (x ∷ l) u v e = (x, first-offers M s x l v)
 
-      back : (x : Step) × Offers M s x → (b : Bool) (l : List Step) → endedFrom M s 0 (M .processes s) ≡ b → offered M s ≡ l → standingBy (verdict M s) ≡ standing.Open
+      back : (x : Step) × Offers M s x → (b : Bool) (l : List Step) → endedFrom M s 0 (M .processes s) ≡ b → offered M s ≡ l → verdict M s ≡ «open»
       back h true l u v = absurd (none-offered u (h .0) (h .1))
       back h false [] u v = absurd (none-listed M s v (h .0) (h .1))
       back h false (x ∷ l) u v = judged false (x ∷ l) u v

@@ -1,14 +1,14 @@
 -- Top: a statement about the entries, over the specification.
 -- DEMAND 1: whatever bytes or numbers arrive, every public entry answers and ends, relies on no caller, refuses with the number and place of document 01's table, and leaves each lent buffer as that
--- document says. That it answers and ends, with one answer and one content of lent memory, is its contract, an equation without any condition; here is which refusals there are. Proved as
--- `demand1` (proofs/Demand1.antt). What is answered where nothing is refused is demands 2 and 3.
+-- document says. That it answers and ends, with one answer and one content of lent memory, is its contract, an equation without any condition; here is which refusals there are. What is answered where
+-- nothing is refused is demands 2 and 3.
 use Prim.Native.Nat.{ℕ, _+_, _≤_, _<_}
 use mathlib.Core.Path.{_≡_}
 use mathlib.Core.Logic.{_⊎_, _↔_}
 use mathlib.Core.Bool.{true, false}
 use mathlib.Core.Option.{none}
-use mathlib.Core.List.{List}
-use lib.ListN.{length}
+use mathlib.Core.List.{List, []}
+use lib.ListN.{length, take, drop}
 use lib.IntN.{ℤ}
 use Rattle.base_ceilings.specs.Ceilings.{normalMost, printRoom, stepsMost, tablesRoom, trailMost}
 use Rattle.spec_text.specs.Placed.{Placed}
@@ -30,18 +30,17 @@ use Rattle.spec_refusals.specs.Rows.{Refusal, Refused}
 use Rattle.spec_refusals.specs.Trails.{Misformed}
 use Rattle.read_passes.specs.Judging.{judgeOf}
 use Rattle.read_entry.specs.Entries as reading
-use Rattle.read_entry.specs.Entries.{readOf, partStart, partEnd}
+use Rattle.read_entry.specs.Entries.{readOf, partStart}
 use Rattle.spec_normal.specs.Normal.{normal}
 use Rattle.normal_entry.specs.Entries as writing
 use Rattle.normal_entry.specs.Entries.{answerOf, answerFrom, leftFrom}
 use Rattle.normal_entry.specs.declared.Written.{Written}
 use Rattle.spec_layout.specs.Layout.{layout}
 use Rattle.layout_entry.specs.Entries as laying
-use Rattle.step_entry.specs.Entries.{foreignOf, startLeft, offeredOf, verdictFor, outcomeOf}
+use Rattle.step_entry.specs.Entries.{foreignOf, refusalOf, startLeft, offeredOf, verdictFor, outcomeOf}
 use Rattle.run_entry.specs.Entries.{ranOf}
 use Rattle.trail_replay.specs.Entries.{replayedOf}
-use Rattle.demands.specs.Lent.{Rooms, Tables, Holds, Lent}
-use Rattle.demands.specs.Entries.{refusalBy, leaves}
+use Rattle.demands.specs.Lent.{Rooms, Tables, Holds, leaves, Refuses}
 use Rattle.demands.specs.Walks.{Offers, Stops}
 use Rattle.demands.specs.Said as said
 use Rattle.demands.specs.Said.{refusal}
@@ -55,10 +54,10 @@ pub record Reader (t : List ℕ) : Type 0 where
       → (said.reader (readOf t old) ≡ refusal 6 0 0) ↔ ((ceilings.modest m ≡ false) ⊎ (normalMost < length (normal m)))
   -- "A refusal changes no lent number"
   pub unchanged : (old : List ℕ) (x i n : ℕ) → said.reader (readOf t old) ≡ refusal x i n → reading.leftOf t old ≡ old
-  -- "A further entry returns the part of the caller's text that 1 to 5 name": from its place, and as long as the row says
-  pub part : (x i n : ℕ) → Refusal t x i n → (partStart (length t) (judgeOf t) ≡ i) × (partEnd (length t) (judgeOf t) ≡ i + n)
+  -- "A further entry returns the part of the caller's text that 1 to 5 name": the bytes that it returns, and how far behind the text's first byte they lie in memory
+  pub part : (x i n : ℕ) → Refusal t x i n → (reading.part t (judgeOf t) ≡ take n (drop i t)) × (partStart (length t) (judgeOf t) ≡ i) × (i + n ≤ length t)
   -- ".. for a text .. not so refused, the empty part at its start"
-  pub no-part : Legal t → (partStart (length t) (judgeOf t) ≡ 0) × (partEnd (length t) (judgeOf t) ≡ 0)
+  pub no-part : Legal t → (reading.part t (judgeOf t) ≡ []) × (partStart (length t) (judgeOf t) ≡ 0)
 
 -- ## what is written of a text, where f is the normal text or the layout of a tree: the reader's refusals, then "7 .. last for normal text's own room", and so for the layout's (request One)
 pub data NotWritten (f : Model → List ℕ) (t : List ℕ) (room : ℕ) : ℕ → ℕ → ℕ → Type 0 where
@@ -81,10 +80,6 @@ pub record TablesWriter (f : Model → List ℕ) (ts : List ℕ) (answer : List 
   pub unchanged : (out : List ℕ) (x i n : ℕ) → said.writer (answer out) ≡ refusal x i n → left out ≡ out
 
 -- ## the stepper: "Stepping: 7, 8, 9, 11", each at place 0
--- 7, 8 or 9, by the case of what is lent
-abbrev pub Refuses : List ℕ → List ℤ → ℕ → Type 0
-Refuses ts s x = (c : Lent ts s) × (refusalBy c ≡ x) × (0 < x)
-
 -- the single step: 7 for its paper too, first; 11 last
 pub data NotTaken (ts : List ℕ) (s : List ℤ) (p k room : ℕ) : ℕ → Type 0 where
   no-paper : room < printRoom → NotTaken ts s p k room 7
@@ -92,6 +87,8 @@ pub data NotTaken (ts : List ℕ) (s : List ℤ) (p k room : ℕ) : ℕ → Type
   not-offered : (m : Model) (σ : State) → printRoom ≤ room → Holds ts s m σ → ((y : Move) → Offers (machineOf m) σ (stepOf p k y) → ⊥) → NotTaken ts s p k room 11
 
 pub record Stepper (ts : List ℕ) (s : List ℤ) : Type 0 where
+  -- the number alone, 0 for none
+  pub number : (x : ℕ) → 0 < x → (refusalOf ts s ≡ x) ↔ Refuses ts s x
   -- `start` has no numbers to judge, so 9 is no refusal of it
   pub start : (x : ℕ) → 0 < x → (foreignOf ts s ≡ x) ↔ Refuses ts s x × ((x ≡ 9) → ⊥)
   pub start-unchanged : (x : ℕ) → 0 < x → foreignOf ts s ≡ x → startLeft ts s ≡ s

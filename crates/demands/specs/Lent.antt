@@ -1,5 +1,5 @@
 -- Top: a statement about the entries, over the specification.
--- WHAT IS LENT, by cases: document 01, "What is answered": "Stepping: 7, 8, 9". `ts` are the lent tables, `s` the lent numbers of a state.
+-- WHAT IS LENT, and what is left of it: document 01, "What is answered": "Stepping: 7, 8, 9". `ts` are the lent tables, `s` the lent numbers of a state.
 use Prim.Native.Nat.{ℕ, _≤_, _<_}
 use mathlib.Core.Path.{_≡_}
 use mathlib.Core.Logic.{_⊎_}
@@ -35,30 +35,28 @@ pub record Numbers (m : Model) (s : List ℤ) (σ : State) : Type 0 where
   pub fits : Fits (Belongs m) m σ
   pub are : s ≡ encode m σ ++ drop stateRoom s
 
+-- what is left of the lent numbers `s` where they become those of a state: "A state is always written whole"; "What lies beyond the written part stays"
+unfoldable pub leaves : List ℤ → Model → State → List ℤ
+leaves s m σ = encode m σ ++ drop stateRoom s
+
 -- tables of the model m, and numbers of its state σ
 pub record Holds (ts : List ℕ) (s : List ℤ) (m : Model) (σ : State) : Type 0 where
   pub rooms : Rooms ts s
   pub tables : Tables ts m
   pub numbers : Numbers m s σ
 
-pub data Lent (ts : List ℕ) (s : List ℤ) : Type 0 where
-  -- 7: "a lent buffer shorter than its room"
-  no-room : (length ts < tablesRoom) ⊎ (length s < stateRoom) → Lent ts s
-  -- 8: "tables are those of no accepted text"
-  no-model : Rooms ts s → ((m : Model) → Tables ts m → ⊥) → Lent ts s
-  -- 9: "numbers are no state of the model"
-  no-state : (m : Model) → Rooms ts s → Tables ts m → ((σ : State) → Numbers m s σ → ⊥) → Lent ts s
-  -- none of these
-  a-state : (m : Model) (σ : State) → Holds ts s m σ → Lent ts s
+-- 7, 8 or 9 is the refusal of what is lent
+pub data Refuses (ts : List ℕ) (s : List ℤ) : ℕ → Type 0 where
+  -- "a lent buffer shorter than its room"
+  no-room : (length ts < tablesRoom) ⊎ (length s < stateRoom) → Refuses ts s 7
+  -- "tables are those of no accepted text"
+  no-model : Rooms ts s → ((m : Model) → Tables ts m → ⊥) → Refuses ts s 8
+  -- "numbers are no state of the model"
+  no-state : (m : Model) → Rooms ts s → Tables ts m → ((σ : State) → Numbers m s σ → ⊥) → Refuses ts s 9
 
--- which case it is, and of which model and state
-pub data Case : Type 0 where
-  seven eight : Case
-  nine : Model → Case
-  holds : Model → State → Case
-
-abbrev pub caseOf : {ts : List ℕ} {s : List ℤ} → Lent ts s → Case
-caseOf (no-room h) = seven
-caseOf (no-model r h) = eight
-caseOf (no-state m r h g) = nine m
-caseOf (a-state m σ h) = holds m σ
+-- whatever is lent is refused, or holds a model and a state of it; never both, and never two of them
+pub record OneCase (ts : List ℕ) (s : List ℤ) : Type 0 where
+  pub some-case : ((x : ℕ) × Refuses ts s x) ⊎ ((m : Model) × (σ : State) × Holds ts s m σ)
+  pub never-both : (x : ℕ) (m : Model) (σ : State) → Refuses ts s x → Holds ts s m σ → ⊥
+  pub one-model : (m n : Model) → Tables ts m → Tables ts n → m ≡ n
+  pub one-state : (m : Model) (σ τ : State) → Tables ts m → Numbers m s σ → Numbers m s τ → σ ≡ τ

@@ -1,10 +1,8 @@
-pub mod Lent
-pub mod Answers
-pub mod Entries
-pub mod Demand2
-pub mod Walks
-pub mod InWords
-pub mod Trails
-pub mod Demand3
 pub mod Said
+pub mod Lent
+pub mod Walks
 pub mod Demand1
+pub mod InWords
+pub mod Demand2
+pub mod Demand3
+pub mod Top

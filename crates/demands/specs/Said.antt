@@ -5,6 +5,8 @@
 use Prim.Native.Nat.{ℕ}
 use mathlib.Core.List.{List, [], _∷_}
 use Rattle.base_values.specs.Faults.{faultNumber}
+use Rattle.base_outcome.specs.declared.Partner.{Partner}
+use Rattle.base_outcome.specs.declared.Partner.the-variants.{Nobody, With}
 use Rattle.read_passes.specs.declared.Judged.{Judged}
 use Rattle.read_passes.specs.declared.Judged.the-variants as judged
 use Rattle.normal_entry.specs.declared.Written.{Written}
@@ -37,9 +39,13 @@ abbrev pub writer : Written → Said
 writer (writing.Text n) = values (n ∷ [])
 writer (writing.Refused x i n) = refusal x i n
 
--- the list of offered steps: a step's process, number and place; behind the last, how many there are
+-- the list of offered steps: a step's process, number and place, and the process and place that move along, if any; behind the last, how many there are
+abbrev pub along : Partner → List ℕ
+along Nobody = []
+along (With p q) = p ∷ q ∷ []
+
 abbrev pub list : Listed → Said
-list (listed.Step x) = values (x .process ∷ x .number ∷ x .place ∷ [])
+list (listed.Step x) = values (x .process ∷ x .number ∷ x .place ∷ along (x .partner))
 list (listed.Only n) = values (n ∷ [])
 list (listed.Refused x) = refusal x 0 0
 

@@ -1,4 +1,4 @@
--- DEMAND 2, proved.
+-- THE ENTRIES OF THE STEPPER ARE FUNCTIONS of the case of what is lent.
 use Prim.Native.Nat.{ℕ, _≤_}
 use mathlib.Core.Path.{_≡_, refl, sym as inv, ap, ap₂, _∙_}
 use mathlib.Core.Bool.{Bool, true, false}
@@ -28,11 +28,7 @@ use Rattle.spec_trails.specs.Runs.{runFrom}
 use Rattle.spec_machine.specs.Steps.{machineOf}
 use Rattle.agree_machine.proofs.Step.{step-still, step-none, step-some, advance-silent}
 use Rattle.demands.proofs.Owned.{Own, of-text, owned}
-use Rattle.demands.specs.Lent.{Rooms, Tables, Numbers, Lent, no-room, no-model, no-state, a-state}
-use Rattle.demands.specs.Answers.{standingBy, listedBy, doneBy}
-use Rattle.demands.specs.Entries.{leaves, takenBy, ranBy, formedBy, startBy, offeredBy, verdictBy, steppedBy, stepBy, runBy, replayBy}
-use Rattle.demands.specs.Demand2.{Demand2}
-use Rattle.demands.proofs.Lent.{own-genuine, tables-genuine, foreign-room, foreign-is, foreign-none, refusal-is, cases}
+use Rattle.demands.proofs.Lent.{own-genuine, foreign-room, foreign-is, foreign-none, refusal-is, some-case, one-case}
 use Rattle.demands.proofs.Answers.{as-standing, as-listed, as-done}
 use Rattle.base_ceilings.specs.Ceilings.{printRoom, stateRoom, stepsMost, trailMost}
 use Rattle.step_entry.specs.declared.Listed.the-variants as listed
@@ -41,6 +37,8 @@ use Rattle.run_entry.specs.declared.Ran.the-variants as ran
 use Rattle.trail_replay.specs.Entries as trails
 use Rattle.trail_replay.specs.declared.Replayed.the-variants as replayed
 use Rattle.agree_machine.proofs.Entries as entries
+use Rattle.demands.specs.Lent.{Rooms, Tables, Numbers, leaves}
+use Rattle.demands.proofs.Entries.{ByCases, Lent, no-room, no-model, no-state, a-state, standingBy, listedBy, doneBy, takenBy, ranBy, formedBy, startBy, offeredBy, verdictBy, steppedBy, stepBy, runBy, replayBy}
 
 module _ (ts : List ℕ) (s : List ℤ) where
   -- ---- by the number of the refusal
@@ -83,7 +81,7 @@ module _ (ts : List ℕ) (s : List ℤ) where
   unfolding leaves
   starts-own m r (of-text t a e) = entries.starts ts (r .tables) (own-genuine ts (a .tree) (of-text t a e)) t a e s (r .state)
 
-  starts : (m : Model) → Rooms ts s → Tables ts m → startLeft ts s ≡ leaves s m (initial m)
+  pub starts : (m : Model) → Rooms ts s → Tables ts m → startLeft ts s ≡ leaves s m (initial m)
   starts m r o = starts-own m r (owned ts m o)
 
   lists-own : (m : Model) (σ : State) → Rooms ts s → Own ts m → Numbers m s σ → (n : ℕ) → offeredOf ts s n ≡ listedBy (length (offered (machineOf m) σ)) n (offered (machineOf m) σ)
@@ -210,10 +208,11 @@ module _ (ts : List ℕ) (s : List ℤ) where
   replay-is (a-state m σ h) trail = replays m (h .rooms) (h .tables) trail
 
   -- THE THEOREM
-  pub demand2 : Demand2 ts s
-  demand2 =
+  pub by-cases : ByCases ts s
+  by-cases =
       record {
-        cases = cases ts s;
+        some-case = some-case ts s;
+        one-case = one-case ts s;
         refusal = refusal-is ts s;
         start = start-is;
         offered = offered-is;
