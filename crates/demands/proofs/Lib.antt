@@ -20,3 +20,4 @@ pub mod InWords
 pub mod Demand3
 pub mod Demand1
 pub mod Top
+pub mod ShutOut
