@@ -28,7 +28,7 @@ use Rattle.spec_trails.specs.Runs.{runFrom}
 use Rattle.spec_machine.specs.Steps.{machineOf}
 use Rattle.agree_machine.proofs.Step.{step-still, step-none, step-some, advance-silent}
 use Rattle.demands.proofs.Owned.{Own, of-text, owned}
-use Rattle.demands.proofs.Lent.{own-genuine, foreign-room, foreign-is, foreign-none, refusal-is, some-case, one-case}
+use Rattle.demands.proofs.Lent.{own-genuine, foreign-room, foreign-is, foreign-none, refusal-is, some-case}
 use Rattle.demands.proofs.Answers.{as-standing, as-listed, as-done}
 use Rattle.base_ceilings.specs.Ceilings.{printRoom, stateRoom, stepsMost, trailMost}
 use Rattle.step_entry.specs.declared.Listed.the-variants as listed
@@ -212,7 +212,6 @@ module _ (ts : List ℕ) (s : List ℤ) where
   by-cases =
       record {
         some-case = some-case ts s;
-        one-case = one-case ts s;
         refusal = refusal-is ts s;
         start = start-is;
         offered = offered-is;

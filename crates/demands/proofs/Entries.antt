@@ -47,18 +47,6 @@ pub data Lent (ts : List ℕ) (s : List ℤ) : Type 0 where
   -- none of these
   a-state : (m : Model) (σ : State) → Holds ts s m σ → Lent ts s
 
--- which case it is, and of which model and state
-pub data Case : Type 0 where
-  seven eight : Case
-  nine : Model → Case
-  holds : Model → State → Case
-
-abbrev pub caseOf : {ts : List ℕ} {s : List ℤ} → Lent ts s → Case
-caseOf (no-room h) = seven
-caseOf (no-model r h) = eight
-caseOf (no-state m r h g) = nine m
-caseOf (a-state m σ h) = holds m σ
-
 -- ## answers
 -- "`finished` (all ended), `blocked`, `open` (some step offered)"
 abbrev pub standingBy : Verdict → Standing
@@ -160,7 +148,6 @@ module _ {ts : List ℕ} {s : List ℤ} where
 -- ## each entry is what it is in each case
 pub record ByCases (ts : List ℕ) (s : List ℤ) : Type 0 where
   pub some-case : Lent ts s
-  pub one-case : (x y : Lent ts s) → caseOf x ≡ caseOf y
   pub refusal : (x : Lent ts s) → refusalOf ts s ≡ refusalBy x
   pub start : (x : Lent ts s) → (foreignOf ts s, startLeft ts s) ≡ startBy x
   pub offered : (x : Lent ts s) (n : ℕ) → offeredOf ts s n ≡ offeredBy x n

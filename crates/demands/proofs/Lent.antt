@@ -1,7 +1,7 @@
 -- EVERY LENT PAIR IS IN ONE CASE, and refusals 7, 8 and 9 are given in theirs.
 use Prim.Native.Nat.{ℕ, _<_}
 use native.Mathlib.Omega.{arith}
-use mathlib.Core.Path.{_≡_, refl, sym as inv, ap, ap₂, _∙_, subst}
+use mathlib.Core.Path.{_≡_, refl, sym as inv, ap, _∙_, subst}
 use mathlib.Core.Bool.{Bool, true, false}
 use mathlib.Core.Logic.{_⊎_, inl, inr}
 use mathlib.Core.List.{List, _++_}
@@ -29,7 +29,7 @@ use Rattle.agree_machine.proofs.Survey.{text-modest, text-surveyed}
 use Rattle.demands.proofs.Owned.{Own, of-text, owned, own-tables}
 use Rattle.demands.specs.Lent.{Rooms, Tables, Numbers, Holds, Refuses, OneCase}
 use Rattle.demands.specs.Lent as lent
-use Rattle.demands.proofs.Entries.{Lent, no-room, no-model, no-state, a-state, nine, holds, caseOf, refusalBy}
+use Rattle.demands.proofs.Entries.{Lent, no-room, no-model, no-state, a-state, refusalBy}
 
 -- ---- 8: exactly when no accepted text has these tables
 pub own-genuine : (ts : List ℕ) (m : Model) → Own ts m → genuine ts ≡ true
@@ -137,30 +137,6 @@ module _ (ts : List ℕ) (s : List ℤ) where
       ap (λ i. pick (eqb i 0) (pick (isStateOf (written ts) s) 0 9) i) (foreign-none m r h) ∙ ap (λ b. pick b 0 9) (no-such m h g (isStateOf (written ts) s) refl)
   refusal-is (a-state m σ h) =
       ap (λ i. pick (eqb i 0) (pick (isStateOf (written ts) s) 0 9) i) (foreign-none m (h .rooms) (h .tables)) ∙ ap (λ b. pick b 0 9) (state-is ts m s σ (h .tables) (h .numbers))
-
-  -- ---- no pair is in two
-  pub one-case : (x y : Lent ts s) → caseOf x ≡ caseOf y
-  one-case x y = go x y (inv (refusal-is x) ∙ refusal-is y)
-    where
-      go : (x y : Lent ts s) → refusalBy x ≡ refusalBy y → caseOf x ≡ caseOf y
-      go (no-room h) (no-room g) e = refl
-      go (no-room h) (no-model r g) e = absurd (omega arith)
-      go (no-room h) (no-state m r g k) e = absurd (omega arith)
-      go (no-room h) (a-state m σ g) e = absurd (omega arith)
-      go (no-model r h) (no-room g) e = absurd (omega arith)
-      go (no-model r h) (no-model q g) e = refl
-      go (no-model r h) (no-state m q g k) e = absurd (omega arith)
-      go (no-model r h) (a-state m σ g) e = absurd (omega arith)
-      go (no-state m r h k) (no-room g) e = absurd (omega arith)
-      go (no-state m r h k) (no-model q g) e = absurd (omega arith)
-      go (no-state m r h k) (no-state n q g l) e = ap nine (one-model ts m n h g)
-      go (no-state m r h k) (a-state n σ g) e = absurd (omega arith)
-      go (a-state m σ h) (no-room g) e = absurd (omega arith)
-      go (a-state m σ h) (no-model q g) e = absurd (omega arith)
-      go (a-state m σ h) (no-state n q g l) e = absurd (omega arith)
-      go (a-state m σ h) (a-state n τ g) e =
-          let z = one-model ts m n (h .tables) (g .tables) in
-          ap₂ holds z (one-state ts n s σ τ (g .tables) (subst (λ k. Numbers k s σ) z (h .numbers)) (g .numbers))
 
   -- ---- the cases as the statement has them
   pub to-case : {x : ℕ} → Refuses ts s x → (c : Lent ts s) × (refusalBy c ≡ x) × (0 < x)

@@ -35,15 +35,15 @@ pub record Numbers (m : Model) (s : List ℤ) (σ : State) : Type 0 where
   pub fits : Fits (Belongs m) m σ
   pub are : s ≡ encode m σ ++ drop stateRoom s
 
--- what is left of the lent numbers `s` where they become those of a state: "A state is always written whole"; "What lies beyond the written part stays"
-unfoldable pub leaves : List ℤ → Model → State → List ℤ
-leaves s m σ = encode m σ ++ drop stateRoom s
-
 -- tables of the model m, and numbers of its state σ
 pub record Holds (ts : List ℕ) (s : List ℤ) (m : Model) (σ : State) : Type 0 where
   pub rooms : Rooms ts s
   pub tables : Tables ts m
   pub numbers : Numbers m s σ
+
+-- what is left of the lent numbers `s` where they become those of a state: "A state is always written whole"; "What lies beyond the written part stays"
+unfoldable pub leaves : List ℤ → Model → State → List ℤ
+leaves s m σ = encode m σ ++ drop stateRoom s
 
 -- 7, 8 or 9 is the refusal of what is lent
 pub data Refuses (ts : List ℕ) (s : List ℤ) : ℕ → Type 0 where
