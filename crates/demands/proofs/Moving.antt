@@ -6,6 +6,10 @@ use mathlib.Core.Option.{Option, none, some}
 use mathlib.Core.List.{List, [], _∷_}
 use lib.ListN.{length}
 use lib.IntN.{ℤ}
+use lib.Dec.{eqb}
+use Rattle.base_values.specs.declared.Fault.{Fault}
+use Rattle.base_values.specs.declared.Fault.the-variants.{Divide, Shift, Index, Channel, Fields}
+use Rattle.base_values.specs.Faults.{faultNumber}
 use borrow.Author.Tests.{le-ltb}
 use Rattle.base_ceilings.specs.Ceilings.{printRoom}
 use Rattle.base_bytes.specs.Choice.{pick}
@@ -152,3 +156,17 @@ module _ (ts : List ℕ) (s : List ℤ) (m : Model) (σ : State) (h : Holds ts s
 
 pub starting : (ts : List ℕ) (s : List ℤ) (m : Model) → Rooms ts s → Tables ts m → (foreignOf ts s ≡ 0) × (startLeft ts s ≡ leaves s m (initial m))
 starting ts s m r h = (foreign-none ts s m r h, starts ts s m r h)
+
+-- ---- the fault with a number
+abbrev faultBy : ℕ → Fault
+faultBy n = pick (eqb n 1) Divide (pick (eqb n 2) Shift (pick (eqb n 3) Index (pick (eqb n 4) Channel Fields)))
+
+fault-back : (f : Fault) → faultBy (faultNumber f) ≡ f
+fault-back Divide = refl
+fault-back Shift = refl
+fault-back Index = refl
+fault-back Channel = refl
+fault-back Fields = refl
+
+pub faults-apart : (f g : Fault) → faultNumber f ≡ faultNumber g → f ≡ g
+faults-apart f g e = inv (fault-back f) ∙ ap faultBy e ∙ fault-back g

@@ -102,6 +102,8 @@ pub record Demand2 : Type 0 where
   -- `start`, whose lent numbers are room alone
   pub start : (ts : List ℕ) (s : List ℤ) (m : Model) → Rooms ts s → Tables ts m → (foreignOf ts s ≡ 0) × (startLeft ts s ≡ leaves s m (initial m))
   pub moves : (ts : List ℕ) (s : List ℤ) (m : Model) (σ : State) → Holds ts s m σ → Moving ts s m σ
+  -- the number of a fault says which it is
+  pub faults-apart : (f g : Fault) → faultNumber f ≡ faultNumber g → f ≡ g
   pub trails : (ts trail : List ℕ) (s : List ℤ) (v : ℕ) (left : List ℤ) → ((said.replay (replayedOf ts trail s .0) ≡ values (v ∷ [])) × (replayedOf ts trail s .1 ≡ left)) ↔ Acceptable ts trail s v left
   -- what follows of the machine and of what is left, in document 01's words
   pub in-words : InWords
