@@ -1,5 +1,6 @@
 -- The laws that the walks over processes cite: one process more, the end, and what follows.
 use Prim.Native.Nat.{ℕ, zero, suc, _+_, _-_, _≤_, _<_}
+use mathlib.Core.Option.{Option, none, some}
 use mathlib.Core.Path.{_≡_, refl, sym, _∙_, ap}
 use mathlib.Core.Bool.{Bool, true, false}
 use mathlib.Core.List.{List, [], _∷_, _++_}
@@ -15,7 +16,7 @@ use Rattle.state_layout.specs.Layout.{placeOf}
 use Rattle.step_offers.specs.Offers.{isSome, pickAt, offersOf}
 use Rattle.step_offers.specs.declared.Walk.{Walk}
 use Rattle.step_offers.specs.declared.Walk.the-variants.{Found, Left}
-use Rattle.step_all.specs.Moving.{processes, nthIn, machineIn, offerOf, stepIn, verdictAs}
+use Rattle.step_all.specs.Moving.{processes, nthIn, machineIn, offerOf, offerAs, stepIn, verdictAs}
 use Rattle.step_all.specs.declared.Offer.{Offer}
 use Rattle.step_all.specs.declared.Offer.the-variants.{Step, Beyond}
 use Rattle.step_all.specs.declared.Verdict.the-variants.{Finished, Blocked, Open}
@@ -58,6 +59,15 @@ unfolding pickAt
 found-within k [] q e = absurd (not-found e)
 found-within zero (x ∷ xs) q e = omega arith
 found-within (suc k) (x ∷ xs) q e = let h : k < length xs = found-within k xs q e in omega arith
+
+-- what was found, as a step that was asked for
+offer-own : (p k : ℕ) (w : Walk) → offerOf p k w ≡ offerAs (stepIn (offerOf p k w))
+offer-own p k (Found q) = refl
+offer-own p k (Left n) = refl
+
+pub offer-back : (o : Option machine.Step) → stepIn (offerAs o) ≡ o
+offer-back none = refl
+offer-back (some x) = refl
 
 pick-move : (p k i : ℕ) (xs : List ℕ) → stepIn (offerOf p k (pickAt i xs)) ≡ stepAs p k (moveAt i (alone xs))
 unfolding pickAt moveAt
@@ -128,11 +138,11 @@ module _ (t : List ℕ) (s : List ℤ) where
   ended-end p n h = let z : n - p ≡ 0 = omega arith in rw z
 
   -- ---- a step
-  pub no-process : (n p k : ℕ) → n ≡ processes s → n ≤ p → stepIn (Beyond 0) ≡ asked (machineIn t) p k (offered (machineIn t) s)
-  no-process n p k e h = none-asked M s p k (inl (omega arith))
+  pub no-process : (n p k : ℕ) → n ≡ processes s → n ≤ p → Beyond 0 ≡ offerAs (asked (machineIn t) p k (offered (machineIn t) s))
+  no-process n p k e h = ap offerAs (none-asked M s p k (inl (omega arith)))
 
-  pub no-step : (p k : ℕ) → k ≡ 0 → stepIn (Beyond 0) ≡ asked (machineIn t) p k (offered (machineIn t) s)
-  no-step p k q = none-asked M s p k (inr q)
+  pub no-step : (p k : ℕ) → k ≡ 0 → Beyond 0 ≡ offerAs (asked (machineIn t) p k (offered (machineIn t) s))
+  no-step p k q = ap offerAs (none-asked M s p k (inr q))
 
   step-is : (p k : ℕ) {l : Bool} {w : Walk} → p < processes s → (k ≡ 0 → ⊥) → late M s ≡ l → w ≡ pickAt (k - 1) (offersOf t s p l (placeOf s p)) → stepIn (offerOf p k w) ≡ asked M p k (offered M s)
   step-is p k {l} h q el ew =
@@ -158,17 +168,17 @@ module _ (t : List ℕ) (s : List ℤ) where
 
   -- a process that is offered a step without `timeout` shows that `timeout` is not executable
   module _ (n p k : ℕ) (e : n ≡ processes s) (h : p < n) (one : k ≡ 0 → ⊥) {w : Walk} (ew : w ≡ pickAt (k - 1) (offersOf t s p false (placeOf s p))) where
-    pub step-found : (q : ℕ) → w ≡ Found q → {o : Offer} → o ≡ offerOf p k w → stepIn o ≡ asked (machineIn t) p k (offered (machineIn t) s)
+    pub step-found : (q : ℕ) → w ≡ Found q → {o : Offer} → o ≡ offerOf p k w → o ≡ offerAs (asked (machineIn t) p k (offered (machineIn t) s))
     step-found q f eo =
-        ap stepIn eo
-        ∙ step-is p k (omega arith) one (late-by true (any-of false p 0 (processes s) (omega arith) (omega arith) (found-some (k - 1) (offersOf t s p false (placeOf s p)) q (sym ew ∙ f)))) ew
+        eo ∙ offer-own p k w
+        ∙ ap offerAs (step-is p k (omega arith) one (late-by true (any-of false p 0 (processes s) (omega arith) (omega arith) (found-some (k - 1) (offersOf t s p false (placeOf s p)) q (sym ew ∙ f)))) ew)
 
     module _ (m : ℕ) (f : w ≡ Left m) {b : Bool} (eb : b ≡ anyFrom (machineIn t) s false 0 (processes s)) where
-      pub step-none : b ≡ true → stepIn (Beyond m) ≡ asked (machineIn t) p k (offered (machineIn t) s)
-      step-none z = step-is p k {w = Left m} (omega arith) one (late-by true (sym eb ∙ z)) (sym f ∙ ew)
+      pub step-none : b ≡ true → Beyond 0 ≡ offerAs (asked (machineIn t) p k (offered (machineIn t) s))
+      step-none z = ap offerAs (step-is p k {w = Left m} (omega arith) one (late-by true (sym eb ∙ z)) (sym f ∙ ew))
 
-      pub step-late : b ≡ false → {v : Walk} {o : Offer} → v ≡ pickAt (k - 1) (offersOf t s p true (placeOf s p)) → o ≡ offerOf p k v → stepIn o ≡ asked (machineIn t) p k (offered (machineIn t) s)
-      step-late z ev eo = ap stepIn eo ∙ step-is p k (omega arith) one (late-by false (sym eb ∙ z)) ev
+      pub step-late : b ≡ false → {v : Walk} {o : Offer} → v ≡ pickAt (k - 1) (offersOf t s p true (placeOf s p)) → o ≡ offerOf p k v → o ≡ offerAs (asked (machineIn t) p k (offered (machineIn t) s))
+      step-late z {v} ev eo = eo ∙ offer-own p k v ∙ ap offerAs (step-is p k (omega arith) one (late-by false (sym eb ∙ z)) ev)
 
   -- ---- the n-th step of all
   module _ (late : Bool) (p n k : ℕ) (h : p < n) {w : Walk} (e : w ≡ pickAt k (offersOf t s p late (placeOf s p))) where

@@ -44,10 +44,15 @@ machineIn t =
 abbrev pub Waits : List ℕ → List ℤ → ℕ → Bool → Type 0
 Waits t s q b = b ≡ true → (p : ℕ) (late : Bool) → offersOf t s p late q ≡ []
 
--- the k-th step of process p, by what was found: a place, or how many are left to pass
+-- the k-th step of process p, by what was found
 abbrev pub offerOf : ℕ → ℕ → Walk → Offer
 offerOf p k (Found q) = Step (record { process = p; number = k; place = q; partner = Nobody })
-offerOf p k (Left n) = Beyond n
+offerOf p k (Left n) = Beyond 0
+
+-- a step that is asked for by its process and its number, if there is one
+abbrev pub offerAs : Option machine.Step → Offer
+offerAs none = Beyond 0
+offerAs (some x) = Step x
 
 -- the step of an answer, if it is one
 abbrev pub stepIn : Offer → Option machine.Step

@@ -101,13 +101,13 @@ fn offer_of(p: u8, k: u32, w: Walk) -> Offer
             place: q,
             partner: Partner::Nobody,
         }),
-        Walk::Left(n) => Offer::Beyond(n),
+        Walk::Left(_) => Offer::Beyond(0),
     }
 }
 
 // The k-th step, from 1, that a process is offered. It is asked without `timeout` first: what it is offered then shows that `timeout` is not executable, and the others need not be asked.
 pub fn step_at(t: &[u32], s: &[i32], process: u32, k: u32) -> Offer
-    ensures { λ r. ⌜ moving.stepIn r ≡ machine.asked (machineIn (now (t .entry))) process k (machine.offered (machineIn (now (t .entry))) (now (s .entry))) ⌝ }
+    ensures { λ r. ⌜ r ≡ moving.offerAs (machine.asked (machineIn (now (t .entry))) process k (machine.offered (machineIn (now (t .entry))) (now (s .entry)))) ⌝ }
 {
     if processes(s) <= process {
         return Offer::Beyond(0);
@@ -118,9 +118,9 @@ pub fn step_at(t: &[u32], s: &[i32], process: u32, k: u32) -> Offer
     let w = step_offers::offered(t, s, process as u8, false, k - 1);
     match w {
         Walk::Found(_) => offer_of(process as u8, k, w),
-        Walk::Left(l) => {
+        Walk::Left(_) => {
             if is_any(t, s, false) {
-                Offer::Beyond(l)
+                Offer::Beyond(0)
             } else {
                 offer_of(
                     process as u8,

@@ -13,7 +13,8 @@ use Rattle.table_genuine.specs.Genuine.{written, genuine}
 use Rattle.state_start.specs.Starting.{initialOf}
 use Rattle.state_check.specs.Standing.{isStateOf}
 use Rattle.spec_machine.specs.Machine.{offered, advance, verdict}
-use Rattle.step_all.specs.Moving.{machineIn, stepIn, nthIn, verdictAs}
+use Rattle.step_all.specs.Moving.{machineIn, offerAs, stepIn, nthIn, verdictAs}
+use Rattle.step_all.proofs.Laws.{offer-back}
 use Rattle.step_all.specs.declared.Offer.{Offer}
 use Rattle.step_all.proofs.Laws.{beyond-rest}
 use Rattle.step_all.specs.declared.Verdict.{Verdict}
@@ -122,11 +123,11 @@ module _ (ts : List ℕ) (s : List ℤ) (p k : ℕ) (out : List ℕ) where
     pub step-refused : (x ≡ 0 → ⊥) → Left-by (outcomeOf ts s p k out) (stepped.Refused x) s out
     step-refused n = let o : outcomeOf ts s p k out ≡ refusedBy x s out = by-refusal ∙ ap (λ (b : Bool). pick b (outcomeBy (askedIn (written ts) s p k) (written ts) s out) (refusedBy x s out)) (ne-eqb x 0 n) in rw o (refl, (refl, refl))
 
-    module _ {w : List ℕ} (z : x ≡ 0) (ew : w ≡ written ts) (v : Offer) (ev : stepIn v ≡ askedIn w s p k) where
+    module _ {w : List ℕ} (z : x ≡ 0) (ew : w ≡ written ts) (v : Offer) (ev : v ≡ offerAs (askedIn w s p k)) where
       outcome-is : outcomeOf ts s p k out ≡ outcomeBy (stepIn v) w s out
       outcome-is =
           by-refusal ∙ ap (λ (y : ℕ). pick (eqb y 0) (outcomeBy (askedIn (written ts) s p k) (written ts) s out) (refusedBy y s out)) z
-          ∙ ap (λ (u : List ℕ). outcomeBy (askedIn u s p k) u s out) (sym ew) ∙ ap (λ (y : Option machine.Step). outcomeBy y w s out) (sym ev)
+          ∙ ap (λ (u : List ℕ). outcomeBy (askedIn u s p k) u s out) (sym ew) ∙ ap (λ (y : Option machine.Step). outcomeBy y w s out) (sym (ap stepIn ev ∙ offer-back (askedIn w s p k)))
 
       pub none-there : (n : ℕ) → v ≡ offer.Beyond n → Left-by (outcomeOf ts s p k out) (stepped.Refused 11) s out
       none-there n g = rw (outcome-is ∙ ap (λ (y : Offer). outcomeBy (stepIn y) w s out) g) (refl, (refl, refl))

@@ -28,7 +28,8 @@ use Rattle.trail_form.specs.declared.Formed.{Formed}
 use Rattle.trail_form.specs.declared.Formed.the-variants.{Well, Spoiled}
 use Rattle.trail_form.proofs.Exact.{verdict-claimed, form-exact}
 use Rattle.trail_form.proofs.Written.{First, first-line}
-use Rattle.step_all.specs.Moving.{machineIn, stepIn, verdictAs}
+use Rattle.step_all.specs.Moving.{machineIn, offerAs, stepIn, verdictAs}
+use Rattle.step_all.proofs.Laws.{offer-back}
 use Rattle.step_all.specs.declared.Verdict.{Verdict}
 use Rattle.step_all.specs.declared.Offer.{Offer}
 use Rattle.step_take.proofs.Still.{Still}
@@ -44,9 +45,9 @@ use Rattle.step_all.specs.declared.Offer.the-variants as offer
 use Rattle.spec_trails.specs.Replays as replays
 
 -- ---- one recorded step
-module _ (t : List ℕ) (p k : ℕ) (s : List ℤ) (o : Offer) (e : stepIn o ≡ askedIn t s p k) where
+module _ (t : List ℕ) (p k : ℕ) (s : List ℤ) (o : Offer) (e : o ≡ offerAs (askedIn t s p k)) where
   recorded-is : (x : Offer) → o ≡ x → recordedBy t (stepIn x) s ≡ recordedIn t p k s
-  recorded-is x f = ap (λ (y : Option machine.Step). recordedBy t y s) (ap stepIn (sym f) ∙ e)
+  recorded-is x f = ap (λ (y : Option machine.Step). recordedBy t y s) (ap stepIn (sym f ∙ e) ∙ offer-back (askedIn t s p k))
 
   pub step-there : (x : machine.Step) → o ≡ offer.Step x → {r : Outcome (List ℤ)} → r ≡ advance (machineIn t) s x → r ≡ recordedIn t p k s
   step-there x f g = g ∙ recorded-is (offer.Step x) f
