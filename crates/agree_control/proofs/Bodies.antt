@@ -18,7 +18,7 @@ use Rattle.agree_nesting.specs.Full.{FullBody, FullModel}
 use Rattle.agree_nesting.proofs.Trees.{model-balanced}
 use Rattle.spec_machine.specs.Sizes.{sizeActivity, sizePart}
 use Rattle.agree_sizes.proofs.Sizes.{size-activity, size-groups, size-part}
-use Rattle.spec_machine.specs.Program.{Holds, in-process, in-init, later}
+use Rattle.agree_sizes.specs.Bodies.{Holds, in-process, in-init, later}
 use Rattle.agree_control.proofs.Insides.{Inner, inner-groups}
 
 -- item u begins the unit, and its body b begins at item k

@@ -40,7 +40,8 @@ use Rattle.keep_tables.proofs.Tables.{codesAt, saidAt, text-held}
 use Rattle.spec_machine.specs.Stage.{Ways}
 use Rattle.spec_machine.specs.Sizes.{sum, sizeDeclaration, sizeIn}
 use Rattle.agree_sizes.proofs.Sizes.{size-tree, size-body, size-declarations}
-use Rattle.spec_machine.specs.Program.{enter, Within, Holds, startIn, endIn, sequenceOf, Statement}
+use Rattle.spec_machine.specs.Program.{enter, Within, startIn, endIn, sequenceOf}
+use Rattle.agree_sizes.specs.Bodies.{Holds, Statement}
 use Rattle.agree_stage.specs.Tables.{Leads}
 use Rattle.agree_control.specs.Onward.{Onward}
 use Rattle.agree_control.proofs.Insides.{inner-append, inner-tree, inner-declarations}

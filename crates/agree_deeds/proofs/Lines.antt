@@ -15,7 +15,8 @@ use Rattle.base_bytes.proofs.Tests.{both-true}
 use Rattle.base_kinds.specs.Kinds.{bytes}
 use Rattle.spec_text.specs.Formats.{digitsOf, decimalOf}
 use Rattle.spec_grammar.specs.Tree.{Name, Ref, Model}
-use Rattle.spec_rules.specs.Expressions.{Role, lawful}
+use Rattle.spec_rules.specs.Roles.{Role}
+use Rattle.legal_rules.specs.Expressions.{lawful}
 use Rattle.spec_rules.specs.Statements.{Place, sense}
 use Rattle.table_layout.specs.Access.{linkOf}
 use Rattle.state_layout.specs.Layout.{globalAt, localAt, declaredOf, fieldOf}

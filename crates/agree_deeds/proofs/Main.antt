@@ -16,12 +16,14 @@ use Rattle.spec_rules.specs.Units.{ofModel}
 use Rattle.read_passes.specs.Judging.{tablesText}
 use Rattle.read_accepts_proof.specs.Meaning.{Accepts}
 use Rattle.spec_machine.specs.Effect.{Outcome, effect}
-use Rattle.spec_machine.specs.Program.{sequenceOf, Statement}
+use Rattle.spec_machine.specs.Program.{sequenceOf}
+use Rattle.agree_sizes.specs.Bodies.{Statement}
 use Rattle.spec_machine.specs.State.{State, noProcess}
 use Rattle.spec_machine.specs.Names.{unitAt}
 use Rattle.spec_machine.specs.Begins.{itemsBefore, bodyOf}
 use Rattle.spec_machine.specs.Plain.{plainStage}
-use Rattle.spec_machine.specs.Places.{bodyAt, startOf, endOf, Belongs, ends, stands, settingOf}
+use Rattle.spec_machine.specs.Places.{bodyAt, startOf, endOf, Belongs, ends, stands}
+use Rattle.state_encode.specs.Settings.{settingOf}
 use Rattle.spec_machine.specs.Fits.{Fits}
 use Rattle.spec_machine.specs.Machine.{Step, late, offered, advance, asked}
 use Rattle.spec_machine.specs.Steps.{standing, waysOf, takeBy, stepsOf, takeOf, machineOf}

@@ -22,9 +22,11 @@ use Rattle.base_values.specs.declared.Answer.the-variants.{Value, Fails}
 use Rattle.base_outcome.specs.declared.Taken.{Taken}
 use Rattle.base_outcome.specs.declared.Taken.the-variants.{Done, Refuted, Faulted, Idle}
 use Rattle.spec_grammar.specs.Tree.{Name, Ref, Received, into, equal, exactly, exactly-true, exactly-false, action, Tree, leaf, express, assign, increment, decrement, send, receive, assert, print, skip, goto, break, timeout, else, run, set-run, select, loop, Model}
-use Rattle.spec_rules.specs.Expressions.{target, lawful, whole}
-use Rattle.spec_rules.specs.Expressions as uses
-use Rattle.spec_rules.specs.Statements.{Place, sense, runs, receives, allowed}
+use Rattle.spec_rules.specs.Roles.{target}
+use Rattle.legal_rules.specs.Expressions.{lawful, whole}
+use Rattle.spec_rules.specs.Roles as uses
+use Rattle.spec_rules.specs.Statements.{Place, sense}
+use Rattle.legal_rules.specs.Statements.{runs, receives, allowed}
 use Rattle.spec_rules.specs.Statements as rules
 use Rattle.parse_code.specs.Code.{each, code-exp, code-argument, code-received, code-tree, code}
 use Rattle.table_layout.specs.Access.{codeOf, linkOf}
@@ -43,7 +45,8 @@ use Rattle.spec_machine.specs.Effect.{assignedBy, steppedBy, sentBy, receivedBy
 use Rattle.spec_machine.specs.Effect as effects
 use Rattle.spec_machine.specs.State.{State}
 use Rattle.spec_machine.specs.Names.{unitAt}
-use Rattle.spec_machine.specs.Places.{startOf, Belongs, settingOf}
+use Rattle.spec_machine.specs.Places.{startOf, Belongs}
+use Rattle.state_encode.specs.Settings.{settingOf}
 use Rattle.spec_machine.specs.Plain.{plainStage, castAll, typesIn, declaredBy}
 use Rattle.spec_machine.specs.Plain as plain
 use Rattle.spec_machine.specs.Sizes as tree

@@ -13,8 +13,9 @@ use Rattle.base_bytes.specs.Choice.{pick}
 use Rattle.base_bytes.proofs.Tests.{both-true}
 use Rattle.spec_grammar.specs.Tree.{Name, Ref, Received, into, equal, exactly, exactly-true, exactly-false, Model}
 use Rattle.spec_rules.specs.Senses.{isConstant}
-use Rattle.spec_rules.specs.Expressions.{received}
-use Rattle.spec_rules.specs.Statements.{Place, all, sense, receives}
+use Rattle.spec_rules.specs.Roles.{received}
+use Rattle.spec_rules.specs.Statements.{Place, all, sense}
+use Rattle.legal_rules.specs.Statements.{receives}
 use Rattle.table_layout.specs.Access.{codeOf, linkOf}
 use Rattle.normal_letters.specs.Tokens.{spelled}
 use Rattle.step_ready.specs.Channels.{comparedAt}

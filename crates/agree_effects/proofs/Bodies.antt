@@ -18,7 +18,8 @@ use Rattle.agree_eval.proofs.Names.{low-at}
 use Rattle.agree_eval.proofs.Operators.{text-proper}
 use Rattle.spec_machine.specs.Stage.{Ways}
 use Rattle.agree_stage.specs.Tables.{stageIn}
-use Rattle.spec_machine.specs.Program.{Within, Holds, startIn, sequenceOf, Statement}
+use Rattle.spec_machine.specs.Program.{Within, startIn, sequenceOf}
+use Rattle.agree_sizes.specs.Bodies.{Holds, Statement}
 use Rattle.agree_stage.proofs.Stands.{within-lies, body-lies, lying-in, statements-lie, lying-front, lying-back}
 use Rattle.agree_offers.proofs.Places.{at-there}
 use Rattle.agree_effects.specs.Stages.{unitAt, stageAt}

@@ -11,7 +11,8 @@ use Rattle.base_ceilings.specs.Ceilings.{numberMost}
 use Rattle.base_codes.specs.Codes.{c-or-else, c-number}
 use Rattle.base_kinds.specs.Kinds.{Token, sym, name, number, text}
 use Rattle.spec_text.specs.Placed.{Placed}
-use Rattle.spec_text.specs.Writing.{tokenIn, tokensIn, Sound, AllSound}
+use Rattle.spec_text.specs.Writing.{tokenIn, tokensIn}
+use Rattle.text_spacing_proof.specs.Sound.{Sound, AllSound}
 use Rattle.text_spacing_proof.proofs.Exact.{reading-exact}
 use Rattle.text_spacing_proof.proofs.Written.{tokens-sound}
 use Rattle.parse_tables.specs.Numbering.{item}

@@ -16,9 +16,10 @@ use Rattle.spec_text.specs.Spelled.{Between, empty, plain, escape}
 use Rattle.spec_text.specs.Formats.{moveOf, formatFrom, formatOf}
 use Rattle.spec_grammar.specs.Tree.{action, Tree, leaf, express, assign, increment, decrement, send, receive, assert, print, skip, goto, break, timeout, else, run, set-run, select, loop}
 use Rattle.spec_text.specs.Formats.{decimalOf, escaped, formatted, opened, counted}
-use Rattle.spec_rules.specs.Expressions.{whole}
+use Rattle.legal_rules.specs.Expressions.{whole}
 use Rattle.spec_rules.specs.Statements as statements
-use Rattle.spec_rules.specs.Statements.{Place, sense, formats, allowed}
+use Rattle.spec_rules.specs.Statements.{Place, sense}
+use Rattle.legal_rules.specs.Statements.{formats, allowed}
 use Rattle.spec_machine.specs.Stage.{Stage}
 use Rattle.spec_machine.specs.Arguments.{WorkedOut, all, stopped, values}
 use Rattle.spec_machine.specs.Effect.{format, textBy, prints}

@@ -29,7 +29,8 @@ use Rattle.keep_tables.proofs.Tables.{codesAt, saidAt, text-held}
 use Rattle.keep_tables.proofs.Known.{text-facts}
 use Rattle.keep_tables.proofs.Marks.{stop-of}
 use Rattle.spec_machine.specs.Sizes.{sizeIn}
-use Rattle.spec_machine.specs.Program.{Within, itself, in-if, in-do, unlabelled, behind-label, in-first, in-rest, in-option, in-others, Holds, startIn, endIn, sequenceOf}
+use Rattle.spec_machine.specs.Program.{Within, itself, in-if, in-do, unlabelled, behind-label, in-first, in-rest, in-option, in-others, startIn, endIn, sequenceOf}
+use Rattle.agree_sizes.specs.Bodies.{Holds}
 use Rattle.agree_control.proofs.Begins.{dull-last, dull-declarations, statement-from}
 use Rattle.agree_control.proofs.Bodies.{Whole, unit-whole}
 use Rattle.agree_control.proofs.Follows.{statement-last, Here, here-if, here-do, here-bare, here-labelled, here-first, here-rest, here-option, here-others}

@@ -13,10 +13,12 @@ use Rattle.spec_grammar.specs.Tree.{action, Tree, Body, body, Model}
 use Rattle.read_passes.specs.Judging.{tablesText}
 use Rattle.read_accepts_proof.specs.Meaning.{Accepts}
 use Rattle.step_prints.specs.Printing.{printedAt}
-use Rattle.spec_rules.specs.Statements.{allowed}
-use Rattle.spec_rules.specs.Units.{ofModel, partsLawful, mtypesIn, initsIn, tally, modelLawful}
+use Rattle.legal_rules.specs.Statements.{allowed}
+use Rattle.spec_rules.specs.Units.{ofModel, tally}
+use Rattle.legal_rules.specs.Units.{partsLawful, mtypesIn, initsIn, modelLawful}
 use Rattle.spec_machine.specs.Sizes.{sizeIn}
-use Rattle.spec_machine.specs.Program.{startIn, endIn, labelIn, sequenceOf, Statement}
+use Rattle.spec_machine.specs.Program.{startIn, endIn, labelIn, sequenceOf}
+use Rattle.agree_sizes.specs.Bodies.{Statement}
 use Rattle.agree_stage.specs.Tables.{stageIn}
 use Rattle.agree_eval.specs.Names.{declAt}
 use Rattle.agree_effects.specs.Stages as doing
@@ -29,7 +31,8 @@ use Rattle.spec_machine.specs.Plain.{plainStage}
 use Rattle.agree_transfer.specs.Alike.{In, first}
 use Rattle.spec_machine.specs.Steps.{waysOf, stepsBy, takeBy, printBy, stepsOf, takeOf, printOf}
 use Rattle.state_encode.specs.Encode.{headOf, encode}
-use Rattle.spec_machine.specs.Places.{Bodied, bodyAt, startOf, endOf, At, Belongs, ends, stands, settingOf}
+use Rattle.spec_machine.specs.Places.{Bodied, bodyAt, startOf, endOf, At, Belongs, ends, stands}
+use Rattle.state_encode.specs.Settings.{settingOf}
 use Rattle.spec_machine.specs.Fits.{Fits}
 use Rattle.agree_transfer.proofs.Transfer.{prints-same}
 use Rattle.agree_tables.proofs.Agreed.{Kept, stages-agree}

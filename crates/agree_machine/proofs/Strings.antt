@@ -11,7 +11,7 @@ use Rattle.base_bytes.proofs.Tests.{both-true}
 use Rattle.base_kinds.specs.Kinds.{Token, name}
 use Rattle.spec_text.specs.Bytes.{quote}
 use Rattle.spec_text.specs.Spelled.{Between, Spelled, word, digits, string, mark}
-use Rattle.spec_text.specs.Writing.{AllSound}
+use Rattle.text_spacing_proof.specs.Sound.{AllSound}
 use Rattle.text_spacing_proof.proofs.Tables.{mark-range, word-range}
 use Rattle.text_spacing_proof.proofs.Written.{tokens-sound}
 use Rattle.spec_grammar.specs.Marks.{'lpar, 'rpar, 'rbrace, 'fi, 'od, 'proctype}

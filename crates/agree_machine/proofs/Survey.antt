@@ -21,7 +21,7 @@ use Rattle.table_layout.specs.Access.{linkOf}
 use Rattle.state_layout.specs.Layout.{kept, globalAt, localAt}
 use Rattle.spec_rules.specs.Ceilings.{modest}
 use Rattle.legal_terms.specs.Says.{itemAt, Says}
-use Rattle.spec_rules.specs.Units.{modelLawful}
+use Rattle.legal_rules.specs.Units.{modelLawful}
 use Rattle.legal_items.proofs.Modest.{passed-modest}
 use Rattle.legal_declarations.proofs.Standing.{Lies, long, code-is}
 use Rattle.legal_declarations.proofs.Judging.{hs}

@@ -19,7 +19,8 @@ use Rattle.parse_code.specs.Code.{each, code-size, code-value, code-variable, c
 use Rattle.spec_rules.specs.Senses.{Sense, Scope, fresh, senseOf}
 use Rattle.spec_rules.specs.Ceilings.{channelsBy}
 use Rattle.spec_rules.specs.Units as units
-use Rattle.spec_rules.specs.Units.{ofPart, sized, valued, localLawful, globalLawful, variables, declarations, joins, bodyLawful, partLawful, partsLawful}
+use Rattle.spec_rules.specs.Units.{ofPart}
+use Rattle.legal_rules.specs.Units.{sized, valued, localLawful, globalLawful, variables, declarations, joins, bodyLawful, partLawful, partsLawful}
 use Rattle.legal_terms.specs.Says.{Says}
 use Rattle.legal_declarations.proofs.Standing.{Lies, lies-front, lies-back}
 use Rattle.spec_machine.specs.Sizes.{sum, sizeSize, sizeVariable, sizeDeclaration, sizeGroup, sizeActivity, sizePart}

@@ -28,10 +28,13 @@ use Rattle.step_ready.specs.Executing.{channelsFrom, channelsIn}
 use Rattle.step_messages.specs.Messages.{fieldType}
 use Rattle.step_take.specs.Effects.{called}
 use Rattle.spec_rules.specs.Senses.{Sense, constant, procedure, unknown, Scope, senseIn, isUnknown, isConstant, hides, senseOf}
-use Rattle.spec_rules.specs.Expressions.{Role, operand, received, target, suits, usable, lawful, whole}
-use Rattle.spec_rules.specs.Statements.{all, Place, sense, takes, runs, allowed}
+use Rattle.spec_rules.specs.Roles.{Role, operand, received, target}
+use Rattle.legal_rules.specs.Expressions.{suits, usable, lawful, whole}
+use Rattle.spec_rules.specs.Statements.{all, Place, sense}
+use Rattle.legal_rules.specs.Statements.{takes, runs, allowed}
 use Rattle.spec_rules.specs.Ceilings.{madeByBody, narrow, modest}
-use Rattle.spec_rules.specs.Units.{ofPart, ofModel, partsLawful, mtypesIn, initsIn, tally, modelLawful}
+use Rattle.spec_rules.specs.Units.{ofPart, ofModel, tally}
+use Rattle.legal_rules.specs.Units.{partsLawful, mtypesIn, initsIn, modelLawful}
 use Rattle.legal_terms.specs.Says.{itemAt, Says}
 use Rattle.spec_machine.specs.Sizes.{sizeIn}
 use Rattle.spec_machine.specs.Program.{Within, itself, in-if, in-do, unlabelled, behind-label, in-first, in-rest, in-option, in-others, startIn, endIn, sequenceOf}
@@ -51,12 +54,13 @@ use Rattle.keep_tables.proofs.Known.{text-facts}
 use Rattle.agree_transfer.specs.Agrees.{storable}
 use Rattle.spec_machine.specs.Names.{variablesOf, parametersOf, globalsOf, messagesOf, unitAt, proctypeOf, Meaning, local, global, message, self, variableFrom, messageFrom, meant}
 use Rattle.spec_machine.specs.State.{Channel, State}
-use Rattle.spec_machine.specs.Plain.{declaredBy, isMessage, isVariable}
+use Rattle.spec_machine.specs.Plain.{declaredBy, isMessage}
 use Rattle.spec_machine.specs.Begins.{itemsBefore, bodyOf, begins}
 use Rattle.state_encode.specs.Encode.{headIn, headOf, channelItem, encode}
 use Rattle.spec_machine.specs.Fits.{Fits}
-use Rattle.spec_machine.specs.Places.{Bodied, bodyAt, startOf, endOf, At, Belongs, ends, stands, settingFrom, settingOf}
-use Rattle.state_encode.specs.Tabled.{offsetOf, totalOf, of-local, of-global, of-message}
+use Rattle.spec_machine.specs.Places.{Bodied, bodyAt, startOf, endOf, At, Belongs, ends, stands}
+use Rattle.state_encode.specs.Settings.{settingFrom, settingOf}
+use Rattle.state_encode.specs.Tabled.{isVariable, offsetOf, totalOf, of-local, of-global, of-message}
 use Rattle.agree_transfer.proofs.Statements.{within-range}
 use Rattle.state_encode.proofs.Units.{unit-holds, unit-allowed}
 use Rattle.agree_names.specs.Entries.{What, slot, number, proctype, Entry, whatIn, slots, entriesOf, entriesTo}
@@ -114,7 +118,7 @@ variable-kind constant h = absurd (true-false (inv h))
 variable-kind (procedure n) h = absurd (true-false (inv h))
 variable-kind unknown h = absurd (true-false (inv h))
 
-meaning-variable : (m : Model) (y : Meaning) → kindMeant y ≡ 0 → isVariable m 0 y ≡ true
+meaning-variable : (m : Model) (y : Meaning) → kindMeant y ≡ 0 → isVariable y ≡ true
 meaning-variable m (local i x) e = refl
 meaning-variable m (global i x) e = refl
 meaning-variable m (message n) e = absurd (omega arith)
@@ -358,12 +362,12 @@ module _ (t : List ℕ) (a : Accepts t) (legal : modelLawful (a .tree) ≡ true)
     unfolding usable
     text-names w n h = resolve w n (suits-kind operand false (sense place w) (inv (rw n) ∙ h)) .item
 
-    pub text-stores : (w : Name) → storable (sense place) w ≡ true → tabled.Item T m k (decl w) (meant m (unitAt m k) w) × (isVariable m 0 (meant m (unitAt m k) w) ≡ true)
+    pub text-stores : (w : Name) → storable (sense place) w ≡ true → tabled.Item T m k (decl w) (meant m (unitAt m k) w) × (isVariable (meant m (unitAt m k) w) ≡ true)
     unfolding storable
     text-stores w h = go (same w pid) refl h
       where
         go : (c : Bool) → same w pid ≡ c → pick c false (agrees.isVariable (sense place w)) ≡ true
-            → tabled.Item T m k (decl w) (meant m (unitAt m k) w) × (isVariable m 0 (meant m (unitAt m k) w) ≡ true)
+            → tabled.Item T m k (decl w) (meant m (unitAt m k) w) × (isVariable (meant m (unitAt m k) w) ≡ true)
         go true n h = absurd (true-false (inv h))
         go false n h =
             let z = variable-kind (sense place w) h in

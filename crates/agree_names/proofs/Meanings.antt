@@ -16,14 +16,17 @@ use Rattle.spec_grammar.specs.Tree.{Name, Variable, variable, Declaration, decl
 use Rattle.spec_rules.specs.Senses as senses
 use Rattle.spec_rules.specs.Senses.{Sense, constant, procedure, unknown, Scope, senseIn, isUnknown, fresh, senseOf}
 use Rattle.spec_rules.specs.Units as units
-use Rattle.spec_rules.specs.Units.{ofMessage, ofPart, ofModel, globalLawful, variables, bodyLawful, partLawful, partsLawful, joins, sized, valued}
+use Rattle.legal_rules.specs.Units as rules
+use Rattle.spec_rules.specs.Units.{ofMessage, ofPart, ofModel}
+use Rattle.legal_rules.specs.Units.{globalLawful, variables, bodyLawful, partLawful, partsLawful, joins, sized, valued}
 use Rattle.spec_machine.specs.Sizes.{sizePart}
 use Rattle.spec_machine.specs.Names.{Var, ofVariable, ofDeclaration, ofDeclarations, ofParameter, ofGroup, ofGroups, variablesOf, parametersOf, globalIn, globalsOf, messageIn, messagesOf, unitAt, proctypeFrom, Meaning, message, variableFrom, messageFrom}
 use Rattle.spec_machine.specs.Names as names
 use Rattle.spec_machine.specs.Begins.{itemsBefore}
 use Rattle.state_encode.specs.Encode.{headIn}
 use Rattle.spec_machine.specs.Plain.{noVar}
-use Rattle.spec_machine.specs.Places.{Bodied, settingFrom}
+use Rattle.spec_machine.specs.Places.{Bodied}
+use Rattle.state_encode.specs.Settings.{settingFrom}
 use Rattle.state_encode.specs.Tabled.{offsetOf, totalOf}
 use Rattle.agree_names.specs.Entries.{What, slot, number, proctype, Entry, whatIn, slots, numbers, entriesIn, entriesOf, entriesTo}
 use Rattle.agree_names.proofs.Scopes.{orElse, what-append, known}
@@ -99,10 +102,10 @@ alike-messages (w ∷ ws) n = (refl, refl, alike-messages ws (suc n))
 alike-slots : (s u : Scope) (xs ys : List Var) (o : ℕ) → Alike s (slots o xs) → Alike u (slots (o + totalOf xs) ys) → Alike (s ++ u) (slots o (xs ++ ys))
 alike-slots s u xs ys o a b = subst (Alike (s ++ u)) (inv (slots-append xs ys o)) (alike-append s u (slots o xs) (slots (o + totalOf xs) ys) a b)
 
-alike-declarations : (ds : List Declaration) (o : ℕ) → Alike (units.scopeOfDeclarations ds) (slots o (ofDeclarations ds))
+alike-declarations : (ds : List Declaration) (o : ℕ) → Alike (rules.scopeOfDeclarations ds) (slots o (ofDeclarations ds))
 alike-declarations [] o = tt
 alike-declarations (declare k us ∷ ds) o =
-    alike-slots (units.scopeOfDeclaration (declare k us)) (units.scopeOfDeclarations ds) (ofDeclaration (declare k us)) (ofDeclarations ds) o (alike-variables k us o)
+    alike-slots (units.scopeOfDeclaration (declare k us)) (rules.scopeOfDeclarations ds) (ofDeclaration (declare k us)) (ofDeclarations ds) o (alike-variables k us o)
     (alike-declarations ds (o + totalOf (ofDeclaration (declare k us))))
 
 alike-groups : (gs : List Group) (o : ℕ) → Alike (units.scopeOfGroups gs) (slots o (ofGroups gs))
@@ -129,7 +132,7 @@ alike-locals M g [] k b = absurd b
 alike-locals M g (mtypes ws ∷ m) zero b = absurd b
 alike-locals M g (global d ∷ m) zero b = absurd b
 alike-locals M g (process a w gs (body ds q) ∷ m) zero b =
-    alike-slots (units.scopeOfGroups gs) (units.scopeOfDeclarations ds) (ofGroups gs) (ofDeclarations ds) 0 (alike-groups gs 0) (alike-declarations ds (0 + totalOf (ofGroups gs)))
+    alike-slots (units.scopeOfGroups gs) (rules.scopeOfDeclarations ds) (ofGroups gs) (ofDeclarations ds) 0 (alike-groups gs 0) (alike-declarations ds (0 + totalOf (ofGroups gs)))
 alike-locals M g (init (body ds q) ∷ m) zero b = alike-declarations ds 0
 alike-locals M g (u ∷ m) (suc k) b = alike-locals M (g ++ ofPart u) m k b
 

@@ -24,7 +24,8 @@ use Rattle.parse_code.specs.Code.{code}
 use Rattle.read_passes.specs.Judging.{tablesText}
 use Rattle.read_accepts_proof.specs.Meaning.{Accepts}
 use Rattle.table_layout.specs.Access.{linkOf}
-use Rattle.spec_rules.specs.Units.{ofModel, modelLawful}
+use Rattle.spec_rules.specs.Units.{ofModel}
+use Rattle.legal_rules.specs.Units.{modelLawful}
 use Rattle.legal_terms.specs.Says.{itemAt, Says}
 use Rattle.agree_eval.specs.Names.{codesAt, saidAt, homesAt}
 use Rattle.agree_eval.proofs.Lookups.{lookup-most}

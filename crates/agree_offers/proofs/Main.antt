@@ -23,7 +23,8 @@ use Rattle.agree_eval.proofs.Codes.{codes-few}
 use Rattle.agree_eval.proofs.Items.{T}
 use Rattle.agree_eval.proofs.Main.{items-long}
 use Rattle.spec_machine.specs.Stage.{Ways}
-use Rattle.spec_machine.specs.Program.{Within, itself, in-if, in-do, unlabelled, behind-label, in-first, in-rest, in-option, in-others, Holds, in-process, in-init, later, endIn, sequenceOf, Statement, BodyEnd}
+use Rattle.spec_machine.specs.Program.{Within, itself, in-if, in-do, unlabelled, behind-label, in-first, in-rest, in-option, in-others, endIn, sequenceOf}
+use Rattle.agree_sizes.specs.Bodies.{Holds, in-process, in-init, later, Statement, BodyEnd}
 use Rattle.spec_machine.specs.Offers.{offers}
 use Rattle.agree_sizes.proofs.Sizes.{size-tree, size-declarations}
 use Rattle.agree_stage.proofs.Stands.{Lying, body-lies, statement-lies, lying-back}

@@ -13,7 +13,8 @@ use Rattle.read_accepts_proof.specs.Meaning.{Accepts}
 use Rattle.agree_eval.specs.Names.{codesAt}
 use Rattle.spec_machine.specs.Sizes.{sizePart}
 use Rattle.agree_sizes.proofs.Sizes.{size-activity, size-groups, size-part, size-declarations}
-use Rattle.spec_machine.specs.Program.{Holds, in-process, in-init, later, startIn}
+use Rattle.agree_sizes.specs.Bodies.{Holds, in-process, in-init, later}
+use Rattle.spec_machine.specs.Program.{startIn}
 use Rattle.agree_stage.proofs.Stands.{Lying, lying-behind, lying-before, lying-whole, body-lies, lying-front, lying-back}
 use Rattle.agree_offers.proofs.Places.{at-there, known-there}
 use Rattle.agree_places.proofs.Labels.{NoLabel, Bare, bare-declarations, bare-groups}

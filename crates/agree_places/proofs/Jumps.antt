@@ -43,7 +43,8 @@ use Rattle.agree_control.proofs.Main.{text-unit}
 use Rattle.spec_machine.specs.Stage.{Ways}
 use Rattle.spec_machine.specs.Sizes.{sizeIn}
 use Rattle.agree_sizes.proofs.Sizes.{size-tree, size-body}
-use Rattle.spec_machine.specs.Program.{Holds, labelIn, startIn, endIn, sequenceOf, Statement}
+use Rattle.agree_sizes.specs.Bodies.{Holds, Statement}
+use Rattle.spec_machine.specs.Program.{labelIn, startIn, endIn, sequenceOf}
 use Rattle.agree_stage.proofs.Stands.{Lying, within-lies, body-lies, statements-lie, lying-in, lying-back}
 use Rattle.agree_stage.proofs.Labels.{Labelled, Search, label-found, marked, Behind, labelled-lies}
 use Rattle.agree_offers.proofs.Places.{at-there, known-there, ends-there}

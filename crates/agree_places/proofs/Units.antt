@@ -15,7 +15,7 @@ use Rattle.agree_eval.proofs.Operators.{known-front, known-back}
 use Rattle.agree_control.proofs.Insides.{InUnit, inner-append, inner-tree, inner-declarations, inner-global, inner-groups, inner-mtypes}
 use Rattle.spec_machine.specs.Sizes.{sum, sizeActivity, sizeGroup, sizePart}
 use Rattle.agree_sizes.proofs.Sizes.{size-part}
-use Rattle.spec_machine.specs.Program.{in-process, in-init, later}
+use Rattle.agree_sizes.specs.Bodies.{in-process, in-init, later}
 use Rattle.agree_places.specs.Stated.{Head}
 use Rattle.agree_places.proofs.Quiet.{either-side, every-at}
 

@@ -33,7 +33,8 @@ use Rattle.agree_nesting.proofs.Leaves.{quiet, none}
 use Rattle.agree_control.proofs.Insides.{type-still}
 use Rattle.agree_control.proofs.Begins.{Dull, dull-each, one, two, dull-declarations}
 use Rattle.agree_control.proofs.Main.{text-unit}
-use Rattle.spec_machine.specs.Program.{labelIn, Holds, startIn, endIn, sequenceOf}
+use Rattle.spec_machine.specs.Program.{labelIn, startIn, endIn, sequenceOf}
+use Rattle.agree_sizes.specs.Bodies.{Holds}
 use Rattle.agree_stage.proofs.Stands.{body-lies, statements-lie, lying-in, lying-whole}
 use Rattle.agree_offers.proofs.Places.{at-there}
 use Rattle.agree_places.specs.Stated.{Stated, Head}

@@ -3,7 +3,8 @@
 use Prim.Native.Nat.{ℕ}
 use Rattle.spec_grammar.specs.Tree.{Sort, action, Tree, Body, Model}
 use Rattle.spec_machine.specs.Stage.{Ways}
-use Rattle.spec_machine.specs.Program.{Within, Holds, Statement}
+use Rattle.spec_machine.specs.Program.{Within}
+use Rattle.agree_sizes.specs.Bodies.{Holds, Statement}
 
 -- a statement of the tree has the place x
 abbrev pub Found : (k : Sort) → Tree k → ℕ → ℕ → ℕ → ℕ → Type 0

@@ -9,7 +9,8 @@ use Rattle.base_codes.specs.Items.{Item, i-body, i-do, i-end-body, i-end-option
 use Rattle.parse_code.specs.Code.{each, code-tree, code-declaration, code-group, code-body, code-activity, code-part, code}
 use Rattle.spec_machine.specs.Stage.{Ways}
 use Rattle.spec_machine.specs.Sizes.{sizeIn, sizePart}
-use Rattle.spec_machine.specs.Program.{Within, itself, in-if, in-do, unlabelled, behind-label, in-first, in-rest, in-option, in-others, Holds, in-process, in-init, later, startIn, sequenceOf, Statement}
+use Rattle.spec_machine.specs.Program.{Within, itself, in-if, in-do, unlabelled, behind-label, in-first, in-rest, in-option, in-others, startIn, sequenceOf}
+use Rattle.agree_sizes.specs.Bodies.{Holds, in-process, in-init, later, Statement}
 use Rattle.agree_sizes.proofs.Sizes.{size-tree, size-activity, size-groups, size-part, size-declarations}
 
 -- the items x stand in the items l, which begin at item i, from item j on

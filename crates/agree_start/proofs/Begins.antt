@@ -17,7 +17,8 @@ use Rattle.read_passes.specs.Judging.{tablesText}
 use Rattle.state_layout.specs.Layout.{kept, processAt, processesOf}
 use Rattle.state_layout.specs.Walks.{walk}
 use Rattle.state_start.specs.Starting.{declared, entered, processMade}
-use Rattle.spec_machine.specs.Program.{enter, Holds, startIn, endIn}
+use Rattle.spec_machine.specs.Program.{enter, startIn, endIn}
+use Rattle.agree_sizes.specs.Bodies.{Holds}
 use Rattle.agree_sizes.proofs.Sizes.{size-tree, size-declarations}
 use Rattle.agree_stage.proofs.Stands.{Lying, body-lies, lying-front, lying-back}
 use Rattle.agree_places.proofs.Heads.{holds-between}

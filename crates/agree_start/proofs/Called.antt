@@ -29,7 +29,8 @@ use Rattle.agree_eval.proofs.Operators.{known-back}
 use Rattle.keep_tables.proofs.Tables.{codesAt, text-held}
 use Rattle.spec_machine.specs.Sizes.{sizeGroup}
 use Rattle.agree_sizes.proofs.Sizes.{size-group}
-use Rattle.spec_machine.specs.Program.{Holds, startIn, endIn}
+use Rattle.agree_sizes.specs.Bodies.{Holds}
+use Rattle.spec_machine.specs.Program.{startIn, endIn}
 use Rattle.agree_stage.proofs.Stands.{body-lies}
 use Rattle.agree_places.proofs.Heads.{Between}
 use Rattle.agree_control.proofs.Main.{text-unit}

@@ -28,7 +28,8 @@ use Rattle.keep_tables.proofs.Tables.{codesAt, text-held}
 use Rattle.keep_tables.proofs.Whole.{text-well}
 use Rattle.spec_machine.specs.Sizes.{sum, sizeDeclaration, sizeGroup, sizeActivity, sizePart}
 use Rattle.agree_sizes.proofs.Sizes.{size-declaration, size-groups, size-body, size-activity, size-part}
-use Rattle.spec_machine.specs.Program.{Holds, in-process, in-init, later, endIn}
+use Rattle.agree_sizes.specs.Bodies.{Holds, in-process, in-init, later}
+use Rattle.spec_machine.specs.Program.{endIn}
 use Rattle.agree_stage.proofs.Stands.{Lying, lying-whole, body-lies, lying-front, lying-back}
 use Rattle.agree_places.proofs.Heads.{holds-between}
 use Rattle.agree_control.proofs.Main.{text-unit}

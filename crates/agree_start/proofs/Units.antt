@@ -25,7 +25,8 @@ use Rattle.agree_eval.proofs.Main.{items-long}
 use Rattle.keep_tables.proofs.Tables.{text-held}
 use Rattle.spec_machine.specs.Sizes.{sizePart}
 use Rattle.agree_sizes.proofs.Sizes.{size-tree, size-declarations, size-groups, size-body, size-activity, size-part}
-use Rattle.spec_machine.specs.Program.{Holds, in-process, in-init, later, startIn, endIn}
+use Rattle.agree_sizes.specs.Bodies.{Holds, in-process, in-init, later}
+use Rattle.spec_machine.specs.Program.{startIn, endIn}
 use Rattle.agree_stage.proofs.Stands.{Lying, lying-behind, lying-whole, lying-front, lying-back}
 use Rattle.agree_places.proofs.Heads.{Between}
 use Rattle.agree_control.proofs.Main.{text-unit}

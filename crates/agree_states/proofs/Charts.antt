@@ -34,7 +34,8 @@ use Rattle.keep_tables.specs.Well as well
 use Rattle.keep_tables.proofs.Whole.{text-well}
 use Rattle.spec_rules.specs.Ceilings.{modest}
 use Rattle.spec_machine.specs.Sizes.{sizePart}
-use Rattle.spec_machine.specs.Program.{Within, Holds, in-process, in-init, later, startIn, endIn, sequenceOf}
+use Rattle.spec_machine.specs.Program.{Within, startIn, endIn, sequenceOf}
+use Rattle.agree_sizes.specs.Bodies.{Holds, in-process, in-init, later}
 use Rattle.agree_control.proofs.Main.{text-unit}
 use Rattle.agree_places.proofs.Whole.{text-head, text-stated}
 use Rattle.spec_machine.specs.Names.{Var, ofVariable, ofDeclaration, ofDeclarations, ofParameter, ofGroups, localsOf, variablesOf, globalsOf, unitAt}

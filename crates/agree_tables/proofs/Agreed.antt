@@ -25,9 +25,11 @@ use Rattle.step_messages.specs.Messages.{fieldType, putIn, takenOut}
 use Rattle.step_statements.specs.Statements.{moved}
 use Rattle.step_take.specs.Effects.{called}
 use Rattle.spec_grammar.specs.Tree.{Name, Model}
-use Rattle.spec_rules.specs.Expressions.{operand, usable}
+use Rattle.spec_rules.specs.Roles.{operand}
+use Rattle.legal_rules.specs.Expressions.{usable}
 use Rattle.spec_rules.specs.Ceilings.{madeByBody}
-use Rattle.spec_rules.specs.Statements.{Place, sense, runs}
+use Rattle.spec_rules.specs.Statements.{Place, sense}
+use Rattle.legal_rules.specs.Statements.{runs}
 use Rattle.agree_stage.specs.Scenes.{numberAt}
 use Rattle.agree_stage.specs.Tables.{stageIn}
 use Rattle.agree_transfer.specs.Agrees.{Agrees}
@@ -37,10 +39,10 @@ use Rattle.spec_machine.specs.State.{Channel, Process, State, noChannel, noProc
 use Rattle.spec_machine.specs.Names.{Var, Meaning, local, global, self, variablesOf, parametersOf, localsOf, globalsOf, unitAt, proctypeOf, meant}
 use Rattle.spec_machine.specs.Begins.{itemsBefore, bodyIn, bodyOf, firstIn, makesAll, given, begins}
 use Rattle.spec_machine.specs.Plain as plain
-use Rattle.spec_machine.specs.Plain.{noVar, declaredBy, capacityIn, typesIn, castAll, withChannel, numbersOf, isVariable, stored, goes, plainStage}
+use Rattle.spec_machine.specs.Plain.{noVar, declaredBy, capacityIn, typesIn, castAll, withChannel, numbersOf, stored, goes, plainStage}
 use Rattle.state_encode.specs.Encode.{flat, channelItem, messageRow, channelRow, encode}
 use Rattle.spec_machine.specs.Fits.{Filled, Fielded, ChannelFits, Fits}
-use Rattle.state_encode.specs.Tabled.{offsetOf, Item, of-local, of-global, of-message, Tabled}
+use Rattle.state_encode.specs.Tabled.{isVariable, offsetOf, Item, of-local, of-global, of-message, Tabled}
 use Rattle.state_encode.proofs.Rows.{get-left, ahead, off, get-rows, at-four}
 use Rattle.state_encode.proofs.Numbers.{processes-are, channels-are, local-is, local-stored, global-is, global-stored, go-is, channel-cell, declared-is, waiting-is}
 use Rattle.state_encode.proofs.Queues.{take-is, put-is}
@@ -93,7 +95,7 @@ module _ (P : ℕ → ℕ → Type 0) (m : Model) (u : ℕ) (at : Place) (T : Li
     global-at i = ahead-is Gs (σ .globals) (k .fits .globals .all) (k .fits .globals .sized) i
 
     -- number n of what a name means
-    element-is : (d : ℕ) (q : Meaning) → Item T m u d q → isVariable m 0 q ≡ true → (n : ℕ) → n < plain.sizeMeant m 0 q → getD (numbersOf m p σ q) n (pos 0) ≡ cellOf S (slotOf (linkOf T d) p n)
+    element-is : (d : ℕ) (q : Meaning) → Item T m u d q → isVariable q ≡ true → (n : ℕ) → n < plain.sizeMeant m 0 q → getD (numbersOf m p σ q) n (pos 0) ≡ cellOf S (slotOf (linkOf T d) p n)
     element-is d _ (of-local {i = i} {x = x} h e g a b l) z n r =
         inv (local-is m t σ p (k .here) (k .fits .processes) i n (subst (i <_) (inv (own .all)) h) (local-there i x n h e r) local-few)
         ∙ ap (λ j. cellOf S (localAt p (j + n))) (local-at i) ∙ ap (cellOf S) (inv (l .slot p n r))
@@ -121,7 +123,7 @@ module _ (P : ℕ → ℕ → Type 0) (m : Model) (u : ℕ) (at : Place) (T : Li
         go false e = number-is (decl w) (meant m (unitAt m u) w) (X .names w e h)
 
     -- a value stored in it
-    store-is : (d : ℕ) (q : Meaning) → Item T m u d q → isVariable m 0 q ≡ true → (n : ℕ) (v : ℤ) → n < plain.sizeMeant m 0 q
+    store-is : (d : ℕ) (q : Meaning) → Item T m u d q → isVariable q ≡ true → (n : ℕ) (v : ℤ) → n < plain.sizeMeant m 0 q
         → Kept (stored m p q n v σ) (set S (slotOf (linkOf T d) p n) (castOf (typeOf (linkOf T d)) v))
     store-is d _ (of-local {i = i} {x = x} h e g a b l) z n v r =
         let y : Process = record { unit = me .unit; place = me .place; variables = plain.oneStored (me .variables) i n (castOf (x .type) v) } in
@@ -278,12 +280,12 @@ module _ (P : ℕ → ℕ → Type 0) (m : Model) (u : ℕ) (at : Place) (T : Li
   kept-same : (σ : State) (a b : List ℤ) → a ≡ b → Kept σ b → Kept σ a
   kept-same σ a b e q = record { fits = q .fits; is = e ∙ q .is; here = q .here; unit = q .unit }
 
-  some-number : (d : ℕ) (q : Meaning) → Item T m u d q → isVariable m 0 q ≡ true → ltb 0 (plain.sizeMeant m 0 q) ≡ true
+  some-number : (d : ℕ) (q : Meaning) → Item T m u d q → isVariable q ≡ true → ltb 0 (plain.sizeMeant m 0 q) ≡ true
   some-number d _ (of-local {x = x} h e g a b l) z = lt-ltb 0 (x .size) (omega arith)
   some-number d _ (of-global {x = x} h e g a b l) z = lt-ltb 0 (x .size) (omega arith)
   some-number d _ (of-message a b c) z = refl
 
-  same-size : (d : ℕ) (q : Meaning) → Item T m u d q → isVariable m 0 q ≡ true → plain.sizeMeant m 0 q ≡ sizeOf (linkOf T d)
+  same-size : (d : ℕ) (q : Meaning) → Item T m u d q → isVariable q ≡ true → plain.sizeMeant m 0 q ≡ sizeOf (linkOf T d)
   same-size d _ (of-local h e g a b l) z = inv (l .size)
   same-size d _ (of-global h e g a b l) z = inv (l .size)
   same-size d _ (of-message a b c) z = absurd (true-false (inv z))

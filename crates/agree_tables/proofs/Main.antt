@@ -19,12 +19,15 @@ use Rattle.table_layout.specs.Access.{codeOf}
 use borrow.Author.Tests.{eq-eqb, ne-eqb}
 use Rattle.step_offers.specs.Offers.{offersOf}
 use Rattle.step_take.specs.Effects.{takenOf}
-use Rattle.spec_rules.specs.Statements.{has, allowed}
-use Rattle.spec_rules.specs.Units.{ofModel, partsLawful, mtypesIn, initsIn, tally, modelLawful}
+use Rattle.spec_rules.specs.Statements.{has}
+use Rattle.legal_rules.specs.Statements.{allowed}
+use Rattle.spec_rules.specs.Units.{ofModel, tally}
+use Rattle.legal_rules.specs.Units.{partsLawful, mtypesIn, initsIn, modelLawful}
 use Rattle.spec_machine.specs.Stage.{Ways}
 use Rattle.spec_machine.specs.Effect.{effect}
 use Rattle.spec_machine.specs.Sizes.{sizeIn}
-use Rattle.spec_machine.specs.Program.{startIn, endIn, labelIn, sequenceOf, Statement}
+use Rattle.spec_machine.specs.Program.{startIn, endIn, labelIn, sequenceOf}
+use Rattle.agree_sizes.specs.Bodies.{Statement}
 use Rattle.agree_stage.specs.Tables.{stageIn}
 use Rattle.agree_eval.specs.Names.{declAt}
 use Rattle.agree_offers.proofs.Main.{text-ended, text-ends}
@@ -41,7 +44,8 @@ use Rattle.agree_effects.specs.Few.{Few}
 use Rattle.step_all.specs.Moving.{machineIn}
 use Rattle.spec_machine.specs.Steps.{stepsBy, takeBy, stepsOf, endedOf, takeOf, machineOf}
 use Rattle.state_encode.specs.Encode.{headOf, encode}
-use Rattle.spec_machine.specs.Places.{Bodied, bodyAt, startOf, endOf, At, Belongs, ends, stands, settingOf}
+use Rattle.spec_machine.specs.Places.{Bodied, bodyAt, startOf, endOf, At, Belongs, ends, stands}
+use Rattle.state_encode.specs.Settings.{settingOf}
 use Rattle.spec_machine.specs.Fits.{Fits}
 use Rattle.state_encode.specs.Tabled.{Tabled}
 use Rattle.agree_transfer.proofs.Transfer.{offers-same, effect-same}

@@ -15,7 +15,8 @@ use Rattle.spec_machine.specs.Stage.{Ways}
 use Rattle.spec_machine.specs.Ready.{ready}
 use Rattle.spec_machine.specs.Effect.{effect, prints}
 use Rattle.spec_machine.specs.Offers.{offers}
-use Rattle.spec_machine.specs.Program.{Within, itself, in-if, in-do, unlabelled, behind-label, in-first, in-rest, in-option, in-others, Statement}
+use Rattle.spec_machine.specs.Program.{Within, itself, in-if, in-do, unlabelled, behind-label, in-first, in-rest, in-option, in-others}
+use Rattle.agree_sizes.specs.Bodies.{Statement}
 use Rattle.agree_stage.proofs.Stands.{statement-lies}
 use Rattle.agree_stage.proofs.Offers.{offers-same}
 use Rattle.agree_control.proofs.Main.{text-leads}

@@ -7,7 +7,8 @@ use lib.IntN.{ℤ}
 use Rattle.spec_grammar.specs.Tree.{action, Tree}
 use Rattle.read_accepts_proof.specs.Meaning.{Accepts}
 use Rattle.spec_machine.specs.Stage.{Stage, Ways}
-use Rattle.spec_machine.specs.Program.{startIn, Statement}
+use Rattle.spec_machine.specs.Program.{startIn}
+use Rattle.agree_sizes.specs.Bodies.{Statement}
 use Rattle.agree_effects.specs.Stages.{stageAt}
 
 module _ (t : List ℕ) (a : Accepts t) (s : List ℤ) (p u : ℕ) where

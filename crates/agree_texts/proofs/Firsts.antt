@@ -15,7 +15,8 @@ use Rattle.base_kinds.specs.Kinds.{Token, sym, name, number, level, marks}
 use Rattle.spec_text.specs.Bytes.{isLetter, isDigit}
 use Rattle.spec_text.specs.Find.{find}
 use Rattle.spec_text.specs.Spelled.{Spelled, word, digits, string, mark}
-use Rattle.spec_text.specs.Writing.{spell, Sound, AllSound, writeBehind, write}
+use Rattle.spec_text.specs.Writing.{spell, writeBehind, write}
+use Rattle.text_spacing_proof.specs.Sound.{Sound, AllSound}
 use Rattle.text_spacing_proof.proofs.Digits.{digits-spelled}
 use Rattle.text_spacing_proof.proofs.Fronts.{spelled-some}
 use Rattle.spec_grammar.specs.Grammar.{is-minus, is-not, is-flip, is-len}

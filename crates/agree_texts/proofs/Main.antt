@@ -10,7 +10,8 @@ use lib.Dec.{eqb}
 use Rattle.base_ceilings.specs.Ceilings.{itemsMost, normalMost}
 use Rattle.base_kinds.specs.Kinds.{Token}
 use Rattle.base_codes.specs.Items.{Item}
-use Rattle.spec_text.specs.Writing.{AllSound, write}
+use Rattle.text_spacing_proof.specs.Sound.{AllSound}
+use Rattle.spec_text.specs.Writing.{write}
 use Rattle.text_spacing_proof.proofs.Written.{tokens-sound}
 use Rattle.spec_grammar.specs.Marks.{'rbrace}
 use Rattle.spec_grammar.specs.Tree.{Sort, action, sequence, Tree, Body, body, Part, mtypes, global, process, init, Model}
@@ -35,7 +36,8 @@ use Rattle.normal_reprint_proof.proofs.Main.{all-here, length-marks, tokens-are
 use Rattle.normal_shortest_proof.proofs.Lightened.{model-lighter}
 use Rattle.read_accepts_proof.proofs.Alike.{accepted-slim}
 use Rattle.spec_normal.specs.Normal.{normal}
-use Rattle.spec_machine.specs.Program.{Within, itself, in-if, in-do, unlabelled, behind-label, in-first, in-rest, in-option, in-others, Holds, startIn, sequenceOf}
+use Rattle.spec_machine.specs.Program.{Within, itself, in-if, in-do, unlabelled, behind-label, in-first, in-rest, in-option, in-others, startIn, sequenceOf}
+use Rattle.agree_sizes.specs.Bodies.{Holds}
 use Rattle.spec_machine.specs.Names.{unitAt}
 use Rattle.spec_machine.specs.Begins.{itemsBefore, bodyIn, bodyOf}
 use Rattle.spec_machine.specs.Places.{Bodied, bodyAt, startOf, endOf}

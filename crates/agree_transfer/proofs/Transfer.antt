@@ -23,8 +23,10 @@ use borrow.Author.Tests.{lt-ltb, eqb-true}
 use Rattle.spec_grammar.specs.Tree.{Received, into, equal, exactly, exactly-true, exactly-false, Sort, action, Tree, leaf, express, assign, increment, decrement, send, receive, assert, print, skip, goto, break, timeout, else, run, set-run, select, loop, bare, labelled, end, then, over, option}
 use Rattle.spec_grammar.specs.Tree.{Name, Shape, Exp, Expr, Ref, plain, indexed, num, tru, fls, get, query, unary, binary, choice}
 use Rattle.spec_rules.specs.Senses.{Sense, variable, constant, procedure, unknown, isConstant}
-use Rattle.spec_rules.specs.Expressions.{Role, operand, channel, target, received, forConstant, forPid, forChan, alike, suits, usable, named, lawful, whole}
-use Rattle.spec_rules.specs.Statements.{Place, all, has, isElse, sense, runs, receives, formats, allowed}
+use Rattle.spec_rules.specs.Roles.{Role, operand, channel, target, received, forConstant, forPid, forChan, alike}
+use Rattle.legal_rules.specs.Expressions.{suits, usable, named, lawful, whole}
+use Rattle.spec_rules.specs.Statements.{Place, all, has, isElse, sense}
+use Rattle.legal_rules.specs.Statements.{runs, receives, formats, allowed}
 use Rattle.spec_machine.specs.Eval.{elementBy, lengthBy, signBy, operateBy, chooseBy, eval}
 use Rattle.spec_machine.specs.Stage.{Message, Stage, Ways}
 use Rattle.spec_machine.specs.Messages.{Finding, found, none, spoilt, findFrom}

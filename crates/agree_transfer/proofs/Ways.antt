@@ -8,7 +8,8 @@ use Rattle.base_bytes.specs.Choice.{pick, either}
 use Rattle.base_bytes.specs.Lists.{same}
 use Rattle.base_bytes.proofs.Tests.{true-false, both-true}
 use Rattle.spec_grammar.specs.Tree.{Name, Sort, action, sequence, Tree, leaf, select, loop, bare, labelled, end, then, over, option}
-use Rattle.spec_rules.specs.Statements.{Place, has, labelsOf, isElse, allowed}
+use Rattle.spec_rules.specs.Statements.{Place, has, labelsOf, isElse}
+use Rattle.legal_rules.specs.Statements.{allowed}
 use Rattle.spec_machine.specs.Sizes.{sizeIn}
 use Rattle.spec_machine.specs.Program.{enter, labelIn, Within, itself, in-if, in-do, unlabelled, behind-label, in-first, in-rest, in-option, in-others}
 

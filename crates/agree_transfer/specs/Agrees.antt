@@ -14,8 +14,10 @@ use Rattle.base_bytes.specs.Lists.{same}
 use Rattle.spec_text.specs.Names.{pid}
 use Rattle.spec_grammar.specs.Tree.{Name, action, Tree, leaf, express, assign, increment, decrement, send, receive, assert, print, skip, goto, break, timeout, else, run, set-run, select, loop}
 use Rattle.spec_rules.specs.Senses.{Sense, variable, constant, procedure, unknown, isConstant}
-use Rattle.spec_rules.specs.Expressions.{operand, received, usable}
-use Rattle.spec_rules.specs.Statements.{Place, has, sense, runs}
+use Rattle.spec_rules.specs.Roles.{operand, received}
+use Rattle.legal_rules.specs.Expressions.{usable}
+use Rattle.spec_rules.specs.Statements.{Place, has, sense}
+use Rattle.legal_rules.specs.Statements.{runs}
 use Rattle.spec_machine.specs.Stage.{Stage, Ways}
 use Rattle.spec_machine.specs.Ready.{ready}
 use Rattle.spec_machine.specs.Effect.{Outcome}

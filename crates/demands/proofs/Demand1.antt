@@ -6,7 +6,7 @@ use mathlib.Core.Bool.{Bool, true, false}
 use mathlib.Core.Option.{none}
 use native.Mathlib.Decide.{decLt}
 use mathlib.Core.Logic.{_⊎_, inl, inr, _↔_}
-use mathlib.Core.List.{List}
+use mathlib.Core.List.{List, []}
 use borrow.Author.Tests.{lt-ltb, le-ltb, ltb-true, ltb-false, le-leb}
 use lib.Dec.{ltb}
 use lib.ListN.{length, take, drop, length-replicate}
@@ -18,7 +18,7 @@ use Rattle.spec_text.specs.Writing.{tokensIn}
 use Rattle.spec_grammar.specs.Tree.{Model}
 use Rattle.spec_grammar.specs.Grammar.{Gram}
 use Rattle.spec_grammar.specs.Depth.{too-deep}
-use Rattle.spec_rules.specs.Units.{modelLawful}
+use Rattle.spec_faults.specs.Faults.{faultsOf}
 use Rattle.spec_rules.specs.Ceilings as ceilings
 use Rattle.spec_refusals.specs.Texts.{Tokens}
 use Rattle.spec_refusals.specs.Legal.{Legal}
@@ -71,7 +71,7 @@ module _ (t : List ℕ) where
   reader-refuses : (old : List ℕ) (x i n : ℕ) → (said.reader (readOf t old) ≡ refusal x i n) ↔ Refused t (length old) x i n
   reader-refuses old x i n = (λ e. refused-exact t old x i n .0 (reader-said (readOf t old) x i n .0 e), λ r. reader-said (readOf t old) x i n .1 (refused-exact t old x i n .1 r))
 
-  reader-six : (old : List ℕ) (ps : List Placed) (m : Model) → tablesRoom ≤ length old → Tokens t ps → Gram (tokensIn t ps) m → too-deep (tokensIn t ps) ≡ none → modelLawful m ≡ true
+  reader-six : (old : List ℕ) (ps : List Placed) (m : Model) → tablesRoom ≤ length old → Tokens t ps → (g : Gram (tokensIn t ps) m) → too-deep (tokensIn t ps) ≡ none → faultsOf g ≡ []
       → (said.reader (readOf t old) ≡ refusal 6 0 0) ↔ ((ceilings.modest m ≡ false) ⊎ (normalMost < length (normal m)))
   reader-six old ps m r k g d l = (λ e. to e (ceilings.modest m) refl (decLt normalMost (length (normal m))), from)
     where
@@ -79,7 +79,7 @@ module _ (t : List ℕ) where
       to e false q x = inl q
       to e true q (yes h) = inr h
       to e true q (no h) =
-          let j = legal-judged t record { parts = ps; reads = k; tree = m; gram = g; shallow = d; lawful = l; modest = q; slim = omega (arith, h) } in
+          let j = legal-judged t record { parts = ps; reads = k; tree = m; gram = g; shallow = d; faultless = l; modest = q; slim = omega (arith, h) } in
           absurd (let f : judged.Accepted ≡ judged.Refused 6 0 0 = sym j ∙ sym (judged-by t old r) ∙ reader-said (readOf t old) 6 0 0 .0 e in let z : _≡_ {A = ℕ} 0 1 = cc in omega arith)
 
       from : (ceilings.modest m ≡ false) ⊎ (normalMost < length (normal m)) → said.reader (readOf t old) ≡ refusal 6 0 0

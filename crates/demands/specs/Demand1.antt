@@ -5,7 +5,7 @@
 use Prim.Native.Nat.{ℕ, _+_, _≤_, _<_}
 use mathlib.Core.Path.{_≡_}
 use mathlib.Core.Logic.{_⊎_, _↔_}
-use mathlib.Core.Bool.{true, false}
+use mathlib.Core.Bool.{false}
 use mathlib.Core.Option.{none}
 use mathlib.Core.List.{List, []}
 use lib.ListN.{length, take, drop}
@@ -16,7 +16,7 @@ use Rattle.spec_text.specs.Writing.{tokensIn}
 use Rattle.spec_grammar.specs.Tree.{Model}
 use Rattle.spec_grammar.specs.Grammar.{Gram}
 use Rattle.spec_grammar.specs.Depth.{too-deep}
-use Rattle.spec_rules.specs.Units.{modelLawful}
+use Rattle.spec_faults.specs.Faults.{faultsOf}
 use Rattle.spec_rules.specs.Ceilings as ceilings
 use Rattle.spec_machine.specs.State.{State}
 use Rattle.spec_machine.specs.Machine.{Move, stepOf}
@@ -50,7 +50,7 @@ pub record Reader (t : List ℕ) : Type 0 where
   -- each number and place exactly where its row says
   pub refuses : (old : List ℕ) (x i n : ℕ) → (said.reader (readOf t old) ≡ refusal x i n) ↔ Refused t (length old) x i n
   -- 6, of a text that no row before it refuses: "any other ceiling passed, or no process starts", or the normal text too long (request One)
-  pub six : (old : List ℕ) (ps : List Placed) (m : Model) → tablesRoom ≤ length old → Tokens t ps → Gram (tokensIn t ps) m → too-deep (tokensIn t ps) ≡ none → modelLawful m ≡ true
+  pub six : (old : List ℕ) (ps : List Placed) (m : Model) → tablesRoom ≤ length old → Tokens t ps → (g : Gram (tokensIn t ps) m) → too-deep (tokensIn t ps) ≡ none → faultsOf g ≡ []
       → (said.reader (readOf t old) ≡ refusal 6 0 0) ↔ ((ceilings.modest m ≡ false) ⊎ (normalMost < length (normal m)))
   -- "A refusal changes no lent number"
   pub unchanged : (old : List ℕ) (x i n : ℕ) → said.reader (readOf t old) ≡ refusal x i n → reading.leftOf t old ≡ old

@@ -1,4 +1,4 @@
--- Mechanism, held to the specification by `demand3-layout` (crate `demands`) as far as accepted texts and their tables go; a refusal it hands on from `judgeOf` and `genuine`.
+-- Mechanism, held to the specification by `demand3` (crate `demands`) as far as accepted texts and their tables go; a refusal it hands on from `judgeOf` and `genuine`.
 -- The entries that write the layout, each with one answer and one content of lent memory, as those of normal text: request One: "For the layout's own room it refuses 7, last of all, exactly when that
 -- room is shorter than the layout".
 use mathlib.Core.List.{List}

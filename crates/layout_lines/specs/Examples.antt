@@ -7,7 +7,8 @@ use Rattle.base_bytes.specs.Lists.{same}
 use Rattle.spec_text.specs.Find.{find}
 use Rattle.spec_text.specs.Formats.{digitsBy}
 use Rattle.text_pens.specs.After.{joinsBy}
-use Rattle.spec_grammar.specs.Marks.{'lpar, 'rpar, 'lbrace, 'rbrace, '[, '], '=, 'comma, 'semi, ':, '::, 'do, 'fi, 'if, 'init, 'int, 'byte, 'chan, 'mtype, 'od, 'of, 'proctype, 'active, 'skip, 'break}
+use Rattle.spec_grammar.specs.Marks.{'lpar, 'rpar, 'lbrace, 'rbrace, '[, '], '=, 'comma, 'semi, ':, '::, 'do, 'fi, 'if, 'init, 'mtype, 'od, 'of, 'proctype, 'active, 'skip, 'break}
+use Rattle.parse_proof.specs.Marks.{'int, 'byte, 'chan}
 use Rattle.layout_lines.specs.Lines.{placeBehind, bodies, startsLine, endsLine, layAfter, layAll}
 
 units :

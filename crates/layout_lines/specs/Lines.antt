@@ -8,7 +8,8 @@ use lib.Dec.{eqb, leb}
 use lib.ListN.{replicate}
 use Rattle.base_bytes.specs.Choice.{pick, both, either}
 use Rattle.base_kinds.specs.Kinds.{Token, kindOf, string-kind}
-use Rattle.spec_grammar.specs.Marks.{'lbrace, 'rbrace, 'semi, '::, 'bit, 'int, 'active, 'do, 'fi, 'if, 'init, 'od, 'proctype}
+use Rattle.spec_grammar.specs.Marks.{'lbrace, 'rbrace, 'semi, '::, 'active, 'do, 'fi, 'if, 'init, 'od, 'proctype}
+use Rattle.parse_proof.specs.Marks.{'bit, 'int}
 use Rattle.spec_grammar.specs.Depth.{count-after}
 use Rattle.normal_letters.specs.Tokens.{behind}
 

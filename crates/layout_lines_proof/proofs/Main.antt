@@ -17,7 +17,8 @@ use Rattle.text_tokens.specs.Reading.{tokens, reading}
 use Rattle.spec_text.specs.Placed.{Placed}
 use Rattle.spec_text.specs.Spelled.{joins}
 use Rattle.spec_text.specs.Layout.{Gap, none as no-gap, blank, ends}
-use Rattle.spec_text.specs.Writing.{spell, tokensIn, Sound, AllSound, write}
+use Rattle.spec_text.specs.Writing.{spell, tokensIn, write}
+use Rattle.text_spacing_proof.specs.Sound.{Sound, AllSound}
 use Rattle.text_spacing_proof.proofs.Tokens.{joins-line, sound-spelled}
 use Rattle.text_spacing_proof.proofs.Written.{spaceIf, Back, back-reads, space-gap, put-before, unjoined}
 use Rattle.spec_grammar.specs.Depth.{opens-bracket, closes-bracket, opens-selection, closes-selection, count-after, passes, one-later, deep-from, too-deep}

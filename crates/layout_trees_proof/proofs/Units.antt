@@ -4,7 +4,8 @@ use mathlib.Core.Bool.{true, false}
 use mathlib.Core.List.{List, [], _∷_, _++_, append-assoc}
 use Prim.Native.Nat.{ℕ}
 use Rattle.base_kinds.specs.Kinds.{Token, sym, name, number}
-use Rattle.spec_grammar.specs.Marks.{'lpar, 'rpar, '[, '], 'lbrace, 'rbrace, 'semi, 'bit, 'bool, 'byte, 'mtype, 'pid, 'chan, 'short, 'int, 'active, 'init, 'proctype}
+use Rattle.spec_grammar.specs.Marks.{'lpar, 'rpar, '[, '], 'lbrace, 'rbrace, 'semi, 'mtype, 'active, 'init, 'proctype}
+use Rattle.parse_proof.specs.Marks.{'bit, 'bool, 'byte, 'pid, 'chan, 'short, 'int}
 use Rattle.spec_grammar.specs.Tree.{Name, sequence, Tree, Declaration, Body, body, Activity, Group, Part, Model}
 use Rattle.spec_grammar.specs.Grammar.{Maybe-listed, Is-type, is-bit, is-bool, is-byte, is-mtype, is-pid, is-chan, is-short, is-int, declaration, A-group, Items, statements, declared, A-body, a-body, An-activity, not-active, active, active-times, A-unit, u-mtypes, u-global, u-process, u-init, Gram, g-last, g-more}
 use Rattle.spec_grammar.specs.Print.{join, print-declaration, print-group, print-items, print-body, print-activity, print-part, print-model}

@@ -1,10 +1,10 @@
--- A TEXT IS ACCEPTED EXACTLY WHEN ITS TREE IS LAWFUL AND MODEST, from what the rules say of every tree: both directions.
+-- A TEXT IS ACCEPTED EXACTLY WHEN IT HAS NO FAULT AND ITS TREE IS MODEST, from what the rules say of every tree: both directions.
 use Prim.Native.Nat.{ℕ, _≤_}
 use native.Mathlib.Omega.{arith}
 use mathlib.Core.Path.{_≡_, refl, sym as inv, ap, _∙_}
 use mathlib.Core.Option.{none}
 use mathlib.Core.Bool.{Bool, true, false, not}
-use mathlib.Core.List.{List, map}
+use mathlib.Core.List.{List, [], map}
 use lib.ListN.{length}
 use lib.Dec.{ltb}
 use borrow.Author.Tests.{le-ltb}
@@ -27,7 +27,7 @@ use Rattle.read_accepts_proof.proofs.Main.{kinds-are, all-proper, short, accept
 use Rattle.read_accepts_proof.proofs.Alike.{overlong-is, accepted-slim}
 use Rattle.read_entry.specs.Entries.{readOf}
 use Rattle.spec_normal.specs.Normal.{normal}
-use Rattle.spec_rules.specs.Units.{modelLawful}
+use Rattle.spec_faults.specs.Faults.{faultsOf}
 use Rattle.spec_rules.specs.Ceilings as ceilings
 use Rattle.legal_terms.specs.Says.{Says}
 use Rattle.spec_text.specs.Placed.{Placed}
@@ -66,8 +66,7 @@ pub legal-parses : (t : List ℕ) → Legal t → Grammatical t
 legal-parses t l = text-parses t (l .parts) (l .tree) (l .reads) (l .gram) (l .shallow)
 
 -- what the rules say of every tree
-module _ (rules : (m : Model) (ts : List Token) → Gram ts m → (cs vs toks : List ℕ) → Says m cs vs
-    → (checked cs vs toks ≡ None → modelLawful m ≡ true) × (modelLawful m ≡ true → checked cs vs toks ≡ None)) where
+module _ (rules : (m : Model) (ts : List Token) (g : Gram ts m) (cs vs toks : List ℕ) → Says m cs vs → (checked cs vs toks ≡ None → faultsOf g ≡ []) × (faultsOf g ≡ [] → checked cs vs toks ≡ None)) where
   pub accepted-lawful : (t : List ℕ) → judgeOf t ≡ Accepted → Legal t
   unfolding accepted-parses
   accepted-lawful t q =
@@ -80,7 +79,7 @@ module _ (rules : (m : Model) (ts : List Token) → Gram ts m → (cs vs toks : 
         tree = a .tree;
         gram = a .gram;
         shallow = a .shallow;
-        lawful = rules (a .tree) (tokensIn t (a .parts)) (a .gram) (codesOf t p) (said t p) (map place-of (a .numbers)) s .0 (a .faultless);
+        faultless = rules (a .tree) (tokensIn t (a .parts)) (a .gram) (codesOf t p) (said t p) (map place-of (a .numbers)) s .0 (a .faultless);
         modest = denied (ceilings.modest (a .tree)) (inv (passed-modest (a .tree) (codesOf t p) (said t p) s) ∙ a .within);
         slim = accepted-slim t a;
       }
@@ -100,7 +99,7 @@ module _ (rules : (m : Model) (ts : List Token) → Gram ts m → (cs vs toks : 
         numbers = p .numbers;
         written = p .written;
         coded = p .coded;
-        faultless = rules (p .tree) (tokensIn t (p .parts)) (p .gram) (codesOf t p) (said t p) (map place-of (p .numbers)) s .1 (l .lawful);
+        faultless = rules (p .tree) (tokensIn t (p .parts)) (p .gram) (codesOf t p) (said t p) (map place-of (p .numbers)) s .1 (l .faultless);
         within = passed-modest (p .tree) (codesOf t p) (said t p) s ∙ ap not (l .modest);
         slim = overlong-is t (p .parts) (p .tree) (p .reads) (p .gram) (p .numbers) (p .written) (p .coded) ∙ le-ltb normalMost (length (normal (p .tree))) (l .slim);
       }

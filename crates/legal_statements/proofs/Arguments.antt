@@ -27,7 +27,7 @@ use Rattle.parse_code.specs.Code.{each, code-exp, code-argument, code-received}
 use Rattle.parse_spots.specs.Spots.{Spot, items, spots-listed, spots-maybe, spots-message, spots-argument, spots-received}
 use Rattle.parse_spots.proofs.Coded.{exp-code, listed-code, maybe-code, message-code}
 use Rattle.spec_rules.specs.Senses.{Scope}
-use Rattle.spec_rules.specs.Expressions.{operand, received}
+use Rattle.spec_rules.specs.Roles.{operand, received}
 use Rattle.spec_rules.specs.Statements.{sense}
 use Rattle.spec_faults.specs.Faults.{Faults, faultAt, inList, inMaybe, inMessage, nothing, inArgument, inReceived}
 use Rattle.legal_statements.specs.Scene.{Scene, homes, faults, StandsIn, SpotsIn}

@@ -17,7 +17,7 @@ use Rattle.link_phrases_proof.proofs.Starts.{phrase-starts}
 use Rattle.link_phrases_proof.proofs.Heights.{phrase-heights}
 use Rattle.spec_grammar.specs.Tree.{Shape, Exp, Expr, plain, indexed, num, tru, fls, get, query, unary, binary, choice}
 use Rattle.spec_grammar.specs.Grammar.{Is-unary, is-minus, is-not, is-flip, E, e-plain, e-index, e-number, e-true, e-false, e-query, e-group, e-choice, e-unary, e-binary, e-up}
-use Rattle.spec_rules.specs.Expressions.{Role, operand, channel}
+use Rattle.spec_rules.specs.Roles.{Role, operand, channel}
 use Rattle.spec_rules.specs.Statements.{sense}
 use Rattle.spec_faults.specs.Faults.{inExpr, inWhole}
 use Rattle.legal_statements.specs.Scene.{Scene, homes, starts, heights, faults, StandsIn, SpotsIn}

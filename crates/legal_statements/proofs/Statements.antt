@@ -27,7 +27,7 @@ use Rattle.base_codes.specs.Sets.{ruleOf}
 use Rattle.parse_code.specs.Code.{code-argument}
 use Rattle.parse_spots.specs.Spots.{Spot, spots-listed, spots-maybe, spots-message, spots-exp, spots-argument, spots-received, spots-leaf}
 use Rattle.spec_rules.specs.Senses.{Sense, variable, constant, procedure, unknown, isUnknown, senseIn}
-use Rattle.spec_rules.specs.Expressions.{operand, channel, target}
+use Rattle.spec_rules.specs.Roles.{operand, channel, target}
 use Rattle.spec_faults.specs.Faults.{Faults, faultAt, unless, inFormat, inPrinted, inLeaf, isProcedure, passes, runnable, passing}
 use Rattle.legal_terms.specs.Setting.{Runs}
 use Rattle.legal_statements.specs.Scene.{Scene, homes, starts, heights, faults, SpotsIn}

@@ -20,7 +20,7 @@ use Rattle.spec_grammar.specs.Tree.{Name}
 use Rattle.base_codes.specs.Items.{i-name}
 use Rattle.base_codes.specs.Sets.{ruleOf}
 use Rattle.spec_rules.specs.Senses.{Sense, variable, constant, procedure, unknown}
-use Rattle.spec_rules.specs.Expressions.{Role, operand, channel, target, received, forConstant, forPid, forChan, alike}
+use Rattle.spec_rules.specs.Roles.{Role, operand, channel, target, received, forConstant, forPid, forChan, alike}
 use Rattle.spec_rules.specs.Statements.{sense}
 use Rattle.spec_faults.specs.Faults.{faultAt, constantUse, senseUse, useNumber}
 use Rattle.legal_terms.specs.Says.{itemAt}

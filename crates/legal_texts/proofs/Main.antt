@@ -2,22 +2,17 @@
 use Prim.Native.Nat.{ℕ, suc, _≤_}
 use native.Mathlib.Omega.{arith}
 use mathlib.Core.Path.{_≡_, refl, sym, ap, ap₂, subst, _∙_}
-use mathlib.Core.Bool.{true}
 use mathlib.Core.Logic.{_↔_}
 use mathlib.Core.List.{List, [], _∷_, _++_, map, append-assoc}
 use lib.ListN.{length, getD, length-append}
 use lib.Seq.{getD-append-seam}
 use Rattle.base_ceilings.specs.Ceilings.{itemsMost, tablesRoom}
 use Rattle.base_kinds.specs.Kinds.{Token}
-use Rattle.base_bytes.proofs.Tests.{true-false}
 use Rattle.base_codes.specs.Items.{Item, i-plain}
 use Rattle.spec_text.specs.Writing.{tokensIn}
 use Rattle.spec_grammar.specs.Tree.{Model}
 use Rattle.spec_grammar.specs.Grammar.{Gram}
-use Rattle.spec_rules.specs.Units.{modelLawful}
-use Rattle.spec_faults.specs.Faults.{Faults, faultsOf, Least}
-use Rattle.spec_faults.proofs.None.{none}
-use Rattle.spec_faults.proofs.Lawful.{faults-lawful}
+use Rattle.spec_faults.specs.Faults.{faultsOf, Least}
 use Rattle.spec_refusals.specs.Legal.{Legal}
 use Rattle.parse_code.specs.Code.{code}
 use Rattle.parse_spots.specs.Spots.{Spot, items, tokens, spots}
@@ -56,18 +51,12 @@ all-faults m ts g cs vs s =
     declarations.all-faults m cs vs (tokens (spots g 0)) s (statements-faults m cs vs (tokens (spots g 0)) s) ts g
     (stands (code m) (tokens (spots g 0)) 0 [] [] (spots g 0) (sym (spots-code g 0)) refl refl refl)
 
-none-empty : (l : Faults) → none l ≡ true → l ≡ []
-none-empty [] e = refl
-none-empty (f ∷ l) e = absurd (true-false (sym e))
-
--- the items of a model have no fault exactly where its tree is lawful
-pub rules : (m : Model) (ts : List Token) → Gram ts m → (cs vs toks : List ℕ) → Says m cs vs → (checked cs vs toks ≡ None → modelLawful m ≡ true) × (modelLawful m ≡ true → checked cs vs toks ≡ None)
+-- the items of a model have no fault exactly where a derivation has none
+pub rules : (m : Model) (ts : List Token) (g : Gram ts m) (cs vs toks : List ℕ) → Says m cs vs → (checked cs vs toks ≡ None → faultsOf g ≡ []) × (faultsOf g ≡ [] → checked cs vs toks ≡ None)
 rules m ts g cs vs toks s =
     let own = tokens (spots g 0) in
-    let all = all-faults m ts g cs vs s in (
-      λ e. sym (faults-lawful g) ∙ ap none (sym all ∙ checked-none cs vs own .0 (places-free cs vs toks own e)),
-      λ e. places-free cs vs own toks (checked-none cs vs own .1 (all ∙ none-empty (faultsOf g) (faults-lawful g ∙ e))),
-    )
+    let all = all-faults m ts g cs vs s in
+    (λ e. sym all ∙ checked-none cs vs own .0 (places-free cs vs toks own e), λ e. places-free cs vs own toks (checked-none cs vs own .1 (all ∙ e)))
 
 -- what the rules answer of a text is the least fault of its derivation, number and token
 pub least-fault : (t : List ℕ) (p : Grammatical t) (x k : ℕ) → (checked (codesOf t p) (said t p) (map place-of (p .numbers)) ≡ At x k) ↔ Least (faultsOf (p .gram)) x k

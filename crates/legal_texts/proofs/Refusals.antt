@@ -3,7 +3,7 @@ use Prim.Native.Nat.{ℕ}
 use mathlib.Core.Path.{_≡_, refl, sym, _∙_}
 use mathlib.Core.Bool.{Bool, true, false, not}
 use mathlib.Core.Logic.{_↔_, _⊎_, inl, inr}
-use mathlib.Core.List.{List, map}
+use mathlib.Core.List.{List, [], map}
 use lib.ListN.{length}
 use lib.Dec.{ltb}
 use borrow.Author.Tests.{lt-ltb, ltb-true}
@@ -11,7 +11,7 @@ use Rattle.base_ceilings.specs.Ceilings.{normalMost}
 use Rattle.base_bytes.proofs.Tests.{true-false, either-true, left-holds, right-holds}
 use Rattle.spec_text.specs.Writing.{tokensIn}
 use Rattle.spec_normal.specs.Normal.{normal}
-use Rattle.spec_rules.specs.Units.{modelLawful}
+use Rattle.spec_faults.specs.Faults.{faultsOf}
 use Rattle.spec_rules.specs.Ceilings as ceilings
 use Rattle.spec_refusals.specs.Rows as rows
 use Rattle.text_spoils_proof.proofs.Exact.{reading-spoils}
@@ -44,14 +44,14 @@ module _ (t old : List ℕ) where
   row-refused x i n (fault g k h f b c) = rw (b, c) (rows.text h (rows.fault (laid-tokens t (g .parts) (g .reads)) (g .gram) (g .shallow) (least-fault t g x k .0 f)))
   row-refused x i n (ceiling g h f p a b c) = rw (a, b, c) (rows.text h (by (either-true (passed (codesOf t g) (said t g)) _ p)))
     where
-      lawful : modelLawful (g .tree) ≡ true
-      lawful = rules (g .tree) (tokensIn t (g .parts)) (g .gram) (codesOf t g) (said t g) (map place-of (g .numbers)) (text-says t g) .0 f
+      faultless : faultsOf (g .gram) ≡ []
+      faultless = rules (g .tree) (tokensIn t (g .parts)) (g .gram) (codesOf t g) (said t g) (map place-of (g .numbers)) (text-says t g) .0 f
 
       by : (passed (codesOf t g) (said t g) ≡ true) ⊎ (wideAt t ≡ true) → rows.Refusal t 6 0 0
       by (inl q) =
-          rows.ceiling (laid-tokens t (g .parts) (g .reads)) (g .gram) (g .shallow) lawful
+          rows.ceiling (laid-tokens t (g .parts) (g .reads)) (g .gram) (g .shallow) faultless
           (denied (ceilings.modest (g .tree)) (sym (passed-modest (g .tree) (codesOf t g) (said t g) (text-says t g)) ∙ q))
-      by (inr q) = rows.overlong (laid-tokens t (g .parts) (g .reads)) (g .gram) (g .shallow) lawful (ltb-true normalMost (length (normal (g .tree))) (sym (length-is g) ∙ q))
+      by (inr q) = rows.overlong (laid-tokens t (g .parts) (g .reads)) (g .gram) (g .shallow) faultless (ltb-true normalMost (length (normal (g .tree))) (sym (length-is g) ∙ q))
 
   refused-row : (x i n : ℕ) → rows.Refused t (length old) x i n → Row t old x i n
   unfolding text-parses

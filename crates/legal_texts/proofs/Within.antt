@@ -9,7 +9,7 @@ use lib.Dec.{ltb}
 use lib.ListN.{length, getD, length-map}
 use Rattle.base_bytes.specs.Choice.{pick}
 use Rattle.spec_text.specs.Placed.{Placed}
-use Rattle.spec_text.specs.Layout.{Ordered}
+use Rattle.text_spacing_proof.specs.Sound.{Ordered}
 use Rattle.spec_refusals.specs.Texts.{Tokens, startAt, sizeAt}
 use Rattle.spec_refusals.specs.Rows.{Refusal, bytes, deep, stop, fault, ceiling, overlong}
 use Rattle.text_spacing_proof.proofs.Written.{tokens-ordered}

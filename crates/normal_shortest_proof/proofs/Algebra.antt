@@ -15,7 +15,8 @@ use Rattle.base_bytes.proofs.Tests.{both-true, either-no}
 use Rattle.base_kinds.specs.Kinds.{Token, sym, name, number, text}
 use Rattle.spec_text.specs.Find.{find}
 use Rattle.spec_text.specs.Spelled.{joins, mark}
-use Rattle.spec_text.specs.Writing.{spell, AllSound, apart, writeBehind}
+use Rattle.spec_text.specs.Writing.{spell, apart, writeBehind}
+use Rattle.text_spacing_proof.specs.Sound.{AllSound}
 use Rattle.text_spacing_proof.proofs.Written.{spaceIf}
 use Rattle.spec_grammar.specs.Marks.{'lpar, 'rpar, '[, '], 'lbrace, 'rbrace, 'comma, 'semi, '->, 'if, 'fi, 'do, 'od}
 use Rattle.spec_grammar.specs.Depth.{opens-bracket, closes-bracket, opens-selection, closes-selection, count-after, passes, one-later, deep-from}

@@ -9,7 +9,8 @@ use Rattle.base_ceilings.specs.Ceilings.{tokensMost}
 use Rattle.base_kinds.specs.Kinds.{Token, text}
 use Rattle.text_tokens.specs.Reading.{tokens, reading}
 use Rattle.spec_text.specs.Placed.{Placed}
-use Rattle.spec_text.specs.Writing.{tokenIn, tokensIn, AllSound, writeBehind, write}
+use Rattle.spec_text.specs.Writing.{tokenIn, tokensIn, writeBehind, write}
+use Rattle.text_spacing_proof.specs.Sound.{AllSound}
 use Rattle.text_spacing_proof.proofs.Exact.{reading-exact}
 use Rattle.text_spacing_proof.proofs.Written.{tokens-sound, written-shortest}
 use Rattle.spec_grammar.specs.Tree.{Model}

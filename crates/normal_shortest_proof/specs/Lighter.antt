@@ -6,7 +6,8 @@ use mathlib.Core.List.{List, [], _∷_, _++_}
 use Prim.Native.Nat.{ℕ, _≤_}
 use lib.ListN.{length}
 use Rattle.base_kinds.specs.Kinds.{Token}
-use Rattle.spec_text.specs.Writing.{AllSound, writeBehind}
+use Rattle.text_spacing_proof.specs.Sound.{AllSound}
+use Rattle.spec_text.specs.Writing.{writeBehind}
 use Rattle.spec_grammar.specs.Depth.{opens-bracket, closes-bracket, opens-selection, closes-selection, count-after, deep-from}
 
 -- how many brackets and selections are open behind these tokens

@@ -292,6 +292,7 @@ module _ {C S N A : Type 0} (G : Grammar C S N A) (U : Guide C S N A) (K : ℕ) 
     pub data Ran (k : List (Sym N S A)) (w : List C) : Answer A → Type 0 where
       fine : {o : List A} → L G k w o → ((p : List A) → L G k w p → p ≡ o) → Ran k w (ok o)
       refused : {i : ℕ}
+          → i ≤ length w
           → (v : List C) × (o : List A) × L G k (take i w ++ v) o
           → (i < length w → (v : List C) (o : List A) → L G k (take (suc i) w ++ v) o → ⊥)
           → ((o : List A) → L G k w o → ⊥)
@@ -299,22 +300,22 @@ module _ {C S N A : Type 0} (G : Grammar C S N A) (U : Guide C S N A) (K : ℕ) 
 
     ran-end : (k : List (Sym N S A)) (x : Option (List A)) → finish G U k ≡ x → Fin k x → Ran k [] (ended x)
     ran-end k (some o) e d = fine d (λ p d′. let z = finish-of d′ in cc)
-    ran-end k none e d = refused {i = 0} (fill k) (λ h. omega arith) (λ o d′. is-some (sym e ∙ finish-of d′))
+    ran-end k none e d = refused {i = 0} (omega arith) (fill k) (λ h. omega arith) (λ o d′. is-some (sym e ∙ finish-of d′))
 
     ran-later : (k : List (Sym N S A)) (c : C) (w : List C) (p : Moved N S A)
         → ((w : List C) (o : List A) → L G (p .1) w o → L G k (c ∷ w) (p .0 ++ o))
         → ((w : List C) (o : List A) → L G k (c ∷ w) o → (q : List A) × (o ≡ p .0 ++ q) × L G (p .1) w q)
         → (x : Answer A) → Ran (p .1) w x → Ran k (c ∷ w) (later (p .0) x)
     ran-later k c w p f g (ok o) (fine d u) = fine (f w o d) (λ o′ d′. let (q, e, d″) = g w o′ d′ in e ∙ ap (p .0 ++_) (u q d″))
-    ran-later k c w p f g (bad i) (refused (v, o, d) n m) =
-        refused {i = suc i} (v, p .0 ++ o, f (take i w ++ v) o d)
+    ran-later k c w p f g (bad i) (refused l (v, o, d) n m) =
+        refused {i = suc i} (omega arith) (v, p .0 ++ o, f (take i w ++ v) o d)
         (λ h v′ o′ d′. n (omega arith) v′ _ (g (take (suc i) w ++ v′) o′ d′ .2))
         (λ o′ d′. m _ (g w o′ d′ .2))
 
     ran-next : (k : List (Sym N S A)) (c : C) (w : List C) → Safe k never → ((k′ : List (Sym N S A)) → Safe k′ never → Ran k′ w (parse G U k′ w)) →
         (x : Option (Moved N S A)) → View k c x → Ran k (c ∷ w) (next x (λ k′. parse G U k′ w))
     ran-next k c w s ih (some p) (moved f g t) = ran-later k c w p f (λ v o. g v o s) (parse G U (p .1) w) (ih (p .1) (t s))
-    ran-next k c w s ih none (stuck f) = refused (fill k) (λ h v o. f v o s) (λ o. f w o s)
+    ran-next k c w s ih none (stuck f) = refused {i = 0} (omega arith) (fill k) (λ h v o. f v o s) (λ o. f w o s)
 
     pub ran : (k : List (Sym N S A)) (w : List C) → Safe k never → Ran k w (parse G U k w)
     ran k [] s = ran-end k (finish G U k) refl (fin k)
@@ -325,14 +326,14 @@ module _ {C S N A : Type 0} (G : Grammar C S N A) (U : Guide C S N A) (K : ℕ) 
       where
         go : (x : Answer A) → Ran k w x → x ≡ ok o → L G k w o
         go (ok p) (fine d u) e′ = let q : p ≡ o = cc in rw q at d
-        go (bad i) (refused a b c) e′ = absurd (let z : _≡_ {A = ℕ} 0 1 = cc in omega arith)
+        go (bad i) (refused l a b c) e′ = absurd (let z : _≡_ {A = ℕ} 0 1 = cc in omega arith)
 
     pub complete : (k : List (Sym N S A)) (w : List C) (o : List A) → Safe k never → L G k w o → parse G U k w ≡ ok o
     complete k w o s d = go (parse G U k w) (ran k w s)
       where
         go : (x : Answer A) → Ran k w x → x ≡ ok o
         go (ok p) (fine d′ u) = ap ok (sym (u o d))
-        go (bad i) (refused a b c) = absurd (c o d)
+        go (bad i) (refused l a b c) = absurd (c o d)
 
     -- THE EQUATIONS THAT A LOOP FOLLOWS, one symbol at a time. More fuel than the bound changes nothing
     stable-nt : (n : N) (k : List (Sym N S A)) (c : C) (f g : ℕ) (y : Option (List (Sym N S A))) → choose G U n (U .kind c) ≡ y →

@@ -8,7 +8,8 @@ use lib.Dec.{T, eqb, ltb, eqb→eq, ltb→lt}
 use borrow.Author.Tests.{eq-eqb}
 use native.Mathlib.Omega.{arith}
 use Rattle.base_kinds.specs.Kinds.{Token, sym, name, number, text}
-use Rattle.spec_grammar.specs.Marks.{'::, '=, 'bit, 'chan, 'lbrace, 'lpar, 'mtype, 'proctype, 'rbrace, 'rpar, 'run, 'semi, 'skip}
+use Rattle.spec_grammar.specs.Marks.{'::, '=, 'lbrace, 'lpar, 'mtype, 'proctype, 'rbrace, 'rpar, 'run, 'semi, 'skip}
+use Rattle.parse_proof.specs.Marks.{'bit, 'chan}
 use Rattle.base_codes.specs.Items.{Item}
 use Rattle.parse_proof.specs.Engine.{nt, In, here, there, L, done, emit, eat, by, first, bound, finish}
 use Rattle.parse_proof.specs.Productions.{NT, e1, e2, e3, e4, e5, e6, e7, e8, e9, e10, t1, t2, t3, t4, t5, t6, t7, t8, t9, t10, n-operand, n-ref, n-ix, n-opened, n-closing, n-argument, n-arguments, n-more-arguments, n-sent, n-received, n-more-received, n-got, n-statement, n-after-name, n-action, n-after-ref, n-right-side, n-other, n-sequence, n-more-statements, n-after-separator, n-option, n-more-options, n-plain-type, n-type, n-value, n-set, n-variable, n-size, n-more-variables, n-chan-variable, n-chan-rest, n-chan-value, n-field, n-more-fields, n-more-chan-variables, n-declaration, n-body, n-items, n-parted, n-more-parted, n-parameters, n-group, n-more-groups, n-parameter, n-more-parameters, n-unit, n-after-mtype, n-message, n-more-messages, n-activity, n-process, n-model, n-more-units, Ter, sy, any-name, any-number, any-text, Right, eats, prods, G}

@@ -17,6 +17,7 @@ use Rattle.parse_proof.specs.Engine.{Answer, ok, bad}
 use Rattle.parse_proof.specs.Guide.{parse-model}
 use Rattle.spec_grammar.specs.Depth.{too-deep}
 use Rattle.parse_proof.specs.Judge.{GrammarAnswer, accepted, refused-2, refused-3, judged, judge}
+use Rattle.spec_grammar.specs.Viable.{StrayAt}
 use Rattle.spec_grammar.specs.Refusals.{Two, Three}
 use Rattle.parse_proof.proofs.Main.{parse-sound, parse-complete, parse-refused}
 
@@ -61,6 +62,18 @@ take-take (suc i) (suc j) (a ∷ l) h = let (us, e) = take-take i j l (omega ari
 
 pub before : (ts : List Token) (i j : ℕ) → i ≤ j → (us : List Token) × (m : Model) × Gram (take j ts ++ us) m → (us : List Token) × (m : Model) × Gram (take i ts ++ us) m
 before ts i j h (us, m, x) = let (vs, e) = take-take i j ts h in (vs ++ us, m, rw (← append-assoc, e) x)
+
+-- refusal 3 stands at one place
+pub stray-once : (ts : List Token) (i j : ℕ) → StrayAt ts i → StrayAt ts j → i ≡ j
+stray-once ts i j a b = go (leb i j) refl (leb j i) refl
+  where
+    sooner : (i j : ℕ) → StrayAt ts i → StrayAt ts j → i < j → ⊥
+    sooner i j a b h = let (us, m, g) = before ts (suc i) j h (b .viable) in a .dead (omega (arith, b .within)) us m g
+
+    go : (x : Bool) → leb i j ≡ x → (y : Bool) → leb j i ≡ y → i ≡ j
+    go false p y q = absurd (sooner j i b a (leb-false i j p))
+    go true p false q = absurd (sooner i j a b (leb-false j i q))
+    go true p true q = omega (arith, leb-true i j p, leb-true j i q)
 
 pub judge-two : (ts : List Token) (i : ℕ) → judge ts ≡ refused-2 i → Two ts i
 judge-two ts i e = go (parse-model ts) refl (too-deep ts) refl e

@@ -5,7 +5,8 @@ use mathlib.Core.List.{List, [], _∷_, _++_, append-assoc}
 use Prim.Native.Nat.{ℕ, zero, suc}
 use native.Mathlib.Omega.{arith}
 use Rattle.base_kinds.specs.Kinds.{Token, name, kindOf}
-use Rattle.spec_grammar.specs.Marks.{'!, 'lpar, 'rpar, 'comma, '=, '++, '?, 'fi, 'od, 'run, k-bang, k-ask, '--}
+use Rattle.parse_proof.specs.Marks.{'!, '?}
+use Rattle.spec_grammar.specs.Marks.{'lpar, 'rpar, 'comma, '=, '++, 'fi, 'od, 'run, k-bang, k-ask, '--}
 use Rattle.spec_grammar.specs.Tree.{Expr, Received, Sort, action, statement, sequence, options, Tree}
 use Rattle.spec_grammar.specs.Grammar.{Listed, one, more, Maybe-listed, no-list, a-list, Message, commas, call, Trailing, none-trails, semi-trails, arrow-trails, Parted, by-semi, by-arrow, An-expression, A-received, r-into, r-eval, r-number, r-true, r-false, D, is-bang, is-ask, s-leaf, s-express, s-assign, s-increment, s-decrement, s-send, s-receive, s-assert, s-print-alone, s-print, s-skip, s-goto, s-break, s-timeout, s-else, s-run, s-set-run, s-if, s-do, s-bare, s-label, q-last, q-then, o-last, o-also}
 use Rattle.base_codes.specs.Items.{Item, i-argument, i-assert, i-assign, i-end, i-end-option, i-equal, i-express, i-fi, i-increment, i-into, i-name, i-od, i-receive, i-send, i-set-run, i-target, i-decrement}

@@ -39,10 +39,10 @@ parse-refused ts i e = go (parse-model ts) (ran G U K good (nt n-model ∷ []) t
   where
     go : (x : Answer Item) → Ran G U K good (nt n-model ∷ []) ts x → x ≡ bad i → StrayAt ts i
     go (ok o) r e′ = absurd (let z : _≡_ {A = ℕ} 0 1 = cc in omega arith)
-    go (bad j) (refused (us, o, d) f g) e′ =
+    go (bad j) (refused l (us, o, d) f g) e′ =
         let h : j ≡ i = cc in
         let (m, x, w) = from-table d in
-        let z : StrayAt ts j = record { viable = (us, m, x); dead = λ l vs n y. f l vs (code n) (into-table y); no-text = λ n y. g (code n) (into-table y) } in
+        let z : StrayAt ts j = record { within = l; viable = (us, m, x); dead = λ h vs n y. f h vs (code n) (into-table y); no-text = λ n y. g (code n) (into-table y) } in
         rw h at z
 
 -- the printed tokens of a text's tree read back to the same code

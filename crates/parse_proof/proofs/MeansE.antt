@@ -3,7 +3,8 @@ use mathlib.Core.Path.{_≡_, refl, ap, sym as inv, _∙_}
 use mathlib.Core.List.{List, [], _∷_, _++_, append-assoc, append-nil}
 use Prim.Native.Nat.{ℕ, suc}
 use Rattle.base_kinds.specs.Kinds.{Token, sym, name, level}
-use Rattle.spec_grammar.specs.Marks.{'lpar, 'rpar, '[, '], 'comma, ':, '->, 'eval, 'false, 'len, 'true, k-len}
+use Rattle.spec_grammar.specs.Marks.{'lpar, 'rpar, '[, '], 'comma, ':, '->, 'eval, 'false, 'true, k-len}
+use Rattle.parse_proof.specs.Marks.{'len}
 use Rattle.spec_grammar.specs.Tree.{plain, indexed, num, tru, fls, get, query, unary, binary, choice, Expr, into, equal, exactly, exactly-true, exactly-false}
 use Rattle.spec_grammar.specs.Grammar.{Listed, one, more, no-list, a-list, commas, call, Is-unary, E, e-plain, e-index, e-number, e-true, e-false, is-len, e-query, e-group, e-choice, e-unary, e-binary, e-up, An-expression, A-reference, r-into, r-eval, r-number, r-true, r-false}
 use Rattle.base_codes.specs.Items.{Item, i-argument, i-binary, i-choice, i-constant, i-equal, i-express, i-false, i-index, i-into, i-query, i-name, i-otherwise, i-plain, i-true, i-unary}

@@ -3,7 +3,8 @@ use mathlib.Core.Path.{_≡_, refl, ap, _∙_}
 use mathlib.Core.List.{List, [], _∷_, _++_, append-assoc, append-nil}
 use Prim.Native.Nat.{ℕ}
 use Rattle.base_kinds.specs.Kinds.{Token, name, text}
-use Rattle.spec_grammar.specs.Marks.{'!, 'lpar, 'rpar, 'comma, 'semi, ':, '::, '->, '=, '++, '?, 'assert, 'break, 'do, 'else, 'fi, 'goto, 'if, 'od, 'printf, 'run, 'skip, 'timeout, k-ask, k-bang, '--}
+use Rattle.parse_proof.specs.Marks.{'!, '?}
+use Rattle.spec_grammar.specs.Marks.{'lpar, 'rpar, 'comma, 'semi, ':, '::, '->, '=, '++, 'assert, 'break, 'do, 'else, 'fi, 'goto, 'if, 'od, 'printf, 'run, 'skip, 'timeout, k-ask, k-bang, '--}
 use Rattle.spec_grammar.specs.Tree.{get, Expr, Ref, Received, action, statement, sequence, options, Tree, leaf, express, assign, increment, decrement, send, receive, assert, print, skip, goto, break, timeout, else, run, set-run, select, loop, bare, labelled, end, then, over, option}
 use Rattle.spec_grammar.specs.Grammar.{Message, Trailing, none-trails, semi-trails, arrow-trails, Parted, by-semi, by-arrow, e-up, An-expression, A-reference, A-received, D, is-bang, is-ask, s-leaf, s-express, s-assign, s-increment, s-decrement, s-send, s-receive, s-assert, s-print-alone, s-print, s-skip, s-goto, s-break, s-timeout, s-else, s-run, s-set-run, s-if, s-do, s-bare, s-label, q-last, q-then, o-last, o-also}
 use Rattle.base_codes.specs.Items.{Item, i-assert, i-assign, i-break, i-do, i-else, i-end, i-end-option, i-express, i-fi, i-goto, i-if, i-increment, i-label, i-name, i-od, i-option, i-receive, i-run, i-send, i-set-run, i-skip, i-target, i-timeout, i-decrement}

@@ -4,7 +4,8 @@ use mathlib.Core.Option.{Option, none, some}
 use mathlib.Core.List.{List, [], _∷_, _++_, append-assoc, append-nil}
 use Prim.Native.Nat.{ℕ}
 use Rattle.base_kinds.specs.Kinds.{Token, name, number}
-use Rattle.spec_grammar.specs.Marks.{'chan, '-, 'lpar, 'rpar, '[, '], 'lbrace, 'rbrace, 'comma, 'semi, '->, '=, 'mtype, 'active, 'false, 'init, 'of, 'proctype, 'true}
+use Rattle.parse_proof.specs.Marks.{'chan}
+use Rattle.spec_grammar.specs.Marks.{'-, 'lpar, 'rpar, '[, '], 'lbrace, 'rbrace, 'comma, 'semi, '->, '=, 'mtype, 'active, 'false, 'init, 'of, 'proctype, 'true}
 use Rattle.spec_grammar.specs.Tree.{Name, Value, unset, set-number, set-minus, set-true, set-false, set-name, set-channel, Variable, variable, Declaration, declare, Group, group, Body, body, Activity, idle, once, times, Part, mtypes, global, process, init, Model}
 use Rattle.spec_grammar.specs.Grammar.{Listed, one, more, Maybe-listed, no-list, a-list, Semicolons, no-semi, semi, none-trails, Parted, by-semi, by-arrow, A-name, a-name, Is-type, is-mtype, is-chan, A-type, a-type, v-number, v-minus, v-true, v-false, v-name, A-variable, x-bare, x-set, x-array, x-array-set, x-channel, A-declaration, declaration, A-group, a-group, Items, statements, declared, A-body, a-body, An-activity, not-active, active, active-times, A-unit, u-mtypes, u-global, u-process, u-init, Gram, g-last, g-more}
 use Rattle.base_codes.specs.Items.{Item, i-active, i-active-many, i-body, i-channel, i-declared, i-end-body, i-false, i-field, i-global, i-group, i-init, i-local, i-message, i-minus, i-mtypes, i-name, i-named, i-number, i-parameter, i-proctype, i-size, i-true, i-type, i-value}

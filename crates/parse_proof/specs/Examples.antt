@@ -6,7 +6,8 @@ use mathlib.Core.List.{List, [], _∷_, _++_}
 use Prim.Native.Nat.{ℕ, zero, suc}
 use lib.ListN.{replicate}
 use Rattle.base_kinds.specs.Kinds.{bytes, Token, name, number, text}
-use Rattle.spec_grammar.specs.Marks.{'||, '&&, '==, '+, '-, '*, '!, 'lpar, 'rpar, '[, '], 'lbrace, 'rbrace, 'comma, 'semi, ':, '::, '->, '=, '++, '?, '!!, 'bool, 'byte, 'mtype, 'chan, 'int, 'active, 'assert, 'break, 'do, 'else, 'eval, 'false, 'fi, 'goto, 'if, 'init, 'len, 'od, 'of, 'printf, 'proctype, 'run, 'skip, 'timeout, 'true, k-bang, k-ask, k-len, '--}
+use Rattle.parse_proof.specs.Marks.{'||, '&&, '==, '+, '*, '!, '?, '!!, 'bool, 'byte, 'chan, 'int, 'len}
+use Rattle.spec_grammar.specs.Marks.{'-, 'lpar, 'rpar, '[, '], 'lbrace, 'rbrace, 'comma, 'semi, ':, '::, '->, '=, '++, 'mtype, 'active, 'assert, 'break, 'do, 'else, 'eval, 'false, 'fi, 'goto, 'if, 'init, 'od, 'of, 'printf, 'proctype, 'run, 'skip, 'timeout, 'true, k-bang, k-ask, k-len, '--}
 use Rattle.spec_grammar.specs.Tree.{plain, indexed, num, tru, fls, get, query, unary, binary, choice, into, equal, exactly, exactly-true, exactly-false, action, Tree, leaf, express, assign, increment, send, receive, assert, print, skip, goto, break, timeout, else, run, set-run, select, loop, bare, labelled, end, then, over, option, unset, set-number, set-minus, set-true, set-false, set-name, set-channel, variable, declare, group, body, idle, once, times, mtypes, global, process, init, Name, decrement}
 use Rattle.parse_code.specs.Code.{code}
 use Rattle.parse_proof.specs.Engine.{ok, bad}

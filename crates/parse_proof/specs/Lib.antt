@@ -1,4 +1,5 @@
 pub mod Engine
+pub mod Marks
 pub mod Productions
 pub mod Numbers
 pub mod Guide

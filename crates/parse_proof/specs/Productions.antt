@@ -7,7 +7,8 @@ use mathlib.Core.List.{List, [], _∷_, _++_, map}
 use Prim.Native.Nat.{ℕ}
 use lib.Dec.{eqb}
 use Rattle.base_kinds.specs.Kinds.{Token, sym, name, number, text, kindOf, level}
-use Rattle.spec_grammar.specs.Marks.{'!, '++, '-, '->, ':, '::, '=, '?, '[, '], 'active, 'assert, 'break, 'chan, 'comma, 'do, 'else, 'eval, 'false, 'fi, 'goto, 'if, 'init, 'lbrace, 'len, 'lpar, 'mtype, 'od, 'of, 'printf, 'proctype, 'rbrace, 'rpar, 'run, 'semi, 'skip, 'timeout, 'true, '~, k-len, k-bang, k-ask, '--}
+use Rattle.parse_proof.specs.Marks.{'!, '?, 'chan, 'len, '~}
+use Rattle.spec_grammar.specs.Marks.{'++, '-, '->, ':, '::, '=, '[, '], 'active, 'assert, 'break, 'comma, 'do, 'else, 'eval, 'false, 'fi, 'goto, 'if, 'init, 'lbrace, 'lpar, 'mtype, 'od, 'of, 'printf, 'proctype, 'rbrace, 'rpar, 'run, 'semi, 'skip, 'timeout, 'true, k-len, k-bang, k-ask, '--}
 use Rattle.base_codes.specs.Items.{Item, i-active, i-active-many, i-argument, i-assert, i-assign, i-binary, i-body, i-break, i-channel, i-choice, i-constant, i-declared, i-do, i-else, i-end, i-end-body, i-end-option, i-equal, i-express, i-false, i-fi, i-field, i-global, i-goto, i-group, i-if, i-increment, i-index, i-init, i-into, i-label, i-query, i-local, i-message, i-minus, i-mtypes, i-name, i-named, i-number, i-od, i-option, i-otherwise, i-parameter, i-plain, i-proctype, i-receive, i-run, i-send, i-set-run, i-size, i-skip, i-target, i-text, i-timeout, i-true, i-type, i-unary, i-value, i-decrement}
 use Rattle.parse_proof.specs.Engine.{Sym, nt, tm, act, Grammar}
 

@@ -1,4 +1,4 @@
--- Mechanism, held to the specification by `read-legal`, `legal-read` (crate `legal_texts`), `answer-row`, `row-answer` (crate `read_refusals_proof`) as far as `readOf` goes; `leftOf`, what is left, by `demand3` (crate `demands`); `partStart`, `partEnd` by `demand1` (same crate).
+-- Mechanism, held to the specification by `read-legal`, `legal-read` (crate `legal_texts`), `answer-row`, `row-answer` (crate `read_refusals_proof`) as far as `readOf` goes; `leftOf`, what is left, by `demand2` and `demand3` (crate `demands`); `part`, `partStart` by `demand1` (same crate).
 -- The entries of the reader, each with one answer and one content of lent memory: document 01, "What is answered, and what stays behind".
 use mathlib.Core.Path.{_≡_}
 use mathlib.Core.List.{List, _++_}

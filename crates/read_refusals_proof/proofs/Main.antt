@@ -15,15 +15,14 @@ use Rattle.base_bytes.specs.Choice.{pick, either}
 use Rattle.parse_machine_proof.proofs.Never.{lt-or-ge}
 use Rattle.text_tokens.specs.Reading.{Reading, tokens, refused, reading}
 use Rattle.spec_text.specs.Placed.{Placed}
-use Rattle.spec_text.specs.Writing.{tokenIn, tokensIn}
+use Rattle.spec_text.specs.Writing.{tokensIn}
 use Rattle.text_spacing_proof.proofs.Exact.{reading-exact}
 use Rattle.base_kinds.specs.Kinds.{Token, kindOf}
 use Rattle.spec_grammar.specs.Tree.{Model}
 use Rattle.spec_grammar.specs.Grammar.{Gram}
 use Rattle.spec_grammar.specs.Depth.{count-after, opens-bracket, closes-bracket, opens-selection, closes-selection, passes, one-later, deep-from}
-use Rattle.spec_grammar.specs.Viable.{StrayAt}
 use Rattle.spec_grammar.specs.Refusals.{Two, Three}
-use Rattle.parse_proof.proofs.Judged.{before}
+use Rattle.parse_proof.proofs.Judged.{before, stray-once}
 use Rattle.parse_machine_proof.specs.Machine.{symbol-of, place-of}
 use Rattle.parse_machine_proof.specs.Answer.{Answer, items, refuse, parsed}
 use Rattle.parse_machine_proof.proofs.Main.{items-mean, two-means, three-means}
@@ -134,38 +133,12 @@ deep-inside b s (c ∷ ts) k e =
     go false d f q = let (j, h, l) = later-some d k q in omega (arith, f j h)
 
 module _ (t old : List ℕ) (x i n : ℕ) (enough : tablesRoom ≤ length old) where
-  -- at token j and at token k the place is the same
-  abbrev Same : List Placed → ℕ → ℕ → Type 0
-  Same ps j k = (startAt t ps j ≡ startAt t ps k) × (sizeAt t ps j ≡ sizeAt t ps k)
-
   module _ (ps : List Placed) (e : reading t ≡ tokens ps) where
     abbrev ts : List Token
     ts = tokensIn t ps
 
     viable-before : (i j : ℕ) → i < j → i < length ts → ((us : List Token) × (m : Model) × Gram (take j ts ++ us) m) → ((us : List Token) (m : Model) → Gram (take (suc i) ts ++ us) m → ⊥) → ⊥
     viable-before i j h l v dead = let (us, m, g) = before ts (suc i) j h v in dead us m g
-
-    same-past : (j k : ℕ) → length ts ≤ j → length ts ≤ k → Same ps j k
-    same-past j k h g =
-        let l : length (map Placed.start ps) ≡ length ts = length-map ps Placed.start ∙ inv (length-map ps (tokenIn t)) in
-        let a = le-ltb j (length (map Placed.start ps)) (omega arith) in
-        let b = le-ltb k (length (map Placed.start ps)) (omega arith) in
-        (rw (a, b), rw (a, b))
-
-    same-eq : (j k : ℕ) → j ≡ k → Same ps j k
-    same-eq j k h = (ap (startAt t ps) h, ap (sizeAt t ps) h)
-
-    -- two places where the grammar stops are one
-    stops-same : (j k : ℕ) → StrayAt ts j → StrayAt ts k → Same ps j k
-    stops-same j k a b = go (lt-or-ge j k) (lt-or-ge k j) (lt-or-ge j (length ts)) (lt-or-ge k (length ts))
-      where
-        go : (j < k) ⊎ (k ≤ j) → (k < j) ⊎ (j ≤ k) → (j < length ts) ⊎ (length ts ≤ j) → (k < length ts) ⊎ (length ts ≤ k) → Same ps j k
-        go (inl p) q (inl u) v = absurd (viable-before j k p u (b .viable) (a .dead u))
-        go (inl p) q (inr u) (inl v) = absurd (omega arith)
-        go (inl p) q (inr u) (inr v) = same-past j k u v
-        go (inr p) (inl q) u (inl v) = absurd (viable-before k j q v (a .viable) (b .dead v))
-        go (inr p) (inl q) u (inr v) = same-past j k (omega arith) v
-        go (inr p) (inr q) u v = same-eq j k (omega arith)
 
     -- where a place is too deep and the grammar stops sooner, there is a contradiction
     deep-stops : (j k : ℕ) → Two ts k → Three ts j → ⊥
@@ -201,8 +174,8 @@ module _ (t old : List ℕ) (x i n : ℕ) (enough : tablesRoom ≤ length old) w
             absurd (deep-stops k j (two-means ts (all-proper t ps) (few t ps e) itemsMost (omega arith) j (kinds t old x i n enough ps e (h ∙ ap (λ (z : ℕ). refuse z j) two))) w)
         go (inr three) =
             let v = three-means ts (all-proper t ps) (few t ps e) itemsMost (omega arith) j (kinds t old x i n enough ps e (h ∙ ap (λ (z : ℕ). refuse z j) three)) in
-            let s = stops-same j k (v .place) (w .place) in
-            at-token t ps y j ∙ rw (three, s .0, s .1)
+            let s : j ≡ k = stray-once ts j k (v .place) (w .place) in
+            at-token t ps y j ∙ rw (three, s)
 
   passed-row : (g : Grammatical t) → checked (map symbol-of (g .numbers)) (said t g) (map place-of (g .numbers)) ≡ None → passed (map symbol-of (g .numbers)) (said t g) ≡ true → passOf t ≡ Refused 6 0 0
   unfolding byGrammar byRules

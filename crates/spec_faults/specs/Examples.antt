@@ -10,7 +10,7 @@ use Rattle.base_bytes.specs.Lists.{same}
 use Rattle.spec_text.specs.Formats.{formatFrom}
 use Rattle.spec_text.specs.Names.{pid}
 use Rattle.base_kinds.specs.Kinds.{bytes, Token, sym, name, number}
-use Rattle.spec_grammar.specs.Marks.{'~, '[, '], '=, 'chan, 'of, 'lpar, 'rpar, 'lbrace, 'rbrace, 'comma, 'int, 'proctype, 'skip}
+use Rattle.spec_grammar.specs.Marks.{'[, '], '=, 'of, 'lpar, 'rpar, 'lbrace, 'rbrace, 'comma, 'proctype, 'skip}
 use Rattle.spec_grammar.specs.Tree.{Name, Expr, plain, indexed, get, num, unary, Leaf, sequence, Tree, leaf, bare, then, end, skip, unset, set-channel, variable, Declaration, declare, body, idle}
 use Rattle.spec_grammar.specs.Tree.{Part, process}
 use Rattle.spec_grammar.specs.Grammar.{Listed, one, more, no-list, a-list, commas, call, no-semi, semi, none-trails, semi-trails, by-semi, by-arrow, a-name, is-mtype, is-chan, is-int, A-type}
@@ -84,7 +84,7 @@ abbrev first : (w : Name) → E 12 (name w ∷ '[ ∷ number 1 ∷ '] ∷ []) (g
 first w = e-index 1'
 
 -- `int NAME`, `{skip}`
-abbrev scalar : (w : Name) → A-declaration ('int ∷ name w ∷ []) (declare 45 (variable w none unset ∷ []))
+abbrev scalar : (w : Name) → A-declaration (sym 45 ∷ name w ∷ []) (declare 45 (variable w none unset ∷ []))
 scalar w = declaration is-int (one x-bare)
 
 abbrev rest : A-body ('lbrace ∷ 'skip ∷ 'rbrace ∷ []) (body [] (then (bare (leaf skip)) end))
@@ -93,7 +93,7 @@ rest = a-body (statements (alone s-skip))
 -- `~` n times before an operand
 abbrev marked : ℕ → List Token → List Token
 marked zero ts = ts
-marked (suc n) ts = '~ ∷ marked n ts
+marked (suc n) ts = sym 20 ∷ marked n ts
 
 abbrev flipped : ℕ → Expr → Expr
 flipped zero e = e
@@ -327,7 +327,7 @@ unfolding judging
 array-number = (refl, refl, refl, refl, refl)
 
 -- `chan c=[0]of{int}`, `chan c=[9]of{int}`, `init{chan c=[9]of{int};skip}`, and `chan c=[1]of{int}`, `chan c=[8]of{int}`
-abbrev buffered : (n : ℕ) → A-declaration ('chan ∷ name c ∷ '= ∷ '[ ∷ number n ∷ '] ∷ 'of ∷ 'lbrace ∷ 'int ∷ 'rbrace ∷ []) (declare 43 (variable c none (set-channel n (45 ∷ [])) ∷ []))
+abbrev buffered : (n : ℕ) → A-declaration (sym 43 ∷ name c ∷ '= ∷ '[ ∷ number n ∷ '] ∷ 'of ∷ 'lbrace ∷ sym 45 ∷ 'rbrace ∷ []) (declare 43 (variable c none (set-channel n (45 ∷ [])) ∷ []))
 buffered n = declaration is-chan (one (x-channel (one (a-type is-int))))
 
 capacity : (outside (buffered 0) ≡ at 5 4 ∷ []) × (outside (buffered 9) ≡ at 5 4 ∷ []) × (inside (buffered 9) ≡ at 5 6 ∷ []) × (outside (buffered 1) ≡ []) × (outside (buffered 8) ≡ [])

@@ -1,5 +1,5 @@
 -- FAULTS OF NAMES AND RULES with their numbers and places: document 01, rows 2 (height), 4 and 5 of "What is answered" with their last column. Said of a derivation of the grammar, which has the tree
--- and the tokens: `i` is always the index of the phrase's first token. Which models have none is said of the tree alone by `modelLawful` (specs/Units.antt): that is the same, by `faults-lawful`.
+-- and the tokens: `i` is always the index of the phrase's first token.
 use Prim.Native.Nat.{ℕ, _+_, _/_, _%_, _≤_, _<_}
 use mathlib.Core.Path.{_≡_}
 use mathlib.Core.Bool.{Bool, true, false, not}
@@ -20,7 +20,7 @@ use Rattle.spec_grammar.specs.Grammar.{A-leaf, s-express, s-assign, s-increment
 use Rattle.spec_grammar.specs.Grammar.{A-value, v-number, v-minus, v-true, v-false, v-name, A-variable, x-bare, x-set, x-array, x-array-set, x-channel, A-declaration, declaration, A-group, a-group, Items, statements, A-body, a-body, A-unit, u-mtypes, u-global, u-process, u-init, Gram, g-last, g-more}
 use Rattle.spec_rules.specs.Heights.{height}
 use Rattle.spec_rules.specs.Senses.{Sense, variable, constant, procedure, unknown, Declared, Scope, isUnknown, isConstant, senseIn, senseOf, fresh}
-use Rattle.spec_rules.specs.Expressions.{Role, operand, channel, target, received, forPid, forConstant, forChan, alike}
+use Rattle.spec_rules.specs.Roles.{Role, operand, channel, target, received, forPid, forConstant, forChan, alike}
 use Rattle.spec_rules.specs.Statements.{Place, has, isElse, labelsOf, sense}
 use Rattle.spec_rules.specs.Units.{senseOfVariable, scopeOfDeclaration, senseOfParameter, scopeOfGroup, scopeOfGroups, ofMessage, ofPart, ofModel}
 

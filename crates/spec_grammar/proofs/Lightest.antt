@@ -1,18 +1,29 @@
 -- Among all token lists of a tree the printed one is the shortest and has the fewest parentheses, by one argument over the tokens' weights.
 use mathlib.Core.Path.{_≡_, refl}
-use mathlib.Core.Bool.{Bool, true, false}
+use mathlib.Core.Bool.{Bool, true, false, cond}
 use mathlib.Core.List.{List, [], _∷_, _++_, append-nil}
 use Prim.Native.Nat.{ℕ, suc, _≤_, _+_}
 use native.Mathlib.Omega.{arith}
-use lib.Dec.{T, leb, leb→le, le→leb}
+use lib.Dec.{T, eqb, leb, leb→le, le→leb}
 use lib.ListN.{length}
 use borrow.Author.Tests.{le-leb}
-use Rattle.base_kinds.specs.Kinds.{Token, sym, name, level}
+use Rattle.base_kinds.specs.Kinds.{Token, sym, name, number, text, level}
 use Rattle.spec_grammar.specs.Marks.{'lpar, 'rpar, 'rbrace, 'comma, 'semi, '->, '=, '++, 'fi, 'od, 'proctype, 'run, '--}
 use Rattle.spec_grammar.specs.Tree.{Name, num, tru, fls, get, query, unary, binary, choice, Expr, Ref, Received, Leaf, Sort, sequence, Tree, Value, Variable, Declaration, Group, Body, body, Activity, Part, Model}
 use Rattle.spec_grammar.specs.Grammar.{Listed, one, more, Maybe-listed, no-list, a-list, Message, commas, call, Parted, by-semi, by-arrow, A-name, a-name, A-type, a-type, E, e-plain, e-index, e-number, e-true, e-false, e-query, e-group, e-choice, e-unary, e-binary, e-up, An-expression, A-reference, A-received, r-into, r-eval, r-number, r-true, r-false, A-leaf, s-express, s-assign, s-increment, s-decrement, s-send, s-receive, s-assert, s-print-alone, s-print, s-skip, s-goto, s-break, s-timeout, s-else, s-run, s-set-run, D, s-leaf, s-if, s-do, s-bare, s-label, q-last, q-then, o-last, o-also, A-value, v-number, v-minus, v-true, v-false, v-name, A-variable, x-bare, x-set, x-array, x-array-set, x-channel, A-declaration, declaration, A-group, a-group, Items, statements, declared, A-body, a-body, An-activity, not-active, active, active-times, A-unit, u-mtypes, u-global, u-process, u-init, Gram, g-last, g-more}
-use Rattle.spec_grammar.specs.Print.{wrap, print-exp, print-ref, print-whole, join, print-received, print-tree, print-type, print-value, print-variable, print-declaration, print-name, print-group, print-items, print-body, print-activity, print-part, print-model, total, is-parenthesis, print-leaf}
+use Rattle.spec_grammar.specs.Print.{wrap, print-exp, print-ref, print-whole, join, print-received, print-tree, print-type, print-value, print-variable, print-declaration, print-name, print-group, print-items, print-body, print-activity, print-part, print-model, print-leaf}
 use Rattle.spec_grammar.proofs.Printed.{join-more, further-more, sequence-before}
+
+-- the sum of the tokens' weights: with 1 for each, the length; with 1 for an opening parenthesis alone, the number of parentheses
+abbrev pub total : (Token → ℕ) → List Token → ℕ
+total μ [] = 0
+total μ (c ∷ ts) = μ c + total μ ts
+
+abbrev pub is-parenthesis : Token → ℕ
+is-parenthesis (sym k) = cond (eqb k 21) 1 0
+is-parenthesis (name w) = 0
+is-parenthesis (number n) = 0
+is-parenthesis (text w) = 0
 
 pub total-append : (μ : Token → ℕ) (ts us : List Token) → total μ (ts ++ us) ≡ total μ ts + total μ us
 total-append μ [] us = omega arith

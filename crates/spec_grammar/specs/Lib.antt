@@ -5,3 +5,4 @@ pub mod Print
 pub mod Viable
 pub mod Depth
 pub mod Refusals
+pub mod Examples

@@ -1,5 +1,5 @@
--- Document 01, "Marks: `( ) [ ] { } , ; : :: -> ..`" and "Keywords: active assert ..": the fixed tokens by name: a quote, then the spelling, or a word where a name may not hold that spelling.
--- The numbers are those of specs/Kinds.antt of `base_kinds`; document 01, "Marks" and "Keywords". The last marks and keywords of each kind have no use yet.
+-- Document 01, "Marks: `( ) [ ] { } , ; : :: -> ..`" and "Keywords: active assert ..": the fixed tokens that the grammar names: a quote, then the spelling, or a word where a
+-- name may not hold that spelling. The numbers are those of specs/Kinds.antt of `base_kinds`; the grammar tells operators, types and queries by them.
 use Prim.Native.Nat.{ℕ}
 use Rattle.base_kinds.specs.Kinds.{Token, sym}
 
@@ -13,65 +13,8 @@ k-ask = 35
 abbrev pub k-len : ℕ
 k-len = 57
 
-abbrev pub '|| : Token
-'|| = sym 1
-
-abbrev pub '&& : Token
-'&& = sym 2
-
-abbrev pub '| : Token
-'| = sym 3
-
-abbrev pub '^ : Token
-'^ = sym 4
-
-abbrev pub '& : Token
-'& = sym 5
-
-abbrev pub '== : Token
-'== = sym 6
-
-abbrev pub '!= : Token
-'!= = sym 7
-
-abbrev pub '< : Token
-'< = sym 8
-
-abbrev pub '<= : Token
-'<= = sym 9
-
-abbrev pub '> : Token
-'> = sym 10
-
-abbrev pub '>= : Token
-'>= = sym 11
-
-abbrev pub '<< : Token
-'<< = sym 12
-
-abbrev pub '>> : Token
-'>> = sym 13
-
-abbrev pub '+ : Token
-'+ = sym 14
-
 abbrev pub '- : Token
 '- = sym 15
-
-abbrev pub '* : Token
-'* = sym 16
-
-abbrev pub '/ : Token
-'/ = sym 17
-
-abbrev pub '% : Token
-'% = sym 18
-
-abbrev pub '! : Token
-'! = sym k-bang
-
-abbrev pub '~ : Token
-'~ = sym 20
 
 abbrev pub 'lpar : Token
 'lpar = sym 21
@@ -115,38 +58,8 @@ abbrev pub '++ : Token
 abbrev pub '-- : Token
 '-- = sym 34
 
-abbrev pub '? : Token
-'? = sym k-ask
-
-abbrev pub '!! : Token
-'!! = sym 36
-
-abbrev pub '?? : Token
-'?? = sym 37
-
-abbrev pub 'bit : Token
-'bit = sym 38
-
-abbrev pub 'bool : Token
-'bool = sym 39
-
-abbrev pub 'byte : Token
-'byte = sym 40
-
 abbrev pub 'mtype : Token
 'mtype = sym 41
-
-abbrev pub 'pid : Token
-'pid = sym 42
-
-abbrev pub 'chan : Token
-'chan = sym 43
-
-abbrev pub 'short : Token
-'short = sym 44
-
-abbrev pub 'int : Token
-'int = sym 45
 
 abbrev pub 'active : Token
 'active = sym 46
@@ -181,9 +94,6 @@ abbrev pub 'if : Token
 abbrev pub 'init : Token
 'init = sym 56
 
-abbrev pub 'len : Token
-'len = sym k-len
-
 abbrev pub 'od : Token
 'od = sym 58
 
@@ -207,15 +117,3 @@ abbrev pub 'timeout : Token
 
 abbrev pub 'true : Token
 'true = sym 65
-
-abbrev pub 'atomic : Token
-'atomic = sym 66
-
-abbrev pub 'd_step : Token
-'d_step = sym 67
-
-abbrev pub 'typedef : Token
-'typedef = sym 68
-
-abbrev pub 'unless : Token
-'unless = sym 69

@@ -1,9 +1,9 @@
 -- The tokens of a tree's normal text (document 01, "Normal text"): "the fewest parentheses, `;`, comma notation, no optional separator".
-use mathlib.Core.Bool.{Bool, true, false, cond}
+use mathlib.Core.Bool.{Bool, true, false}
 use mathlib.Core.Option.{Option, none, some}
 use mathlib.Core.List.{List, [], _∷_, _++_}
-use Prim.Native.Nat.{ℕ, suc, _+_}
-use lib.Dec.{eqb, leb}
+use Prim.Native.Nat.{ℕ, suc}
+use lib.Dec.{leb}
 use Rattle.base_kinds.specs.Kinds.{Token, sym, name, number, text, level}
 use Rattle.spec_grammar.specs.Marks.{'-, 'lpar, 'rpar, '[, '], 'lbrace, 'rbrace, 'comma, 'semi, ':, '::, '->, '=, '++, 'mtype, 'active, 'assert, 'break, 'do, 'else, 'eval, 'false, 'fi, 'goto, 'if, 'init, 'od, 'of, 'printf, 'proctype, 'run, 'skip, 'timeout, 'true, '--}
 use Rattle.spec_grammar.specs.Tree.{Name, Shape, Exp, plain, indexed, num, tru, fls, get, query, unary, binary, choice, Expr, Ref, Received, into, equal, exactly, exactly-true, exactly-false, Leaf, express, assign, increment, decrement, send, receive, assert, print, skip, goto, break, timeout, else, run, set-run, Sort, sequence, Tree, leaf, select, loop, bare, labelled, end, then, over, option, Value, unset, set-number, set-minus, set-true, set-false, set-name, set-channel, Variable, variable, Declaration, declare, Group, group, Body, body, Activity, idle, once, times, Part, mtypes, global, process, init, Model}
@@ -130,14 +130,3 @@ print-part (init b) = 'init ∷ print-body b
 abbrev pub print-model : Model → List Token
 print-model [] = []
 print-model (u ∷ m) = print-part u ++ print-model m
-
--- the sum of the tokens' weights: with 1 for each, the length; with 1 for an opening parenthesis alone, the number of parentheses
-abbrev pub total : (Token → ℕ) → List Token → ℕ
-total μ [] = 0
-total μ (c ∷ ts) = μ c + total μ ts
-
-abbrev pub is-parenthesis : Token → ℕ
-is-parenthesis (sym k) = cond (eqb k 21) 1 0
-is-parenthesis (name w) = 0
-is-parenthesis (number n) = 0
-is-parenthesis (text w) = 0

@@ -27,3 +27,4 @@ pub mod ExamplesStarts
 pub mod ExamplesNames
 pub mod ExamplesProcesses
 pub mod ExamplesPrinted
+pub mod ExamplesFits

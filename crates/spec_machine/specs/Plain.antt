@@ -98,14 +98,6 @@ module _ (m : Model) (p : ℕ) where
   isMessage self = false
   isMessage unknown = false
 
-  -- a variable
-  abbrev pub isVariable : Meaning → Bool
-  isVariable (local i x) = true
-  isVariable (global i x) = true
-  isVariable (message n) = false
-  isVariable self = false
-  isVariable unknown = false
-
   -- "Storing keeps low bits"
   abbrev pub stored : Meaning → ℕ → ℤ → State → State
   stored (local i x) k v σ =

@@ -1,13 +1,10 @@
 -- Document 01, "How it moves": "(an ended option leads past `fi`, or back to `do`)", "`goto` and `break` are steps of their own (H)". The statements of a model in text order, each with its
 -- place and the place that follows it. A place is the first of the numbers (specs/Sizes.antt) that a statement takes, behind its label; the end of a process is the last of those of its body.
-use Prim.Native.Nat.{ℕ, suc, _+_}
-use mathlib.Core.Path.{_≡_}
-use mathlib.Core.List.{List, _∷_}
+use Prim.Native.Nat.{ℕ, _+_}
 use Rattle.base_bytes.specs.Choice.{pick}
 use Rattle.base_bytes.specs.Lists.{same}
-use Rattle.spec_grammar.specs.Tree.{Name, Sort, action, statement, sequence, options, Tree, leaf, select, loop, bare, labelled, end, then, over, option, Group, Body, body, Activity, Part, process, init, Model}
-use Rattle.spec_machine.specs.Sizes.{sum, sizeIn, sizeDeclaration, sizeGroup, sizeActivity, sizePart}
-use Rattle.spec_machine.specs.Stage.{Ways}
+use Rattle.spec_grammar.specs.Tree.{Name, Sort, action, statement, sequence, options, Tree, leaf, select, loop, bare, labelled, end, then, over, option, Body, body}
+use Rattle.spec_machine.specs.Sizes.{sum, sizeIn, sizeDeclaration}
 
 -- the place of a statement whose numbers begin with i: behind its label, which takes two
 abbrev pub placeIn : Tree statement → ℕ → ℕ
@@ -48,12 +45,6 @@ labelIn w over i d = d
 labelIn w (option q os) i d = labelIn w q (i + 1) (labelIn w os (i + 2 + sizeIn q) d)
 
 -- ## bodies
--- `Holds m i u b k`: in the units m, whose numbers begin with i, the unit that is known by the number u (the last of its head) has the body b, whose numbers begin with k
-pub data Holds : Model → ℕ → ℕ → Body → ℕ → Type 0 where
-  in-process : {x : Activity} {w : Name} {gs : List Group} {b : Body} {m : Model} {i u k : ℕ} → suc u ≡ i + sizeActivity x → k ≡ suc u + sum sizeGroup gs → Holds (process x w gs b ∷ m) i u b k
-  in-init : {b : Body} {m : Model} {i k : ℕ} → k ≡ i + 1 → Holds (init b ∷ m) i i b k
-  later : {x : Part} {m : Model} {i u k : ℕ} {b : Body} → Holds m (i + sizePart x) u b k → Holds (x ∷ m) i u b k
-
 -- where the statements of a body begin whose numbers begin with k, behind its `{` and the declarations, and where it ends
 abbrev pub startIn : Body → ℕ → ℕ
 startIn (body ds q) k = k + 1 + sum sizeDeclaration ds
@@ -63,18 +54,3 @@ endIn (body ds q) k = startIn (body ds q) k + sizeIn q
 
 abbrev pub sequenceOf : Body → Tree sequence
 sequenceOf (body ds q) = q
-
--- in the model m, the unit of the number u has the statement a at place j, and h are the ways from there
-pub record Statement (m : Model) (u : ℕ) (a : Tree action) (j : ℕ) (h : Ways) : Type 0 where
-  pub own : Body
-  pub at : ℕ
-  pub held : Holds m 0 u own at
-  pub inside : Within sequence (sequenceOf own) (startIn own at) (endIn own at) 0 a j (h .next) (h .out)
-  pub labels : (w : Name) → h .label w ≡ labelIn w (sequenceOf own) (startIn own at) 0
-
--- that unit ends at place j
-pub record BodyEnd (m : Model) (u j : ℕ) : Type 0 where
-  pub own : Body
-  pub at : ℕ
-  pub held : Holds m 0 u own at
-  pub ends : j ≡ endIn own at

@@ -3,3 +3,4 @@ pub mod Legal
 pub mod Rows
 pub mod Trails
 pub mod Examples
+pub mod ExamplesTexts

@@ -2,8 +2,8 @@
 -- "7 first .., then length, then bytes and tokens (1, 2), then grammar with bracket and if/do depth (2, 3), then names and rules (2, 4, 5), then 6".
 use mathlib.Core.Path.{_≡_}
 use mathlib.Core.Option.{none}
-use mathlib.Core.Bool.{true, false}
-use mathlib.Core.List.{List}
+use mathlib.Core.Bool.{false}
+use mathlib.Core.List.{List, []}
 use Prim.Native.Nat.{ℕ, _≤_, _<_}
 use lib.ListN.{length}
 use Rattle.base_ceilings.specs.Ceilings.{normalMost, tablesRoom}
@@ -15,7 +15,6 @@ use Rattle.spec_grammar.specs.Grammar.{Gram}
 use Rattle.spec_grammar.specs.Depth.{too-deep}
 use Rattle.spec_grammar.specs.Refusals.{Two, Three}
 use Rattle.spec_normal.specs.Normal.{normal}
-use Rattle.spec_rules.specs.Units.{modelLawful}
 use Rattle.spec_rules.specs.Ceilings as ceilings
 use Rattle.spec_faults.specs.Faults.{faultsOf, Least}
 use Rattle.spec_refusals.specs.Texts.{Tokens, startAt, sizeAt}
@@ -31,9 +30,9 @@ pub data Refusal (t : List ℕ) : ℕ → ℕ → ℕ → Type 0 where
   -- 2 "height", 4 and 5: the least fault of names and rules, at token k
   fault : {ps : List Placed} {m : Model} {x k : ℕ} → Tokens t ps → (g : Gram (tokensIn t ps) m) → too-deep (tokensIn t ps) ≡ none → Least (faultsOf g) x k → Refusal t x (startAt t ps k) (sizeAt t ps k)
   -- 6 "any other ceiling passed, or no process starts": 0
-  ceiling : {ps : List Placed} {m : Model} → Tokens t ps → Gram (tokensIn t ps) m → too-deep (tokensIn t ps) ≡ none → modelLawful m ≡ true → ceilings.modest m ≡ false → Refusal t 6 0 0
+  ceiling : {ps : List Placed} {m : Model} → Tokens t ps → (g : Gram (tokensIn t ps) m) → too-deep (tokensIn t ps) ≡ none → faultsOf g ≡ [] → ceilings.modest m ≡ false → Refusal t 6 0 0
   -- request One, "one whose normal text exceeds 8,192 is refused with 6": the normal text's length counts, whatever the text's
-  overlong : {ps : List Placed} {m : Model} → Tokens t ps → Gram (tokensIn t ps) m → too-deep (tokensIn t ps) ≡ none → modelLawful m ≡ true → normalMost < length (normal m) → Refusal t 6 0 0
+  overlong : {ps : List Placed} {m : Model} → Tokens t ps → (g : Gram (tokensIn t ps) m) → too-deep (tokensIn t ps) ≡ none → faultsOf g ≡ [] → normalMost < length (normal m) → Refusal t 6 0 0
 
 -- the same with the numbers that are lent for tables, of which there are `room`: 7 "a lent buffer shorter than its room" comes first
 pub data Refused (t : List ℕ) (room : ℕ) : ℕ → ℕ → ℕ → Type 0 where

@@ -1,6 +1,6 @@
 pub mod Senses
 pub mod Heights
-pub mod Expressions
+pub mod Roles
 pub mod Statements
 pub mod Units
 pub mod Ceilings

@@ -21,7 +21,7 @@ use Rattle.spec_text.specs.Spoils.{gap, token, Wrong, stray, bad-byte, b
 use Rattle.spec_text.specs.Spoils.{too-many, Spoils, too-long, broken}
 
 -- ## "The longest token wins": at the end of the text, and where the byte c stands behind a word or a mark that begins with b
-at-end : (x : List ℕ) → Longest x []
+pub at-end : (x : List ℕ) → Longest x []
 at-end x [] z e h f = omega arith
 at-end x (a ∷ y) z e h f = omega (arith, ap length e)
 
@@ -44,7 +44,7 @@ module _ (b c : ℕ) (w s : List ℕ) (joins : both (isLetter b) (isWord c) ≡ 
       omega (arith, p, longer y)
   no-form y _ an-opening e = let p : slash ≡ b = cc in true-false (rw (← p) at opens)
 
-  before : Longest (b ∷ w) (c ∷ s)
+  pub before : Longest (b ∷ w) (c ∷ s)
   before [] z e h f = omega arith
   before (d ∷ y) z e h f = let p : c ≡ d = cc in no-form y (b ∷ (w ++ d ∷ y)) f (rw p refl)
 
@@ -62,7 +62,7 @@ unfolding find same
 a-ends s = before 97 32 [] s refl refl refl refl (λ y. refl)
 
 -- ## "stray byte" (1): `init{'}`, sample P9
-stray-byte : Spoils (bytes "init{'}") 1 5 1
+pub stray-byte : Spoils (bytes "init{'}") 1 5 1
 unfolding all find same
 stray-byte =
     broken (omega arith) (wrong (token none (word {b = 105} {s = bytes "nit"} refl refl (omega arith)) init-ends (token {x = bytes "{"} none (mark {k = 24} refl) brace-ends (gap none)))

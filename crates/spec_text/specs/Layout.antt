@@ -2,7 +2,7 @@
 use mathlib.Core.Path.{_≡_}
 use mathlib.Core.Bool.{true}
 use mathlib.Core.List.{List, [], _∷_, _++_}
-use Prim.Native.Nat.{ℕ, _+_, _≤_, _<_}
+use Prim.Native.Nat.{ℕ, _+_}
 use lib.ListN.{length}
 use Rattle.spec_text.specs.Bytes.{isBlank, slash, star}
 use Rattle.spec_text.specs.Placed.{Placed, placed}
@@ -23,8 +23,3 @@ pub data Laid : ℕ → List ℕ → List Placed → Type 0 where
   ends : {i : ℕ} {g : List ℕ} → Gap g → Laid i g []
   token : {i k : ℕ} {g x s : List ℕ} {ps : List Placed} → Gap g → Spelled k x → Longest x s → Laid (i + length g + length x) s ps →
       Laid i (g ++ (x ++ s)) (placed k (i + length g) (length x) ∷ ps)
-
--- from place i on, each token has a byte and ends before the next begins, and the last ends by place e
-abbrev pub Ordered : ℕ → ℕ → List Placed → Type 0
-Ordered i e [] = i ≤ e
-Ordered i e (p ∷ ps) = (i ≤ p .start) × (p .start < p .end) × Ordered (p .end) e ps

@@ -6,3 +6,4 @@ pub mod ExamplesRuns
 pub mod ExamplesReplays
 pub mod ExamplesFactorial
 pub mod Texts
+pub mod ExamplesTexts

@@ -9,13 +9,17 @@ use Rattle.base_bytes.proofs.Tests.{both-true}
 use Rattle.spec_grammar.specs.Tree.{Body, body, Activity, idle, once, times, mtypes, global, process, init, Model}
 use Rattle.spec_machine.specs.Sizes.{sum, sizeActivity, sizeGroup, sizePart}
 use Rattle.spec_rules.specs.Senses.{Scope, fresh}
-use Rattle.spec_rules.specs.Statements.{labelsOf, apart, allowed}
-use Rattle.spec_rules.specs.Units.{scopeOfGroups, ofPart, declarations, joins, bodyLawful, partLawful, partsLawful}
-use Rattle.spec_machine.specs.Program.{sequenceOf, Holds, in-process, in-init, later}
+use Rattle.spec_rules.specs.Statements.{labelsOf}
+use Rattle.legal_rules.specs.Statements.{apart, allowed}
+use Rattle.spec_rules.specs.Units.{scopeOfGroups, ofPart}
+use Rattle.legal_rules.specs.Units.{declarations, joins, bodyLawful, partLawful, partsLawful}
+use Rattle.spec_machine.specs.Program.{sequenceOf}
+use Rattle.agree_sizes.specs.Bodies.{Holds, in-process, in-init, later}
 use Rattle.spec_machine.specs.Names.{unitAt}
 use Rattle.spec_machine.specs.Begins.{itemsBefore, bodyIn, bodyOf}
 use Rattle.state_encode.specs.Encode.{headIn}
-use Rattle.spec_machine.specs.Places.{Bodied, settingBy, settingFrom}
+use Rattle.spec_machine.specs.Places.{Bodied}
+use Rattle.state_encode.specs.Settings.{settingBy, settingFrom}
 
 some-activity : (a : Activity) → 1 ≤ sizeActivity a
 some-activity idle = omega arith

@@ -1,2 +1,3 @@
 pub mod Encode
+pub mod Settings
 pub mod Tabled

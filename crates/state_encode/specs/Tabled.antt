@@ -21,14 +21,16 @@ use Rattle.step_messages.specs.Messages.{fieldType}
 use Rattle.step_take.specs.Effects.{called}
 use Rattle.spec_grammar.specs.Tree.{Name, set-channel, Model}
 use Rattle.spec_rules.specs.Senses.{isConstant}
-use Rattle.spec_rules.specs.Expressions.{operand, received, usable}
+use Rattle.spec_rules.specs.Roles.{operand, received}
+use Rattle.legal_rules.specs.Expressions.{usable}
 use Rattle.spec_rules.specs.Ceilings.{madeByBody}
-use Rattle.spec_rules.specs.Statements.{Place, sense, runs}
+use Rattle.spec_rules.specs.Statements.{Place, sense}
+use Rattle.legal_rules.specs.Statements.{runs}
 use Rattle.agree_transfer.specs.Agrees.{storable}
 use Rattle.spec_machine.specs.State.{Channel, State}
-use Rattle.spec_machine.specs.Names.{Var, Meaning, local, global, message, variablesOf, globalsOf, unitAt, proctypeOf, meant}
+use Rattle.spec_machine.specs.Names.{Var, Meaning, local, global, message, self, unknown, variablesOf, globalsOf, unitAt, proctypeOf, meant}
 use Rattle.spec_machine.specs.Begins.{bodyOf, begins}
-use Rattle.spec_machine.specs.Plain.{noVar, declaredBy, isMessage, isVariable}
+use Rattle.spec_machine.specs.Plain.{noVar, declaredBy, isMessage}
 use Rattle.state_encode.specs.Encode.{channelItem, encode}
 use Rattle.spec_machine.specs.Fits.{Fits}
 
@@ -41,6 +43,14 @@ offsetOf (x ∷ xs) (suc i) = x .size + offsetOf xs i
 abbrev pub totalOf : List Var → ℕ
 totalOf [] = 0
 totalOf (x ∷ xs) = x .size + totalOf xs
+
+-- a name's meaning is a variable
+abbrev pub isVariable : Meaning → Bool
+isVariable (local i x) = true
+isVariable (global i x) = true
+isVariable (message n) = false
+isVariable self = false
+isVariable unknown = false
 
 -- the link l is that of the variable x, whose numbers begin at `at` of each process
 pub record Linked (l : ℕ) (x : Var) (at : ℕ → ℕ → ℕ) (i : ℕ) : Type 0 where
@@ -59,7 +69,7 @@ pub data Item (T : List ℕ) (m : Model) (u d : ℕ) : Meaning → Type 0 where
 pub record Tabled (P : ℕ → ℕ → Type 0) (m : Model) (u : ℕ) (at : Place) (T : List ℕ) (decl head : Name → ℕ) : Type 0 where
   -- ## names
   pub names : (w : Name) → same w pid ≡ false → usable (sense at) operand false w ≡ true → Item T m u (decl w) (meant m (unitAt m u) w)
-  pub stores : (w : Name) → storable (sense at) w ≡ true → (Item T m u (decl w) (meant m (unitAt m u) w)) × (isVariable m 0 (meant m (unitAt m u) w) ≡ true)
+  pub stores : (w : Name) → storable (sense at) w ≡ true → (Item T m u (decl w) (meant m (unitAt m u) w)) × (isVariable (meant m (unitAt m u) w) ≡ true)
   pub constants : (w : Name) (i : Bool) → usable (sense at) received i w ≡ true → (isMessage m 0 (meant m (unitAt m u) w) ≡ isConstant (sense at w)) × (eqb (codeOf T (decl w)) c-message ≡ isConstant (sense at w))
   -- ## ceilings
   pub globals : totalOf (globalsOf m) ≤ globalsMost

@@ -16,9 +16,10 @@ use Rattle.base_kinds.specs.Kinds.{sym, name, number, text}
 use Rattle.spec_text.specs.Digits.{decimal}
 use Rattle.text_tokens.specs.Reading.{tokens, reading}
 use Rattle.spec_text.specs.Placed.{Placed}
-use Rattle.spec_text.specs.Writing.{partOf, tokenIn, tokensIn, Sound, AllSound}
+use Rattle.spec_text.specs.Writing.{partOf, tokenIn, tokensIn}
+use Rattle.text_spacing_proof.specs.Sound.{Sound, AllSound}
 use Rattle.text_spacing_proof.proofs.Written.{tokens-sound, tokens-ordered}
-use Rattle.spec_text.specs.Layout.{Ordered}
+use Rattle.text_spacing_proof.specs.Sound.{Ordered}
 use Rattle.parse_tables.specs.Numbering.{item}
 use Rattle.table_entries.specs.Entry.{Entry, entry, runs}
 use Rattle.table_entries.specs.Items.{entryOf}

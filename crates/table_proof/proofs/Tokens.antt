@@ -15,7 +15,8 @@ use Rattle.base_bytes.proofs.Tests.{both-true, either-true}
 use Rattle.base_kinds.specs.Kinds.{Token, sym, name, number, text}
 use Rattle.spec_text.specs.Bytes.{within, isLetter, isDigit, isWord, isPlain, isEscape, quote}
 use Rattle.spec_text.specs.Spelled.{Spelled, word, digits, string, mark, Between, empty, plain, escape, all}
-use Rattle.spec_text.specs.Writing.{spell, Sound, AllSound, apart, writeBehind, write}
+use Rattle.spec_text.specs.Writing.{spell, apart, writeBehind, write}
+use Rattle.text_spacing_proof.specs.Sound.{Sound, AllSound}
 use Rattle.text_spacing_proof.proofs.Tables.{mark-range, word-range}
 use Rattle.base_pens.specs.Pack.{Bytes}
 use Rattle.table_proof.specs.Marks.{brings, brought}

@@ -18,7 +18,8 @@ use Rattle.text_spellings.proofs.Laws.{two-one}
 use Rattle.spec_text.specs.Bytes.{isDigit, isLetter, isWord, quote, slash, star}
 use Rattle.spec_text.specs.Digits.{decimal}
 use Rattle.spec_text.specs.Spelled.{all, Spelled, word, digits, string, mark, markJoins, joins}
-use Rattle.spec_text.specs.Writing.{spell, tokenOf, Sound}
+use Rattle.spec_text.specs.Writing.{spell, tokenOf}
+use Rattle.text_spacing_proof.specs.Sound.{Sound}
 use Rattle.spec_text.specs.Formats.{digitsOf}
 use Rattle.text_spacing_proof.proofs.Classes.{digit-range}
 use Rattle.text_spacing_proof.proofs.Tables.{mark-range, word-range, keyword-below, every, fails-unfound, found-at}

@@ -15,8 +15,10 @@ use Rattle.text_pieces.specs.declared.Piece.the-variants.{Take}
 use Rattle.text_tokens.specs.Reading.{tokens, reading}
 use Rattle.spec_text.specs.Placed.{Placed, placed}
 use Rattle.spec_text.specs.Spelled.{Spelled, joins}
-use Rattle.spec_text.specs.Layout.{Gap, none, blank, Laid, ends, token, Ordered}
-use Rattle.spec_text.specs.Writing.{spell, tokenOf, partOf, tokenIn, tokensIn, Sound, AllSound, apart, writeBehind, write, Spaced}
+use Rattle.spec_text.specs.Layout.{Gap, none, blank, Laid, ends, token}
+use Rattle.text_spacing_proof.specs.Sound.{Ordered}
+use Rattle.spec_text.specs.Writing.{spell, tokenOf, partOf, tokenIn, tokensIn, apart, writeBehind, write}
+use Rattle.text_spacing_proof.specs.Sound.{Sound, AllSound, Spaced}
 use Rattle.text_spacing_proof.proofs.Fronts.{front-sound, spelled-some}
 use Rattle.text_spacing_proof.proofs.Longest.{joins-longest, longest-joins}
 use Rattle.text_spacing_proof.proofs.Exact.{reading-exact}

@@ -1,43 +1,15 @@
--- Which expressions are lawful: their names stand for what they are used as, and they are not too high. Document 01, "A channel operand is a chan variable", rows 2, 4 and 5 of "What is
--- answered" ("name unknown .. of the wrong kind", "bad index use", "height"). `sense` says what a name stands for where the expression stands.
+-- Mechanism, held to the specification by `faults-lawful` (proofs/Lawful.antt): which expressions have no fault, said of the tree alone. Their names stand for what they are used as, and they
+-- are not too high. `sense` says what a name stands for where the expression stands.
 use mathlib.Core.Bool.{Bool, true, false, not}
 use lib.Dec.{leb}
 use Rattle.base_ceilings.specs.Ceilings.{heightMost}
 use Rattle.base_bytes.specs.Choice.{pick, both}
 use Rattle.base_bytes.specs.Lists.{same}
 use Rattle.spec_text.specs.Names.{pid}
-use Rattle.spec_rules.specs.Heights.{height}
 use Rattle.spec_grammar.specs.Tree.{Name, Expr, Shape, Exp, plain, indexed, num, tru, fls, get, query, unary, binary, choice}
+use Rattle.spec_rules.specs.Heights.{height}
 use Rattle.spec_rules.specs.Senses.{Sense, variable, constant, procedure, unknown}
-
--- what a reference is for
-pub data Role : Type 0 where
-  operand channel target received : Role
-
--- an mtype name may be an operand, or stand in a receive; `_pid` may be an operand
-abbrev pub forConstant : Role → Bool
-forConstant operand = true
-forConstant channel = false
-forConstant target = false
-forConstant received = true
-
-abbrev pub forPid : Role → Bool
-forPid operand = true
-forPid channel = false
-forPid target = false
-forPid received = false
-
--- a channel operand is a chan variable
-abbrev pub forChan : Role → Bool → Bool
-forChan operand chan = true
-forChan channel chan = chan
-forChan target chan = true
-forChan received chan = true
-
--- an array is used with an index, all else without one
-abbrev pub alike : Bool → Bool → Bool
-alike true b = b
-alike false b = not b
+use Rattle.spec_rules.specs.Roles.{Role, operand, channel, forConstant, forPid, forChan, alike}
 
 abbrev pub suits : Role → Bool → Sense → Bool
 suits role index (variable chan array) = both (forChan role chan) (alike index array)

@@ -19,12 +19,14 @@ use Rattle.spec_grammar.specs.Grammar as gram
 use Rattle.spec_grammar.specs.Grammar.{Listed, Maybe-listed, A-name}
 use Rattle.spec_grammar.specs.Grammar.{A-value, v-number, v-minus, v-true, v-false, v-name, A-variable, x-bare, x-set, x-array, x-array-set, x-channel, declaration, A-group, a-group, Items, statements, A-body, a-body, A-unit, u-mtypes, u-global, u-process, u-init, Gram, g-last, g-more}
 use Rattle.spec_rules.specs.Senses.{Sense, Declared, Scope, fresh, isConstant, senseOf}
-use Rattle.spec_rules.specs.Statements.{has, labelsOf, apart, allowed}
-use Rattle.spec_rules.specs.Units.{senseOfVariable, scopeOfDeclaration, senseOfParameter, scopeOfGroup, scopeOfGroups, scopeOfDeclarations, ofMessage, ofPart, ofModel, sized, valued, joins, localLawful, globalLawful, variables, declarations, bodyLawful, partLawful, partsLawful, mtypesIn, initsIn, tally, modelLawful}
+use Rattle.spec_rules.specs.Statements.{has, labelsOf}
+use Rattle.legal_rules.specs.Statements.{apart, allowed}
+use Rattle.spec_rules.specs.Units.{senseOfVariable, scopeOfDeclaration, senseOfParameter, scopeOfGroup, scopeOfGroups, ofMessage, ofPart, ofModel, tally}
+use Rattle.legal_rules.specs.Units.{scopeOfDeclarations, sized, valued, joins, localLawful, globalLawful, variables, declarations, bodyLawful, partLawful, partsLawful, mtypesIn, initsIn, modelLawful}
 use Rattle.spec_faults.specs.Faults.{unless, inList, inMaybe, newName, inValue, inArray, inVariable, inDeclaration, inName, inGroup, inTree, inItems, inBody, isList, isInit, inUnit, inUnits, faultsOf}
-use Rattle.spec_faults.proofs.None.{none, none-unless, both-end, both-assoc, two, three, each-ok, list-ok, maybe-ok}
-use Rattle.spec_faults.proofs.Labels as labels
-use Rattle.spec_faults.proofs.Statements.{room, tree-ok, option-next}
+use Rattle.legal_rules.proofs.None.{none, none-unless, both-end, both-assoc, two, three, each-ok, list-ok, maybe-ok}
+use Rattle.legal_rules.proofs.Labels as labels
+use Rattle.legal_rules.proofs.Statements.{room, tree-ok, option-next}
 
 -- ---- declarations
 value-ok : (sense : Name → Sense) {ts : List Token} {v : Value} (x : A-value ts v) (i : ℕ) → none (inValue sense x i) ≡ valued sense v
@@ -225,3 +227,6 @@ module _ (model : Scope) where
 pub faults-lawful : {ts : List Token} {m : Model} (g : Gram ts m) → none (faultsOf g) ≡ modelLawful m
 unfolding modelLawful
 faults-lawful {m = m} g = units-ok (ofModel m) false false [] g 0
+
+pub faultless-lawful : {ts : List Token} {m : Model} (g : Gram ts m) → faultsOf g ≡ [] → modelLawful m ≡ true
+faultless-lawful g e = sym (faults-lawful g) ∙ ap none e

@@ -14,10 +14,11 @@ use Rattle.spec_rules.specs.Heights.{height}
 use Rattle.spec_grammar.specs.Tree.{Name, Shape, Exp, Expr, num, tru, fls, get, query, unary, binary, choice}
 use Rattle.spec_grammar.specs.Grammar.{E, e-plain, e-index, e-number, e-true, e-false, e-query, e-group, e-choice, e-unary, e-binary, e-up, An-expression}
 use Rattle.spec_rules.specs.Senses.{Sense, variable, constant, procedure, unknown, Scope}
-use Rattle.spec_rules.specs.Expressions.{Role, operand, channel, forPid, forConstant, forChan, alike, suits, usable, named, lawful}
-use Rattle.spec_rules.specs.Expressions as rule
+use Rattle.spec_rules.specs.Roles.{Role, operand, channel, forPid, forConstant, forChan, alike}
+use Rattle.legal_rules.specs.Expressions.{suits, usable, named, lawful}
+use Rattle.legal_rules.specs.Expressions as rule
 use Rattle.spec_faults.specs.Faults.{unless, faultAt, constantUse, senseUse, useNumber, inExpr, inWhole, inArgument}
-use Rattle.spec_faults.proofs.None.{none, none-at, none-unless, both-assoc, both-turn, two, three}
+use Rattle.legal_rules.proofs.None.{none, none-at, none-unless, both-assoc, both-turn, two, three}
 
 -- ---- names
 constant-ok : (may index : Bool) → eqb (constantUse may index) 0 ≡ both may (not index)

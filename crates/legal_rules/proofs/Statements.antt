@@ -16,13 +16,14 @@ use Rattle.base_kinds.specs.Kinds.{Token}
 use Rattle.spec_grammar.specs.Tree.{Name, Expr, Received, Leaf, Sort, action, statement, sequence, options, Tree, leaf, express, assign, increment, decrement, send, receive, assert, print, skip, goto, break, timeout, else, run, set-run, select, loop, bare, labelled, end, then, over, option}
 use Rattle.spec_grammar.specs.Grammar.{Message, Maybe-listed, Listed, An-expression, A-received, r-into, r-eval, r-number, r-true, r-false, A-leaf, D, s-leaf, s-express, s-assign, s-increment, s-decrement, s-send, s-receive, s-assert, s-print-alone, s-print, s-skip, s-goto, s-break, s-timeout, s-else, s-run, s-set-run, s-if, s-do, s-bare, s-label, q-last, q-then, o-last, o-also}
 use Rattle.spec_rules.specs.Senses.{Sense, variable, constant, procedure, unknown, Scope, isUnknown, senseIn}
-use Rattle.spec_rules.specs.Expressions.{operand, channel, target, received}
-use Rattle.spec_rules.specs.Expressions as rule
-use Rattle.spec_rules.specs.Statements.{Place, all, has, isElse, labelsOf, takes, sense, receives, runs, formats, leafAllowed, allowed}
+use Rattle.spec_rules.specs.Roles.{operand, channel, target, received}
+use Rattle.legal_rules.specs.Expressions as rule
+use Rattle.spec_rules.specs.Statements.{Place, all, has, isElse, labelsOf, sense}
+use Rattle.legal_rules.specs.Statements.{takes, receives, runs, formats, leafAllowed, allowed}
 use Rattle.spec_faults.specs.Faults.{Faults, faultAt, unless, inList, inMaybe, inMessage, nothing, inWhole, inArgument, inReceived, passes, isProcedure, runnable, passing, inFormat, inPrinted, inLeaf, inTree}
-use Rattle.spec_faults.proofs.None.{none, none-at, none-unless, both-end, both-assoc, both-turn, two, three, list-ok, maybe-ok, message-ok, each-all}
-use Rattle.spec_faults.proofs.Labels.{fresh, fresh-none, fresh-one, fresh-append}
-use Rattle.spec_faults.proofs.Phrases.{whole-ok, ref-ok, argument-ok}
+use Rattle.legal_rules.proofs.None.{none, none-at, none-unless, both-end, both-assoc, both-turn, two, three, list-ok, maybe-ok, message-ok, each-all}
+use Rattle.legal_rules.proofs.Labels.{fresh, fresh-none, fresh-one, fresh-append}
+use Rattle.legal_rules.proofs.Phrases.{whole-ok, ref-ok, argument-ok}
 
 -- ---- `else`: whether a statement may be one matters only where it is one
 -- what is wanted of a phrase where an `else` may stand first, or may not; of options, where none before had one, or one had

@@ -8,8 +8,9 @@ use Rattle.base_bytes.proofs.Lists.{same-refl, same-eq}
 use Rattle.base_bytes.proofs.Tests.{true-false}
 use Rattle.spec_text.specs.Names.{pid}
 use Rattle.spec_grammar.specs.Tree.{Name}
-use Rattle.spec_rules.specs.Statements.{has, apart}
-use Rattle.spec_faults.proofs.None.{both-end, both-assoc}
+use Rattle.spec_rules.specs.Statements.{has}
+use Rattle.legal_rules.specs.Statements.{apart}
+use Rattle.legal_rules.proofs.None.{both-end, both-assoc}
 
 has-append : (l k : List Name) (w : Name) → has (l ++ k) w ≡ either (has l w) (has k w)
 has-append [] k w = refl

@@ -1,0 +1,4 @@
+pub mod Expressions
+pub mod Statements
+pub mod Units
+pub mod Examples
