@@ -1,5 +1,5 @@
--- THE ENTRIES ON AN ACCEPTED TEXT: what `read` and `start` leave is let through, so that `step` and `verdict` answer what is worked out from the text's own tables and initial state.
-use Prim.Native.Nat.{ℕ, _+_, _-_, _≤_}
+-- THE ENTRIES ON AN ACCEPTED TEXT, by `demands`: what `read` and `start` leave is let through, so that `step` and `verdict` answer what is worked out from the text's own tables and initial state.
+use Prim.Native.Nat.{ℕ, zero, suc, _+_, _-_, _≤_}
 use native.Mathlib.Omega.{arith}
 use mathlib.Core.Path.{_≡_, refl, sym, ap, ap₂, _∙_}
 use mathlib.Core.List.{List, _++_}
@@ -17,21 +17,18 @@ use Rattle.read_accepts_proof.proofs.Tables.{text-fits}
 use Rattle.table_genuine.specs.Genuine.{written}
 use Rattle.normal_entry.proofs.Laws.{judged-is, written-is}
 use Rattle.state_start.specs.Starting.{initialOf}
-use Rattle.state_check.specs.Standing.{isStateOf}
 use Rattle.spec_machine.specs.Machine.{verdict}
 use Rattle.step_all.specs.Moving.{machineIn, verdictAs}
 use Rattle.step_entry.specs.Entries.{foreignOf, refusalOf, startLeft, standingOf, verdictFor, Outcome, refusedBy, outcomeBy, askedIn, stepRefusal, outcomeOf}
 use Rattle.state_encode.specs.Encode.{encode}
 use Rattle.agree_states.proofs.Cells.{encode-long}
-use Rattle.demands.specs.Lent.{Rooms, Tables}
+use Rattle.demands.specs.Lent.{Rooms, Tables, leaves}
 use Rattle.demands.proofs.Owned.{own-tables}
-use Rattle.demands.proofs.Lent.{tables-genuine, foreign-none}
-use Rattle.demands.proofs.Leaves.{states-left}
+use Rattle.demands.proofs.Top.{demands}
 use Rattle.test_samples.specs.Samples.{lent, tables, cleared, started, paper, firstStep}
 use Rattle.base_ceilings.specs.Ceilings.{stateRoom, tablesRoom}
 use Rattle.step_entry.specs.declared.Standing.the-variants as standing
 use Rattle.spec_machine.specs.Begins as plain
-use Rattle.agree_machine.proofs.Entries as entries
 
 module _ (t : List ℕ) (acc : readOf t lent ≡ Accepted) where
   long : length lent ≡ 16384
@@ -65,7 +62,7 @@ module _ (t : List ℕ) (acc : readOf t lent ≡ Accepted) where
   rooms = record { tables = tables-long; state = let e = length-replicate {A = ℤ} 2048 (pos 0) in omega (arith, e) }
 
   let-through : foreignOf (tables t) cleared ≡ 0
-  let-through = foreign-none (tables t) cleared (accepts .tree) rooms of-model
+  let-through = demands .demand2 .start (tables t) cleared (accepts .tree) rooms of-model .0
 
   -- what `start` leaves
   starts : started t ≡ initialOf (tablesText t) cleared
@@ -73,7 +70,8 @@ module _ (t : List ℕ) (acc : readOf t lent ≡ Accepted) where
   starts = ap (λ (n : ℕ). pick (eqb n 0) (initialOf (written (tables t)) cleared) cleared) let-through ∙ ap (λ (w : List ℕ). initialOf w cleared) own
 
   as-numbers : started t ≡ encode (accepts .tree) (plain.initial (accepts .tree)) ++ drop stateRoom cleared
-  as-numbers = entries.starts (tables t) tables-long (tables-genuine (tables t) (accepts .tree) of-model) t accepts own cleared (rooms .state)
+  unfolding leaves
+  as-numbers = demands .demand2 .start (tables t) cleared (accepts .tree) rooms of-model .1
 
   rooms-then : Rooms (tables t) (started t)
   rooms-then =
@@ -87,8 +85,14 @@ module _ (t : List ℕ) (acc : readOf t lent ≡ Accepted) where
       }
 
   none-refused : refusalOf (tables t) (started t) ≡ 0
-  unfolding refusalOf
-  none-refused = rw (foreign-none (tables t) (started t) (accepts .tree) rooms-then of-model, states-left (tables t) cleared .start let-through)
+  none-refused = go (refusalOf (tables t) (started t)) refl
+    where
+      go : (n : ℕ) → refusalOf (tables t) (started t) ≡ n → refusalOf (tables t) (started t) ≡ 0
+      go zero e = e
+      go (suc n) e =
+          let x = demands .demand2 .in-words .states-left (tables t) cleared .start let-through in
+          let r = demands .demand1 .stepper (tables t) (started t) .number (suc n) (omega arith) .0 e in
+          absurd (demands .demand2 .cases (tables t) (started t) .never-both (suc n) (x .0) (x .1) r record { rooms = rooms-then; tables = x .2; numbers = x .3 })
 
   -- `verdict`
   pub verdict-asked : verdictFor (tables t) (started t) ≡ standingOf (verdictAs (verdict (machineIn (tablesText t)) (initialOf (tablesText t) cleared)))
