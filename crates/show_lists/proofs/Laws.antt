@@ -140,3 +140,14 @@ unexpected-status y n w e b h f g = rw (ne-eqb n 0 h, sym f ∙ not-true b g) re
 pub expected-status : (y : Expected) (n w e : ℕ) (b : Bool) → (n ≡ 0 → ⊥) → b ≡ isExpected y n → not b ≡ false → pick (ltb 0 e) 2 (pick (ltb 0 w) 1 0) ≡ batchStatus y n w e
 unfolding batchStatus
 expected-status y n w e b h f g = rw (ne-eqb n 0 h, sym f ∙ not-false b g) refl
+
+pub batch-small : (y : Expected) (n w e : ℕ) → batchStatus y n w e ≤ 2
+unfolding batchStatus
+batch-small y n w e = by (eqb n 0) (isExpected y n) (ltb 0 e) (ltb 0 w)
+  where
+    by : (a b c d : Bool) → pick a 2 (pick b (pick c 2 (pick d 1 0)) 2) ≤ 2
+    by true b c d = omega arith
+    by false false c d = omega arith
+    by false true true d = omega arith
+    by false true false true = omega arith
+    by false true false false = omega arith

@@ -1,8 +1,9 @@
 -- Program: held by stored output and by `tests/program` beyond what its contracts say.
 -- THE WORDS OF A LINE of a list (`split`). They are parted by blanks and tabs, any number of them; a word that begins with a quote goes to the closing quote, and inside it a backslash stands before a quote or a backslash
 -- and makes it one of the word. A quote inside a word and a backslash outside quotes are bytes like any other. What the code writes, the words with a line end behind each (`wordsFrom`), and where it stands at the
--- end (`endFrom`), are those of `split` (`words-split`, proofs/Words.antt).
+-- end (`endFrom`), are those of `split` (`words-split`, proofs/Split.antt).
 use Prim.Native.Nat.{ℕ, _-_}
+use mathlib.Core.Path.{_≡_}
 use mathlib.Core.Bool.{Bool, true, false, not}
 use mathlib.Core.List.{List, [], _∷_, _++_}
 use lib.ListN.{length, getD, take}
@@ -119,6 +120,35 @@ wordsFrom x (b ∷ l) = added x b ++ wordsFrom (behind x b) l
 unfoldable pub endFrom : Place → List ℕ → Place
 endFrom x [] = x
 endFrom x (b ∷ l) = endFrom (behind x b) l
+
+-- ## what they say is what `split` says: the words with a line end behind each, or by the place at the line's end what is wrong
+unfoldable pub joined : List (List ℕ) → List ℕ
+joined [] = []
+joined (w ∷ ws) = w ++ 10 ∷ joined ws
+
+abbrev pub isWhole : Place → Bool
+isWhole Apart = true
+isWhole Plain = true
+isWhole Quoted = false
+isWhole Slashed = false
+isWhole Closed = true
+isWhole Stray = false
+isWhole Crowded = false
+
+abbrev pub isOpen : Place → Bool
+isOpen Apart = false
+isOpen Plain = false
+isOpen Quoted = true
+isOpen Slashed = true
+isOpen Closed = false
+isOpen Stray = false
+isOpen Crowded = false
+
+abbrev pub Says : Line → List ℕ → Place → Type 0
+Says (words ws) out y = (out ≡ joined ws) × (isWhole y ≡ true)
+Says unended out y = isOpen y ≡ true
+Says stray out y = y ≡ Stray
+Says crowded out y = y ≡ Crowded
 
 -- ## lines that are no commands, and line ends
 -- nothing but blanks, or `#` (35) behind them

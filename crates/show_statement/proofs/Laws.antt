@@ -72,7 +72,7 @@ module _ (n : ℕ) (text l : List ℕ) (k : ℕ) (e : pen l k ≡ puts text (pen
   whole-there : length text ≤ n → piece l 0 k ≡ take n text
   whole-there h =
       let z : List ℕ = replicate n 0 in
-      let f = e ∙ puts-fit text z (omega (arith, length-replicate n 0)) in
+      let f = e ∙ puts-fit text z (omega (arith, length-replicate {A = ℕ} n 0)) in
       let a : k ≡ length text = at-of f in
       let b : l ≡ text ++ drop (length text) z = list-of f in
       let c : length l ≡ length text + length (drop (length text) z) = ap length b ∙ length-append text (drop (length text) z) in
@@ -83,7 +83,7 @@ module _ (n : ℕ) (text l : List ℕ) (k : ℕ) (e : pen l k ≡ puts text (pen
   cut-there : n < length text → piece l 0 k ≡ take n text
   cut-there h =
       let z : List ℕ = replicate n 0 in
-      let y : length z ≡ n = length-replicate n 0 in
+      let y : length z ≡ n = length-replicate {A = ℕ} n 0 in
       let f = e ∙ puts-full text z (omega (arith, y)) in
       let d : drop (length text) z ≡ [] = drop-of-length-le z {i = length text} (omega (arith, y)) in
       let a : k ≡ length z + 1 = at-of f in

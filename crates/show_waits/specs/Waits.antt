@@ -15,6 +15,10 @@ use Rattle.step_ready.specs.Executing.{markOf, fitsOf}
 use Rattle.step_offers.specs.Offers.{isSelection, eachOption}
 use Rattle.show_statement.specs.Statements.{seenIn}
 
+-- which ceiling is met
+abbrev pub ceilingIn : List ℤ → List ℕ
+ceilingIn s = pick (ltb (processesOf s) processesMost) (digitsOf channelsMost ++ bytes " channels are the most\n") (digitsOf processesMost ++ bytes " processes are the most\n")
+
 module _ (t : List ℕ) (s : List ℤ) where
   -- a `run` for which there is no room
   unfoldable pub isStuck : ℕ → Bool
@@ -29,12 +33,9 @@ module _ (t : List ℕ) (s : List ℤ) where
   abbrev pub stuckOf : ℕ → List ℕ
   stuckOf p = stuckFrom (selectionsMost + 1) (placeOf s p) itemsMost
 
-  abbrev pub ceilingIn : List ℕ
-  ceilingIn = pick (ltb (processesOf s) processesMost) (digitsOf channelsMost ++ bytes " channels are the most\n") (digitsOf processesMost ++ bytes " processes are the most\n")
-
   -- process p waits at the statement at place q
   abbrev pub lineIn : ℕ → ℕ → List ℕ
-  lineIn p q = bytes "\tprocess " ++ (digitsOf p ++ (bytes " waits at " ++ (seenIn t q ++ (bytes ": " ++ ceilingIn))))
+  lineIn p q = bytes "\tprocess " ++ (digitsOf p ++ (bytes " waits at " ++ (seenIn t q ++ (bytes ": " ++ ceilingIn s))))
 
   abbrev pub waitIn : ℕ → List ℕ → List ℕ → List ℕ
   waitIn p [] rest = rest

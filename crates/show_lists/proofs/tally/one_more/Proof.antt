@@ -3,22 +3,14 @@ use Rattle.show_lists.specs.Tally.{more}
 use borrow.Author.Needs.{needs}
 use Rattle.show_lists.proofs.tally.one_more.Statement.{statement}
 use Rattle.show_lists.proofs.tally.one_more.Tie as tie
-use Rattle.show_lists.proofs.tally.one_more.Reads as reads
-use Rattle.show_lists.proofs.tally.one_more.Lts as lts
 
--- src/tally.rt:33:25
-add-result : tie.Need-add-result
-add-result c = search needs
-
--- src/tally.rt:30:1
 returns : tie.Need-returns
 unfolding more
 returns c = rw (lt-ltb _ _ (c .if1 .taken))
 
--- src/tally.rt:30:1
 returns-2 : tie.Need-returns-2
 unfolding more
 returns-2 c = rw (le-ltb _ _ (c .if1 .left))
 
 pub one-more-spec : {M : Type 1} → statement M
-one-more-spec = tie.close (tie.spec add-result returns returns-2)
+one-more-spec = tie.close (tie.spec (λ c. search needs) returns returns-2)

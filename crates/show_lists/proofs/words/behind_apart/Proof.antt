@@ -3,25 +3,15 @@ use borrow.Author.Tests.{ne-eqb, eq-eqb}
 use borrow.Author.Needs.{needs}
 use Rattle.show_lists.proofs.words.behind_apart.Statement.{statement}
 use Rattle.show_lists.proofs.words.behind_apart.Tie as tie
-use Rattle.show_lists.proofs.words.behind_apart.Reads as reads
-use Rattle.show_lists.proofs.words.behind_apart.Lts as lts
-use Rattle.show_lists.proofs.words.is_blank.Reads as is-blank-reads
 
--- src/words.rt:37:8
-is-blank-requires : tie.Need-is-blank-requires
-is-blank-requires c κs = search needs
-
--- src/words.rt:38:9
 returns : tie.Need-returns
 returns c = rw (← c .before .is-blank .ensures, c .if1 .taken) refl
 
--- src/words.rt:41:9
 returns-2 : tie.Need-returns-2
 returns-2 c = rw (← c .before .before .is-blank .ensures, c .before .if1 .left, eq-eqb _ _ (c .if2 .taken)) refl
 
--- src/words.rt:34:1
 returns-3 : tie.Need-returns-3
 returns-3 c = rw (← c .before .before .is-blank .ensures, c .before .if1 .left, ne-eqb _ _ (c .if2 .left)) refl
 
 pub behind-apart-spec : {M : Type 1} → statement M
-behind-apart-spec = tie.close (tie.spec is-blank-requires returns returns-2 returns-3)
+behind-apart-spec = tie.close (tie.spec (λ c κs. search needs) returns returns-2 returns-3)

@@ -2,18 +2,13 @@ use mathlib.Core.Path.{refl}
 use borrow.Author.Tests.{ne-eqb, eq-eqb}
 use Rattle.show_lists.proofs.words.behind_quoted.Statement.{statement}
 use Rattle.show_lists.proofs.words.behind_quoted.Tie as tie
-use Rattle.show_lists.proofs.words.behind_quoted.Reads as reads
-use Rattle.show_lists.proofs.words.behind_quoted.Lts as lts
 
--- src/words.rt:59:9
 returns : tie.Need-returns
 returns c = rw (eq-eqb _ _ (c .if1 .taken)) refl
 
--- src/words.rt:62:9
 returns-2 : tie.Need-returns-2
 returns-2 c = rw (ne-eqb _ _ (c .before .if1 .left), eq-eqb _ _ (c .if2 .taken)) refl
 
--- src/words.rt:55:1
 returns-3 : tie.Need-returns-3
 returns-3 c = rw (ne-eqb _ _ (c .before .if1 .left), ne-eqb _ _ (c .if2 .left)) refl
 
