@@ -165,11 +165,13 @@ fn take_byte(
         return finish_line(line, r, x, wrong, errors);
     }
     let held = r.held;
+    let t = r.tally;
+    let watch = r.watch;
     keep(line, held, b);
     Working {
         held: base_bytes::least(held, LINE_MOST + 1) + 1,
-        tally: r.tally,
-        watch: r.watch,
+        tally: t,
+        watch,
     }
 }
 
@@ -188,6 +190,12 @@ fn take_bytes(
         k += 1;
     }
     now
+}
+
+// The work is done.
+fn done(r: Working) -> Worked {
+    let t = r.tally;
+    Worked::Off(t)
 }
 
 // Works off a list to its end. The turns are counted down from a number that no list uses up, since nothing says that a file ends.
@@ -218,10 +226,9 @@ fn work_off(fd: i32, x: Expected, wrong: &mut [u32], errors: &mut [u32]) -> Work
         if got == 0 {
             // A last line that has no line end is a line all the same.
             if r.held > 0 {
-                let w = finish_line(&line, r, x, wrong, errors);
-                return Worked::Off(w.tally);
+                return done(finish_line(&line, r, x, wrong, errors));
             }
-            return Worked::Off(r.tally);
+            return done(r);
         }
         let n = io::count(got, &chunk);
         r = take_bytes(&chunk[..n], &mut line, r, x, wrong, errors);
