@@ -17,14 +17,14 @@ fn refuse(words: &[u8]) -> u8 {
     status(Answer::Error)
 }
 
-// The command and its words, which stand behind the first `at` arguments: `count` words stand behind it.
-fn answer(at: usize, count: usize) -> u8 {
+// The command that is argument `at`, with its words: `count` of them stand behind it.
+fn answer(at: u8, count: usize) -> u8 {
     let mut command = io::buffer();
     let mut first = io::buffer();
     let mut second = io::buffer();
-    let c = os::arg(at, &mut command);
-    let f = os::arg(at + 1, &mut first);
-    let g = os::arg(at + 2, &mut second);
+    let c = os::arg(at as usize, &mut command);
+    let f = os::arg(at as usize + 1, &mut first);
+    let g = os::arg(at as usize + 2, &mut second);
     if f == 0 {
         return refuse(b"error: a file's name is missing or too long\n");
     }
@@ -39,15 +39,15 @@ fn answer(at: usize, count: usize) -> u8 {
     )
 }
 
-// The command behind the first `at` arguments.
-fn perform(at: usize) -> u8 {
+// The command that is argument `at`.
+fn perform(at: u8) -> u8 {
     let count = os::arg_count();
-    if count < at + 2 {
+    if count < at as usize + 2 {
         return refuse(
             b"error: usage: pluskaro read|normal|layout|start MODEL, run MODEL [LIMIT], replay|steps|state MODEL TRAIL, batch LIST [COUNT]\n",
         );
     }
-    answer(at, count - at - 1)
+    answer(at, count - at as usize - 1)
 }
 
 fn main() {
