@@ -1,4 +1,5 @@
 // The program over model and trail files. The last line of what it writes is always the answer; where its first word is `--status`, it tells the status of that answer at the very end.
+ghost use Prim.Native.Nat.{_≤_};
 use base_bytes::part;
 use show_answers::put;
 use show_statuses::Answer;
@@ -12,13 +13,17 @@ fn is_asked() -> bool {
 }
 
 // A command that is not well formed.
-fn refuse(words: &[u8]) -> u8 {
+fn refuse(words: &[u8]) -> u8
+    ensures { λ r. ⌜ r ≤ 2 ⌝ }
+{
     put(words);
     status(Answer::Error)
 }
 
 // The command that is argument `at`, with its words: `count` of them stand behind it.
-fn answer(at: u8, count: usize) -> u8 {
+fn answer(at: u8, count: usize) -> u8
+    ensures { λ r. ⌜ r ≤ 2 ⌝ }
+{
     let mut command = io::buffer();
     let mut first = io::buffer();
     let mut second = io::buffer();
@@ -40,7 +45,9 @@ fn answer(at: u8, count: usize) -> u8 {
 }
 
 // The command that is argument `at`.
-fn perform(at: u8) -> u8 {
+fn perform(at: u8) -> u8
+    ensures { λ r. ⌜ r ≤ 2 ⌝ }
+{
     let count = os::arg_count();
     if count < at as usize + 2 {
         return refuse(

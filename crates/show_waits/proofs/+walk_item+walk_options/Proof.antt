@@ -61,33 +61,6 @@ module _ (t : ℕ) where
   walk-item-returns : walk-item-lts.Need-returns walk-item-callees walk-item-at walk-item.Post
   walk-item-returns c = stuck-none (c .before .before .args .t .now) (c .before .before .args .s .now) (c .before .before .args .q) (c .before .before .args .stop) (c .before .before .args .k) (c .if1 .taken)
 
-  walk-item-is-selection-requires : walk-item-lts.Need-is-selection-requires walk-item-callees walk-item-at walk-item.Post
-  walk-item-is-selection-requires c κs = search needs
-
-  walk-item-link-requires : walk-item-lts.Need-link-requires walk-item-callees walk-item-at walk-item.Post
-  walk-item-link-requires c κs = search needs
-
-  walk-item-least-requires : walk-item-lts.Need-least-requires walk-item-callees walk-item-at walk-item.Post
-  walk-item-least-requires c κs = search needs
-
-  walk-item-cast-e : walk-item-lts.Need-cast-e walk-item-callees walk-item-at walk-item.Post
-  walk-item-cast-e c = search needs
-
-  walk-item-sub-walk-options : walk-item-lts.Need-sub-walk-options walk-item-callees walk-item-at walk-item.Post
-  walk-item-sub-walk-options c = search needs
-
-  walk-item-add-walk-options : walk-item-lts.Need-add-walk-options walk-item-callees walk-item-at walk-item.Post
-  walk-item-add-walk-options c = search needs
-
-  walk-item-walk-options-requires : walk-item-lts.Need-walk-options-requires walk-item-callees walk-item-at walk-item.Post
-  walk-item-walk-options-requires c κs = search needs
-
-  walk-item-is-stuck-requires : walk-item-lts.Need-is-stuck-requires walk-item-callees walk-item-at walk-item.Post
-  walk-item-is-stuck-requires c κs = search needs
-
-  walk-item-pick-one-requires : walk-item-lts.Need-pick-one-requires walk-item-callees walk-item-at walk-item.Post
-  walk-item-pick-one-requires c κs = search needs
-
   walk-item-returns-2 : walk-item-lts.Need-returns-2 walk-item-callees walk-item-at walk-item.Post
   walk-item-returns-2 c = item-options (c .before .before .before .before .before .before .before .args .t .now) (c .before .before .before .before .before .before .before .args .s .now) (c .before .before .before .before .before .before .before .args .q) (c .before .before .before .before .before .before .before .args .stop) (c .before .before .before .before .before .before .before .args .k) (one-less (c .before .before .before .before .before .if1 .left)) (c .before .before .before .before .is-selection .ensures) (c .before .before .before .if2 .taken) (c .before .before .link .ensures .0) (c .before .least .ensures) (c .walk-options .ensures)
 
@@ -114,35 +87,11 @@ module _ (t : ℕ) where
   walk-options-returns : walk-options-lts.Need-returns walk-options-callees walk-options-at walk-options.Post
   walk-options-returns c = options-none (c .before .before .args .t .now) (λ x y. stuckFrom (c .before .before .args .t .now) (c .before .before .args .s .now) (c .before .before .args .d) x y) (c .before .before .args .m) (c .before .before .args .stop) (c .before .before .args .k) (c .if1 .taken)
 
-  walk-options-is-option-requires : walk-options-lts.Need-is-option-requires walk-options-callees walk-options-at walk-options.Post
-  walk-options-is-option-requires c κs = search needs
-
   walk-options-returns-2 : walk-options-lts.Need-returns-2 walk-options-callees walk-options-at walk-options.Post
   walk-options-returns-2 c = options-over (c .before .before .before .before .args .t .now) (λ x y. stuckFrom (c .before .before .before .before .args .t .now) (c .before .before .before .before .args .s .now) (c .before .before .before .before .args .d) x y) (c .before .before .before .before .args .m) (c .before .before .before .before .args .stop) (c .before .before .before .before .args .k) (one-less (c .before .before .if1 .left)) (c .before .is-option .ensures) (not-true _ (c .if2 .taken))
 
   walk-options-end-of-requires : walk-options-lts.Need-end-of-requires walk-options-callees walk-options-at walk-options.Post
   walk-options-end-of-requires c κs = (option-below (c .before .before .before .before .args .t .now) (c .before .before .before .before .args .m) (c .before .before .before .before .args .stop) (c .before .is-option .ensures) (not-false _ (c .if2 .left)), c .before .before .before .before .pre .1)
-
-  walk-options-first-of-requires : walk-options-lts.Need-first-of-requires walk-options-callees walk-options-at walk-options.Post
-  walk-options-first-of-requires c κs = search needs
-
-  walk-options-walk-item-requires : walk-options-lts.Need-walk-item-requires walk-options-callees walk-options-at walk-options.Post
-  walk-options-walk-item-requires c κs = search needs
-
-  walk-options-enum-known-w : walk-options-lts.Need-enum-known-w walk-options-callees walk-options-at walk-options.Post
-  walk-options-enum-known-w c = search needs
-
-  walk-options-enum-known-w-2 : walk-options-lts.Need-enum-known-w-2 walk-options-callees walk-options-at walk-options.Post
-  walk-options-enum-known-w-2 c = search needs
-
-  walk-options-sub-walk-options : walk-options-lts.Need-sub-walk-options walk-options-callees walk-options-at walk-options.Post
-  walk-options-sub-walk-options c = search needs
-
-  walk-options-add-walk-options : walk-options-lts.Need-add-walk-options walk-options-callees walk-options-at walk-options.Post
-  walk-options-add-walk-options c = search needs
-
-  walk-options-walk-options-requires : walk-options-lts.Need-walk-options-requires walk-options-callees walk-options-at walk-options.Post
-  walk-options-walk-options-requires c κs = search needs
 
   walk-options-returns-3 : walk-options-lts.Need-returns-3 walk-options-callees walk-options-at walk-options.Post
   walk-options-returns-3 c = options-found (c .before .before .before .before .before .before .before .before .before .before .args .t .now) (λ x y. stuckFrom (c .before .before .before .before .before .before .before .before .before .before .args .t .now) (c .before .before .before .before .before .before .before .before .before .before .args .s .now) (c .before .before .before .before .before .before .before .before .before .before .args .d) x y) (c .before .before .before .before .before .before .before .before .before .before .args .m) (c .before .before .before .before .before .before .before .before .before .before .args .stop) (c .before .before .before .before .before .before .before .before .before .before .args .k) (one-less (c .before .before .before .before .before .before .before .before .if1 .left)) (c .before .before .before .before .before .before .before .is-option .ensures) (not-false _ (c .before .before .before .before .before .before .if2 .left)) (c .before .before .before .before .before .end-of .ensures .0) (c .before .before .before .before .first-of .ensures .0) (c .before .before .before .walk-item .ensures) (c .before .w .given .1)
@@ -155,29 +104,29 @@ pub +walk-item+walk-options-spec : {M : Type 1} → statement M
     close μ-walk-item μ-walk-options
     (λ t. walk-item-lts.spec (walk-item-callees t) (walk-item-at t) walk-item.Post
     (walk-item-returns t)
-    (walk-item-is-selection-requires t)
-    (walk-item-link-requires t)
-    (walk-item-least-requires t)
-    (walk-item-cast-e t)
-    (walk-item-sub-walk-options t)
-    (walk-item-add-walk-options t)
-    (walk-item-walk-options-requires t)
-    (walk-item-is-stuck-requires t)
-    (walk-item-pick-one-requires t)
+    (λ c κs. search needs)
+    (λ c κs. search needs)
+    (λ c κs. search needs)
+    (λ c. search needs)
+    (λ c. search needs)
+    (λ c. search needs)
+    (λ c κs. search needs)
+    (λ c κs. search needs)
+    (λ c κs. search needs)
     (walk-item-returns-2 t)
     (walk-item-returns-3 t)
     (walk-item-returns-4 t))
     (λ t. walk-options-lts.spec (walk-options-callees t) (walk-options-at t) walk-options.Post
     (walk-options-returns t)
-    (walk-options-is-option-requires t)
+    (λ c κs. search needs)
     (walk-options-returns-2 t)
     (walk-options-end-of-requires t)
-    (walk-options-first-of-requires t)
-    (walk-options-walk-item-requires t)
-    (walk-options-enum-known-w t)
-    (walk-options-enum-known-w-2 t)
-    (walk-options-sub-walk-options t)
-    (walk-options-add-walk-options t)
-    (walk-options-walk-options-requires t)
+    (λ c κs. search needs)
+    (λ c κs. search needs)
+    (λ c. search needs)
+    (λ c. search needs)
+    (λ c. search needs)
+    (λ c. search needs)
+    (λ c κs. search needs)
     (walk-options-returns-3 t)
     (walk-options-returns-4 t))
