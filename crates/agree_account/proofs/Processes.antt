@@ -26,9 +26,9 @@ use Rattle.agree_states.proofs.Held.{place-is}
 use Rattle.agree_transfer.proofs.Statements.{within-found}
 use Rattle.agree_machine.proofs.Survey.{Holds, text-same}
 use Rattle.agree_listing.proofs.Main.{charted, globals-shown, title-shown, locals-shown, channels-shown}
-use Rattle.agree_texts.proofs.Main.{statement-shown}
+use Rattle.agree_texts.proofs.Main.{seen-shown}
 use Rattle.show_state.specs.Listing.{along, globalsIn, channelsIn}
-use Rattle.show_statement.specs.Statements.{statementIn}
+use Rattle.show_statement.specs.Statements.{seenIn}
 use Rattle.show_steps.specs.Steps.{standingIn, processIn}
 
 module _ (t : List ℕ) (a : Accepts t) (rest : List ℤ) (σ : State) (f : Fits (Belongs (a .tree)) (a .tree) σ) where
@@ -58,16 +58,16 @@ module _ (t : List ℕ) (a : Accepts t) (rest : List ℤ) (σ : State) (f : Fits
     standing-there : standingIn T (placeOf S p) ≡ standingText m σ p
     unfolding endedOf
     standing-there =
-        ap (λ (b : Bool). pick b (bytes " ended") (bytes " at " ++ statementIn T (placeOf S p))) (inv (text-same t a rest .ended holding p h))
-        ∙ ap (λ (q : ℕ). pick (endedOf m σ p) (bytes " ended") (bytes " at " ++ statementIn T q)) (place-is m T (charted t a) σ f rest p h) ∙ go (f .each p h .place)
+        ap (λ (b : Bool). pick b (bytes " ended") (bytes " at " ++ seenIn T (placeOf S p))) (inv (text-same t a rest .ended holding p h))
+        ∙ ap (λ (q : ℕ). pick (endedOf m σ p) (bytes " ended") (bytes " at " ++ seenIn T q)) (place-is m T (charted t a) σ f rest p h) ∙ go (f .each p h .place)
       where
-        go : Belongs m k j → pick (endedOf m σ p) (bytes " ended") (bytes " at " ++ statementIn T j) ≡ standingText m σ p
+        go : Belongs m k j → pick (endedOf m σ p) (bytes " ended") (bytes " at " ++ seenIn T j) ≡ standingText m σ p
         go (ends b e) =
             let z : endedOf m σ p ≡ true = eq-eqb j (endOf m k) e in
-            ap (λ (c : Bool). pick c (bytes " ended") (bytes " at " ++ statementIn T j)) z ∙ ap (λ (c : Bool). pick c (bytes " ended") (bytes " at " ++ atText m σ (standing m σ p j))) (inv z)
+            ap (λ (c : Bool). pick c (bytes " ended") (bytes " at " ++ seenIn T j)) z ∙ ap (λ (c : Bool). pick c (bytes " ended") (bytes " at " ++ atText m σ (standing m σ p j))) (inv z)
         go (stands {x = x} {n = n} {o = o} b w) =
             let e = within-found w in
-            ap (λ (l : List ℕ). pick (endedOf m σ p) (bytes " ended") (bytes " at " ++ l)) (statement-shown t a k j x n o e ∙ ap (atText m σ) (inv e))
+            ap (λ (l : List ℕ). pick (endedOf m σ p) (bytes " ended") (bytes " at " ++ l)) (seen-shown t a k j x n o e ∙ ap (atText m σ) (inv e))
 
     -- A PROCESS
     pub process-shown : processIn (tablesText t) (encode (a .tree) σ ++ rest) p ≡ processText (a .tree) σ p

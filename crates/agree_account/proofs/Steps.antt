@@ -31,9 +31,9 @@ use Rattle.agree_tables.proofs.Main.{in-alone}
 use Rattle.agree_machine.proofs.Fitted.{text-fits}
 use Rattle.agree_machine.proofs.Prints.{Stood, stood, text-printed, text-short}
 use Rattle.agree_listing.proofs.Main.{title-shown}
-use Rattle.agree_texts.proofs.Main.{statement-shown, place-shown}
+use Rattle.agree_texts.proofs.Main.{seen-shown, place-shown}
 use Rattle.agree_deeds.proofs.Main.{deeds-shown}
-use Rattle.show_statement.specs.Statements.{statementIn, lengthFrom, placeIn}
+use Rattle.show_statement.specs.Statements.{seenIn, lengthFrom, placeIn}
 use Rattle.show_steps.specs.Steps.{titleAt, offerIn, stepIn, outcomeIn, paperOf, printedIn, takenIn}
 use Rattle.agree_account.proofs.Listed.{offered-listed}
 
@@ -60,10 +60,10 @@ module _ (t : List ℕ) (a : Accepts t) (rest : List ℤ) (σ : State) (f : Fits
   at = stood t a rest σ f (x .process) here (late M σ) (x .place) listed
 
   -- its statement, its place and its proctype
-  pub statement-there : statementIn (tablesText t) (x .place) ≡ statementOf (a .tree) σ x
+  pub statement-there : seenIn (tablesText t) (x .place) ≡ statementOf (a .tree) σ x
   statement-there =
       let e = within-found (at .at) in
-      statement-shown t a (unitOf m σ (x .process)) (x .place) (at .act) (at .next) (at .out) e ∙ ap (atText m σ) (inv e)
+      seen-shown t a (unitOf m σ (x .process)) (x .place) (at .act) (at .next) (at .out) e ∙ ap (atText m σ) (inv e)
 
   place-there : lengthFrom T 0 - lengthFrom T (x .place) ≡ standsAt m (unitOf m σ (x .process)) (x .place)
   unfolding placeIn

@@ -1,17 +1,19 @@
--- WHAT IS SHOWN OF A STATEMENT IS THE TREE'S: for an accepted text, the bytes that the tables give for the statement at a place are those of the tree's statement there, and the place that they give is where
--- it stands in the normal text.
+-- WHAT IS SHOWN OF A STATEMENT IS THE TREE'S: for an accepted text, the bytes that the tables give for the statement at a place are those of the tree's statement there, none of them is cut off where it is shown, and
+-- the place that they give is where it stands in the normal text.
 use Prim.Native.Nat.{ℕ, zero, suc, _+_, _-_, _≤_, min}
 use native.Mathlib.Omega.{arith}
 use mathlib.Core.Path.{_≡_, refl, _∙_, ap, ap₂, subst}
 use mathlib.Core.Bool.{false}
 use mathlib.Core.List.{List, [], _∷_, _++_, append-nil}
-use lib.ListN.{length, getD, drop, length-map}
+use lib.ListN.{length, getD, take, drop, length-map, length-append}
+use lib.Seq.{take-all}
 use lib.Dec.{eqb}
 use Rattle.base_ceilings.specs.Ceilings.{itemsMost, normalMost}
 use Rattle.base_kinds.specs.Kinds.{Token}
 use Rattle.base_codes.specs.Items.{Item}
+use Rattle.base_bytes.specs.Choice.{pick}
 use Rattle.text_spacing_proof.specs.Sound.{AllSound}
-use Rattle.spec_text.specs.Writing.{write}
+use Rattle.spec_text.specs.Writing.{apart, spell, writeBehind, write}
 use Rattle.text_spacing_proof.proofs.Written.{tokens-sound}
 use Rattle.spec_grammar.specs.Marks.{'rbrace}
 use Rattle.spec_grammar.specs.Tree.{Sort, action, sequence, Tree, Body, body, Part, mtypes, global, process, init, Model}
@@ -48,9 +50,10 @@ use Rattle.agree_nesting.specs.Full.{Full, FullBody, FullPart, FullModel}
 use Rattle.agree_nesting.proofs.Begun.{full-model}
 use Rattle.agree_stage.proofs.Stands.{Lying, within-lies, body-lies, lying-in, statements-lie}
 use Rattle.agree_offers.proofs.Places.{inside-there, known-there}
+use Rattle.spec_account.specs.Bytes.{eachVisible}
 use Rattle.spec_account.specs.Statements.{statementText, fromIn, fromUnit, standsAt}
-use Rattle.spec_account.proofs.Statements.{found-within, found-bodied, stands-within, stands-there}
-use Rattle.show_statement.specs.Statements.{lastOf, statementIn, lengthFrom, placeIn}
+use Rattle.spec_account.proofs.Statements.{found-within, found-bodied, unit-begins, stands-within, stands-there}
+use Rattle.show_statement.specs.Statements.{lastOf, statementIn, seenIn, lengthFrom, placeIn}
 use Rattle.agree_texts.proofs.Blank.{blanked-length, blanked-is, blank-walk, here-alike, marks-alike}
 use Rattle.agree_texts.proofs.From.{walk-model-from}
 use Rattle.agree_texts.proofs.Last.{items-all, last-item}
@@ -81,6 +84,18 @@ model-full : (m : Model) (k : ℕ) → FullModel m → Full (sequenceOf (bodyOf 
 model-full [] k f = tt
 model-full (p ∷ m) zero f = part-full p (f .0)
 model-full (p ∷ m) (suc k) f = model-full m k (f .1)
+
+-- ---- the text of the first tokens is no longer than that of all
+behind-longer : (a : Token) (xs ys : List Token) → length (writeBehind a xs) ≤ length (writeBehind a (xs ++ ys))
+unfolding writeBehind
+behind-longer a [] ys = omega arith
+behind-longer a (b ∷ xs) ys =
+    let u : List ℕ = pick (apart a b) (32 ∷ []) [] in
+    omega (arith, length-append u (spell b ++ writeBehind b xs), length-append (spell b) (writeBehind b xs), length-append u (spell b ++ writeBehind b (xs ++ ys)), length-append (spell b) (writeBehind b (xs ++ ys)), behind-longer b xs ys)
+
+write-longer : (xs ys : List Token) → length (write xs) ≤ length (write (xs ++ ys))
+write-longer [] ys = omega arith
+write-longer (a ∷ xs) ys = omega (arith, length-append (spell a) (writeBehind a xs), length-append (spell a) (writeBehind a (xs ++ ys)), behind-longer a xs ys)
 
 module _ (t : List ℕ) (a : Accepts t) where
   abbrev m : Model
@@ -173,6 +188,14 @@ module _ (t : List ℕ) (a : Accepts t) where
     statement-shown =
         let q : min itemsMost (lastOf T j) + 1 ≡ to = omega (arith, last-item t a s j full lies, within-items, few) in
         ap (λ (U : List ℕ). write (tokensBetween U 130 j (min itemsMost (lastOf U j) + 1))) (text-tables t a) ∙ ap (λ (i : ℕ). write (tokensBetween T 130 j i)) q ∙ ap write tokens-shown
+
+    -- AND NOTHING OF IT IS CUT OFF where it is shown
+    pub seen-shown : seenIn (tablesText t) j ≡ eachVisible (statementText s)
+    unfolding seenIn
+    seen-shown =
+        let b = unit-begins m k j s n o e in
+        let w : length (statementText s) ≤ normalMost = omega (arith, write-longer (print-tree s) (b .rest), ap (λ (ts : List Token). length (write ts)) (b .is), stands-within m k j s n o e safe, short) in
+        ap (λ (l : List ℕ). eachVisible (take normalMost l)) statement-shown ∙ ap eachVisible (take-all normalMost (statementText s) w)
 
     -- ---- its place
     tokens-from : tokensBetween T 143 j (itemsOf T) ≡ fromUnit m k j

@@ -19,12 +19,34 @@ use text_pens::put_all;
 // The most bytes of what is handed on at once: no normal text takes more where it is shown; a longer line of a text is not shown.
 const HANDED_MOST: usize = 8 * base_ceilings::NORMAL_MOST + 2048;
 
-// The most bytes of an error: a name has at most 4,096, which take four each where they cannot be shown.
+// The most bytes of an error or a heading: a name or a line has at most 4,096, which take four each where they cannot be shown.
 const ERROR_ROOM: usize = 16384 + 64;
 
-// Hands finished bytes to standard output: an answer.
+const STATUS_ROOM: usize = 32;
+
+// The descriptor on which the status of the answer is told.
+const STATUS_FILENO: i32 = 3;
+
+// Hands finished bytes to standard output: an answer. Where they cannot be written whole, the descriptor for the status is closed, so that no status can be told any more.
 pub fn put(s: &[u8]) {
-    io::write_all(libc::STDOUT_FILENO, s);
+    if io::write_all(libc::STDOUT_FILENO, s) {
+        return;
+    }
+    libc::close(STATUS_FILENO);
+}
+
+// Writes the line that tells a status.
+fn put_status(x: u8, out: &mut [u8], p: usize) -> usize
+    ensures { λ r. ⌜ pen (now (out .exit)) r ≡ puts (answers.statusLine x) (pen (now (out .entry)) p) ⌝ }
+{
+    put_counted(b"status", x as usize, out, p)
+}
+
+// Tells the status of the answer, for who started the program: the last that it does.
+pub fn tell_status(x: u8) {
+    let mut line = [0u8; STATUS_ROOM];
+    let n = put_status(x, &mut line, 0);
+    io::write_all(STATUS_FILENO, part(&line, 0, n));
 }
 
 // Hands on the first n bytes that were written to a buffer, of what stands before an answer, guarded; where they did not fit, a line that says so.
@@ -43,8 +65,26 @@ fn put_error(words: &[u8], name: &[u8], out: &mut [u8], p: usize) -> usize
     ensures { λ r. ⌜ pen (now (out .exit)) r ≡ puts (answers.errorLine (now (words .entry)) (now (name .entry))) (pen (now (out .entry)) p) ⌝ }
 {
     let a = put_all(words, out, p);
-    let b = show_printed::put_visible(name, out, a);
+    let b = show_printed::put_escapes(name, out, a);
     text_pens::put(out, b, b'\n')
+}
+
+// Writes the heading of command n of a list.
+fn put_heading(n: usize, line: &[u8], out: &mut [u8], p: usize) -> usize
+    ensures { λ r. ⌜ pen (now (out .exit)) r ≡ puts (answers.headingLine n (now (line .entry))) (pen (now (out .entry)) p) ⌝ }
+{
+    let a = put_all(b"== ", out, p);
+    let b = put_count(n, out, a);
+    let c = text_pens::put(out, b, b' ');
+    let d = show_printed::put_escapes(line, out, c);
+    text_pens::put(out, d, b'\n')
+}
+
+// Heads the answer of command n of a list.
+pub fn head(n: usize, line: &[u8]) {
+    let mut out = [0u8; ERROR_ROOM];
+    let k = put_heading(n, line, &mut out, 0);
+    put(part(&out, 0, k));
 }
 
 // Answers with an error.

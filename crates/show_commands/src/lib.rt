@@ -15,14 +15,14 @@ use step_all::Verdict;
 use text_pens::put_all;
 use trail_replay::Replayed;
 
-// The most bytes of an answer, and of the line of an offered step.
+// The most bytes of an answer, and of a line with a statement, whose bytes take at most four each.
 const ANSWER_ROOM: usize = 64;
 
-const OFFER_ROOM: usize = base_ceilings::NORMAL_MOST + 128;
+const LINE_ROOM: usize = 4 * base_ceilings::NORMAL_MOST + 128;
 
 // `start`: each offered step of a state; how many there are.
 fn list_offers(t: &[u32], s: &[i32]) -> usize {
-    let mut out = [0u8; OFFER_ROOM];
+    let mut out = [0u8; LINE_ROOM];
     let mut n: u32 = 0;
     while n < show_steps::LISTED_MOST {
         let o = step_all::nth(t, s, n);
@@ -123,6 +123,30 @@ fn answer_run(r: Ran) -> u8
     }
 }
 
+// Shows what keeps a `run` from starting, where a run ends blocked.
+fn tell_waits(t: &[u32], s: &[i32], e: Ending) {
+    match e {
+        Ending::Blocked => {
+            let mut out = [0u8; LINE_ROOM];
+            let n = show_waits::put_waits(t, s, &mut out, 0);
+            show_answers::hand_on(&out, n);
+        }
+        Ending::Finished => {}
+        Ending::Open => {}
+        Ending::Assert => {}
+        Ending::Fault(_) => {}
+    }
+}
+
+fn tell_stuck(t: &[u32], s: &[i32], r: Ran) {
+    match r {
+        Ran::Ended(e, _) => {
+            tell_waits(t, s, e);
+        }
+        Ran::Refused(_) => {}
+    }
+}
+
 // `run MODEL LIMIT`
 pub fn run(tables: &[u32], limit: u32) -> u8
     ensures { λ r. ⌜ r ≡ statuses.runStatus (now (tables .entry)) limit ⌝ }
@@ -135,6 +159,7 @@ pub fn run(tables: &[u32], limit: u32) -> u8
     if line[0] != b'\n' {
         put(b"\n");
     }
+    tell_stuck(t, &s, r);
     answer_run(r)
 }
 

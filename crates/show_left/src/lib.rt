@@ -5,8 +5,8 @@ use show_answers::hand_on;
 use show_commands::answer_replay;
 use trail_replay::Replayed;
 
-// The most bytes of a process with its variables, and of all global variables or channels.
-const PART_ROOM: usize = 2 * base_ceilings::NORMAL_MOST;
+// The most bytes of a process with its variables, where a byte of its statement takes at most four, and of all global variables or channels.
+const PART_ROOM: usize = 5 * base_ceilings::NORMAL_MOST;
 
 // Each process with the statement at which it stands, and its variables.
 fn show_processes(t: &[u32], s: &[i32]) {

@@ -10,7 +10,7 @@ use lib.Dec.{eqb}
 use Rattle.base_bytes.specs.Choice.{pick, both}
 use Rattle.base_pens.specs.Pen.{Pen, write, puts}
 use Rattle.base_pens.proofs.Pen.{puts-append}
-use Rattle.spec_account.specs.Bytes.{hexDigit, coded, isVisible, visible, eachVisible, isPlain, escaped, margin, shownByte, shown}
+use Rattle.spec_account.specs.Bytes.{hexDigit, coded, isVisible, visible, eachVisible, isPlain, escaped, eachEscaped, margin, shownByte, shown}
 use Rattle.spec_account.specs.Quiet.{isFront, guarded}
 
 -- the rest of the text, behind one byte more
@@ -71,6 +71,14 @@ visible-more l k w x h g = rw (drop-cons l k 0 h, add-one, puts-append, ← g)
 pub visible-end : (l : List ℕ) (k : ℕ) (w : Pen) → length l ≤ k → puts (eachVisible (drop k l)) w ≡ w
 unfolding eachVisible puts
 visible-end l k w h = rw (drop-of-length-le l h)
+
+pub escapes-more : (l : List ℕ) (k : ℕ) (w x : Pen) → k < length l → x ≡ puts (escaped (getD l k 0)) w → puts (eachEscaped (drop k l)) w ≡ puts (eachEscaped (drop (k + 1) l)) x
+unfolding eachEscaped
+escapes-more l k w x h g = rw (drop-cons l k 0 h, add-one, puts-append, ← g)
+
+pub escapes-end : (l : List ℕ) (k : ℕ) (w : Pen) → length l ≤ k → puts (eachEscaped (drop k l)) w ≡ w
+unfolding eachEscaped puts
+escapes-end l k w h = rw (drop-of-length-le l h)
 
 -- a byte behind its guard
 pub guard-put : (f : Bool) (b : ℕ) (w x y : Pen) (g : Bool) → g ≡ both f (isFront b) → x ≡ puts (margin g) w → y ≡ write b x → y ≡ puts (pick (both f (isFront b)) (32 ∷ 32 ∷ []) [] ++ b ∷ []) w

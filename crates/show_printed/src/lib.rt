@@ -86,6 +86,19 @@ pub fn put_visible(text: &[u8], out: &mut [u8], p: usize) -> usize
     q
 }
 
+// Writes bytes of a name or a line; a backslash by its number too.
+pub fn put_escapes(text: &[u8], out: &mut [u8], p: usize) -> usize
+    ensures { λ r. ⌜ pen (now (out .exit)) r ≡ puts (shown.eachEscaped (now (text .entry))) (pen (now (out .entry)) p) ⌝ }
+{
+    let mut q = p;
+    let mut k: usize = 0;
+    while k < text.len() {
+        q = put_escaped(text[k], out, q);
+        k += 1;
+    }
+    q
+}
+
 // Writes the margin, if a line begins here.
 fn put_margin(fresh: bool, out: &mut [u8], p: usize) -> usize
     ensures { λ r. ⌜ pen (now (out .exit)) r ≡ puts (shown.margin fresh) (pen (now (out .entry)) p) ⌝ }

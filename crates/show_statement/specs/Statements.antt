@@ -1,16 +1,17 @@
--- Mechanism, held to the specification by `statement-shown` and `place-shown` (crate `agree_texts`).
+-- Mechanism, held to the specification by `statement-shown`, `seen-shown` and `place-shown` (crate `agree_texts`).
 -- The text of the statement at a place of tables, and where it begins in the normal text: the items of the statement are those from its place through its last one, and the normal text from it on is what
 -- the items from its place on become.
 use Prim.Native.Nat.{ℕ, _+_, _-_, min}
 use mathlib.Core.Bool.{Bool}
 use mathlib.Core.List.{List}
-use lib.ListN.{length}
+use lib.ListN.{length, take}
 use lib.Dec.{eqb}
 use Rattle.base_bytes.specs.Choice.{pick, either}
 use Rattle.base_ceilings.specs.Ceilings.{itemsMost, normalMost}
 use Rattle.base_codes.specs.Codes.{c-assert, c-assign, c-decrement, c-do, c-else, c-end, c-express, c-if}
 use Rattle.base_codes.specs.Sets.{within}
 use Rattle.spec_text.specs.Writing.{write}
+use Rattle.spec_account.specs.Bytes.{eachVisible}
 use Rattle.rule_sheets.specs.Walks.{first}
 use Rattle.table_layout.specs.Access.{itemsOf, codeOf, linkOf}
 use Rattle.normal_writer.specs.Normal.{tokensBetween}
@@ -33,6 +34,10 @@ module _ (t : List ℕ) where
   -- its text, where one statement is asked for (130, specs/Rules.antt of `normal_rows`)
   unfoldable pub statementIn : ℕ → List ℕ
   statementIn q = write (tokensBetween t 130 q (min itemsMost (lastOf q) + 1))
+
+  -- as it is shown, as far as a normal text may reach
+  unfoldable pub seenIn : ℕ → List ℕ
+  seenIn q = eachVisible (take normalMost (statementIn q))
 
   -- how long the normal text is from it on, where units are asked for (143); as far as a normal text may reach
   unfoldable pub lengthFrom : ℕ → ℕ

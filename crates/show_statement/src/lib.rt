@@ -1,7 +1,7 @@
 // The text of one statement, and where it begins in the normal text, from the tables of a model: its items are written by the writer of normal texts, asked for one statement.
 ghost use mathlib.Core.Path.{_≡_};
 ghost use Rattle.base_pens.specs.Pen.{pen, puts};
-ghost use Rattle.show_statement.specs.Statements.{endsLeaf, isBranching, leafEnd, lastOf, statementIn, lengthFrom, placeIn};
+ghost use Rattle.show_statement.specs.Statements.{endsLeaf, isBranching, leafEnd, lastOf, statementIn, seenIn, lengthFrom, placeIn};
 use base_bytes::either;
 use base_codes::within;
 
@@ -62,6 +62,15 @@ pub fn put_statement(t: &[u32], q: usize, out: &mut [u8], p: usize) -> usize
 {
     let last = base_bytes::least(base_ceilings::ITEMS_MOST, last_of(t, q));
     normal_writer::write_tokens(t, STATEMENT, q, last + 1, out, p)
+}
+
+// Writes the statement at place q as it is shown, from a sheet on which every statement of an accepted text has room.
+pub fn put_seen(t: &[u32], q: usize, out: &mut [u8], p: usize) -> usize
+    ensures { λ r. ⌜ pen (now (out .exit)) r ≡ puts (seenIn (now (t .entry)) q) (pen (now (out .entry)) p) ⌝ }
+{
+    let mut text = [0u8; base_ceilings::NORMAL_MOST];
+    let n = put_statement(t, q, &mut text, 0);
+    show_printed::put_visible(base_bytes::part(&text, 0, n), out, p)
 }
 
 // How long the normal text is from the statement at place q on; NORMAL_MOST + 1 where it is longer than a normal text may be.

@@ -14,7 +14,7 @@ use Rattle.base_bytes.specs.Choice.{pick}
 use Rattle.base_kinds.specs.Kinds.{bytes}
 use Rattle.base_pens.specs.Pen.{Pen, write, puts}
 use Rattle.base_pens.proofs.Pen.{puts-append, then-puts}
-use Rattle.spec_account.specs.Bytes.{eachVisible}
+use Rattle.spec_account.specs.Bytes.{eachEscaped}
 use Rattle.spec_account.specs.Steps.{printedText}
 use Rattle.spec_machine.specs.Machine.{Step}
 use Rattle.step_all.specs.declared.Offer.{Offer}
@@ -23,7 +23,7 @@ use Rattle.step_all.specs.Moving.{nthIn}
 use Rattle.base_codes.specs.Codes.{c-end-body}
 use Rattle.spec_text.specs.Formats.{digitsOf}
 use Rattle.table_layout.specs.Access.{codeOf}
-use Rattle.show_statement.specs.Statements.{statementIn}
+use Rattle.show_statement.specs.Statements.{seenIn}
 use Rattle.base_outcome.specs.declared.Taken.{Taken}
 use Rattle.state_layout.specs.Layout.{cellOf}
 use Rattle.show_steps.specs.Steps.{rowIn, stepIn, outcomeIn, printedIn, takenIn, otherIn, othersIn, anyOf, noneBy, standingIn}
@@ -41,7 +41,7 @@ unfolding puts
 printed-none [] w h = refl
 printed-none (b ∷ l) w h = absurd (omega arith)
 
-pub printed-some : (l : List ℕ) (w x : Pen) → (length l ≡ 0 → ⊥) → x ≡ puts (bytes "\tprinted " ++ (eachVisible l ++ 10 ∷ [])) w → x ≡ puts (printedText l) w
+pub printed-some : (l : List ℕ) (w x : Pen) → (length l ≡ 0 → ⊥) → x ≡ puts (bytes "\tprinted " ++ (eachEscaped l ++ 10 ∷ [])) w → x ≡ puts (printedText l) w
 printed-some [] w x h e = absurd (h refl)
 printed-some (b ∷ l) w x h e = e
 
@@ -115,7 +115,7 @@ module _ (t : List ℕ) (q c : ℕ) (w x : Pen) (e : c ≡ codeOf t q) where
   pub ended-put : c ≡ c-end-body → x ≡ puts (bytes " ended") w → x ≡ puts (standingIn t q) w
   ended-put h g = rw (← e, eq-eqb c c-end-body h) g
 
-  pub at-put : (c ≡ c-end-body → ⊥) → x ≡ puts (bytes " at " ++ statementIn t q) w → x ≡ puts (standingIn t q) w
+  pub at-put : (c ≡ c-end-body → ⊥) → x ≡ puts (bytes " at " ++ seenIn t q) w → x ≡ puts (standingIn t q) w
   at-put h g = rw (← e, ne-eqb c c-end-body h) g
 
 pub standing-put : (t : List ℕ) (q r : ℕ) (w x : Pen) → q ≡ r → x ≡ puts (standingIn t q) w → x ≡ puts (standingIn t r) w

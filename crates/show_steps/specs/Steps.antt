@@ -22,7 +22,7 @@ use Rattle.step_prints.specs.Printing as paper
 use Rattle.step_prints.specs.Printing.{printedAt}
 use Rattle.show_words.specs.Words.{titleIn}
 use Rattle.show_state.specs.Listing.{localsIn}
-use Rattle.show_statement.specs.Statements.{statementIn, lengthFrom}
+use Rattle.show_statement.specs.Statements.{seenIn, lengthFrom}
 use Rattle.show_deeds.specs.Deeds.{deedsIn}
 use Rattle.spec_account.specs.Steps.{tab, printedText, faultText}
 
@@ -52,11 +52,11 @@ module _ (t : List ℕ) where
 
   -- an offered step
   abbrev pub offerIn : List ℤ → Step → List ℕ
-  offerIn s x = digitsOf (x .process) ++ (tab ∷ (digitsOf (x .number) ++ (tab ∷ (titleAt s (x .process) ++ (tab ∷ (statementIn t (x .place) ++ 10 ∷ []))))))
+  offerIn s x = digitsOf (x .process) ++ (tab ∷ (digitsOf (x .number) ++ (tab ∷ (titleAt s (x .process) ++ (tab ∷ (seenIn t (x .place) ++ 10 ∷ []))))))
 
   -- a step of a trail, where the normal text has `whole` bytes
   abbrev pub stepIn : List ℤ → ℕ → ℕ → Step → List ℕ
-  stepIn s whole i x = rowIn i (x .process) (x .number) ++ (titleAt s (x .process) ++ (tab ∷ (digitsOf (whole - lengthFrom t (x .place)) ++ (tab ∷ (statementIn t (x .place) ++ 10 ∷ [])))))
+  stepIn s whole i x = rowIn i (x .process) (x .number) ++ (titleAt s (x .process) ++ (tab ∷ (digitsOf (whole - lengthFrom t (x .place)) ++ (tab ∷ (seenIn t (x .place) ++ 10 ∷ [])))))
 
   -- what came of it, where it led from one state to another and printed so
   abbrev pub outcomeIn : List ℤ → List ℤ → Step → List ℕ → Taken → List ℕ
@@ -75,7 +75,7 @@ module _ (t : List ℕ) where
 
   -- a step that process p was offered
   abbrev pub otherIn : ℕ → Step → List ℕ
-  otherIn p x = pick (eqb (x .process) p) (bytes "    " ++ (digitsOf (x .number) ++ (tab ∷ (statementIn t (x .place) ++ 10 ∷ [])))) []
+  otherIn p x = pick (eqb (x .process) p) (bytes "    " ++ (digitsOf (x .number) ++ (tab ∷ (seenIn t (x .place) ++ 10 ∷ [])))) []
 
   unfoldable pub othersIn : ℕ → List Step → List ℕ
   othersIn p [] = []
@@ -93,7 +93,7 @@ module _ (t : List ℕ) where
 
   -- process p: where it stands, and its variables
   abbrev pub standingIn : ℕ → List ℕ
-  standingIn q = pick (eqb (codeOf t q) c-end-body) (bytes " ended") (bytes " at " ++ statementIn t q)
+  standingIn q = pick (eqb (codeOf t q) c-end-body) (bytes " ended") (bytes " at " ++ seenIn t q)
 
   abbrev pub processIn : List ℤ → ℕ → List ℕ
   processIn s p = bytes "process " ++ (digitsOf p ++ (32 ∷ (titleAt s p ++ (standingIn (placeOf s p) ++ (10 ∷ localsIn t s p)))))

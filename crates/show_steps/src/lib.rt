@@ -6,7 +6,7 @@ ghost use Rattle.base_pens.specs.Pen.{pen, puts};
 ghost use Rattle.base_kinds.specs.Kinds.{bytes};
 ghost use Rattle.spec_text.specs.Formats.{digitsOf};
 ghost use Rattle.spec_account.specs.Steps.{printedText, faultText};
-ghost use Rattle.show_statement.specs.Statements.{statementIn};
+ghost use Rattle.show_statement.specs.Statements.{seenIn};
 ghost use lib.ListN.{length};
 ghost use Rattle.base_ceilings.specs.Ceilings.{stateRoom};
 ghost use Rattle.spec_machine.specs.Machine as machine;
@@ -34,10 +34,10 @@ fn put_field(n: usize, out: &mut [u8], p: usize) -> usize
 
 // Writes the statement at place q behind a tab, and ends the line.
 fn put_last(t: &[u32], q: u32, out: &mut [u8], p: usize) -> usize
-    ensures { λ r. ⌜ pen (now (out .exit)) r ≡ puts (9 ∷ (statementIn (now (t .entry)) q ++ 10 ∷ [])) (pen (now (out .entry)) p) ⌝ }
+    ensures { λ r. ⌜ pen (now (out .exit)) r ≡ puts (9 ∷ (seenIn (now (t .entry)) q ++ 10 ∷ [])) (pen (now (out .entry)) p) ⌝ }
 {
     let a = put(out, p, b'\t');
-    let b = show_statement::put_statement(t, q as usize, out, a);
+    let b = show_statement::put_seen(t, q as usize, out, a);
     put(out, b, b'\n')
 }
 
@@ -101,7 +101,7 @@ fn put_printed(text: &[u8], out: &mut [u8], p: usize) -> usize
         return p;
     }
     let a = put_all(b"\tprinted ", out, p);
-    let b = show_printed::put_visible(text, out, a);
+    let b = show_printed::put_escapes(text, out, a);
     put(out, b, b'\n')
 }
 
@@ -311,7 +311,7 @@ fn put_standing(t: &[u32], q: u32, out: &mut [u8], p: usize) -> usize
         return put_all(b" ended", out, p);
     }
     let a = put_all(b" at ", out, p);
-    show_statement::put_statement(t, q as usize, out, a)
+    show_statement::put_seen(t, q as usize, out, a)
 }
 
 // Writes a process: its number, its proctype, where it stands, and its variables.

@@ -13,10 +13,10 @@ use step_all::Offer;
 use trail_form::Formed;
 use trail_form::Record;
 
-// The most bytes of a step with all that it did, and of what a process was offered in its stead.
-const STEP_ROOM: usize = 2 * base_ceilings::NORMAL_MOST;
+// The most bytes of a step with all that it did, and of what a process was offered in its stead, where a byte of a statement takes at most four.
+const STEP_ROOM: usize = 5 * base_ceilings::NORMAL_MOST;
 
-const INSTEAD_ROOM: usize = 4 * base_ceilings::NORMAL_MOST;
+const INSTEAD_ROOM: usize = 5 * base_ceilings::NORMAL_MOST;
 
 // How a trail goes on behind a record: with the next one, with one that follows a step which failed, or not at all.
 enum Next {

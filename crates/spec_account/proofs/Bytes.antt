@@ -1,6 +1,6 @@
--- Laws of shown bytes: their length, that every line of what a model prints has its margin, and that what is shown determines what was printed.
+-- Laws of shown bytes: their length, that every line of what a model prints has its margin, and that what is shown determines what was printed, and of a statement the statement.
 use Prim.Native.Nat.{ℕ, _+_, _-_, _*_, _/_, _%_, _≤_, _<_}
-use mathlib.Core.Path.{_≡_, refl, sym, ap, _∙_}
+use mathlib.Core.Path.{_≡_, refl, sym, ap, ap₂, _∙_}
 use mathlib.Core.Bool.{Bool, true, false}
 use mathlib.Core.List.{List, [], _∷_, _++_, append-assoc, append-nil}
 use native.Mathlib.Omega.{arith}
@@ -9,8 +9,8 @@ use lib.ListN.{length, getD, drop, length-append}
 use borrow.Author.Tests.{ne-eqb, eqb-true, lt-ltb, le-ltb}
 use lib.Dec.{eqb, ltb}
 use Rattle.base_bytes.specs.Choice.{pick}
-use Rattle.base_bytes.proofs.Tests.{true-false}
-use Rattle.spec_account.specs.Bytes.{hexDigit, isVisible, visible, eachVisible, isPlain, escaped, margin, shownByte, shown, indented}
+use Rattle.base_bytes.proofs.Tests.{true-false, both-true}
+use Rattle.spec_account.specs.Bytes.{hexDigit, isVisible, visible, eachVisible, isEscapable, isPairedFrom, isPaired, isPlain, escaped, margin, shownByte, shown, indented}
 
 -- ---- the room that is lent for a step's text is enough
 escaped-short : (b : ℕ) → length (escaped b) ≤ 4
@@ -149,3 +149,86 @@ shown-determines f (a ∷ x) (b ∷ y) h k e =
     let rest : shown (eqb a 10) x ≡ shown (eqb b 10) y = sym (read-unit a (shown (eqb a 10) x) (h .0) .1) ∙ ap leftBehind same ∙ read-unit b (shown (eqb b 10) y) (k .0) .1 in
     let others : x ≡ y = shown-determines (eqb b 10) x y (h .1) (k .1) (ap (λ (c : ℕ). shown (eqb c 10) x) (sym first) ∙ rest) in
     ap (λ (c : ℕ). c ∷ x) first ∙ ap (b ∷_) others
+
+-- ---- WHAT IS SHOWN OF A STATEMENT DETERMINES IT. A backslash stands as itself there, but behind each stands a byte that makes it one of a string (`isPaired`), never an `x`
+escapable-seen : (b : ℕ) → isEscapable b ≡ true → isVisible b ≡ true
+unfolding isEscapable isVisible
+escapable-seen b h = by (eqb b 110) (eqb b 116) (eqb b 34) (eqb b 92) refl refl refl refl
+  where
+    by : (p q r s : Bool) → eqb b 110 ≡ p → eqb b 116 ≡ q → eqb b 34 ≡ r → eqb b 92 ≡ s → isVisible b ≡ true
+    by true q r s e f g i = rw (eqb-true b 110 e) refl
+    by false true r s e f g i = rw (eqb-true b 116 f) refl
+    by false false true s e f g i = rw (eqb-true b 34 g) refl
+    by false false false true e f g i = rw (eqb-true b 92 i) refl
+    by false false false false e f g i = absurd (true-false (sym h ∙ rw (e, f, g, i) refl))
+
+-- the first byte of what is shown, and what is left behind it
+seen-first : (b : ℕ) (l : List ℕ) → isVisible b ≡ true → eachVisible (b ∷ l) ≡ b ∷ eachVisible l
+unfolding eachVisible visible
+seen-first b l h = rw h refl
+
+coded-first : (b : ℕ) (l : List ℕ) → isVisible b ≡ false → eachVisible (b ∷ l) ≡ 92 ∷ 120 ∷ hexDigit (b / 16) ∷ hexDigit (b % 16) ∷ eachVisible l
+unfolding eachVisible visible
+coded-first b l h = rw h refl
+
+no-x : isEscapable 120 ≡ false
+unfolding isEscapable
+no-x = refl
+
+-- behind a backslash no `x` is shown
+never-x : (l r : List ℕ) → isPairedFrom true l ≡ true → eachVisible l ≡ 120 ∷ r → ⊥
+unfolding isPairedFrom
+never-x [] r h e = true-false (sym h)
+never-x (b ∷ l) r h e =
+    let p = both-true (isEscapable b) (isPairedFrom false l) h in
+    let q : b ≡ 120 = ap (λ z. getD z 0 0) (sym (seen-first b l (escapable-seen b (p .0))) ∙ e) in
+    true-false (sym (p .0) ∙ ap isEscapable q ∙ no-x)
+
+-- what is not shown as itself
+coded-equal : (a b : ℕ) (x y : List ℕ) → a < 256 → b < 256 → 92 ∷ 120 ∷ hexDigit (a / 16) ∷ hexDigit (a % 16) ∷ x ≡ 92 ∷ 120 ∷ hexDigit (b / 16) ∷ hexDigit (b % 16) ∷ y → (a ≡ b) × (x ≡ y)
+coded-equal a b x y h k e =
+    let u : a / 16 ≡ b / 16 = sym (value-digit (a / 16) (omega arith)) ∙ ap (λ z. valueOf (getD z 2 0)) e ∙ value-digit (b / 16) (omega arith) in
+    let v : a % 16 ≡ b % 16 = sym (value-digit (a % 16) (omega arith)) ∙ ap (λ z. valueOf (getD z 3 0)) e ∙ value-digit (b % 16) (omega arith) in
+    (omega (arith, u, v), ap (drop 4) e)
+
+unseen-plain : (b : ℕ) → isVisible b ≡ false → eqb b 92 ≡ false
+unfolding isVisible
+unseen-plain b h = by (eqb b 92) refl
+  where
+    by : (p : Bool) → eqb b 92 ≡ p → eqb b 92 ≡ false
+    by true e = absurd (true-false (rw (eqb-true b 92 e) refl ∙ h))
+    by false e = e
+
+-- one shown as itself and one that is not cannot begin alike
+unlike : (a : ℕ) (x r : List ℕ) → isPairedFrom (eqb a 92) x ≡ true → a ∷ eachVisible x ≡ 92 ∷ 120 ∷ r → ⊥
+unlike a x r h e = never-x x r (ap (λ (b : ℕ). isPairedFrom (eqb b 92) x) (sym (ap (λ z. getD z 0 0) e)) ∙ h) (ap (drop 1) e)
+
+some : (b : ℕ) (l : List ℕ) (i : Bool) → isVisible b ≡ i → eachVisible (b ∷ l) ≡ [] → ⊥
+some b l true i e = omega (arith, ap length (sym (seen-first b l i) ∙ e))
+some b l false i e = omega (arith, ap length (sym (coded-first b l i) ∙ e))
+
+determined : (x y : List ℕ) (f : Bool) → Bytes x → Bytes y → isPairedFrom f x ≡ true → isPairedFrom f y ≡ true → eachVisible x ≡ eachVisible y → x ≡ y
+unfolding isPairedFrom eachVisible
+determined [] [] f h k p q e = refl
+determined [] (b ∷ y) f h k p q e = absurd (some b y (isVisible b) refl (sym e))
+determined (a ∷ x) [] f h k p q e = absurd (some a x (isVisible a) refl e)
+determined (a ∷ x) (b ∷ y) true h k p q e =
+    let u = both-true (isEscapable a) (isPairedFrom false x) p in
+    let v = both-true (isEscapable b) (isPairedFrom false y) q in
+    let g = sym (seen-first a x (escapable-seen a (u .0))) ∙ e ∙ seen-first b y (escapable-seen b (v .0)) in
+    ap₂ _∷_ (ap (λ z. getD z 0 0) g) (determined x y false (h .1) (k .1) (u .1) (v .1) (ap (drop 1) g))
+determined (a ∷ x) (b ∷ y) false h k p q e = by (λ f. determined x y f (h .1) (k .1)) (isVisible a) (isVisible b) refl refl
+  where
+    by : ((f : Bool) → isPairedFrom f x ≡ true → isPairedFrom f y ≡ true → eachVisible x ≡ eachVisible y → x ≡ y) → (i j : Bool) → isVisible a ≡ i → isVisible b ≡ j → a ∷ x ≡ b ∷ y
+    by go true true i j =
+        let g = sym (seen-first a x i) ∙ e ∙ seen-first b y j in
+        let first : a ≡ b = ap (λ z. getD z 0 0) g in
+        ap₂ _∷_ first (go (eqb a 92) p (ap (λ (c : ℕ). isPairedFrom (eqb c 92) y) first ∙ q) (ap (drop 1) g))
+    by go true false i j = absurd (unlike a x _ p (sym (seen-first a x i) ∙ e ∙ coded-first b y j))
+    by go false true i j = absurd (unlike b y _ q (sym (seen-first b y j) ∙ sym e ∙ coded-first a x i))
+    by go false false i j =
+        let g = coded-equal a b _ _ (h .0) (k .0) (sym (coded-first a x i) ∙ e ∙ coded-first b y j) in
+        ap₂ _∷_ (g .0) (go false (ap (λ z. isPairedFrom z x) (sym (unseen-plain a i)) ∙ p) (ap (λ z. isPairedFrom z y) (sym (unseen-plain b j)) ∙ q) (g .1))
+
+pub statement-determines : (x y : List ℕ) → Bytes x → Bytes y → isPaired x ≡ true → isPaired y ≡ true → eachVisible x ≡ eachVisible y → x ≡ y
+statement-determines x y = determined x y false

@@ -7,7 +7,7 @@ use Rattle.spec_text.specs.Formats.{digitsOf}
 use Rattle.spec_machine.specs.Machine.{Verdict, finished, blocked, «open»}
 use Rattle.spec_trails.specs.Trails.{verdicts}
 use Rattle.spec_trails.specs.Runs.{Ending, stood, refuted, faulted}
-use Rattle.spec_account.specs.Bytes.{eachVisible}
+use Rattle.spec_account.specs.Bytes.{eachEscaped}
 
 -- a text that is refused with number x; its part begins at place i and has n bytes
 unfoldable pub refusedLine : ℕ → ℕ → ℕ → List ℕ
@@ -39,4 +39,12 @@ stoppedLine x line = bytes "refused " ++ (digitsOf x ++ (32 ∷ (digitsOf line +
 
 -- an error: its words, and what it speaks of, as it is shown
 abbrev pub errorLine : List ℕ → List ℕ → List ℕ
-errorLine words name = words ++ (eachVisible name ++ 10 ∷ [])
+errorLine words name = words ++ (eachEscaped name ++ 10 ∷ [])
+
+-- the heading of command n of a list, which is told by its line
+abbrev pub headingLine : ℕ → List ℕ → List ℕ
+headingLine n line = bytes "== " ++ (digitsOf n ++ (32 ∷ (eachEscaped line ++ 10 ∷ [])))
+
+-- the status of an answer, as who started the program is told it
+abbrev pub statusLine : ℕ → List ℕ
+statusLine x = bytes "status" ++ (32 ∷ (digitsOf x ++ 10 ∷ []))

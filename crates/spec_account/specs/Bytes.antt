@@ -4,7 +4,7 @@ use Prim.Native.Nat.{ℕ, _+_, _/_, _%_}
 use mathlib.Core.Bool.{Bool, true, false}
 use mathlib.Core.List.{List, [], _∷_, _++_}
 use lib.Dec.{eqb, ltb, leb}
-use Rattle.base_bytes.specs.Choice.{pick}
+use Rattle.base_bytes.specs.Choice.{pick, both, either}
 
 unfoldable pub hexDigit : ℕ → ℕ
 hexDigit n = pick (ltb n 10) (48 + n) (87 + n % 16)
@@ -23,12 +23,29 @@ unfoldable pub eachVisible : List ℕ → List ℕ
 eachVisible [] = []
 eachVisible (b ∷ l) = visible b ++ eachVisible l
 
--- printable ASCII but for the backslash (92), which marks what is not shown as itself
+-- in a statement a backslash (92) is one of a string, where `n` (110), `t` (116), a quote (34) or a backslash follows it; `behind` says that one stands before the list
+unfoldable pub isEscapable : ℕ → Bool
+isEscapable b = either (either (eqb b 110) (eqb b 116)) (either (eqb b 34) (eqb b 92))
+
+unfoldable pub isPairedFrom : Bool → List ℕ → Bool
+isPairedFrom true [] = false
+isPairedFrom false [] = true
+isPairedFrom true (b ∷ l) = both (isEscapable b) (isPairedFrom false l)
+isPairedFrom false (b ∷ l) = isPairedFrom (eqb b 92) l
+
+abbrev pub isPaired : List ℕ → Bool
+isPaired l = isPairedFrom false l
+
+-- printable ASCII but for the backslash, which marks what is not shown as itself
 unfoldable pub isPlain : ℕ → Bool
 isPlain b = pick (eqb b 92) false (pick (leb 32 b) (leb b 126) false)
 
 unfoldable pub escaped : ℕ → List ℕ
 escaped b = pick (isPlain b) (b ∷ []) (coded b)
+
+unfoldable pub eachEscaped : List ℕ → List ℕ
+eachEscaped [] = []
+eachEscaped (b ∷ l) = escaped b ++ eachEscaped l
 
 unfoldable pub margin : Bool → List ℕ
 margin true = 32 ∷ 32 ∷ []

@@ -2,11 +2,13 @@
 -- its second line, behind its end, and one that spans lines.
 use mathlib.Core.Path.{_≡_, refl}
 use mathlib.Core.Bool.{true, false}
-use mathlib.Core.List.{List, [], _∷_}
+use mathlib.Core.List.{List, [], _∷_, _++_}
 use Rattle.base_kinds.specs.Kinds.{bytes}
 use Rattle.spec_text.specs.Formats.{digitsBy}
-use Rattle.spec_account.specs.Bytes.{hexDigit, isVisible, visible, eachVisible, isPlain, escaped, margin, shownByte, shown, indented}
+use Rattle.spec_account.specs.Bytes.{hexDigit, isVisible, visible, eachVisible, isEscapable, isPairedFrom, isPaired, isPlain, escaped, eachEscaped, margin, shownByte, shown, indented}
 use Rattle.spec_account.specs.Quiet.{isFront, quiet, guarded}
+use Rattle.spec_account.specs.Answers.{errorLine, headingLine, statusLine}
+use Rattle.spec_account.specs.Steps.{printedText}
 use Rattle.spec_account.specs.Refused.{firstLine, lastLine, ends, refusedAt}
 
 -- a model that prints `open` and a line end
@@ -24,10 +26,25 @@ escapes : (escaped 31 ≡ bytes "\\x1f") × (escaped 32 ≡ bytes " ") × (escap
 unfolding escaped isPlain hexDigit
 escapes = (refl, refl, refl, refl, refl, refl, refl, refl)
 
--- in a line of a text or of a step the backslash stands as itself
-seen : eachVisible (9 ∷ 92 ∷ 126 ∷ 127 ∷ []) ≡ bytes "\\x09\\~\\x7f"
-unfolding eachVisible visible isVisible hexDigit
-seen = refl
+-- in a line of a text and in a statement the backslash stands as itself, in a name, a heading and what a step printed by its number
+seen : (eachVisible (9 ∷ 92 ∷ 126 ∷ 127 ∷ []) ≡ bytes "\\x09\\~\\x7f") × (eachEscaped (9 ∷ 92 ∷ 126 ∷ 127 ∷ []) ≡ bytes "\\x09\\x5c~\\x7f")
+unfolding eachVisible visible isVisible eachEscaped escaped isPlain hexDigit
+seen = (refl, refl)
+
+-- a name with a backslash and an escape, a heading with a carriage return, a status
+lines : (errorLine (bytes "error: cannot read ") (bytes "a\\x" ++ 27 ∷ []) ≡ bytes "error: cannot read a\\x5cx\\x1b\n") × (headingLine 17 (bytes "read a" ++ 13 ∷ []) ≡ bytes "== 17 read a\\x0d\n") × (statusLine 2 ≡ bytes "status 2\n")
+unfolding eachEscaped escaped isPlain hexDigit digitsBy
+lines = (refl, refl, refl)
+
+-- a step that printed a backslash and a line end
+printed : (printedText (bytes "a\\\n") ≡ bytes "\tprinted a\\x5c\\x0a\n") × (printedText [] ≡ [])
+unfolding eachEscaped escaped isPlain hexDigit
+printed = (refl, refl)
+
+-- `"a\\n\\x"`, where the second backslash is written twice, and with a lone one
+pairs : (isPaired (bytes "\"a\\n\\\\x\"") ≡ true) × (isPaired (bytes "\"\\x\"") ≡ false) × (isPaired (bytes "a\\") ≡ false)
+unfolding isPairedFrom isEscapable
+pairs = (refl, refl, refl)
 
 -- a line with one blank, and none, is not indented
 margins : (indented true (bytes " a") ≡ false) × (indented true (bytes "  a") ≡ true) × (indented false (bytes "a\na") ≡ false)

@@ -30,7 +30,7 @@ use Rattle.spec_account.specs.Steps.{deedsBy, outcomeText, othersText, t
 
 -- to unfold this is to unfold all that the examples compute with, beside the machine
 unfoldable shows : Unit {0}
-unfolding asked same find writeBehind digitsBy fromIn fromUnit deeds deliveredAll valuesText furtherText messagesText variablesText processesText channelsText stateText deedsBy othersText trailText
+unfolding asked same find writeBehind digitsBy eachVisible visible isVisible fromIn fromUnit deeds deliveredAll valuesText furtherText messagesText variablesText processesText channelsText stateText deedsBy othersText trailText
 shows = tt
 
 abbrev record-of : ℕ → ℕ → Recorded

@@ -5,7 +5,9 @@ pub mod Statements
 pub mod Deeds
 pub mod States
 pub mod Steps
+pub mod Waits
 pub mod Answers
 pub mod Examples
 pub mod ExamplesStatements
 pub mod ExamplesSteps
+pub mod ExamplesWaits

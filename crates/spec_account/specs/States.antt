@@ -13,6 +13,7 @@ use Rattle.spec_machine.specs.State.{Channel, Process, State, noProcess}
 use Rattle.spec_machine.specs.Names.{Var, variablesOf, globalsOf, unitAt}
 use Rattle.spec_machine.specs.Plain.{capacityIn, declaredBy}
 use Rattle.spec_machine.specs.Steps.{Found, nothing, found, standing, endedOf}
+use Rattle.spec_account.specs.Bytes.{eachVisible}
 use Rattle.spec_account.specs.Statements.{statementText, titleOf}
 
 -- each number behind a blank
@@ -46,9 +47,10 @@ module _ (m : Model) (σ : State) where
   abbrev pub globalsText : List ℕ
   globalsText = variablesText (bytes "global ") (globalsOf m) (σ .globals)
 
+  -- a statement, as it is shown: what is shown determines it (`statement-determines`, proofs/Bytes.antt)
   abbrev pub atText : Found → List ℕ
   atText nothing = []
-  atText (found a n o) = statementText a
+  atText (found a n o) = eachVisible (statementText a)
 
   -- process p
   abbrev pub standingText : ℕ → List ℕ

@@ -24,7 +24,7 @@ use Rattle.spec_machine.specs.Plain.{channelAt, numbersOf}
 use Rattle.spec_machine.specs.Machine.{Step, offered, asked, advance}
 use Rattle.spec_machine.specs.Steps.{Found, nothing, found, standing, stageOf, printOf, machineOf}
 use Rattle.spec_trails.specs.Trails.{Recorded}
-use Rattle.spec_account.specs.Bytes.{eachVisible}
+use Rattle.spec_account.specs.Bytes.{eachEscaped}
 use Rattle.spec_account.specs.Statements.{standsAt}
 use Rattle.spec_account.specs.Deeds.{Deed, stored, sent, received, started, deeds}
 use Rattle.spec_account.specs.States.{messageText, atText, titleText}
@@ -63,7 +63,7 @@ module _ (m : Model) (p : ℕ) (u : Part) (σ τ : State) where
 
 abbrev pub printedText : List ℕ → List ℕ
 printedText [] = []
-printedText (b ∷ l) = bytes "\tprinted " ++ (eachVisible (b ∷ l) ++ 10 ∷ [])
+printedText (b ∷ l) = bytes "\tprinted " ++ (eachEscaped (b ∷ l) ++ 10 ∷ [])
 
 abbrev pub faultText : Fault → List ℕ
 faultText Divide = bytes "\tfault: a divisor is 0\n"

@@ -7,7 +7,7 @@ use Rattle.show_left.proofs.show_processes.Statement.{statement}
 use Rattle.show_left.proofs.show_processes.Tie as tie
 
 abbrev Inv-loop : tie.InvT-loop
-Inv-loop t s n out₀ p₀ out p = (length out ≡ 2 * normalMost) × (n ≤ 16)
+Inv-loop t s n out₀ p₀ out p = (length out ≡ 5 * normalMost) × (n ≤ 16)
 
 abbrev μ-loop : tie.MeasureT-loop
 μ-loop t s n out₀ p₀ out p = n - p

@@ -1,0 +1,1 @@
+proctype q(){chan a=[1]of{byte};chan b=[1]of{byte};skip}init{byte n;do::n<8->n++;run q()::n==8->break od;if::timeout->if::0::do::run q()od fi fi}

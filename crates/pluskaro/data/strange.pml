@@ -1,0 +1,1 @@
+init{printf("\\x\n‮%d\t",1);assert(1)}

@@ -1,0 +1,16 @@
+use borrow.Author.Tests.{lt-ltb, le-ltb}
+use Rattle.show_lists.specs.Tally.{more}
+use borrow.Author.Needs.{needs}
+use Rattle.show_lists.proofs.tally.one_more.Statement.{statement}
+use Rattle.show_lists.proofs.tally.one_more.Tie as tie
+
+returns : tie.Need-returns
+unfolding more
+returns c = rw (lt-ltb _ _ (c .if1 .taken))
+
+returns-2 : tie.Need-returns-2
+unfolding more
+returns-2 c = rw (le-ltb _ _ (c .if1 .left))
+
+pub one-more-spec : {M : Type 1} → statement M
+one-more-spec = tie.close (tie.spec (λ c. search needs) returns returns-2)

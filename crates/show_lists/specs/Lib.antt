@@ -1,0 +1,3 @@
+pub mod Words
+pub mod Tally
+pub mod Examples
