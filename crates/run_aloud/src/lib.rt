@@ -3,6 +3,7 @@ ghost use mathlib.Core.Path.{_≡_};
 ghost use Rattle.run_entry.specs.Runs.{turnIn, runIn, shown};
 use base_bytes::part;
 use base_outcome::Taken;
+use base_values::Fault;
 use run_entry::Ending;
 use run_entry::Ran;
 use show_answers::put;
