@@ -4,10 +4,10 @@ use Prim.Native.Nat.{ℕ, _-_, _≤_, _<_, min}
 use mathlib.Core.Path.{_≡_, refl, sym as inv, ap, ap₂, _∙_}
 use mathlib.Core.List.{List, [], _∷_, _++_}
 use native.Mathlib.Omega.{arith}
-use lib.ListN.{length, drop, replicate, length-append, length-replicate}
+use lib.ListN.{length, take, drop, replicate, length-append, length-replicate}
 use lib.Seq.{take-append-seam}
-use lib.IntN.{ℤ}
-use Rattle.base_ceilings.specs.Ceilings.{printRoom}
+use lib.IntN.{ℤ, pos}
+use Rattle.base_ceilings.specs.Ceilings.{stateRoom, printRoom}
 use Rattle.base_bytes.specs.Lists.{piece}
 use Rattle.step_prints.specs.Printing as paper
 use Rattle.base_outcome.specs.declared.Taken.{Taken}
@@ -34,7 +34,7 @@ use Rattle.agree_listing.proofs.Main.{title-shown}
 use Rattle.agree_texts.proofs.Main.{seen-shown, place-shown}
 use Rattle.agree_deeds.proofs.Main.{deeds-shown}
 use Rattle.show_statement.specs.Statements.{seenIn, lengthFrom, placeIn}
-use Rattle.show_steps.specs.Steps.{titleAt, offerIn, stepIn, outcomeIn, paperOf, printedIn, takenIn}
+use Rattle.show_steps.specs.Steps.{padded, titleAt, offerIn, stepIn, outcomeIn, paperOf, printedIn, takenIn}
 use Rattle.agree_account.proofs.Listed.{offered-listed}
 
 module _ (t : List ℕ) (a : Accepts t) (rest : List ℤ) (σ : State) (f : Fits (Belongs (a .tree)) (a .tree) σ) (x : Step) (i : In x (offered (machineOf (a .tree)) σ)) where
@@ -110,7 +110,11 @@ module _ (t : List ℕ) (a : Accepts t) (rest : List ℤ) (σ : State) (f : Fits
       ap (λ (l : List ℕ). piece (paperOf l .bytes) 0 (paperOf l .at)) (inv (text-printed t a rest σ f (x .process) here (late M σ) (x .place) listed))
       ∙ written (printOf m σ (x .process) (x .place)) (text-short t a rest σ f (x .process) here (late M σ) (x .place) listed)
 
+  -- the numbers of a state are kept as they are
+  kept-there : length S ≡ stateRoom → padded stateRoom S ≡ S
+  kept-there l = ap (λ (n : ℕ). take n (S ++ replicate stateRoom (pos 0))) (inv l) ∙ take-append-seam S (replicate stateRoom (pos 0))
+
   -- BOTH, as the code tells a step that it takes
-  pub taken-shown : (n : ℕ) (r : Taken) (τ : State) → advance (machineOf (a .tree)) σ x ≡ (r, τ)
+  pub taken-shown : (n : ℕ) (r : Taken) (τ : State) → length (encode (a .tree) σ ++ rest) ≡ stateRoom → advance (machineOf (a .tree)) σ x ≡ (r, τ)
       → takenIn (tablesText t) (encode (a .tree) σ ++ rest) (encode (a .tree) τ ++ rest) (lengthFrom (tablesText t) 0) n x r ≡ stepText (a .tree) σ n x ++ outcomeText (a .tree) σ x r τ
-  taken-shown n r τ e = ap₂ _++_ (step-shown n) (ap (λ (l : List ℕ). outcomeIn T S (encode m τ ++ rest) x l r) printed-there ∙ outcome-shown r τ e)
+  taken-shown n r τ l e = ap₂ _++_ (step-shown n) (ap₂ (λ (k : List ℤ) (w : List ℕ). outcomeIn T k (encode m τ ++ rest) x w r) (kept-there l) printed-there ∙ outcome-shown r τ e)

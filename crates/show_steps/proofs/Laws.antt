@@ -5,12 +5,13 @@ use mathlib.Core.Bool.{Bool, true, false}
 use mathlib.Core.List.{List, [], _∷_, _++_, append-assoc}
 use native.Mathlib.Omega.{arith}
 use native.Mathlib.Numerals.{add-one}
-use lib.ListN.{length, set, take, drop, length-take, drop-of-length-le}
+use lib.ListN.{length, set, take, drop, replicate, length-take, length-append, length-replicate, drop-of-length-le}
 use lib.Seq.{take-all, take-suc, take-suc-set}
 use lib.IntN.{ℤ, pos}
 use lib.Dec.{eqb}
 use borrow.Author.Tests.{eq-eqb, ne-eqb}
 use Rattle.base_bytes.specs.Choice.{pick}
+use Rattle.base_ceilings.specs.Ceilings.{stateRoom}
 use Rattle.base_kinds.specs.Kinds.{bytes}
 use Rattle.base_pens.specs.Pen.{Pen, write, puts}
 use Rattle.base_pens.proofs.Pen.{puts-append, then-puts}
@@ -26,7 +27,7 @@ use Rattle.table_layout.specs.Access.{codeOf}
 use Rattle.show_statement.specs.Statements.{seenIn}
 use Rattle.base_outcome.specs.declared.Taken.{Taken}
 use Rattle.state_layout.specs.Layout.{cellOf}
-use Rattle.show_steps.specs.Steps.{rowIn, stepIn, outcomeIn, printedIn, takenIn, otherIn, othersIn, anyOf, noneBy, standingIn}
+use Rattle.show_steps.specs.Steps.{padded, rowIn, stepIn, outcomeIn, printedIn, takenIn, otherIn, othersIn, anyOf, noneBy, standingIn}
 
 -- pens with what is written regrouped
 pub puts-same : (a b : List ℕ) (w x : Pen) → x ≡ puts a w → a ≡ b → x ≡ puts b w
@@ -126,10 +127,23 @@ pub kept-more : (s b : List ℤ) (i : ℕ) (v : ℤ) → i < length s → i < le
 kept-more s b i v h k e g =
     ap (λ n. take n (set b i v)) (add-one i) ∙ take-suc-set b i v k ∙ ap₂ (λ l w. l ++ w ∷ []) g e ∙ sym (take-suc s i (pos 0) h) ∙ ap (λ n. take n s) (sym (add-one i))
 
-pub kept-all : (s b : List ℤ) (i : ℕ) → length s ≤ i → length b ≤ i → take i b ≡ take i s → b ≡ s
-kept-all s b i h k e = sym (take-all i b k) ∙ e ∙ take-all i s h
+pub kept-all : (s b : List ℤ) (n i : ℕ) → n ≤ i → length b ≡ n → i ≤ n → take i b ≡ take i s → b ≡ take n s
+kept-all s b n i h k l e = let q : i ≡ n = omega arith in sym (take-all n b (omega (arith, k))) ∙ ap (λ j. take j b) (sym q) ∙ e ∙ ap (λ j. take j s) q
+
+zeros : (n i : ℕ) → cellOf (replicate n (pos 0)) i ≡ pos 0
+zeros zero i = refl
+zeros (suc n) zero = refl
+zeros (suc n) (suc i) = zeros n i
+
+pub padded-cell : (s : List ℤ) (n i : ℕ) → cellOf (s ++ replicate n (pos 0)) i ≡ cellOf s i
+padded-cell [] n i = zeros n i
+padded-cell (x ∷ s) n zero = refl
+padded-cell (x ∷ s) n (suc i) = padded-cell s n i
+
+pub padded-long : (s : List ℤ) (n i : ℕ) → i < n → i < length (s ++ replicate n (pos 0))
+padded-long s n i h = omega (arith, length-append s (replicate n (pos 0)), length-replicate {A = ℤ} n (pos 0))
 
 -- ---- a step taken and told
-pub taken-put : (t : List ℕ) (s kept after : List ℤ) (whole i : ℕ) (x : Step) (r : Taken) (printed : List ℕ) (w a b : Pen) → kept ≡ s → printed ≡ printedIn t s x → a ≡ puts (stepIn t s whole i x) w → b ≡ puts (outcomeIn t kept after x printed r) a
+pub taken-put : (t : List ℕ) (s kept after : List ℤ) (whole i : ℕ) (x : Step) (r : Taken) (printed : List ℕ) (w a b : Pen) → kept ≡ padded stateRoom s → printed ≡ printedIn t s x → a ≡ puts (stepIn t s whole i x) w → b ≡ puts (outcomeIn t kept after x printed r) a
     → b ≡ puts (takenIn t s after whole i x r) w
-taken-put t s kept after whole i x r printed w a b e f g h = then-puts (stepIn t s whole i x) (outcomeIn t s after x (printedIn t s x) r) w a b g (h ∙ ap₂ (λ k l. puts (outcomeIn t k after x l r) a) e f)
+taken-put t s kept after whole i x r printed w a b e f g h = then-puts (stepIn t s whole i x) (outcomeIn t (padded stateRoom s) after x (printedIn t s x) r) w a b g (h ∙ ap₂ (λ k l. puts (outcomeIn t k after x l r) a) e f)

@@ -4,9 +4,9 @@ use Prim.Native.Nat.{ℕ, suc, _+_, _-_, _*_}
 use mathlib.Core.Bool.{Bool, true, false}
 use mathlib.Core.List.{List, [], _∷_, _++_}
 use lib.ListN.{take, replicate}
-use lib.IntN.{ℤ}
+use lib.IntN.{ℤ, pos}
 use lib.Dec.{eqb, ltb}
-use Rattle.base_ceilings.specs.Ceilings.{processesMost, itemsMost, printRoom}
+use Rattle.base_ceilings.specs.Ceilings.{processesMost, itemsMost, stateRoom, printRoom}
 use Rattle.base_bytes.specs.Lists.{piece}
 use Rattle.base_bytes.specs.Choice.{pick}
 use Rattle.base_kinds.specs.Kinds.{bytes}
@@ -46,6 +46,10 @@ noneBy false = bytes "    nothing\n"
 abbrev pub paperOf : List ℕ → paper.Pen
 paperOf text = paper.puts text (paper.pen (replicate printRoom 0) 0)
 
+-- the first n numbers of a state, with zeros behind the last
+abbrev pub padded : ℕ → List ℤ → List ℤ
+padded n s = take n (s ++ replicate n (pos 0))
+
 module _ (t : List ℕ) where
   abbrev pub titleAt : List ℤ → ℕ → List ℕ
   titleAt s p = titleIn t (unitOf s p)
@@ -69,9 +73,9 @@ module _ (t : List ℕ) where
   abbrev pub printedIn : List ℤ → Step → List ℕ
   printedIn s x = piece (paperOf (printedAt t s (x .process) (x .place)) .bytes) 0 (paperOf (printedAt t s (x .process) (x .place)) .at)
 
-  -- the step and what came of it
+  -- the step and what came of it, told by the numbers before it as they were kept
   abbrev pub takenIn : List ℤ → List ℤ → ℕ → ℕ → Step → Taken → List ℕ
-  takenIn before after whole i x r = stepIn before whole i x ++ outcomeIn before after x (printedIn before x) r
+  takenIn before after whole i x r = stepIn before whole i x ++ outcomeIn (padded stateRoom before) after x (printedIn before x) r
 
   -- a step that process p was offered
   abbrev pub otherIn : ℕ → Step → List ℕ

@@ -8,7 +8,6 @@ ghost use Rattle.spec_text.specs.Formats.{digitsOf};
 ghost use Rattle.spec_account.specs.Steps.{printedText, faultText};
 ghost use Rattle.show_statement.specs.Statements.{seenIn};
 ghost use lib.ListN.{length};
-ghost use Rattle.base_ceilings.specs.Ceilings.{stateRoom};
 ghost use Rattle.spec_machine.specs.Machine as machine;
 ghost use Rattle.step_all.specs.Moving.{machineIn, processes};
 ghost use Rattle.show_steps.specs.Steps as steps;
@@ -152,9 +151,9 @@ pub struct Told {
     pub end: usize,
 }
 
-// Keeps the numbers of a state, where there are as many.
+// Keeps the numbers of a state.
 fn keep(s: &[i32], kept: &mut [i32])
-    ensures { λ _. ⌜ (length (now (s .entry)) ≡ length (now (kept .entry)) → now (kept .exit) ≡ now (s .entry)) ⌝ }
+    ensures { λ _. ⌜ now (kept .exit) ≡ steps.padded (length (now (kept .entry))) (now (s .entry)) ⌝ }
 {
     let mut i: usize = 0;
     while i < kept.len() {
@@ -174,7 +173,7 @@ pub fn put_taken(
     p: usize,
 ) -> Told
     ensures { λ r. ⌜ (r .taken, now (s .exit)) ≡ machine.advance (machineIn (now (t .entry))) (now (s .entry)) x ⌝ }
-    ensures { λ r. ⌜ (length (now (s .entry)) ≡ stateRoom → pen (now (out .exit)) (r .end) ≡ puts (steps.takenIn (now (t .entry)) (now (s .entry)) (now (s .exit)) whole i x (r .taken)) (pen (now (out .entry)) p)) ⌝ }
+    ensures { λ r. ⌜ pen (now (out .exit)) (r .end) ≡ puts (steps.takenIn (now (t .entry)) (now (s .entry)) (now (s .exit)) whole i x (r .taken)) (pen (now (out .entry)) p) ⌝ }
 {
     let a = put_step(t, s, whole, i, x, out, p);
     let mut before = [0i32; base_ceilings::STATE_ROOM];
