@@ -1,3 +1,4 @@
 pub mod Moves
 pub mod Trails
 pub mod Numbers
+pub mod Lent
