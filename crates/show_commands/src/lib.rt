@@ -4,6 +4,7 @@ ghost use Rattle.base_pens.specs.Pen.{pen, puts};
 ghost use Rattle.show_commands.specs.Statuses as statuses;
 ghost use Rattle.show_commands.specs.Lines as lines;
 use base_bytes::part;
+use base_outcome::Step;
 use run_entry::Ending;
 use run_entry::Ran;
 use show_answers::put;
