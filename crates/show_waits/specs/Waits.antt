@@ -1,4 +1,4 @@
--- Mechanism, of contracts alone: the line of `waitsText` (specs/Waits.antt of `spec_account`), read from the tables `t` of a model and the numbers `s` of a state. That the two lines are the same has no theorem yet.
+-- Mechanism, of contracts alone: the line of `waitsText` (specs/Waits.antt of `spec_account`), read from the tables `t` of a model and the numbers `s` of a state. `waits-shown` of `agree_waits` says that the two lines are the same.
 use Prim.Native.Nat.{ℕ, zero, suc, _+_, min}
 use mathlib.Core.Bool.{Bool, false, not}
 use mathlib.Core.List.{List, [], _∷_, _++_}

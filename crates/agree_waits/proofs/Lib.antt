@@ -1,0 +1,3 @@
+pub mod Walks
+pub mod Leaves
+pub mod Main
