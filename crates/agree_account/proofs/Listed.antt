@@ -21,22 +21,22 @@ module _ {S : Type 0} (M : Machine S) where
   abbrev pub Listed : S → Step → Type 0
   Listed x z = (z.process < M.processes x) × In (move_of z) (M.steps x (late M x) z.process)
 
-  numbered-in : (z : Step) (p n : ℕ) (qs : List Move) → In z (numbered p n qs) → (z.process ≡ p) × In (move_of z) qs
-  numbered-in z p n [] i = none_in i
-  numbered-in z p n (q ∷ qs) first = (refl, first)
-  numbered-in z p n (q ∷ qs) (behind i) = let r = numbered-in z p (n + 1) qs i in (r.0, behind r.1)
+  numbered_in : (z : Step) (p n : ℕ) (qs : List Move) → In z (numbered p n qs) → (z.process ≡ p) × In (move_of z) qs
+  numbered_in z p n [] i = none_in i
+  numbered_in z p n (q ∷ qs) first = (refl, first)
+  numbered_in z p n (q ∷ qs) (behind i) = let r = numbered_in z p (n + 1) qs i in (r.0, behind r.1)
 
-  list-in : (x : S) (l : Bool) (z : Step) (p n : ℕ) → p + n ≤ M.processes x → In z (list_from M x l p n) → (z.process < M.processes x) × In (move_of z) (M.steps x l z.process)
+  list_in : (x : S) (l : Bool) (z : Step) (p n : ℕ) → p + n ≤ M.processes x → In z (list_from M x l p n) → (z.process < M.processes x) × In (move_of z) (M.steps x l z.process)
   unfolding list_from
-  list-in x l z p zero h i = none_in i
-  list-in x l z p (suc n) h i =
+  list_in x l z p zero h i = none_in i
+  list_in x l z p (suc n) h i =
       in_two (numbered p 1 (M.steps x l p)) (list_from M x l (p + 1) n)
-      (λ j. let r = numbered-in z p 1 (M.steps x l p) j in subst (λ c. (c < M.processes x) × In (move_of z) (M.steps x l c)) (inv r.0) (omega arith, r.1))
-      (λ j. list-in x l z (p + 1) n (omega arith) j) i
+      (λ j. let r = numbered_in z p 1 (M.steps x l p) j in subst (λ c. (c < M.processes x) × In (move_of z) (M.steps x l c)) (inv r.0) (omega arith, r.1))
+      (λ j. list_in x l z (p + 1) n (omega arith) j) i
 
   pub offered-listed : (x : S) (z : Step) → In z (offered M x) → Listed x z
   unfolding offered
-  offered-listed x z i = list-in x (late M x) z 0 (M.processes x) (omega arith) i
+  offered-listed x z i = list_in x (late M x) z 0 (M.processes x) (omega arith) i
 
   pub asked_in : (p n : ℕ) (z : Step) (l : List Step) → asked M p n l ≡ some z → In z l
   unfolding asked

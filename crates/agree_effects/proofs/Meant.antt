@@ -7,16 +7,16 @@ use mathlib.Core.List.{List}
 use lib.ListN.{get_or}
 use lib.Dec.{eqb, ltb}
 use borrow.Author.Tests.{ltb-true, ltb-false, lt-ltb, le-ltb, ne_eqb, lt-leb}
-use Rattle.base_codes.specs.Codes.{c-declared, c-end-body, c-message, c-parameter}
+use Rattle.base_codes.specs.Codes.{c_declared, c_end_body, c_message, c_parameter}
 use Rattle.base_bytes.specs.Choice.{pick}
 use Rattle.spec_grammar.specs.Tree.{Name}
 use Rattle.parse_code.specs.Code.{code}
 use Rattle.rule_sheets.specs.Walks.{first}
-use Rattle.rule_sheets.specs.Homes.{insideOf}
+use Rattle.rule_sheets.specs.Homes.{inside_of}
 use Rattle.rule_search.specs.Sets.{among}
 use Rattle.rule_search.specs.Search.{declares, find, lookup}
 use Rattle.read_accepts_proof.specs.Meaning.{Accepts}
-use Rattle.agree_eval.specs.Names.{firstName, codesAt, saidAt, homesAt, meantAt, declAt}
+use Rattle.agree_eval.specs.Names.{first_name, codes_at, said_at, homes_at, meant_at, decl_at}
 
 -- ---- the first of a stretch that is one longer, where the last does not pass
 first-longer : (p : ℕ → Bool) (i k : ℕ) → p (i + k) ≡ false → first p i (suc k) ≡ pick (ltb (first p i k) (i + k)) (first p i k) (suc (i + k))
@@ -34,14 +34,14 @@ abbrev later : ℕ → ℕ → ℕ
 later n x = pick (ltb x n) x (suc n)
 
 -- codes of statements declare nothing
-none-declared : (c : ℕ) → c < c-declared → among 1 c ≡ false
+none-declared : (c : ℕ) → c < c_declared → among 1 c ≡ false
 unfolding among
-none-declared c h = rw (ne_eqb c c-declared (λ e. omega arith), ne_eqb c c-message (λ e. omega arith), lt-leb c-parameter c (omega arith))
+none-declared c h = rw (ne_eqb c c_declared (λ e. omega arith), ne_eqb c c_message (λ e. omega arith), lt-leb c_parameter c (omega arith))
 
-module _ (cs vs hs : List ℕ) (n : ℕ) (low : get_or cs n 0 < c-declared) where
-  no-declaration : (w h : ℕ) → declares cs vs hs 1 w h n ≡ false
+module _ (cs vs hs : List ℕ) (n : ℕ) (low : get_or cs n 0 < c_declared) where
+  no_declaration : (w h : ℕ) → declares cs vs hs 1 w h n ≡ false
   unfolding declares
-  no-declaration w h = rw (none-declared (get_or cs n 0) low)
+  no_declaration w h = rw (none-declared (get_or cs n 0) low)
 
   find-longer : (w h : ℕ) → find cs vs hs 1 w h (suc n) ≡ later n (find cs vs hs 1 w h n)
   unfolding find
@@ -51,7 +51,7 @@ module _ (cs vs hs : List ℕ) (n : ℕ) (low : get_or cs n 0 < c-declared) wher
       go true = rw (le-ltb n n (omega arith))
       go false =
           let z : 0 + n ≡ n = omega arith in
-          first-longer (declares cs vs hs 1 w h) 0 n (ap (declares cs vs hs 1 w h) z ∙ no-declaration w h)
+          first-longer (declares cs vs hs 1 w h) 0 n (ap (declares cs vs hs 1 w h) z ∙ no_declaration w h)
           ∙ ap (λ k. pick (ltb (first (declares cs vs hs 1 w h) 0 n) k) (first (declares cs vs hs 1 w h) 0 n) (suc k)) z
 
   lookup-longer : (w h : ℕ) → lookup cs vs hs w h (suc n) ≡ later n (lookup cs vs hs w h n)
@@ -69,32 +69,32 @@ module _ (cs vs hs : List ℕ) (n : ℕ) (low : get_or cs n 0 < c-declared) wher
 
 module _ (t : List ℕ) (a : Accepts t) where
   abbrev C : List ℕ
-  C = codesAt t a
+  C = codes_at t a
 
-  inside-next : (n : ℕ) → get_or C n 0 < c-declared → insideOf C (suc n) ≡ insideOf C n
-  unfolding insideOf
-  inside-next n h = rw (le-ltb c-parameter (get_or C n 0) (omega arith), ne_eqb (get_or C n 0) c-end-body (λ e. omega arith))
+  inside-next : (n : ℕ) → get_or C n 0 < c_declared → inside_of C (suc n) ≡ inside_of C n
+  unfolding inside_of
+  inside-next n h = rw (le-ltb c_parameter (get_or C n 0) (omega arith), ne_eqb (get_or C n 0) c_end_body (λ e. omega arith))
 
-  decl-next : (w : Name) (n : ℕ) → get_or C n 0 < c-declared → declAt t a (suc n) w ≡ declAt t a n w
-  unfolding declAt meantAt
+  decl-next : (w : Name) (n : ℕ) → get_or C n 0 < c_declared → decl_at t a (suc n) w ≡ decl_at t a n w
+  unfolding decl_at meant_at
   decl-next w n h =
       ap (λ k. pick (ltb (lookup C v o g k (suc n)) (suc n)) (lookup C v o g k (suc n)) f) (inside-next n h)
-      ∙ ap (λ k. pick (ltb k (suc n)) k f) (lookup-longer C v o n h g (insideOf C n)) ∙ go (ltb x n) refl
+      ∙ ap (λ k. pick (ltb k (suc n)) k f) (lookup-longer C v o n h g (inside_of C n)) ∙ go (ltb x n) refl
     where
       v : List ℕ
-      v = saidAt t a
+      v = said_at t a
 
       o : List ℕ
-      o = homesAt t a
+      o = homes_at t a
 
       f : ℕ
-      f = firstName w (code a.tree)
+      f = first_name w (code a.tree)
 
       g : ℕ
-      g = get_or (saidAt t a) (firstName w (code a.tree)) 0
+      g = get_or (said_at t a) (first_name w (code a.tree)) 0
 
       x : ℕ
-      x = lookup C (saidAt t a) (homesAt t a) (get_or (saidAt t a) (firstName w (code a.tree)) 0) (insideOf C n) n
+      x = lookup C (said_at t a) (homes_at t a) (get_or (said_at t a) (first_name w (code a.tree)) 0) (inside_of C n) n
 
       go : (b : Bool) → ltb x n ≡ b → pick (ltb (pick b x (suc n)) (suc n)) (pick b x (suc n)) f ≡ pick b x f
       go true e = rw (lt-ltb x (suc n) (let z = ltb-true x n e in omega arith))
@@ -102,23 +102,23 @@ module _ (t : List ℕ) (a : Accepts t) where
 
   -- no item from j to before i declares, begins or ends anything
   abbrev pub Quiet : ℕ → ℕ → Type 0
-  Quiet j i = (x : ℕ) → j ≤ x → x < i → get_or (codesAt t a) x 0 < c-declared
+  Quiet j i = (x : ℕ) → j ≤ x → x < i → get_or (codes_at t a) x 0 < c_declared
 
-  decl-on : (w : Name) (j d : ℕ) → Quiet j (j + d) → declAt t a (j + d) w ≡ declAt t a j w
-  decl-on w j zero q = let z : j + 0 ≡ j = omega arith in ap (λ i. declAt t a i w) z
-  decl-on w j (suc d) q =
+  decl_on : (w : Name) (j d : ℕ) → Quiet j (j + d) → decl_at t a (j + d) w ≡ decl_at t a j w
+  decl_on w j zero q = let z : j + 0 ≡ j = omega arith in ap (λ i. decl_at t a i w) z
+  decl_on w j (suc d) q =
       let z : j + suc d ≡ suc (j + d) = omega arith in
-      ap (λ i. declAt t a i w) z ∙ decl-next w (j + d) (q (j + d) (omega arith) (omega arith)) ∙ decl-on w j d (λ x u b. q x u (omega arith))
+      ap (λ i. decl_at t a i w) z ∙ decl-next w (j + d) (q (j + d) (omega arith) (omega arith)) ∙ decl_on w j d (λ x u b. q x u (omega arith))
 
-  pub decl-same : (j i : ℕ) → j ≤ i → Quiet j i → declAt t a i ≡ declAt t a j
+  pub decl-same : (j i : ℕ) → j ≤ i → Quiet j i → decl_at t a i ≡ decl_at t a j
   decl-same j i h q =
       let z : i ≡ j + (i - j) = omega arith in
-      let e : (w : Name) → declAt t a i w ≡ declAt t a j w = λ w. ap (λ k. declAt t a k w) z ∙ decl-on w j (i - j) (λ x u b. q x u (omega arith)) in
+      let e : (w : Name) → decl_at t a i w ≡ decl_at t a j w = λ w. ap (λ k. decl_at t a k w) z ∙ decl_on w j (i - j) (λ x u b. q x u (omega arith)) in
       λ k w. e w k
 
   pub quiet-join : (j i k : ℕ) → Quiet j i → Quiet i k → Quiet j k
   quiet-join j i k f g x u b = go (ltb x i) refl
     where
-      go : (c : Bool) → ltb x i ≡ c → get_or (codesAt t a) x 0 < c-declared
+      go : (c : Bool) → ltb x i ≡ c → get_or (codes_at t a) x 0 < c_declared
       go true e = f x u (ltb-true x i e)
       go false e = g x (ltb-false x i e) b

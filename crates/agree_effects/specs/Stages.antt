@@ -5,17 +5,17 @@ use Rattle.std.specs.Prelude.{ℕ, List, length, get_or, ℤ}
 use Rattle.spec_grammar.specs.Tree.{Name}
 use Rattle.parse_code.specs.Code.{code}
 use Rattle.rule_search.specs.Search.{find}
-use Rattle.read_passes.specs.Judging.{tablesText}
+use Rattle.read_passes.specs.Judging.{tables_text}
 use Rattle.read_accepts_proof.specs.Meaning.{Accepts}
-use Rattle.agree_eval.specs.Names.{firstName, codesAt, saidAt, homesAt, declAt}
+use Rattle.agree_eval.specs.Names.{first_name, codes_at, said_at, homes_at, decl_at}
 use Rattle.spec_machine.specs.Stage.{Stage}
-use Rattle.agree_stage.specs.Tables.{stageIn}
+use Rattle.agree_stage.specs.Tables.{stage_in}
 
 module _ (t : List ℕ) (a : Accepts t) where
   -- the item that begins the proctype of this name: the first global declaration of the name in the whole text
   unfoldable pub unit_at : Name → ℕ
-  unit_at w = find (codesAt t a) (saidAt t a) (homesAt t a) 1 (get_or (saidAt t a) (firstName w (code a.tree)) 0) 0 (length (codesAt t a))
+  unit_at w = find (codes_at t a) (said_at t a) (homes_at t a) 1 (get_or (said_at t a) (first_name w (code a.tree)) 0) 0 (length (codes_at t a))
 
   -- for the statement at item j, in the state s and for process p
-  abbrev pub stageAt : List ℤ → ℕ → ℕ → Stage (List ℤ)
-  stageAt s p j = stageIn (tablesText t) s p (declAt t a j) (unit_at)
+  abbrev pub stage_at : List ℤ → ℕ → ℕ → Stage (List ℤ)
+  stage_at s p j = stage_in (tables_text t) s p (decl_at t a j) (unit_at)

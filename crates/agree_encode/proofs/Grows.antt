@@ -5,14 +5,14 @@ use mathlib.Core.Path.{◌≡◌, refl, sym as inv, ap, ap₂, ◌∙◌}
 use mathlib.Core.List.{List, [], ◌∷◌, ◌++◌, append_assoc}
 use lib.ListN.{length, set, length-append, length-set}
 use lib.IntN.{ℤ}
-use Rattle.base_ceilings.specs.Ceilings.{capacityMost, channelsMost, fieldsMost, numbersMost, processesMost}
-use Rattle.state_layout.specs.Layout.{kept, processAt, channelAt, channelSize, processSize}
-use Rattle.state_start.specs.Starting.{channelMade}
+use Rattle.base_ceilings.specs.Ceilings.{capacity_most, channels_most, fields_most, numbers_most, processes_most}
+use Rattle.state_layout.specs.Layout.{kept, process_at_lem, channel_at, channel_size, process_size}
+use Rattle.state_start.specs.Starting.{channel_made}
 use Rattle.spec_grammar.specs.Tree.{Model}
 use Rattle.spec_machine.specs.State.{Channel, Process, State}
-use Rattle.agree_encode.specs.Encode.{pad, rows, flat, head_of, channelItem, messageRow, processRow, channelRow, encode}
-use Rattle.agree_encode.proofs.Rows.{set-left, set-right, length-pad, off, set-process, set-channel}
-use Rattle.agree_encode.proofs.Numbers.{at-process, at-channel, G, P, C, Z, lg, lp, lc, channels-are}
+use Rattle.agree_encode.specs.Encode.{pad, rows, flat, head_of, channel_item, message_row, process_row, channel_row, encode}
+use Rattle.agree_encode.proofs.Rows.{set-left, set-right, length-pad, off, set-process, set_channel}
+use Rattle.agree_encode.proofs.Numbers.{at_process, at_channel, G, P, C, Z, lg, lp, lc, channels_are}
 
 -- ---- the first empty row
 module _ {A : Type 0} (f : A → List ℤ) (z : ℕ) where
@@ -42,42 +42,42 @@ set-amid front r back n k j v e h g = set-right front (r ++ back) v n k j e h �
 
 module _ (m : Model) (t : List ℤ) (σ : State) where
   -- ONE MORE CHANNEL
-  pub channel-more : (y : Channel) → y.held ≡ [] → length σ.channels < channelsMost
-      → channelMade (channelItem m y) (encode m σ ++ t) ≡ encode m record { globals = σ.globals; processes = σ.processes; channels = σ.channels ++ y ∷ [] } ++ t
-  unfolding channelMade encode pad rows
+  pub channel-more : (y : Channel) → y.held ≡ [] → length σ.channels < channels_most
+      → channel_made (channel_item m y) (encode m σ ++ t) ≡ encode m record { globals = σ.globals; processes = σ.processes; channels = σ.channels ++ y ∷ [] } ++ t
+  unfolding channel_made encode pad rows
   channel-more y e h =
-      ap (λ n. set (set (encode m σ ++ t) (channelAt n) I) 1 (kept (n + 1))) (channels-are m t σ (omega arith))
+      ap (λ n. set (set (encode m σ ++ t) (channel_at n) I) 1 (kept (n + 1))) (channels_are m t σ (omega arith))
       ∙ ap (λ x. set x 1 (kept (length σ.channels + 1)))
-      (ap (λ i. set (encode m σ ++ t) i I) (let o = at-channel (channelRow m) (length σ.channels) in let z : channelAt (length σ.channels) ≡ channelAt 0 + (off (channelRow m) channelSize (length σ.channels) + 0) = omega arith in z)
-      ∙ set-channel (kept (length σ.processes)) (kept (length σ.channels)) (G m t σ) (P m t σ) (C m t σ) (Z m t σ) t (lg m t σ) (lp m t σ) (lc m t σ)
-      (off (channelRow m) channelSize (length σ.channels) + 0) I (let o = at-channel (channelRow m) (length σ.channels) in omega arith))
+      (ap (λ i. set (encode m σ ++ t) i I) (let o = at_channel (channel_row m) (length σ.channels) in let z : channel_at (length σ.channels) ≡ channel_at 0 + (off (channel_row m) channel_size (length σ.channels) + 0) = omega arith in z)
+      ∙ set_channel (kept (length σ.processes)) (kept (length σ.channels)) (G m t σ) (P m t σ) (C m t σ) (Z m t σ) t (lg m t σ) (lp m t σ) (lc m t σ)
+      (off (channel_row m) channel_size (length σ.channels) + 0) I (let o = at_channel (channel_row m) (length σ.channels) in omega arith))
       ∙ ap₂ (λ (n : ℕ) (i : List ℤ). (kept (length σ.processes) ∷ kept n ∷ G m t σ ++ (P m t σ ++ (i ++ Z m t σ))) ++ t)
       (inv (length-append σ.channels (y ∷ [])))
-      (ap (λ (i : List ℤ). set i (off (channelRow m) channelSize (length σ.channels) + 0) I) K.was
-      ∙ set-amid K.front (pad channelSize []) K.back (off (channelRow m) channelSize (length σ.channels)) 0 (off (channelRow m) channelSize (length σ.channels) + 0) I K.long refl (omega arith)
-      ∙ ap (λ (l : List (List ℤ)). K.front ++ (pad channelSize (I ∷ kept (length l) ∷ rows messageRow fieldsMost capacityMost l) ++ K.back)) (inv e) ∙ inv (K.is y))
+      (ap (λ (i : List ℤ). set i (off (channel_row m) channel_size (length σ.channels) + 0) I) K.was
+      ∙ set-amid K.front (pad channel_size []) K.back (off (channel_row m) channel_size (length σ.channels)) 0 (off (channel_row m) channel_size (length σ.channels) + 0) I K.long refl (omega arith)
+      ∙ ap (λ (l : List (List ℤ)). K.front ++ (pad channel_size (I ∷ kept (length l) ∷ rows message_row fields_most capacity_most l) ++ K.back)) (inv e) ∙ inv (K.is y))
     where
       I : ℤ
-      I = kept (channelItem m y)
+      I = kept (channel_item m y)
 
-      K : Spare (channelRow m) channelSize channelsMost σ.channels
-      K = spare (channelRow m) channelSize channelsMost σ.channels h
+      K : Spare (channel_row m) channel_size channels_most σ.channels
+      K = spare (channel_row m) channel_size channels_most σ.channels h
 
   -- ONE MORE PROCESS, whose variables are zeros yet
-  pub process-more : (y : Process) → pad numbersMost (flat y.variables) ≡ pad numbersMost [] → length σ.processes < processesMost
-      → set (set (set (encode m σ ++ t) (processAt (length σ.processes)) (kept (head_of m y.unit))) 0 (kept (length σ.processes + 1))) (processAt (length σ.processes) + 1) (kept y.place)
+  pub process-more : (y : Process) → pad numbers_most (flat y.variables) ≡ pad numbers_most [] → length σ.processes < processes_most
+      → set (set (set (encode m σ ++ t) (process_at_lem (length σ.processes)) (kept (head_of m y.unit))) 0 (kept (length σ.processes + 1))) (process_at_lem (length σ.processes) + 1) (kept y.place)
       ≡ encode m record { globals = σ.globals; processes = σ.processes ++ y ∷ []; channels = σ.channels } ++ t
   unfolding encode pad
   process-more y e h =
-      ap (λ x. set (set x 0 (kept (n + 1))) (processAt n + 1) (kept y.place))
-      (ap (λ i. set (encode m σ ++ t) i H) (let z : processAt n ≡ processAt 0 + (off (processRow m) processSize n + 0) = omega (arith, o) in z)
-      ∙ set-process (kept n) (kept (length σ.channels)) (G m t σ) (P m t σ) (C m t σ) (Z m t σ) t (lg m t σ) (lp m t σ) (lc m t σ) (off (processRow m) processSize n + 0) H (omega (arith, o))
+      ap (λ x. set (set x 0 (kept (n + 1))) (process_at_lem n + 1) (kept y.place))
+      (ap (λ i. set (encode m σ ++ t) i H) (let z : process_at_lem n ≡ process_at_lem 0 + (off (process_row m) process_size n + 0) = omega (arith, o) in z)
+      ∙ set-process (kept n) (kept (length σ.channels)) (G m t σ) (P m t σ) (C m t σ) (Z m t σ) t (lg m t σ) (lp m t σ) (lc m t σ) (off (process_row m) process_size n + 0) H (omega (arith, o))
       ∙ ap (λ (i : List ℤ). (kept n ∷ kept (length σ.channels) ∷ G m t σ ++ (i ++ (C m t σ ++ Z m t σ))) ++ t) one)
       ∙ ap (λ i. set ((kept (n + 1) ∷ kept (length σ.channels) ∷ G m t σ ++ (mid ++ (C m t σ ++ Z m t σ))) ++ t) i (kept y.place))
-      (let z : processAt n + 1 ≡ processAt 0 + (off (processRow m) processSize n + 1) = omega (arith, o) in z)
-      ∙ set-process (kept (n + 1)) (kept (length σ.channels)) (G m t σ) mid (C m t σ) (Z m t σ) t (lg m t σ) long (lc m t σ) (off (processRow m) processSize n + 1) (kept y.place) (omega (arith, o))
+      (let z : process_at_lem n + 1 ≡ process_at_lem 0 + (off (process_row m) process_size n + 1) = omega (arith, o) in z)
+      ∙ set-process (kept (n + 1)) (kept (length σ.channels)) (G m t σ) mid (C m t σ) (Z m t σ) t (lg m t σ) long (lc m t σ) (off (process_row m) process_size n + 1) (kept y.place) (omega (arith, o))
       ∙ ap₂ (λ (c : ℕ) (i : List ℤ). (kept c ∷ kept (length σ.channels) ∷ G m t σ ++ (i ++ (C m t σ ++ Z m t σ))) ++ t) (inv (length-append σ.processes (y ∷ [])))
-      (set-amid K.front (H ∷ pad (numbersMost + 1) []) K.back (off (processRow m) processSize n) 1 (off (processRow m) processSize n + 1) (kept y.place) K.long refl (omega arith)
+      (set-amid K.front (H ∷ pad (numbers_most + 1) []) K.back (off (process_row m) process_size n) 1 (off (process_row m) process_size n + 1) (kept y.place) K.long refl (omega arith)
       ∙ ap (λ (l : List ℤ). K.front ++ ((H ∷ kept y.place ∷ l) ++ K.back)) (inv e) ∙ inv (K.is y))
     where
       n : ℕ
@@ -86,19 +86,19 @@ module _ (m : Model) (t : List ℤ) (σ : State) where
       H : ℤ
       H = kept (head_of m y.unit)
 
-      K : Spare (processRow m) processSize processesMost σ.processes
-      K = spare (processRow m) processSize processesMost σ.processes h
+      K : Spare (process_row m) process_size processes_most σ.processes
+      K = spare (process_row m) process_size processes_most σ.processes h
 
-      o : off (processRow m) processSize (length σ.processes) ≡ processSize * length σ.processes
-      o = at-process (processRow m) (length σ.processes)
+      o : off (process_row m) process_size (length σ.processes) ≡ process_size * length σ.processes
+      o = at_process (process_row m) (length σ.processes)
 
       mid : List ℤ
-      mid = K.front ++ ((H ∷ pad (numbersMost + 1) []) ++ K.back)
+      mid = K.front ++ ((H ∷ pad (numbers_most + 1) []) ++ K.back)
 
-      one : set (P m t σ) (off (processRow m) processSize (length σ.processes) + 0) H ≡ K.front ++ ((H ∷ pad (numbersMost + 1) []) ++ K.back)
+      one : set (P m t σ) (off (process_row m) process_size (length σ.processes) + 0) H ≡ K.front ++ ((H ∷ pad (numbers_most + 1) []) ++ K.back)
       one =
-          ap (λ (i : List ℤ). set i (off (processRow m) processSize (length σ.processes) + 0) H) K.was
-          ∙ set-amid K.front (pad processSize []) K.back (off (processRow m) processSize (length σ.processes)) 0 (off (processRow m) processSize (length σ.processes) + 0) H K.long refl (omega arith)
+          ap (λ (i : List ℤ). set i (off (process_row m) process_size (length σ.processes) + 0) H) K.was
+          ∙ set-amid K.front (pad process_size []) K.back (off (process_row m) process_size (length σ.processes)) 0 (off (process_row m) process_size (length σ.processes) + 0) H K.long refl (omega arith)
 
-      long : length (K.front ++ ((H ∷ pad (numbersMost + 1) []) ++ K.back)) ≡ processSize * processesMost
-      long = ap length (inv one) ∙ length-set (P m t σ) (off (processRow m) processSize (length σ.processes) + 0) H ∙ lp m t σ
+      long : length (K.front ++ ((H ∷ pad (numbers_most + 1) []) ++ K.back)) ≡ process_size * processes_most
+      long = ap length (inv one) ∙ length-set (P m t σ) (off (process_row m) process_size (length σ.processes) + 0) H ∙ lp m t σ

@@ -3,10 +3,10 @@
 -- judged there (crate `rule_item`).
 use Rattle.std.specs.Prelude.{◌≡◌}
 use Rattle.base_codes.specs.Items.{Item, code_of}
-use Rattle.base_codes.specs.Sets.{ruleOf}
+use Rattle.base_codes.specs.Sets.{rule_of}
 
 pub data Closes (x : Item) : Type 0 where
   -- an argument, a received variable, an expression as a statement, the parts of an assignment, `++`, `--`, the channel of a send or a receive
-  plainly : ruleOf (code_of x) ≡ 2 → Closes x
+  plainly : rule_of (code_of x) ≡ 2 → Closes x
   -- `eval(e)`, `assert(e)`
-  in-parentheses : ruleOf (code_of x) ≡ 17 → Closes x
+  in_parentheses : rule_of (code_of x) ≡ 17 → Closes x

@@ -11,54 +11,54 @@ use mathlib.Core.List.{List, [], ◌∷◌, ◌++◌}
 use lib.ListN.{length, get_or}
 use lib.Dec.{eqb, ltb, leb}
 use borrow.Author.Tests.{lt-ltb, le-ltb, ne_eqb, eq-eqb, le-leb, leb-true}
-use Rattle.base_codes.specs.Codes.{c-active-many, c-declared, c-message, c-parameter, c-proctype}
+use Rattle.base_codes.specs.Codes.{c_active_many, c_declared, c_message, c_parameter, c_proctype}
 use Rattle.base_bytes.specs.Choice.{pick, both, either}
 use Rattle.base_bytes.specs.Lists.{same}
-use Rattle.base_bytes.proofs.Tests.{true-false, both_true}
-use Rattle.base_bytes.proofs.Lists.{same-eq}
+use Rattle.base_bytes.proofs.Tests.{true_false, both_true}
+use Rattle.base_bytes.proofs.Lists.{same_eq}
 use Rattle.spec_text.specs.Names.{pid}
 use Rattle.rule_sheets.specs.Walks.{sum}
 use Rattle.rule_search.specs.Sets.{among}
 use Rattle.rule_search.specs.Search.{declares, find, last, one, count}
-use Rattle.rule_item.specs.Rules.{isArray}
-use Rattle.rule_ceilings.specs.Ceilings.{numbersAt}
+use Rattle.rule_item.specs.Rules.{is_array}
+use Rattle.rule_ceilings.specs.Ceilings.{numbers_at}
 use Rattle.spec_grammar.specs.Tree.{Name, Model}
-use Rattle.base_codes.specs.Items.{i-name}
+use Rattle.base_codes.specs.Items.{i_name}
 use Rattle.parse_code.specs.Code.{code}
 use Rattle.legal_terms.specs.Says.{item_at, Says}
 use Rattle.keep_tables.proofs.Sums.{sum-next}
 use Rattle.spec_machine.specs.Names.{Var}
-use Rattle.agree_names.specs.Entries.{What, slot, number, proctype, Entry, entry, whatIn, sizeIn, named_in}
-use Rattle.legal_declarations.proofs.Scopes.{find-more, find-start, declares-is}
+use Rattle.agree_names.specs.Entries.{What, slot, number, proctype, Entry, entry, what_in, size_in, named_in}
+use Rattle.legal_declarations.proofs.Scopes.{find-more, find-start, declares_is}
 
 -- ---- one entry more
 abbrev pub or_else : Option What → Option What → Option What
 or_else none y = y
 or_else (some x) y = some x
 
-pub what-append : (a b : List Entry) (w : Name) → whatIn (a ++ b) w ≡ or_else (whatIn a w) (whatIn b w)
-unfolding whatIn
-what-append [] b w = refl
-what-append (e ∷ a) b w = go (same e.name w) (what-append a b w)
+pub what_append : (a b : List Entry) (w : Name) → what_in (a ++ b) w ≡ or_else (what_in a w) (what_in b w)
+unfolding what_in
+what_append [] b w = refl
+what_append (e ∷ a) b w = go (same e.name w) (what_append a b w)
   where
-    go : (c : Bool) → whatIn (a ++ b) w ≡ or_else (whatIn a w) (whatIn b w) → pick c (some e.what) (whatIn (a ++ b) w) ≡ or_else (pick c (some e.what) (whatIn a w)) (whatIn b w)
+    go : (c : Bool) → what_in (a ++ b) w ≡ or_else (what_in a w) (what_in b w) → pick c (some e.what) (what_in (a ++ b) w) ≡ or_else (pick c (some e.what) (what_in a w)) (what_in b w)
     go true r = refl
     go false r = r
 
-what-more : (l : List Entry) (w v : Name) (y : What) → whatIn (l ++ entry v y ∷ []) w ≡ or_else (whatIn l w) (pick (same v w) (some y) none)
-unfolding whatIn
-what-more l w v y = what-append l (entry v y ∷ []) w
+what_more : (l : List Entry) (w v : Name) (y : What) → what_in (l ++ entry v y ∷ []) w ≡ or_else (what_in l w) (pick (same v w) (some y) none)
+unfolding what_in
+what_more l w v y = what_append l (entry v y ∷ []) w
 
 -- what declares nothing declares no variable and no mtype name
 none_other : (c : ℕ) → among 1 c ≡ false → (among 14 c ≡ false) × (among 12 c ≡ false)
 unfolding among
-none_other c e = go (ℕ_discrete c c-declared) (ℕ_discrete c c-message) (ℕ_discrete c c-parameter)
+none_other c e = go (ℕ_discrete c c_declared) (ℕ_discrete c c_message) (ℕ_discrete c c_parameter)
   where
-    go : Dec (c ≡ c-declared) → Dec (c ≡ c-message) → Dec (c ≡ c-parameter) → (either (eqb c c-declared) (eqb c c-parameter) ≡ false) × (eqb c c-message ≡ false)
-    go (yes z) b d = absurd (true-false (inv (ap (among 1) z) ∙ e))
-    go (no a) (yes z) d = absurd (true-false (inv (ap (among 1) z) ∙ e))
-    go (no a) (no b) (yes z) = absurd (true-false (inv (ap (among 1) z) ∙ e))
-    go (no a) (no b) (no d) = (rw (ne_eqb c c-declared a, ne_eqb c c-parameter d), ne_eqb c c-message b)
+    go : Dec (c ≡ c_declared) → Dec (c ≡ c_message) → Dec (c ≡ c_parameter) → (either (eqb c c_declared) (eqb c c_parameter) ≡ false) × (eqb c c_message ≡ false)
+    go (yes z) b d = absurd (true_false (inv (ap (among 1) z) ∙ e))
+    go (no a) (yes z) d = absurd (true_false (inv (ap (among 1) z) ∙ e))
+    go (no a) (no b) (yes z) = absurd (true_false (inv (ap (among 1) z) ∙ e))
+    go (no a) (no b) (no d) = (rw (ne_eqb c c_declared a, ne_eqb c c_parameter d), ne_eqb c c_message b)
 
 module _ (cs vs hs : List ℕ) where
   -- what is found is found further on
@@ -82,8 +82,8 @@ module _ (cs vs hs : List ℕ) where
       go true false = refl
       go false b = refl
 
-  pub quiet-numbers : (h j : ℕ) → Quiet h j → numbersAt cs vs hs h j ≡ 0
-  unfolding numbersAt
+  pub quiet-numbers : (h j : ℕ) → Quiet h j → numbers_at cs vs hs h j ≡ 0
+  unfolding numbers_at
   quiet-numbers h j (inl e) = rw (none_other (get_or cs j 0) e).0
   quiet-numbers h j (inr n) = rw (ne_eqb (get_or hs j 0) h n) (go (among 14 (get_or cs j 0)))
     where
@@ -100,8 +100,8 @@ module _ (cs vs hs : List ℕ) where
       go true = refl
       go false = refl
 
-  pub numbers-next : (h j : ℕ) → sum (numbersAt cs vs hs h) 0 (suc j) ≡ sum (numbersAt cs vs hs h) 0 j + numbersAt cs vs hs h j
-  numbers-next h j = ap (sum (numbersAt cs vs hs h) 0) (let z : suc j ≡ j + 1 = omega arith in z) ∙ sum-next (numbersAt cs vs hs h) j
+  pub numbers-next : (h j : ℕ) → sum (numbers_at cs vs hs h) 0 (suc j) ≡ sum (numbers_at cs vs hs h) 0 j + numbers_at cs vs hs h j
+  numbers-next h j = ap (sum (numbers_at cs vs hs h) 0) (let z : suc j ≡ j + 1 = omega arith in z) ∙ sum-next (numbers_at cs vs hs h) j
 
   count_next : (h j : ℕ) → count cs hs 12 h 0 (suc j) ≡ count cs hs 12 h 0 j + one cs hs 12 h j
   unfolding count
@@ -109,24 +109,24 @@ module _ (cs vs hs : List ℕ) where
       ap (sum (one cs hs 12 h) 0) (let z : suc j - 0 ≡ j + 1 = omega arith in z) ∙ sum-next (one cs hs 12 h) j ∙ ap (λ n. sum (one cs hs 12 h) 0 n + one cs hs 12 h j)
       (let z : j ≡ j - 0 = omega arith in z)
 
-  pub starts : (h : ℕ) → (sum (numbersAt cs vs hs h) 0 0 ≡ 0) × (count cs hs 12 h 0 0 ≡ 0)
+  pub starts : (h : ℕ) → (sum (numbers_at cs vs hs h) 0 0 ≡ 0) × (count cs hs 12 h 0 0 ≡ 0)
   unfolding count sum
   starts h = (refl, refl)
 
   -- ---- what is said of item d, which declares in body h
   -- the variable x, with o numbers of the body before its own
   pub record Declares (h d : ℕ) (x : Var) (o : ℕ) : Type 0 where
-    pub coded : (get_or cs d 0 ≡ c-declared) ⊎ (get_or cs d 0 ≡ c-parameter)
+    pub coded : (get_or cs d 0 ≡ c_declared) ⊎ (get_or cs d 0 ≡ c_parameter)
     pub home : get_or hs d 0 ≡ h
     pub type : get_or cs (last cs 3 d - 2) 0 ≡ 130 + x.type
     pub least : 38 ≤ x.type
     pub most : x.type ≤ 45
-    pub size : pick (isArray cs d) (get_or vs (d + 1) 0) 1 ≡ x.size
-    pub offset : sum (numbersAt cs vs hs h) 0 d ≡ o
+    pub size : pick (is_array cs d) (get_or vs (d + 1) 0) 1 ≡ x.size
+    pub offset : sum (numbers_at cs vs hs h) 0 d ≡ o
 
   abbrev pub Good : ℕ → ℕ → What → Type 0
   Good h d (slot x o) = Declares h d x o
-  Good h d (number n) = (get_or cs d 0 ≡ c-message) × (get_or hs d 0 ≡ h) × (count cs hs 12 h 0 (suc d) ≡ n)
+  Good h d (number n) = (get_or cs d 0 ≡ c_message) × (get_or hs d 0 ≡ h) × (count cs hs 12 h 0 (suc d) ≡ n)
   Good h d (proctype i) = (among 13 (get_or cs d 0) ≡ true) × (get_or hs d 0 ≡ h) × (d ≡ i)
 
   -- item d is what a search below item j gives
@@ -134,38 +134,38 @@ module _ (cs vs hs : List ℕ) where
   Found h d j none = d ≡ j
   Found h d j (some y) = (d < j) × Good h d y
 
-  variable-set : (c : ℕ) → (c ≡ c-declared) ⊎ (c ≡ c-parameter) → (among 1 c ≡ true) × (among 14 c ≡ true) × (among 12 c ≡ false)
+  variable_set : (c : ℕ) → (c ≡ c_declared) ⊎ (c ≡ c_parameter) → (among 1 c ≡ true) × (among 14 c ≡ true) × (among 12 c ≡ false)
   unfolding among
-  variable-set c (inl e) = (rw e, rw e, rw e)
-  variable-set c (inr e) = (rw e, rw e, rw e)
+  variable_set c (inl e) = (rw e, rw e, rw e)
+  variable_set c (inr e) = (rw e, rw e, rw e)
 
-  procedure-set : (c : ℕ) → among 13 c ≡ true → (among 1 c ≡ true) × (among 14 c ≡ false) × (among 12 c ≡ false)
+  procedure_set : (c : ℕ) → among 13 c ≡ true → (among 1 c ≡ true) × (among 14 c ≡ false) × (among 12 c ≡ false)
   unfolding among
-  procedure-set c e =
-      let b = both_true (leb c-proctype c) (leb c c-active-many) e in
-      let x = leb-true c-proctype c b.0 in
-      let y = leb-true c c-active-many b.1 in
-      let n212 = ne_eqb c c-declared (λ z. omega arith) in
-      let n220 = ne_eqb c c-message (λ z. omega arith) in
-      (rw (n212, n220, le-leb c-parameter c (omega arith), b.1), rw (n212, ne_eqb c c-parameter (λ z. omega arith)), n220)
+  procedure_set c e =
+      let b = both_true (leb c_proctype c) (leb c c_active_many) e in
+      let x = leb-true c_proctype c b.0 in
+      let y = leb-true c c_active_many b.1 in
+      let n212 = ne_eqb c c_declared (λ z. omega arith) in
+      let n220 = ne_eqb c c_message (λ z. omega arith) in
+      (rw (n212, n220, le-leb c_parameter c (omega arith), b.1), rw (n212, ne_eqb c c_parameter (λ z. omega arith)), n220)
 
-  message-set : (c : ℕ) → c ≡ c-message → (among 1 c ≡ true) × (among 14 c ≡ false) × (among 12 c ≡ true)
+  message-set : (c : ℕ) → c ≡ c_message → (among 1 c ≡ true) × (among 14 c ≡ false) × (among 12 c ≡ true)
   unfolding among
   message-set c e = (rw e, rw e, rw e)
 
   -- what it adds
-  pub good-adds : (h d : ℕ) (y : What) → Good h d y
-      → (among 1 (get_or cs d 0) ≡ true) × (get_or hs d 0 ≡ h) × (numbersAt cs vs hs h d ≡ sizeIn y) × (one cs hs 12 h d ≡ named_in y)
-  unfolding numbersAt one
-  good-adds h d (slot x o) g =
-      let s = variable-set (get_or cs d 0) g.coded in (s.0, g.home, rw (s.1, eq-eqb (get_or hs d 0) h g.home) g.size, rw s.2)
-  good-adds h d (number n) g = let s = message-set (get_or cs d 0) g.0 in (s.0, g.1, rw s.1, rw (s.2, eq-eqb (get_or hs d 0) h g.1))
-  good-adds h d (proctype i) g = let s = procedure-set (get_or cs d 0) g.0 in (s.0, g.1, rw s.1, rw s.2)
+  pub good_adds : (h d : ℕ) (y : What) → Good h d y
+      → (among 1 (get_or cs d 0) ≡ true) × (get_or hs d 0 ≡ h) × (numbers_at cs vs hs h d ≡ size_in y) × (one cs hs 12 h d ≡ named_in y)
+  unfolding numbers_at one
+  good_adds h d (slot x o) g =
+      let s = variable_set (get_or cs d 0) g.coded in (s.0, g.home, rw (s.1, eq-eqb (get_or hs d 0) h g.home) g.size, rw s.2)
+  good_adds h d (number n) g = let s = message-set (get_or cs d 0) g.0 in (s.0, g.1, rw s.1, rw (s.2, eq-eqb (get_or hs d 0) h g.1))
+  good_adds h d (proctype i) g = let s = procedure_set (get_or cs d 0) g.0 in (s.0, g.1, rw s.1, rw s.2)
 
   -- an mtype name behind n others is the next one
-  pub message-good : (h d n : ℕ) → get_or cs d 0 ≡ c-message → get_or hs d 0 ≡ h → count cs hs 12 h 0 d ≡ n → Good h d (number (suc n))
+  pub message_good : (h d n : ℕ) → get_or cs d 0 ≡ c_message → get_or hs d 0 ≡ h → count cs hs 12 h 0 d ≡ n → Good h d (number (suc n))
   unfolding one
-  message-good h d n c e q =
+  message_good h d n c e q =
       let a = count_next h d in
       let b : one cs hs 12 h d ≡ 1 = rw ((message-set (get_or cs d 0) c).2, eq-eqb (get_or hs d 0) h e) in
       (c, e, omega arith)
@@ -177,23 +177,23 @@ known (some y) = true
 module _ (m : Model) (cs vs hs : List ℕ) (S : Says m cs vs) where
   -- the entries l are what is declared in body h below item j: o numbers and n mtype names
   pub record Scoped (l : List Entry) (h j o n : ℕ) : Type 0 where
-    pub gives : (k : ℕ) (w : Name) → k < length cs → item_at (code m) k ≡ i-name w → same w pid ≡ false → Found cs vs hs h (find cs vs hs 1 (get_or vs k 0) h j) j (whatIn l w)
+    pub gives : (k : ℕ) (w : Name) → k < length cs → item_at (code m) k ≡ i_name w → same w pid ≡ false → Found cs vs hs h (find cs vs hs 1 (get_or vs k 0) h j) j (what_in l w)
     -- each name of them is the name of an item
-    pub spelt : (w : Name) → known (whatIn l w) ≡ true → (k : ℕ) × ((k < length cs) × (item_at (code m) k ≡ i-name w))
-    pub numbers : sum (numbersAt cs vs hs h) 0 j ≡ o
+    pub spelt : (w : Name) → known (what_in l w) ≡ true → (k : ℕ) × ((k < length cs) × (item_at (code m) k ≡ i_name w))
+    pub numbers : sum (numbers_at cs vs hs h) 0 j ≡ o
     pub names : count cs hs 12 h 0 j ≡ n
 
-  no_zero : (k : ℕ) (w : Name) → k < length cs → item_at (code m) k ≡ i-name w → same w pid ≡ false → eqb (get_or vs k 0) 0 ≡ false
+  no_zero : (k : ℕ) (w : Name) → k < length cs → item_at (code m) k ≡ i_name w → same w pid ≡ false → eqb (get_or vs k 0) 0 ≡ false
   no_zero k w h e n = S.pids k w h e ∙ n
 
   pub scoped_start : (h : ℕ) → Scoped [] h 0 0 0
-  unfolding whatIn
-  scoped_start h = record { gives = λ k w a b c. find-start cs vs hs (get_or vs k 0) h; spelt = λ w e. absurd (true-false (inv e)); numbers = (starts cs vs hs h).0; names = (starts cs vs hs h).1 }
+  unfolding what_in
+  scoped_start h = record { gives = λ k w a b c. find-start cs vs hs (get_or vs k 0) h; spelt = λ w e. absurd (true_false (inv e)); numbers = (starts cs vs hs h).0; names = (starts cs vs hs h).1 }
 
-  scoped-skip : (l : List Entry) (h j o n : ℕ) → Quiet cs vs hs h j → Scoped l h j o n → Scoped l h (suc j) o n
-  scoped-skip l h j o n q s =
+  scoped_skip : (l : List Entry) (h j o n : ℕ) → Quiet cs vs hs h j → Scoped l h j o n → Scoped l h (suc j) o n
+  scoped_skip l h j o n q s =
       record {
-        gives = λ k w a b c. (let v = get_or vs k 0 in on v (whatIn l w) (s.gives k w a b c) (find-more cs vs hs v h j (no_zero k w a b c)) (quiet-declares cs vs hs v h j q));
+        gives = λ k w a b c. (let v = get_or vs k 0 in on v (what_in l w) (s.gives k w a b c) (find-more cs vs hs v h j (no_zero k w a b c)) (quiet-declares cs vs hs v h j q));
         spelt = s.spelt;
         numbers = let a = numbers-next cs vs hs h j in let b = quiet-numbers cs vs hs h j q in let c = s.numbers in omega arith;
         names = let a = count_next cs vs hs h j in let b = quiet_one cs vs hs h j q in let c = s.names in omega arith;
@@ -208,38 +208,38 @@ module _ (m : Model) (cs vs hs : List ℕ) (S : Says m cs vs) where
           let z : find cs vs hs 1 v h (suc j) ≡ find cs vs hs 1 v h j = e ∙ rw (lt-ltb (find cs vs hs 1 v h j) j f.0) refl in
           (omega arith, subst (λ i. Good cs vs hs h i y) (inv z) f.1)
 
-  scoped-far : (i : ℕ) (l : List Entry) (h j o n : ℕ) → ((k : ℕ) → j ≤ k → k < j + i → Quiet cs vs hs h k) → Scoped l h j o n → Scoped l h (j + i) o n
-  scoped-far zero l h j o n q s = subst (λ i. Scoped l h i o n) (let z : j ≡ j + 0 = omega arith in z) s
-  scoped-far (suc i) l h j o n q s =
+  scoped_far : (i : ℕ) (l : List Entry) (h j o n : ℕ) → ((k : ℕ) → j ≤ k → k < j + i → Quiet cs vs hs h k) → Scoped l h j o n → Scoped l h (j + i) o n
+  scoped_far zero l h j o n q s = subst (λ i. Scoped l h i o n) (let z : j ≡ j + 0 = omega arith in z) s
+  scoped_far (suc i) l h j o n q s =
       subst (λ i. Scoped l h i o n) (let z : suc (j + i) ≡ j + suc i = omega arith in z)
-      (scoped-skip l h (j + i) o n (q (j + i) (omega arith) (omega arith)) (scoped-far i l h j o n (λ k a b. q k a (omega arith)) s))
+      (scoped_skip l h (j + i) o n (q (j + i) (omega arith) (omega arith)) (scoped_far i l h j o n (λ k a b. q k a (omega arith)) s))
 
   -- items that declare nothing in this body
-  pub scoped-over : (l : List Entry) (h i e o n : ℕ) → i ≤ e → ((k : ℕ) → i ≤ k → k < e → Quiet cs vs hs h k) → Scoped l h i o n → Scoped l h e o n
-  scoped-over l h i e o n b q s =
-      subst (λ i. Scoped l h i o n) (let z : i + (e - i) ≡ e = omega arith in z) (scoped-far (e - i) l h i o n (λ k c d. q k c (omega arith)) s)
+  pub scoped_over : (l : List Entry) (h i e o n : ℕ) → i ≤ e → ((k : ℕ) → i ≤ k → k < e → Quiet cs vs hs h k) → Scoped l h i o n → Scoped l h e o n
+  scoped_over l h i e o n b q s =
+      subst (λ i. Scoped l h i o n) (let z : i + (e - i) ≡ e = omega arith in z) (scoped_far (e - i) l h i o n (λ k c d. q k c (omega arith)) s)
 
-  pub scoped-one : (l : List Entry) (h i o n c : ℕ) → get_or cs i 0 ≡ c → among 1 c ≡ false → Scoped l h i o n → Scoped l h (suc i) o n
-  scoped-one l h i o n c e q s = scoped-skip l h i o n (inl (ap (among 1) e ∙ q)) s
+  pub scoped_one : (l : List Entry) (h i o n c : ℕ) → get_or cs i 0 ≡ c → among 1 c ≡ false → Scoped l h i o n → Scoped l h (suc i) o n
+  scoped_one l h i o n c e q s = scoped_skip l h i o n (inl (ap (among 1) e ∙ q)) s
 
   -- an item that declares a name, which stands before it
-  pub scoped_more : (l : List Entry) (h k o n : ℕ) (w : Name) (y : What) → suc k < length cs → item_at (code m) k ≡ i-name w → Good cs vs hs h (suc k) y
-      → Scoped l h (suc k) o n → Scoped (l ++ entry w y ∷ []) h (suc (suc k)) (o + sizeIn y) (n + named_in y)
+  pub scoped_more : (l : List Entry) (h k o n : ℕ) (w : Name) (y : What) → suc k < length cs → item_at (code m) k ≡ i_name w → Good cs vs hs h (suc k) y
+      → Scoped l h (suc k) o n → Scoped (l ++ entry w y ∷ []) h (suc (suc k)) (o + size_in y) (n + named_in y)
   scoped_more l h k o n w y b q g s =
       record {
         gives = λ i x c d e.
             (let v = get_or vs i 0 in
             let j = suc k in
-            subst (Found cs vs hs h (find cs vs hs 1 v h (suc j)) (suc j)) (inv (what-more l x w y))
-            (on v (whatIn l x) (same w x) (s.gives i x c d e) (find-more cs vs hs v h j (no_zero i x c d e))
-            (declares-is cs vs hs v h j r.0 r.1 ∙ ap (λ y. eqb (get_or vs y 0) v) (let z : suc k - 1 ≡ k = omega arith in z) ∙ S.names k i w x (omega arith) c q d)));
-        spelt = λ x e. there x (whatIn l x) (same w x) refl refl (ap known (inv (what-more l x w y)) ∙ e);
+            subst (Found cs vs hs h (find cs vs hs 1 v h (suc j)) (suc j)) (inv (what_more l x w y))
+            (on v (what_in l x) (same w x) (s.gives i x c d e) (find-more cs vs hs v h j (no_zero i x c d e))
+            (declares_is cs vs hs v h j r.0 r.1 ∙ ap (λ y. eqb (get_or vs y 0) v) (let z : suc k - 1 ≡ k = omega arith in z) ∙ S.names k i w x (omega arith) c q d)));
+        spelt = λ x e. there x (what_in l x) (same w x) refl refl (ap known (inv (what_more l x w y)) ∙ e);
         numbers = let a = numbers-next cs vs hs h (suc k) in let b = r.2 in let c = s.numbers in omega arith;
         names = let a = count_next cs vs hs h (suc k) in let b = r.3 in let c = s.names in omega arith;
       }
     where
-      r : (among 1 (get_or cs (suc k) 0) ≡ true) × (get_or hs (suc k) 0 ≡ h) × (numbersAt cs vs hs h (suc k) ≡ sizeIn y) × (one cs hs 12 h (suc k) ≡ named_in y)
-      r = good-adds cs vs hs h (suc k) y g
+      r : (among 1 (get_or cs (suc k) 0) ≡ true) × (get_or hs (suc k) 0 ≡ h) × (numbers_at cs vs hs h (suc k) ≡ size_in y) × (one cs hs 12 h (suc k) ≡ named_in y)
+      r = good_adds cs vs hs h (suc k) y g
 
       on : (v : ℕ) (x : Option What) (c : Bool) → Found cs vs hs h (find cs vs hs 1 v h (suc k)) (suc k) x
           → find cs vs hs 1 v h (suc (suc k)) ≡ pick (ltb (find cs vs hs 1 v h (suc k)) (suc k)) (find cs vs hs 1 v h (suc k)) (pick (declares cs vs hs 1 v h (suc k)) (suc k) (suc (suc k)))
@@ -253,8 +253,8 @@ module _ (m : Model) (cs vs hs : List ℕ) (S : Says m cs vs) where
           let z : find cs vs hs 1 v h (suc (suc k)) ≡ find cs vs hs 1 v h (suc k) = e ∙ rw (lt-ltb (find cs vs hs 1 v h (suc k)) (suc k) f.0) refl in
           (omega arith, subst (λ i. Good cs vs hs h i x) (inv z) f.1)
 
-      there : (x : Name) (z : Option What) (c : Bool) → whatIn l x ≡ z → same w x ≡ c → known (or_else z (pick c (some y) none)) ≡ true
-          → (i : ℕ) × ((i < length cs) × (item_at (code m) i ≡ i-name x))
-      there x none true a e t = (k, (omega arith, q ∙ ap i-name (same-eq w x e)))
-      there x none false a e t = absurd (true-false (inv t))
+      there : (x : Name) (z : Option What) (c : Bool) → what_in l x ≡ z → same w x ≡ c → known (or_else z (pick c (some y) none)) ≡ true
+          → (i : ℕ) × ((i < length cs) × (item_at (code m) i ≡ i_name x))
+      there x none true a e t = (k, (omega arith, q ∙ ap i_name (same_eq w x e)))
+      there x none false a e t = absurd (true_false (inv t))
       there x (some z) c a e t = s.spelt x (ap known a)

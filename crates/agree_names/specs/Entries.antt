@@ -7,9 +7,9 @@ use Rattle.base_bytes.specs.Choice.{pick}
 use Rattle.base_bytes.specs.Lists.{same}
 use Rattle.spec_grammar.specs.Tree.{Name, Part, mtypes, process, init, Model}
 use Rattle.spec_grammar.specs.Tree as tree
-use Rattle.spec_machine.specs.Sizes.{sizePart}
-use Rattle.spec_machine.specs.Names.{Var, ofDeclaration, globalIn, messageIn}
-use Rattle.agree_encode.specs.Encode.{headIn}
+use Rattle.spec_machine.specs.Sizes.{size_part}
+use Rattle.spec_machine.specs.Names.{Var, of_declaration, global_in, message_in}
+use Rattle.agree_encode.specs.Encode.{head_in}
 use Rattle.agree_encode.specs.Tabled.{total_of}
 
 pub data What : Type 0 where
@@ -28,15 +28,15 @@ abbrev pub entry : Name → What → Entry
 entry w y = record { name = w; what = y }
 
 -- the first declaration of a name counts
-unfoldable pub whatIn : List Entry → Name → Option What
-whatIn [] w = none
-whatIn (e ∷ l) w = pick (same e.name w) (some e.what) (whatIn l w)
+unfoldable pub what_in : List Entry → Name → Option What
+what_in [] w = none
+what_in (e ∷ l) w = pick (same e.name w) (some e.what) (what_in l w)
 
 -- ## how many numbers, and how many mtype names, a declaration adds to its space
-abbrev pub sizeIn : What → ℕ
-sizeIn (slot x o) = x.size
-sizeIn (number n) = 0
-sizeIn (proctype i) = 0
+abbrev pub size_in : What → ℕ
+size_in (slot x o) = x.size
+size_in (number n) = 0
+size_in (proctype i) = 0
 
 abbrev pub named_in : What → ℕ
 named_in (slot x o) = 0
@@ -53,17 +53,17 @@ numbers n [] = []
 numbers n (w ∷ ws) = entry w (number (suc n)) ∷ numbers (suc n) ws
 
 -- ## what a unit, whose items begin at item i, adds to the space of the globals; all units; those up to unit k, with its own name
-abbrev pub entriesIn : ℕ → ℕ → ℕ → Part → List Entry
-entriesIn i o n (mtypes ws) = numbers n ws
-entriesIn i o n (tree.global d) = slots o (ofDeclaration d)
-entriesIn i o n (process a w gs b) = entry w (proctype (headIn (process a w gs b) i)) ∷ []
-entriesIn i o n (init b) = []
+abbrev pub entries_in : ℕ → ℕ → ℕ → Part → List Entry
+entries_in i o n (mtypes ws) = numbers n ws
+entries_in i o n (tree.global d) = slots o (of_declaration d)
+entries_in i o n (process a w gs b) = entry w (proctype (head_in (process a w gs b) i)) ∷ []
+entries_in i o n (init b) = []
 
-abbrev pub entriesOf : ℕ → ℕ → ℕ → Model → List Entry
-entriesOf i o n [] = []
-entriesOf i o n (u ∷ m) = entriesIn i o n u ++ entriesOf (i + sizePart u) (o + total_of (globalIn u)) (n + length (messageIn u)) m
+abbrev pub entries_of : ℕ → ℕ → ℕ → Model → List Entry
+entries_of i o n [] = []
+entries_of i o n (u ∷ m) = entries_in i o n u ++ entries_of (i + size_part u) (o + total_of (global_in u)) (n + length (message_in u)) m
 
-abbrev pub entriesTo : ℕ → ℕ → ℕ → Model → ℕ → List Entry
-entriesTo i o n [] k = []
-entriesTo i o n (u ∷ m) zero = entriesIn i o n u
-entriesTo i o n (u ∷ m) (suc k) = entriesIn i o n u ++ entriesTo (i + sizePart u) (o + total_of (globalIn u)) (n + length (messageIn u)) m k
+abbrev pub entries_to : ℕ → ℕ → ℕ → Model → ℕ → List Entry
+entries_to i o n [] k = []
+entries_to i o n (u ∷ m) zero = entries_in i o n u
+entries_to i o n (u ∷ m) (suc k) = entries_in i o n u ++ entries_to (i + size_part u) (o + total_of (global_in u)) (n + length (message_in u)) m k

@@ -8,22 +8,22 @@ use lib.ListN.{length, length-append}
 use Rattle.base_codes.specs.Items.{Item}
 use Rattle.parse_code.specs.Code.{code}
 use Rattle.base_codes.specs.Items.{code_of as itemCode}
-use Rattle.base_codes.specs.Sets.{isClosing}
+use Rattle.base_codes.specs.Sets.{is_closing}
 use Rattle.table_entries.specs.Items.{AllKnown}
 use Rattle.link_phrases_proof.specs.Phrases.{At}
 use Rattle.link_phrases_proof.proofs.Starts.{at_front, at_back}
 use Rattle.table_layout.specs.Access.{link_of}
-use Rattle.table_proof.proofs.Accepted.{accepted-known}
+use Rattle.table_proof.proofs.Accepted.{accepted_known}
 use Rattle.read_accepts_proof.specs.Meaning.{Accepts}
 use Rattle.agree_eval.specs.Held.{Held}
-use Rattle.agree_eval.specs.Names.{codesAt}
+use Rattle.agree_eval.specs.Names.{codes_at}
 use Rattle.agree_eval.proofs.Items.{T, part_held}
-use Rattle.agree_eval.proofs.Main.{items-long}
+use Rattle.agree_eval.proofs.Main.{items_long}
 use Rattle.agree_eval.proofs.Operators.{known-front, known-back}
 use Rattle.agree_stage.proofs.Stands.{Lying}
 use Rattle.agree_nesting.specs.Balanced.{Begun, Balanced}
 use Rattle.agree_nesting.proofs.Matches.{Opener, Match}
-use Rattle.agree_nesting.proofs.Main.{all-at, linked_to}
+use Rattle.agree_nesting.proofs.Main.{all_at, linked_to}
 
 module _ (t : List ℕ) (a : Accepts t) where
   abbrev pub xs : List Item
@@ -33,32 +33,32 @@ module _ (t : List ℕ) (a : Accepts t) where
     at_place : i ≡ 0 + length l.front
     at_place = l.place
 
-    pub held-there : Held (T t a) i x
-    held-there = let e = at_place in let z : length l.front ≡ i = omega arith in subst (λ n. Held (T t a) n x) z (part_held t a l.front x l.rest l.split)
+    pub held_there : Held (T t a) i x
+    held_there = let e = at_place in let z : length l.front ≡ i = omega arith in subst (λ n. Held (T t a) n x) z (part_held t a l.front x l.rest l.split)
 
-    pub at_there : At (codesAt t a) i x
-    at_there = at_front (codesAt t a) i x l.rest (at_back (codesAt t a) l.front (x ++ l.rest) 0 i at_place (subst (At (codesAt t a) 0) l.split (all-at t a)))
+    pub at_there : At (codes_at t a) i x
+    at_there = at_front (codes_at t a) i x l.rest (at_back (codes_at t a) l.front (x ++ l.rest) 0 i at_place (subst (At (codes_at t a) 0) l.split (all_at t a)))
 
-    pub inside-there : i + length x ≤ length xs
-    inside-there = omega (arith, at_place, ap length l.split, length-append l.front (x ++ l.rest), length-append x l.rest)
+    pub inside_there : i + length x ≤ length xs
+    inside_there = omega (arith, at_place, ap length l.split, length-append l.front (x ++ l.rest), length-append x l.rest)
 
-    pub ends_there : i + length x ≤ length (codesAt t a)
-    ends_there = omega (arith, inside-there, items-long t a)
+    pub ends_there : i + length x ≤ length (codes_at t a)
+    ends_there = omega (arith, inside_there, items_long t a)
 
-    pub known-there : AllKnown x
-    known-there = known-front x l.rest (known-back l.front (x ++ l.rest) (subst AllKnown l.split (accepted-known t a.parts a.tree a.reads a.gram)))
+    pub known_there : AllKnown x
+    known_there = known-front x l.rest (known-back l.front (x ++ l.rest) (subst AllKnown l.split (accepted_known t a.parts a.tree a.reads a.gram)))
 
   -- the item y closes what x opens, with balanced items m between them
-  pub linked-there : (p : ℕ) (x y : Item) (m r : List Item) (i : ℕ) → Opener p (itemCode x) → isClosing p (itemCode y) ≡ true → (p ≡ 2 → Begun m) → Balanced m
+  pub linked_there : (p : ℕ) (x y : Item) (m r : List Item) (i : ℕ) → Opener p (itemCode x) → is_closing p (itemCode y) ≡ true → (p ≡ 2 → Begun m) → Balanced m
       → Lying xs 0 (x ∷ (m ++ (y ∷ r))) i → link_of (T t a) i ≡ i + 1 + length m
-  linked-there p x y m r i o c g b l =
+  linked_there p x y m r i o c g b l =
       let h = at_there (x ∷ (m ++ (y ∷ r))) i l in
-      let w = inside-there (x ∷ (m ++ (y ∷ r))) i l in
+      let w = inside_there (x ∷ (m ++ (y ∷ r))) i l in
       let n = length-append m (y ∷ r) in
       let k : i + 1 + length m ≡ suc i + length m = omega arith in
       linked_to t a i p (length xs) (omega arith) (subst (Opener p) (inv h.0) o) (closing h (omega arith)) (omega arith) ∙ inv k
     where
-      closing : At (codesAt t a) i (x ∷ (m ++ (y ∷ r))) → suc i + length m < length xs → Match (codesAt t a) p i (length xs)
+      closing : At (codes_at t a) i (x ∷ (m ++ (y ∷ r))) → suc i + length m < length xs → Match (codes_at t a) p i (length xs)
       closing h w =
           record {
             at = suc i + length m;
@@ -66,7 +66,7 @@ module _ (t : List ℕ) (a : Accepts t) where
             inner = m;
             begun = g;
             balanced = b;
-            stands = at_front (codesAt t a) (suc i) m (y ∷ r) h.1;
+            stands = at_front (codes_at t a) (suc i) m (y ∷ r) h.1;
             place = refl;
-            closes = ap (isClosing p) (at_back (codesAt t a) m (y ∷ r) (suc i) (suc i + length m) refl h.1).0 ∙ c;
+            closes = ap (is_closing p) (at_back (codes_at t a) m (y ∷ r) (suc i) (suc i + length m) refl h.1).0 ∙ c;
           }

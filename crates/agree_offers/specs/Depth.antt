@@ -1,7 +1,7 @@
 -- Bridge, for `demand2` (crate `demands`).
 -- How deep the selections of a tree nest, and how many options a selection has: document 01, "Ceilings", "statements 512", "open if/do 8".
 use Rattle.std.specs.Prelude.{ℕ, suc, max, ◌≤◌, [], ◌∷◌}
-use Rattle.base_ceilings.specs.Ceilings.{selectionsMost}
+use Rattle.base_ceilings.specs.Ceilings.{selections_most}
 use Rattle.spec_grammar.specs.Tree.{Sort, options, Tree, leaf, select, loop, bare, labelled, end, then, over, option, Body, body, Part, mtypes, global, process, init, Model}
 
 -- how many `if` and `do` stand inside of each other
@@ -16,13 +16,13 @@ depth (then s q) = max (depth s) (depth q)
 depth over = 0
 depth (option q os) = max (depth q) (depth os)
 
-abbrev pub optionsIn : Tree options → ℕ
-optionsIn over = 0
-optionsIn (option q os) = suc (optionsIn os)
+abbrev pub options_in : Tree options → ℕ
+options_in over = 0
+options_in (option q os) = suc (options_in os)
 
 -- ## the bodies of a model keep the ceiling
 abbrev pub ShallowBody : Body → Type 0
-ShallowBody (body ds q) = depth q ≤ selectionsMost
+ShallowBody (body ds q) = depth q ≤ selections_most
 
 abbrev pub ShallowPart : Part → Type 0
 ShallowPart (mtypes ws) = Unit {0}

@@ -6,8 +6,8 @@ use mathlib.Core.List.{List, [], ◌∷◌, ◌++◌}
 use Rattle.base_bytes.specs.Choice.{pick}
 use Rattle.spec_grammar.specs.Tree.{Sort, action, Tree, leaf, select, loop, bare, labelled, end, then, over, option}
 use Rattle.base_bytes.specs.Lists.{or_else}
-use Rattle.spec_machine.specs.Sizes.{sizeIn}
-use Rattle.spec_machine.specs.Program.{enter, Within, itself, in-if, in-do, unlabelled, behind-label, in-first, in-option, in-others}
+use Rattle.spec_machine.specs.Sizes.{size_in}
+use Rattle.spec_machine.specs.Program.{enter, Within, itself, in_if, in_do, unlabelled, behind_label, in_first, in_option, in_others}
 use Rattle.spec_machine.specs.Offers.{else_of, offers}
 
 module _ (f g : Tree action → ℕ → Bool) where
@@ -21,12 +21,12 @@ module _ (f g : Tree action → ℕ → Bool) where
   pub offers-same : {k : Sort} (b : Tree k) (i n o : ℕ) → Agree b i n o → offers f b i ≡ offers g b i
   unfolding offers
   offers-same (leaf l) i n o h = one (leaf l) i n o h
-  offers-same (select os) i n o h = ap (λ (x : List ℕ). or_else x (else_of os (i + 1))) (offers-same os (i + 1) n o (λ a j m u w. h a j m u (in-if w)))
-  offers-same (loop os) i n o h = ap (λ (x : List ℕ). or_else x (else_of os (i + 1))) (offers-same os (i + 1) i n (λ a j m u w. h a j m u (in-do w)))
+  offers-same (select os) i n o h = ap (λ (x : List ℕ). or_else x (else_of os (i + 1))) (offers-same os (i + 1) n o (λ a j m u w. h a j m u (in_if w)))
+  offers-same (loop os) i n o h = ap (λ (x : List ℕ). or_else x (else_of os (i + 1))) (offers-same os (i + 1) i n (λ a j m u w. h a j m u (in_do w)))
   offers-same (bare b) i n o h = offers-same b i n o (λ a j m u w. h a j m u (unlabelled w))
-  offers-same (labelled v b) i n o h = offers-same b (i + 2) n o (λ a j m u w. h a j m u (behind-label w))
+  offers-same (labelled v b) i n o h = offers-same b (i + 2) n o (λ a j m u w. h a j m u (behind_label w))
   offers-same end i n o h = λ t. []
-  offers-same (then s q) i n o h = offers-same s i (enter q (i + sizeIn s) n) o (λ a j m u w. h a j m u (in-first w))
+  offers-same (then s q) i n o h = offers-same s i (enter q (i + size_in s) n) o (λ a j m u w. h a j m u (in_first w))
   offers-same over i n o h = λ t. []
   offers-same (option q os) i n o h = λ t.
-      offers-same q (i + 1) n o (λ a j m u w. h a j m u (in-option w)) t ++ offers-same os (i + 2 + sizeIn q) n o (λ a j m u w. h a j m u (in-others w)) t
+      offers-same q (i + 1) n o (λ a j m u w. h a j m u (in_option w)) t ++ offers-same os (i + 2 + size_in q) n o (λ a j m u w. h a j m u (in_others w)) t

@@ -51,22 +51,22 @@ module _ (f : ℕ → List ℤ → List ℤ) where
     Muted [] = Unit {0}
     Muted (x ∷ l) = (Known x → Mute (items.code_of x)) × Muted l
 
-    pub over-muted : (l : List Item) (j : ℕ) (s : List ℤ) → Muted l → AllKnown l → Held t j l → over l j s ≡ s
-    over-muted [] j s m k h = walk_none j s
-    over-muted (x ∷ l) j s m k h = walk-one j (length l) s ∙ ap (walk f (suc j) (length l)) (m.0 k.0 j s h.0) ∙ over-muted l (suc j) s m.1 k.1 h.2
+    pub over_muted : (l : List Item) (j : ℕ) (s : List ℤ) → Muted l → AllKnown l → Held t j l → over l j s ≡ s
+    over_muted [] j s m k h = walk_none j s
+    over_muted (x ∷ l) j s m k h = walk-one j (length l) s ∙ ap (walk f (suc j) (length l)) (m.0 k.0 j s h.0) ∙ over_muted l (suc j) s m.1 k.1 h.2
 
-    pub muted-both : (x y : List Item) → Muted x → Muted y → Muted (x ++ y)
-    muted-both [] y a b = b
-    muted-both (c ∷ x) y a b = (a.0, muted-both x y a.1 b)
+    pub muted_both : (x y : List Item) → Muted x → Muted y → Muted (x ++ y)
+    muted_both [] y a b = b
+    muted_both (c ∷ x) y a b = (a.0, muted_both x y a.1 b)
 
-    pub muted-each : {A : Type 0} (g : A → List Item) → ((a : A) → Muted (g a)) → (l : List A) → Muted (each g l)
-    muted-each g h [] = tt
-    muted-each g h (a ∷ l) = muted-both (g a) (each g l) (h a) (muted-each g h l)
+    pub muted_each : {A : Type 0} (g : A → List Item) → ((a : A) → Muted (g a)) → (l : List A) → Muted (each g l)
+    muted_each g h [] = tt
+    muted_each g h (a ∷ l) = muted_both (g a) (each g l) (h a) (muted_each g h l)
 
 -- ---- by their places
-pub walk-idle : (f : ℕ → List ℤ → List ℤ) (n j : ℕ) (s : List ℤ) → ((i : ℕ) (x : List ℤ) → j ≤ i → i < j + n → f i x ≡ x) → walk f j n s ≡ s
-walk-idle f zero j s h = walk_none f j s
-walk-idle f (suc n) j s h = walk-one f j n s ∙ ap (walk f (suc j) n) (h j s (omega arith) (omega arith)) ∙ walk-idle f n (suc j) s (λ i x a b. h i x (omega arith) (omega arith))
+pub walk_idle : (f : ℕ → List ℤ → List ℤ) (n j : ℕ) (s : List ℤ) → ((i : ℕ) (x : List ℤ) → j ≤ i → i < j + n → f i x ≡ x) → walk f j n s ≡ s
+walk_idle f zero j s h = walk_none f j s
+walk_idle f (suc n) j s h = walk-one f j n s ∙ ap (walk f (suc j) n) (h j s (omega arith) (omega arith)) ∙ walk_idle f n (suc j) s (λ i x a b. h i x (omega arith) (omega arith))
 
 -- ---- the same again and again
 pub walk-repeated : (g r : List ℤ → List ℤ) → ((s : List ℤ) → g s ≡ r s) → (n j : ℕ) (s : List ℤ) → walk (λ k x. g x) j n s ≡ repeated r n s

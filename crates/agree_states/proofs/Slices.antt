@@ -6,33 +6,33 @@ use mathlib.Core.Path.{◌≡◌, refl, sym as inv, ap, ap₂, ◌∙◌, subst}
 use mathlib.Core.List.{List, [], ◌∷◌, ◌++◌, map}
 use lib.ListN.{length, get_or}
 use lib.IntN.{ℤ, pos}
-use Rattle.base_ceilings.specs.Ceilings.{fieldsMost}
-use Rattle.base_values.specs.Types.{castOf}
+use Rattle.base_ceilings.specs.Ceilings.{fields_most}
+use Rattle.base_values.specs.Types.{cast_of}
 use Rattle.state_layout.specs.Layout.{cell_of}
 use Rattle.spec_machine.specs.Names.{Var}
-use Rattle.spec_machine.specs.Plain.{noVar}
+use Rattle.spec_machine.specs.Plain.{no_var}
 use Rattle.agree_encode.specs.Encode.{flat}
 use Rattle.spec_machine.specs.Fits.{Filled}
 use Rattle.agree_encode.specs.Tabled.{offset_of, total_of}
 
 -- ---- lists
-pub get-past : {A : Type 0} (l : List A) (d : A) (k : ℕ) → length l ≤ k → get_or l k d ≡ d
-get-past [] d k h = go k
+pub get_past : {A : Type 0} (l : List A) (d : A) (k : ℕ) → length l ≤ k → get_or l k d ≡ d
+get_past [] d k h = go k
   where
     go : (k : ℕ) → get_or [] k d ≡ d
     go zero = refl
     go (suc k) = refl
-get-past (x ∷ l) d zero h = absurd (omega arith)
-get-past (x ∷ l) d (suc k) h = get-past l d k (omega arith)
+get_past (x ∷ l) d zero h = absurd (omega arith)
+get_past (x ∷ l) d (suc k) h = get_past l d k (omega arith)
 
-pub get-map : {A B : Type 0} (f : A → B) (l : List A) (d : A) (e : B) (i : ℕ) → i < length l → get_or (map f l) i e ≡ f (get_or l i d)
-get-map f [] d e i h = absurd (omega arith)
-get-map f (x ∷ l) d e zero h = refl
-get-map f (x ∷ l) d e (suc i) h = get-map f l d e i (omega arith)
+pub get_map : {A B : Type 0} (f : A → B) (l : List A) (d : A) (e : B) (i : ℕ) → i < length l → get_or (map f l) i e ≡ f (get_or l i d)
+get_map f [] d e i h = absurd (omega arith)
+get_map f (x ∷ l) d e zero h = refl
+get_map f (x ∷ l) d e (suc i) h = get_map f l d e i (omega arith)
 
-pub map-long : {A B : Type 0} (f : A → B) (l : List A) → length (map f l) ≡ length l
-map-long f [] = refl
-map-long f (x ∷ l) = ap suc (map-long f l)
+pub map_long : {A B : Type 0} (f : A → B) (l : List A) → length (map f l) ≡ length l
+map_long f [] = refl
+map_long f (x ∷ l) = ap suc (map_long f l)
 
 -- a list of n, where there is one for each place
 pub record Chosen {A : Type 0} (Q : ℕ → A → Type 0) (d : A) (n : ℕ) : Type 0 where
@@ -56,17 +56,17 @@ abbrev pub cells : List ℤ → ℕ → ℕ → List ℤ
 cells s at zero = []
 cells s at (suc n) = cell_of s at ∷ cells s (suc at) n
 
-pub cells-long : (s : List ℤ) (at n : ℕ) → length (cells s at n) ≡ n
-cells-long s at zero = refl
-cells-long s at (suc n) = ap suc (cells-long s (suc at) n)
+pub cells_long : (s : List ℤ) (at n : ℕ) → length (cells s at n) ≡ n
+cells_long s at zero = refl
+cells_long s at (suc n) = ap suc (cells_long s (suc at) n)
 
-pub cells-get : (s : List ℤ) (at n k : ℕ) → k < n → get_or (cells s at n) k (pos 0) ≡ cell_of s (at + k)
-cells-get s at zero k h = absurd (omega arith)
-cells-get s at (suc n) zero h = ap (cell_of s) (let z : at ≡ at + 0 = omega arith in z)
-cells-get s at (suc n) (suc k) h = cells-get s (suc at) n k (omega arith) ∙ ap (cell_of s) (let z : suc at + k ≡ at + suc k = omega arith in z)
+pub cells_get : (s : List ℤ) (at n k : ℕ) → k < n → get_or (cells s at n) k (pos 0) ≡ cell_of s (at + k)
+cells_get s at zero k h = absurd (omega arith)
+cells_get s at (suc n) zero h = ap (cell_of s) (let z : at ≡ at + 0 = omega arith in z)
+cells_get s at (suc n) (suc k) h = cells_get s (suc at) n k (omega arith) ∙ ap (cell_of s) (let z : suc at + k ≡ at + suc k = omega arith in z)
 
-pub cells-past : (s : List ℤ) (at n k : ℕ) → n ≤ k → get_or (cells s at n) k (pos 0) ≡ pos 0
-cells-past s at n k h = get-past (cells s at n) (pos 0) k (subst (◌≤ k) (inv (cells-long s at n)) h)
+pub cells_past : (s : List ℤ) (at n k : ℕ) → n ≤ k → get_or (cells s at n) k (pos 0) ≡ pos 0
+cells_past s at n k h = get_past (cells s at n) (pos 0) k (subst (◌≤ k) (inv (cells_long s at n)) h)
 
 cells-both : (s : List ℤ) (at n k : ℕ) → cells s at (n + k) ≡ cells s at n ++ cells s (at + n) k
 cells-both s at zero k = ap₂ (cells s) (let z : at ≡ at + 0 = omega arith in z) (let z : 0 + k ≡ k = omega arith in z)
@@ -75,35 +75,35 @@ cells-both s at (suc n) k =
     ∙ ap (λ (l : List ℤ). cell_of s at ∷ l) (cells-both s (suc at) n k ∙ ap (λ i. cells s (suc at) n ++ cells s i k) (let z : suc at + n ≡ at + suc n = omega arith in z))
 
 -- ---- variables in turn
-abbrev pub valuesAt : List Var → List ℤ → ℕ → List (List ℤ)
-valuesAt [] s at = []
-valuesAt (x ∷ xs) s at = cells s at x.size ∷ valuesAt xs s (at + x.size)
+abbrev pub values_at : List Var → List ℤ → ℕ → List (List ℤ)
+values_at [] s at = []
+values_at (x ∷ xs) s at = cells s at x.size ∷ values_at xs s (at + x.size)
 
-pub values-flat : (xs : List Var) (s : List ℤ) (at : ℕ) → flat (valuesAt xs s at) ≡ cells s at (total_of xs)
+pub values-flat : (xs : List Var) (s : List ℤ) (at : ℕ) → flat (values_at xs s at) ≡ cells s at (total_of xs)
 values-flat [] s at = refl
 values-flat (x ∷ xs) s at = ap (λ (l : List ℤ). cells s at x.size ++ l) (values-flat xs s (at + x.size)) ∙ inv (cells-both s at x.size (total_of xs))
 
-values-long : (xs : List Var) (s : List ℤ) (at : ℕ) → length (valuesAt xs s at) ≡ length xs
-values-long [] s at = refl
-values-long (x ∷ xs) s at = ap suc (values-long xs s (at + x.size))
+values_long : (xs : List Var) (s : List ℤ) (at : ℕ) → length (values_at xs s at) ≡ length xs
+values_long [] s at = refl
+values_long (x ∷ xs) s at = ap suc (values_long xs s (at + x.size))
 
-values-get : (xs : List Var) (s : List ℤ) (at i : ℕ) → i < length xs → get_or (valuesAt xs s at) i [] ≡ cells s (at + offset_of xs i) (get_or xs i noVar).size
-values-get [] s at i h = absurd (omega arith)
-values-get (x ∷ xs) s at zero h = ap (λ n. cells s n x.size) (let z : at ≡ at + 0 = omega arith in z)
-values-get (x ∷ xs) s at (suc i) h =
-    values-get xs s (at + x.size) i (omega arith) ∙ ap (λ n. cells s n (get_or xs i noVar).size) (let z : at + x.size + offset_of xs i ≡ at + (x.size + offset_of xs i) = omega arith in z)
+values_get : (xs : List Var) (s : List ℤ) (at i : ℕ) → i < length xs → get_or (values_at xs s at) i [] ≡ cells s (at + offset_of xs i) (get_or xs i no_var).size
+values_get [] s at i h = absurd (omega arith)
+values_get (x ∷ xs) s at zero h = ap (λ n. cells s n x.size) (let z : at ≡ at + 0 = omega arith in z)
+values_get (x ∷ xs) s at (suc i) h =
+    values_get xs s (at + x.size) i (omega arith) ∙ ap (λ n. cells s n (get_or xs i no_var).size) (let z : at + x.size + offset_of xs i ≡ at + (x.size + offset_of xs i) = omega arith in z)
 
-pub offset-reach : (xs : List Var) (i k : ℕ) → i < length xs → k < (get_or xs i noVar).size → offset_of xs i + k < total_of xs
-offset-reach [] i k h g = absurd (omega arith)
-offset-reach (x ∷ xs) zero k h g = omega arith
-offset-reach (x ∷ xs) (suc i) k h g = let r = offset-reach xs i k (omega arith) g in omega arith
+pub offset_reach : (xs : List Var) (i k : ℕ) → i < length xs → k < (get_or xs i no_var).size → offset_of xs i + k < total_of xs
+offset_reach [] i k h g = absurd (omega arith)
+offset_reach (x ∷ xs) zero k h g = omega arith
+offset_reach (x ∷ xs) (suc i) k h g = let r = offset_reach xs i k (omega arith) g in omega arith
 
 -- each number belongs to one of them
 pub record Found (xs : List Var) (n : ℕ) : Type 0 where
   pub variable : ℕ
   pub element : ℕ
   pub here : variable < length xs
-  pub inside : element < (get_or xs variable noVar).size
+  pub inside : element < (get_or xs variable no_var).size
   pub is : offset_of xs variable + element ≡ n
 
 pub find : (xs : List Var) (n : ℕ) → n < total_of xs → Found xs n
@@ -116,30 +116,30 @@ find (x ∷ xs) n h = go (dec_lt n x.size) (λ a. find xs (n - x.size) (omega ar
         let r = f (omega arith) in
         record { variable = suc r.variable; element = r.element; here = (let h = r.here in omega arith); inside = r.inside; is = (let e = r.is in omega arith) }
 
-pub values-typed : (xs : List Var) (s : List ℤ) (at : ℕ)
-    → ((i k : ℕ) → i < length xs → k < (get_or xs i noVar).size → castOf (get_or xs i noVar).type (cell_of s (at + (offset_of xs i + k))) ≡ cell_of s (at + (offset_of xs i + k))) → Filled xs (valuesAt xs s at)
-values-typed xs s at h =
+pub values_typed : (xs : List Var) (s : List ℤ) (at : ℕ)
+    → ((i k : ℕ) → i < length xs → k < (get_or xs i no_var).size → cast_of (get_or xs i no_var).type (cell_of s (at + (offset_of xs i + k))) ≡ cell_of s (at + (offset_of xs i + k))) → Filled xs (values_at xs s at)
+values_typed xs s at h =
     record {
-      all = values-long xs s at;
-      sized = λ i g. ap length (values-get xs s at i g) ∙ cells-long s (at + offset_of xs i) (get_or xs i noVar).size;
+      all = values_long xs s at;
+      sized = λ i g. ap length (values_get xs s at i g) ∙ cells_long s (at + offset_of xs i) (get_or xs i no_var).size;
       typed = λ i g k l.
-          let e = values-get xs s at i g in
-          let n : k < (get_or xs i noVar).size = subst (k <◌) (ap length e ∙ cells-long s (at + offset_of xs i) (get_or xs i noVar).size) l in
-          let c : get_or (get_or (valuesAt xs s at) i []) k (pos 0) ≡ cell_of s (at + (offset_of xs i + k)) = ap (λ (l : List ℤ). get_or l k (pos 0)) e
-          ∙ cells-get s (at + offset_of xs i) (get_or xs i noVar).size k n ∙ ap (cell_of s) (let z : at + offset_of xs i + k ≡ at + (offset_of xs i + k) = omega arith in z) in
-          subst (λ z. castOf (get_or xs i noVar).type z ≡ z) (inv c) (h i k g n);
+          let e = values_get xs s at i g in
+          let n : k < (get_or xs i no_var).size = subst (k <◌) (ap length e ∙ cells_long s (at + offset_of xs i) (get_or xs i no_var).size) l in
+          let c : get_or (get_or (values_at xs s at) i []) k (pos 0) ≡ cell_of s (at + (offset_of xs i + k)) = ap (λ (l : List ℤ). get_or l k (pos 0)) e
+          ∙ cells_get s (at + offset_of xs i) (get_or xs i no_var).size k n ∙ ap (cell_of s) (let z : at + offset_of xs i + k ≡ at + (offset_of xs i + k) = omega arith in z) in
+          subst (λ z. cast_of (get_or xs i no_var).type z ≡ z) (inv c) (h i k g n);
     }
 
 -- ---- n messages of w numbers, one every four places
-abbrev pub messagesAt : List ℤ → ℕ → ℕ → ℕ → List (List ℤ)
-messagesAt s w at zero = []
-messagesAt s w at (suc n) = cells s at w ∷ messagesAt s w (at + fieldsMost) n
+abbrev pub messages_at : List ℤ → ℕ → ℕ → ℕ → List (List ℤ)
+messages_at s w at zero = []
+messages_at s w at (suc n) = cells s at w ∷ messages_at s w (at + fields_most) n
 
-pub messages-long : (s : List ℤ) (w at n : ℕ) → length (messagesAt s w at n) ≡ n
-messages-long s w at zero = refl
-messages-long s w at (suc n) = ap suc (messages-long s w (at + fieldsMost) n)
+pub messages_long : (s : List ℤ) (w at n : ℕ) → length (messages_at s w at n) ≡ n
+messages_long s w at zero = refl
+messages_long s w at (suc n) = ap suc (messages_long s w (at + fields_most) n)
 
-pub messages-get : (s : List ℤ) (w at n i : ℕ) → i < n → get_or (messagesAt s w at n) i [] ≡ cells s (at + fieldsMost * i) w
-messages-get s w at zero i h = absurd (omega arith)
-messages-get s w at (suc n) zero h = ap (λ k. cells s k w) (let z : at ≡ at + fieldsMost * 0 = omega arith in z)
-messages-get s w at (suc n) (suc i) h = messages-get s w (at + fieldsMost) n i (omega arith) ∙ ap (λ k. cells s k w) (let z : at + fieldsMost + fieldsMost * i ≡ at + fieldsMost * suc i = omega arith in z)
+pub messages_get : (s : List ℤ) (w at n i : ℕ) → i < n → get_or (messages_at s w at n) i [] ≡ cells s (at + fields_most * i) w
+messages_get s w at zero i h = absurd (omega arith)
+messages_get s w at (suc n) zero h = ap (λ k. cells s k w) (let z : at ≡ at + fields_most * 0 = omega arith in z)
+messages_get s w at (suc n) (suc i) h = messages_get s w (at + fields_most) n i (omega arith) ∙ ap (λ k. cells s k w) (let z : at + fields_most + fields_most * i ≡ at + fields_most * suc i = omega arith in z)

@@ -7,8 +7,8 @@ use Rattle.read_accepts_proof.specs.Meaning.{Accepts}
 use Rattle.spec_machine.specs.Stage.{Stage, Ways}
 use Rattle.spec_machine.specs.Program.{start_in}
 use Rattle.agree_sizes.specs.Bodies.{Statement}
-use Rattle.agree_effects.specs.Stages.{stageAt}
+use Rattle.agree_effects.specs.Stages.{stage_at}
 
 module _ (t : List ℕ) (a : Accepts t) (s : List ℤ) (p u : ℕ) where
-  abbrev pub stageHere : {j : ℕ} {x : Tree action} {h : Ways} → Statement a.tree u x j h → Stage (List ℤ)
-  stageHere f = stageAt t a s p (start_in f.own f.at)
+  abbrev pub stage_here : {j : ℕ} {x : Tree action} {h : Ways} → Statement a.tree u x j h → Stage (List ℤ)
+  stage_here f = stage_at t a s p (start_in f.own f.at)

@@ -6,11 +6,11 @@ use mathlib.Core.Bool.{Bool, true, false}
 use mathlib.Core.List.{List, [], ◌∷◌}
 use lib.ListN.{length, get_or, drop}
 use Rattle.base_bytes.specs.Choice.{pick}
-use Rattle.base_bytes.proofs.Tests.{true-false}
+use Rattle.base_bytes.proofs.Tests.{true_false}
 use Rattle.base_kinds.specs.Kinds.{Token}
 use Rattle.base_codes.specs.Items.{Item}
 use Rattle.table_entries.specs.Items.{entry_of}
-use Rattle.write_texts.specs.Turning.{isToken, kept, told, walk, after, marks, blanked}
+use Rattle.write_texts.specs.Turning.{is_token, kept, told, walk, after, marks, blanked}
 use Rattle.write_texts.proofs.Rows.{blank-row}
 use Rattle.write_reprint_proof.specs.Here.{tok, Here}
 use Rattle.write_reprint_proof.proofs.Walk.{W}
@@ -41,19 +41,19 @@ under (suc k) [] i h = refl
 under (suc k) (c ∷ cs) zero h = refl
 under (suc k) (c ∷ cs) (suc i) h = under k cs i (omega arith)
 
-pub blanked-is : (k : ℕ) (cs : List ℕ) → Blank cs (blanked k cs) k
-blanked-is k cs = record { above = over k cs; below = under k cs }
+pub blanked_is : (k : ℕ) (cs : List ℕ) → Blank cs (blanked k cs) k
+blanked_is k cs = record { above = over k cs; below = under k cs }
 
 -- ---- a stack that holds no token
 abbrev pub silent : List ℕ → Bool
 silent [] = true
-silent (v ∷ st) = pick (isToken v) false (silent st)
+silent (v ∷ st) = pick (is_token v) false (silent st)
 
-first-silent : (v : ℕ) (st : List ℕ) → silent (v ∷ st) ≡ true → (isToken v ≡ false) × (silent st ≡ true)
-first-silent v st e = go (isToken v) e
+first-silent : (v : ℕ) (st : List ℕ) → silent (v ∷ st) ≡ true → (is_token v ≡ false) × (silent st ≡ true)
+first-silent v st e = go (is_token v) e
   where
     go : (b : Bool) → pick b false (silent st) ≡ true → (b ≡ false) × (silent st ≡ true)
-    go true e = absurd (true-false (inv e))
+    go true e = absurd (true_false (inv e))
     go false e = (refl, e)
 
 silent-kept : (st : List ℕ) → silent st ≡ true → kept st ≡ st

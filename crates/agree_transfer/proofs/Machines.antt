@@ -10,11 +10,11 @@ use Rattle.base_bytes.specs.Choice.{pick}
 use Rattle.base_outcome.specs.declared.Taken.{Taken}
 use Rattle.base_outcome.specs.declared.Taken.TheVariants.{Done, Refuted, Faulted, Idle}
 use Rattle.agree_transfer.specs.Agrees.{Related}
-use Rattle.spec_machine.specs.Machine.{Move, Machine, Step, move_of, numbered, is_some, any_from, late, list_from, offered, advance, endedFrom, verdictBy, verdict, asked}
+use Rattle.spec_machine.specs.Machine.{Move, Machine, Step, move_of, numbered, is_some, any_from, late, list_from, offered, advance, ended_from, verdict_by, verdict, asked}
 use Rattle.agree_transfer.specs.Alike.{In, first, behind, Alike}
-use Rattle.spec_trails.specs.Replays.{Claim, assertion, fault, standing, Replayed, judged, followed, recorded, replayFrom}
+use Rattle.spec_trails.specs.Replays.{Claim, assertion, fault, standing, Replayed, judged, followed, recorded, replay_from}
 use Rattle.spec_trails.specs.Trails.{Recorded}
-use Rattle.spec_trails.specs.Runs.{stood, Ran, still, firstTaken, run_by, run_from}
+use Rattle.spec_trails.specs.Runs.{stood, Ran, still, first_taken, run_by, run_from}
 
 module _ {S T : Type 0} (R : S → T → Type 0) (M : Machine S) (N : Machine T) (k : Alike R M N) where
   -- ---- steps and verdicts
@@ -29,8 +29,8 @@ module _ {S T : Type 0} (R : S → T → Type 0) (M : Machine S) (N : Machine T)
     list_same l p zero h = refl
     list_same l p (suc n) h = ap₂ (λ s b. numbered p 1 s ++ b) (k.steps r l p (omega arith)) (list_same l (p + 1) n (omega arith))
 
-    ended_same : (p n : ℕ) → p + n ≤ M.processes x → endedFrom M x p n ≡ endedFrom N y p n
-    unfolding endedFrom
+    ended_same : (p n : ℕ) → p + n ≤ M.processes x → ended_from M x p n ≡ ended_from N y p n
+    unfolding ended_from
     ended_same p zero h = refl
     ended_same p (suc n) h = ap₂ (λ e b. pick e b false) (k.ended r p (omega arith)) (ended_same (p + 1) n (omega arith))
 
@@ -45,9 +45,9 @@ module _ {S T : Type 0} (R : S → T → Type 0) (M : Machine S) (N : Machine T)
 
     pub verdict-same : verdict M x ≡ verdict N y
     unfolding verdict
-    verdict-same = ap₂ (λ b l. verdictBy M b l) (ended_same 0 (M.processes x) (omega arith) ∙ ap (endedFrom N y 0) (k.processes r)) offered-same ∙ by (endedFrom N y 0 (N.processes y)) (offered N y)
+    verdict-same = ap₂ (λ b l. verdict_by M b l) (ended_same 0 (M.processes x) (omega arith) ∙ ap (ended_from N y 0) (k.processes r)) offered-same ∙ by (ended_from N y 0 (N.processes y)) (offered N y)
       where
-        by : (b : Bool) (l : List Step) → verdictBy M b l ≡ verdictBy N b l
+        by : (b : Bool) (l : List Step) → verdict_by M b l ≡ verdict_by N b l
         by true l = refl
         by false [] = refl
         by false (z ∷ l) = refl
@@ -90,25 +90,25 @@ module _ {S T : Type 0} (R : S → T → Type 0) (M : Machine S) (N : Machine T)
   still-same : {x : S} {y : T} → R x y → Ended (still M x) (still N y)
   still-same r = (ap stood (verdict-same r), refl, r)
 
-  first-same : {x : S} {y : T} → R x y → (l : List Step) → AllListed x (late M x) l → Related R (firstTaken M x l) (firstTaken N y l)
+  first-same : {x : S} {y : T} → R x y → (l : List Step) → AllListed x (late M x) l → Related R (first_taken M x l) (first_taken N y l)
   first-same r [] h = (refl, r)
   first-same {x} r (z ∷ l) h = advance-same r (late M x) z h.0.0 h.0.1
 
-  run-by : (t : Taken) {x : S} {y : T} → R x y → (f : S → Ran S) (g : T → Ran T) → ((a : S) (b : T) → R a b → Ended (f a) (g b)) → Ended (run_by M t x f) (run_by N t y g)
-  run-by Done {x} {y} r f g h = let z = h x y r in (z.0, ap suc z.1, z.2)
-  run-by Refuted r f g h = (refl, refl, r)
-  run-by (Faulted e) r f g h = (refl, refl, r)
-  run-by Idle r f g h = still-same r
+  run_by_lem : (t : Taken) {x : S} {y : T} → R x y → (f : S → Ran S) (g : T → Ran T) → ((a : S) (b : T) → R a b → Ended (f a) (g b)) → Ended (run_by M t x f) (run_by N t y g)
+  run_by_lem Done {x} {y} r f g h = let z = h x y r in (z.0, ap suc z.1, z.2)
+  run_by_lem Refuted r f g h = (refl, refl, r)
+  run_by_lem (Faulted e) r f g h = (refl, refl, r)
+  run_by_lem Idle r f g h = still-same r
 
   pub run-same : (n : ℕ) {x : S} {y : T} → R x y → Ended (run_from M n x) (run_from N n y)
   unfolding run_from
   run-same zero r = still-same r
   run-same (suc n) {x} {y} r =
       let z = first-same r (offered M x) (offered-listed x) in
-      subst (λ l. Ended (run_by M (firstTaken M x (offered M x)).0 (firstTaken M x (offered M x)).1 (λ a. run_from M n a)) (run_by N (firstTaken N y l).0 (firstTaken N y l).1 (λ a. run_from N n a)))
+      subst (λ l. Ended (run_by M (first_taken M x (offered M x)).0 (first_taken M x (offered M x)).1 (λ a. run_from M n a)) (run_by N (first_taken N y l).0 (first_taken N y l).1 (λ a. run_from N n a)))
       (offered-same r)
-      (subst (λ t. Ended (run_by M (firstTaken M x (offered M x)).0 (firstTaken M x (offered M x)).1 (λ a. run_from M n a)) (run_by N t (firstTaken N y (offered M x)).1 (λ a. run_from N n a)))
-      z.0 (run-by (firstTaken M x (offered M x)).0 z.1 (λ a. run_from M n a) (λ a. run_from N n a) (λ a b s. run-same n s)))
+      (subst (λ t. Ended (run_by M (first_taken M x (offered M x)).0 (first_taken M x (offered M x)).1 (λ a. run_from M n a)) (run_by N t (first_taken N y (offered M x)).1 (λ a. run_from N n a)))
+      z.0 (run_by_lem (first_taken M x (offered M x)).0 z.1 (λ a. run_from M n a) (λ a. run_from N n a) (λ a b s. run-same n s)))
 
   -- ---- the replay
   abbrev Told : Replayed × S → Replayed × T → Type 0
@@ -148,13 +148,13 @@ module _ {S T : Type 0} (R : S → T → Type 0) (M : Machine S) (N : Machine T)
       subst (λ t. Told (followed M line x (advance M x z).0 (advance M x z).1 f) (followed N line y t (advance N y z).1 g)) w.0
       (followed_same line r (advance M x z).0 (advance M x z).1 (advance N y z).1 w.1 f g h)
 
-  pub replay-same : (claim : Claim) (l : List Recorded) (line : ℕ) (e : Option Claim) {x : S} {y : T} → R x y → Told (replayFrom M claim l line e x) (replayFrom N claim l line e y)
-  unfolding replayFrom
+  pub replay-same : (claim : Claim) (l : List Recorded) (line : ℕ) (e : Option Claim) {x : S} {y : T} → R x y → Told (replay_from M claim l line e x) (replay_from N claim l line e y)
+  unfolding replay_from
   replay-same claim [] line none r = (ap (λ v. judged M claim (standing v) line) (verdict-same r), r)
   replay-same claim [] line (some f) r = (refl, r)
   replay-same claim (a ∷ more) line none {x} {y} r =
-      subst (λ o. Told (recorded M line x (asked M a.process a.choice (offered M x)) (λ f z. replayFrom M claim more (line + 1) f z)) (recorded N line y o (λ f z. replayFrom N claim more (line + 1) f z)))
+      subst (λ o. Told (recorded M line x (asked M a.process a.choice (offered M x)) (λ f z. replay_from M claim more (line + 1) f z)) (recorded N line y o (λ f z. replay_from N claim more (line + 1) f z)))
       (ap (asked M a.process a.choice) (offered-same r) ∙ asked-same a.process a.choice (offered N y))
       (recorded-same line r (asked M a.process a.choice (offered M x)) (asked-listed x (late M x) a.process a.choice (offered M x) (offered-listed x))
-      (λ f z. replayFrom M claim more (line + 1) f z) (λ f z. replayFrom N claim more (line + 1) f z) (λ f u v s. replay-same claim more (line + 1) f s))
+      (λ f z. replay_from M claim more (line + 1) f z) (λ f z. replay_from N claim more (line + 1) f z) (λ f u v s. replay-same claim more (line + 1) f s))
   replay-same claim (a ∷ more) line (some f) r = (refl, r)

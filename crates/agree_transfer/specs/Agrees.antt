@@ -6,8 +6,8 @@ use Rattle.std.specs.Prelude.{ℕ, ◌≡◌, Bool, true, false, List, length, �
 use Rattle.base_bytes.specs.Choice.{pick}
 use Rattle.base_bytes.specs.Lists.{same}
 use Rattle.spec_text.specs.Names.{pid}
-use Rattle.spec_grammar.specs.Tree.{Name, action, Tree, leaf, express, assign, increment, decrement, send, receive, assert, print, skip, goto, break, timeout, else, run, set-run, select, loop}
-use Rattle.spec_rules.specs.Senses.{Sense, variable, constant, procedure, unknown, isConstant}
+use Rattle.spec_grammar.specs.Tree.{Name, action, Tree, leaf, express, assign, increment, decrement, send, receive, assert, print, skip, goto, break, timeout, else, run, set_run, select, loop}
+use Rattle.spec_rules.specs.Senses.{Sense, variable, constant, procedure, unknown, is_constant}
 use Rattle.spec_rules.specs.Roles.{operand, received}
 use Rattle.legal_rules.specs.Expressions.{usable}
 use Rattle.spec_rules.specs.Statements.{Place, has, sense}
@@ -16,15 +16,15 @@ use Rattle.spec_machine.specs.Stage.{Stage, Ways}
 use Rattle.spec_machine.specs.Ready.{ready}
 use Rattle.spec_machine.specs.Effect.{Outcome}
 
-abbrev pub isVariable : Sense → Bool
-isVariable (variable c a) = true
-isVariable constant = false
-isVariable (procedure n) = false
-isVariable unknown = false
+abbrev pub is_variable : Sense → Bool
+is_variable (variable c a) = true
+is_variable constant = false
+is_variable (procedure n) = false
+is_variable unknown = false
 
 -- a name that can be stored to
 unfoldable pub storable : (Name → Sense) → Name → Bool
-storable sense w = pick (same w pid) false (isVariable (sense w))
+storable sense w = pick (same w pid) false (is_variable (sense w))
 
 pub record Agrees {S T : Type 0} (R : S → T → Type 0) (P : ℕ → Type 0) (at : Place) (c : Stage S) (x : S) (d : Stage T) (y : T) : Type 0 where
   pub together : R x y
@@ -35,7 +35,7 @@ pub record Agrees {S T : Type 0} (R : S → T → Type 0) (P : ℕ → Type 0) (
   pub element : (w : Name) (k : ℕ) → storable (sense at) w ≡ true → ltb k (c.scene.size w) ≡ true → c.scene.element w k ≡ d.scene.element w k
   pub made : (v : ℤ) → c.scene.made v ≡ d.scene.made v
   pub waiting : (v : ℤ) → c.scene.made v ≡ true → c.scene.waiting v ≡ d.scene.waiting v
-  pub constant : (w : Name) (i : Bool) → usable (sense at) received i w ≡ true → (c.constant w ≡ isConstant (sense at w)) × (d.constant w ≡ isConstant (sense at w))
+  pub constant : (w : Name) (i : Bool) → usable (sense at) received i w ≡ true → (c.constant w ≡ is_constant (sense at w)) × (d.constant w ≡ is_constant (sense at w))
   pub capacity : (v : ℤ) → c.scene.made v ≡ true → c.capacity v ≡ d.capacity v
   pub fields : (v : ℤ) → c.scene.made v ≡ true → c.fields v ≡ d.fields v
   pub message : (v : ℤ) (k f : ℕ) → c.scene.made v ≡ true → ltb k (c.scene.waiting v) ≡ true → ltb f (c.fields v) ≡ true → c.message v k f ≡ d.message v k f
@@ -77,6 +77,6 @@ takable c (leaf break) = true
 takable c (leaf timeout) = true
 takable c (leaf else) = true
 takable c (leaf (run w es)) = ready c true (leaf (run w es))
-takable c (leaf (set-run r w es)) = true
+takable c (leaf (set_run r w es)) = true
 takable c (select os) = false
 takable c (loop os) = false

@@ -11,7 +11,7 @@ use lib.ListN.{length, get_or, take, drop, set, drop_of_length-le}
 use lib.Seq.{drop-cons, take-suc, set-append_seam, append_snoc, set_at, length-take-le, take-length}
 use Rattle.base_bytes.specs.Choice.{both}
 use Rattle.base_bytes.specs.Lists.{same, pasted}
-use Rattle.base_bytes.proofs.Tests.{both-no, both_true, true-false}
+use Rattle.base_bytes.proofs.Tests.{both_no, both_true, true_false}
 
 pub same_stop : (x y : List ℕ) (k : ℕ) → k < length x → k < length y → (get_or x k 0 ≡ get_or y k 0 → ⊥) → same (drop k x) (drop k y) ≡ false
 unfolding same
@@ -30,7 +30,7 @@ unfolding same
 same-differ [] [] h = absurd (h refl)
 same-differ [] (b ∷ ys) h = refl
 same-differ (a ∷ xs) [] h = refl
-same-differ (a ∷ xs) (b ∷ ys) h = both-no (eqb a b) (same-differ xs ys (λ e. h (ap suc e)))
+same-differ (a ∷ xs) (b ∷ ys) h = both_no (eqb a b) (same-differ xs ys (λ e. h (ap suc e)))
 
 -- what the test says
 pub same_refl : (x : List ℕ) → same x x ≡ true
@@ -38,14 +38,14 @@ unfolding same
 same_refl [] = refl
 same_refl (a ∷ x) = rw (eq-eqb a a refl, same_refl x)
 
-pub same-eq : (x y : List ℕ) → same x y ≡ true → x ≡ y
+pub same_eq : (x y : List ℕ) → same x y ≡ true → x ≡ y
 unfolding same
-same-eq [] [] e = refl
-same-eq [] (b ∷ y) e = absurd (true-false (sym e))
-same-eq (a ∷ x) [] e = absurd (true-false (sym e))
-same-eq (a ∷ x) (b ∷ y) e =
+same_eq [] [] e = refl
+same_eq [] (b ∷ y) e = absurd (true_false (sym e))
+same_eq (a ∷ x) [] e = absurd (true_false (sym e))
+same_eq (a ∷ x) (b ∷ y) e =
     let (p, q) = both_true (eqb a b) (same x y) e in
-    ap₂ ◌∷◌ (eqb-true a b p) (same-eq x y q)
+    ap₂ ◌∷◌ (eqb-true a b p) (same_eq x y q)
 
 -- laying one number more
 pub paste_more : (xs ys : List ℕ) (k : ℕ) → k < length xs → k < length ys →
@@ -54,7 +54,7 @@ paste_more xs ys k hx hy =
     rw (add-one, drop-cons ys k 0 hy, set_at (take k xs) (get_or ys k 0) (drop (suc k) ys) (get_or xs k 0) k (length-take-le k xs (omega arith)), take-suc xs k 0 hx, append_snoc)
 
 -- laid over as many as there are
-pub paste-whole : (n : ℕ) (xs ys : List ℕ) → length xs ≡ n → length ys ≡ n → pasted n xs ys ≡ xs
-paste-whole n xs ys ex ey =
+pub paste_whole : (n : ℕ) (xs ys : List ℕ) → length xs ≡ n → length ys ≡ n → pasted n xs ys ≡ xs
+paste_whole n xs ys ex ey =
     let e : min n (min (length xs) (length ys)) ≡ length xs = omega arith in
     rw (e, take-length xs, drop_of_length-le ys {i = length xs} (omega arith)) (append-nil xs)

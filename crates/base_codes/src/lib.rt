@@ -184,7 +184,7 @@ pub fn within(lo: u8, hi: u8, c: u8) -> bool
 
 // Is an item part of an expression?
 pub fn is_part(c: u8) -> bool
-    ensures { result ≡ sets.isPart c }
+    ensures { result ≡ sets.is_part c }
 {
     either(
         within(NAME, NUMBER, c),
@@ -194,7 +194,7 @@ pub fn is_part(c: u8) -> bool
 
 // Does a statement begin with this mark of its own?
 pub fn is_alone(c: u8) -> bool
-    ensures { result ≡ sets.isAlone c }
+    ensures { result ≡ sets.is_alone c }
 {
     either(
         either(c == TEXT, c == SKIP),
@@ -204,7 +204,7 @@ pub fn is_alone(c: u8) -> bool
 
 // Is this the mark of a statement that begins with a phrase?
 pub fn is_lead(c: u8) -> bool
-    ensures { result ≡ sets.isLead c }
+    ensures { result ≡ sets.is_lead c }
 {
     either(
         within(EXPRESS, TARGET, c),
@@ -214,7 +214,7 @@ pub fn is_lead(c: u8) -> bool
 
 // Does it begin a list of arguments?
 pub fn is_opener(c: u8) -> bool
-    ensures { result ≡ sets.isOpener c }
+    ensures { result ≡ sets.is_opener c }
 {
     either(
         c == TEXT,
@@ -224,7 +224,7 @@ pub fn is_opener(c: u8) -> bool
 
 // Is it the one item that each statement has of its own?
 pub fn is_statement(c: u8) -> bool
-    ensures { result ≡ sets.isStatement c }
+    ensures { result ≡ sets.is_statement c }
 {
     either(
         either(c == TEXT, c == EXPRESS),

@@ -33,14 +33,14 @@ keywords =
     bytes "typedef" ∷ bytes "unless" ∷
     []
 
-abbrev pub name-kind : ℕ
-name-kind = 70
+abbrev pub name_kind : ℕ
+name_kind = 70
 
-abbrev pub number-kind : ℕ
-number-kind = 71
+abbrev pub number_kind : ℕ
+number_kind = 71
 
-abbrev pub string-kind : ℕ
-string-kind = 72
+abbrev pub string_kind : ℕ
+string_kind = 72
 
 -- a token: a mark or keyword by its kind, a name with its spelling, a number with its value, a string with the bytes between its quotes
 pub data Token : Type 0 where
@@ -51,9 +51,9 @@ pub data Token : Type 0 where
 
 abbrev pub kind_of : Token → ℕ
 kind_of (sym k) = k
-kind_of (name w) = name-kind
-kind_of (number n) = number-kind
-kind_of (text w) = string-kind
+kind_of (name w) = name_kind
+kind_of (number n) = number_kind
+kind_of (text w) = string_kind
 
 -- the level of a binary operator by table 3.2 of 002, 1 the loosest: 1 ||, 2 &&, 3 |, 4 ^, 5 &, 6 == !=, 7 < <= > >=, 8 << >>, 9 + -, 10 * / %; 0 for what is none
 abbrev pub level : ℕ → ℕ

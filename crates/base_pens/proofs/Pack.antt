@@ -18,9 +18,9 @@ pub pour-more : (s : List ℕ) (k : ℕ) (w : Well) {w1 : Well} → k < length s
 unfolding pour
 pour-more s k w h e = rw (drop-cons s k 0 h, add-one, e)
 
-pub pour-end : (s : List ℕ) (k : ℕ) {w : Well} → length s ≤ k → pour (drop k s) w ≡ w
+pub pour_end : (s : List ℕ) (k : ℕ) {w : Well} → length s ≤ k → pour (drop k s) w ≡ w
 unfolding pour
-pour-end s k h = rw (drop_of_length-le s h)
+pour_end s k h = rw (drop_of_length-le s h)
 
 -- poured and settled is the packed list
 pub poured : (s : List ℕ) (w : Pen) → settle (pour s (well w 0 0 0 0)) ≡ puts (packed s) w
@@ -40,39 +40,39 @@ length-packed (a ∷ b ∷ c ∷ []) = refl
 length-packed (a ∷ b ∷ c ∷ d ∷ s) = omega (arith, length-packed s)
 
 module _ (a b c d : ℕ) (ha : a < 256) (hb : b < 256) (hc : c < 256) (hd : d < 256) where
-  digit-0 : digit 0 (four a b c d) ≡ a
+  digit_0 : digit 0 (four a b c d) ≡ a
   unfolding digit four
-  digit-0 = omega arith
+  digit_0 = omega arith
 
-  digit-1 : digit 1 (four a b c d) ≡ b
+  digit_1 : digit 1 (four a b c d) ≡ b
   unfolding digit four
-  digit-1 = omega arith
+  digit_1 = omega arith
 
-  digit-2 : digit 2 (four a b c d) ≡ c
+  digit_2 : digit 2 (four a b c d) ≡ c
   unfolding digit four
-  digit-2 = omega arith
+  digit_2 = omega arith
 
-  digit-3 : digit 3 (four a b c d) ≡ d
+  digit_3 : digit 3 (four a b c d) ≡ d
   unfolding digit four
-  digit-3 = omega arith
+  digit_3 = omega arith
 
 -- byte k of packed bytes is byte k
 pub unpacked : (s : List ℕ) → Bytes s → (k : ℕ) → k < length s → digit (k % 4) (get_or (packed s) (k / 4) 0) ≡ get_or s k 0
 unfolding packed
 unpacked [] h k lt = absurd (omega arith)
-unpacked (a ∷ []) h zero lt = digit-0 a 0 0 0 h.0 (omega arith) (omega arith) (omega arith)
+unpacked (a ∷ []) h zero lt = digit_0 a 0 0 0 h.0 (omega arith) (omega arith) (omega arith)
 unpacked (a ∷ []) h (suc k) lt = absurd (omega arith)
-unpacked (a ∷ b ∷ []) h zero lt = digit-0 a b 0 0 h.0 h.1.0 (omega arith) (omega arith)
-unpacked (a ∷ b ∷ []) h (suc zero) lt = digit-1 a b 0 0 h.0 h.1.0 (omega arith) (omega arith)
+unpacked (a ∷ b ∷ []) h zero lt = digit_0 a b 0 0 h.0 h.1.0 (omega arith) (omega arith)
+unpacked (a ∷ b ∷ []) h (suc zero) lt = digit_1 a b 0 0 h.0 h.1.0 (omega arith) (omega arith)
 unpacked (a ∷ b ∷ []) h (suc (suc k)) lt = absurd (omega arith)
-unpacked (a ∷ b ∷ c ∷ []) h zero lt = digit-0 a b c 0 h.0 h.1.0 h.1.1.0 (omega arith)
-unpacked (a ∷ b ∷ c ∷ []) h (suc zero) lt = digit-1 a b c 0 h.0 h.1.0 h.1.1.0 (omega arith)
-unpacked (a ∷ b ∷ c ∷ []) h (suc (suc zero)) lt = digit-2 a b c 0 h.0 h.1.0 h.1.1.0 (omega arith)
+unpacked (a ∷ b ∷ c ∷ []) h zero lt = digit_0 a b c 0 h.0 h.1.0 h.1.1.0 (omega arith)
+unpacked (a ∷ b ∷ c ∷ []) h (suc zero) lt = digit_1 a b c 0 h.0 h.1.0 h.1.1.0 (omega arith)
+unpacked (a ∷ b ∷ c ∷ []) h (suc (suc zero)) lt = digit_2 a b c 0 h.0 h.1.0 h.1.1.0 (omega arith)
 unpacked (a ∷ b ∷ c ∷ []) h (suc (suc (suc k))) lt = absurd (omega arith)
-unpacked (a ∷ b ∷ c ∷ d ∷ s) h zero lt = digit-0 a b c d h.0 h.1.0 h.1.1.0 h.1.1.1.0
-unpacked (a ∷ b ∷ c ∷ d ∷ s) h (suc zero) lt = digit-1 a b c d h.0 h.1.0 h.1.1.0 h.1.1.1.0
-unpacked (a ∷ b ∷ c ∷ d ∷ s) h (suc (suc zero)) lt = digit-2 a b c d h.0 h.1.0 h.1.1.0 h.1.1.1.0
-unpacked (a ∷ b ∷ c ∷ d ∷ s) h (suc (suc (suc zero))) lt = digit-3 a b c d h.0 h.1.0 h.1.1.0 h.1.1.1.0
+unpacked (a ∷ b ∷ c ∷ d ∷ s) h zero lt = digit_0 a b c d h.0 h.1.0 h.1.1.0 h.1.1.1.0
+unpacked (a ∷ b ∷ c ∷ d ∷ s) h (suc zero) lt = digit_1 a b c d h.0 h.1.0 h.1.1.0 h.1.1.1.0
+unpacked (a ∷ b ∷ c ∷ d ∷ s) h (suc (suc zero)) lt = digit_2 a b c d h.0 h.1.0 h.1.1.0 h.1.1.1.0
+unpacked (a ∷ b ∷ c ∷ d ∷ s) h (suc (suc (suc zero))) lt = digit_3 a b c d h.0 h.1.0 h.1.1.0 h.1.1.1.0
 unpacked (a ∷ b ∷ c ∷ d ∷ s) h (suc (suc (suc (suc k)))) lt =
     let e : suc (suc (suc (suc k))) % 4 ≡ k % 4 = omega arith in
     let f : suc (suc (suc (suc k))) / 4 ≡ suc (k / 4) = omega arith in

@@ -1,4 +1,4 @@
--- Mechanism, held to the specification by `tree-tables`, `tables-tree` (crate `read_accepts_proof`), `digit` by `text-normal` (crate `normal_proof`); how the code packs (`well`, `drip`, `pour`, `settle`) proofs/Pack.antt holds to `packed`; `Bytes` is of proofs alone.
+-- Mechanism, held to the specification by `tree_tables`, `tables_tree` (crate `read_accepts_proof`), `digit` by `text-normal` (crate `normal_proof`); how the code packs (`well`, `drip`, `pour`, `settle`) proofs/Pack.antt holds to `packed`; `Bytes` is of proofs alone.
 -- Bytes packed four to a number, the first lowest, zeros at the end; the same written as the bytes come; and a byte read out again.
 use Rattle.std.specs.Prelude.{ℕ, ◌+◌, ◌*◌, ◌/◌, ◌%◌, ◌<◌, List, [], ◌∷◌, eqb}
 use Rattle.base_bytes.specs.Choice.{pick}

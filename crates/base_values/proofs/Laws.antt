@@ -4,22 +4,22 @@ use Rattle.std.proofs.Common.{◌≡◌, ℕ, suc, ◌^◌, ◌<◌, Bool, true,
 use lib.Signed.{mag, lt_z, le_z, quot_z, rem_z, shr_z, mag_rem, mag_shr}
 use lib.Bits.{bit_and, bit_or, bit_xor, and_lt, or_lt, xor_lt}
 use Rattle.base_values.specs.Bits.{low, wrap, wrap32}
-use Rattle.base_values.specs.Types.{width_of, signedWidth, keep, castOf, within, inType}
-use Rattle.base_values.specs.Operators.{same, isTrue, oneIf, onBits, shift_by, complement, divideOf, remainderOf, shiftLeftOf, shiftRightOf, applyOf, unaryOf}
+use Rattle.base_values.specs.Types.{width_of, signed_width, keep, cast_of, within, in_type}
+use Rattle.base_values.specs.Operators.{same, is_true, one_if, on_bits, shift_by, complement, divide_of, remainder_of, shift_left_of, shift_right_of, apply_of, unary_of}
 use Rattle.base_values.specs.declared.Answer.{Answer}
 use Rattle.base_values.specs.declared.Answer.TheVariants.{Value, Fails}
 use Rattle.base_values.specs.declared.Fault.TheVariants.{Divide, Shift}
-use Rattle.base_values.proofs.Wrap.{low-lt, signed-fits, wrap-fits, wrap-id, half}
+use Rattle.base_values.proofs.Wrap.{low_lt, signed-fits, wrap-fits, wrap_id, half}
 
 -- ---- what is kept of a number, once over its bits
 keep-within : (s : Bool) (j : ℕ) (z : ℤ) → within s (suc j) (keep s (suc j) z) ≡ true
 keep-within true j z = ap (ltb (mag (wrap (suc j) z))) (half j) ∙ lt-ltb (mag (wrap (suc j) z)) (2 ^ j) (wrap-fits j z)
-keep-within false j z = lt-ltb (low (suc j) z) (2 ^ suc j) (low-lt (suc j) z)
+keep-within false j z = lt-ltb (low (suc j) z) (2 ^ suc j) (low_lt (suc j) z)
 
-keep-id : (s : Bool) (j : ℕ) (z : ℤ) → within s (suc j) z ≡ true → keep s (suc j) z ≡ z
-keep-id true j z e = wrap-id j z (ltb-true (mag z) (2 ^ j) (rw (half j) at e))
-keep-id false j (pos n) e = ap pos (mod-eq_of_lt (ltb-true n (2 ^ suc j) e))
-keep-id false j (negsuc n) e = cc
+keep_id : (s : Bool) (j : ℕ) (z : ℤ) → within s (suc j) z ≡ true → keep s (suc j) z ≡ z
+keep_id true j z e = wrap_id j z (ltb-true (mag z) (2 ^ j) (rw (half j) at e))
+keep_id false j (pos n) e = ap pos (mod-eq_of_lt (ltb-true n (2 ^ suc j) e))
+keep_id false j (negsuc n) e = cc
 
 -- ---- types
 -- what holds of 1, 8, 16 and 32 bits holds of every type's width
@@ -34,27 +34,27 @@ at_width P p₁ p₈ p₁₆ p₃₂ t = go (ltb t 38) (ltb t 40) (ltb t 44) (lt
     go false false false true = p₁₆
     go false false false false = p₃₂
 
-pub cast-in-range : (t : ℕ) (v : ℤ) → inType t (castOf t v) ≡ true
-unfolding inType castOf
-cast-in-range t v =
-    at_width (λ k. within (signedWidth k) k (keep (signedWidth k) k v) ≡ true)
+pub cast_in_range : (t : ℕ) (v : ℤ) → in_type t (cast_of t v) ≡ true
+unfolding in_type cast_of
+cast_in_range t v =
+    at_width (λ k. within (signed_width k) k (keep (signed_width k) k v) ≡ true)
     (keep-within false 0 v) (keep-within false 7 v) (keep-within true 15 v) (keep-within true 31 v) t
 
-pub cast-id : (t : ℕ) (v : ℤ) → inType t v ≡ true → castOf t v ≡ v
-unfolding inType castOf
-cast-id t v =
-    at_width (λ k. within (signedWidth k) k v ≡ true → keep (signedWidth k) k v ≡ v)
-    (keep-id false 0 v) (keep-id false 7 v) (keep-id true 15 v) (keep-id true 31 v) t
+pub cast_id : (t : ℕ) (v : ℤ) → in_type t v ≡ true → cast_of t v ≡ v
+unfolding in_type cast_of
+cast_id t v =
+    at_width (λ k. within (signed_width k) k v ≡ true → keep (signed_width k) k v ≡ v)
+    (keep_id false 0 v) (keep_id false 7 v) (keep_id true 15 v) (keep_id true 31 v) t
 
-pub cast-twice : (t : ℕ) (v : ℤ) → castOf t (castOf t v) ≡ castOf t v
-cast-twice t v = cast-id t (castOf t v) (cast-in-range t v)
+pub cast_twice : (t : ℕ) (v : ℤ) → cast_of t (cast_of t v) ≡ cast_of t v
+cast_twice t v = cast_id t (cast_of t v) (cast_in_range t v)
 
 -- ---- equality
-pub same-eq : (a b : ℤ) → same a b ≡ true → a ≡ b
-same-eq (pos a) (pos b) e = ap pos (eqb-true a b e)
-same-eq (negsuc a) (negsuc b) e = ap negsuc (eqb-true a b e)
-same-eq (pos a) (negsuc b) e = cc
-same-eq (negsuc a) (pos b) e = cc
+pub same_eq : (a b : ℤ) → same a b ≡ true → a ≡ b
+same_eq (pos a) (pos b) e = ap pos (eqb-true a b e)
+same_eq (negsuc a) (negsuc b) e = ap negsuc (eqb-true a b e)
+same_eq (pos a) (negsuc b) e = cc
+same_eq (negsuc a) (pos b) e = cc
 
 -- ---- 32 bits
 -- ---- operators
@@ -66,7 +66,7 @@ either : {A : Type 0} (P : A → Type 0) (t : Bool) (x y : A) → P x → P y �
 either P true x y p q = p
 either P false x y p q = q
 
-one-small : (t : Bool) → mag (oneIf t) < 2 ^ 31
+one-small : (t : Bool) → mag (one_if t) < 2 ^ 31
 one-small true = lit< tt
 one-small false = lit< tt
 
@@ -75,17 +75,17 @@ shift_small f h (pos n) = either Small (ltb n 32) (Value (f n)) (Fails Shift) (h
 shift_small f h (negsuc n) = tt
 
 module _ (a b : ℤ) where
-  bits_small : (f : ℕ → ℕ → ℕ) → f (low 32 a) (low 32 b) < 2 ^ 32 → mag (onBits f a b) < 2 ^ 31
+  bits_small : (f : ℕ → ℕ → ℕ) → f (low 32 a) (low 32 b) < 2 ^ 32 → mag (on_bits f a b) < 2 ^ 31
   bits_small f h = signed-fits 31 (f (low 32 a) (low 32 b)) h
 
-  pub apply-small : (op : ℕ) → mag a < 2 ^ 31 → Small (applyOf op a b)
-  unfolding applyOf divideOf remainderOf shiftLeftOf shiftRightOf
-  apply-small op h =
-      either Small (eqb op 1) _ _ (one-small (isTrue a || isTrue b))
-      (either Small (eqb op 2) _ _ (one-small (isTrue a && isTrue b))
-      (either Small (eqb op 3) _ _ (bits_small bit_or (or_lt 32 _ _ (low-lt 32 a) (low-lt 32 b)))
-      (either Small (eqb op 4) _ _ (bits_small bit_xor (xor_lt 32 _ _ (low-lt 32 a) (low-lt 32 b)))
-      (either Small (eqb op 5) _ _ (bits_small bit_and (and_lt 32 _ _ (low-lt 32 a) (low-lt 32 b)))
+  pub apply_small : (op : ℕ) → mag a < 2 ^ 31 → Small (apply_of op a b)
+  unfolding apply_of divide_of remainder_of shift_left_of shift_right_of
+  apply_small op h =
+      either Small (eqb op 1) _ _ (one-small (is_true a || is_true b))
+      (either Small (eqb op 2) _ _ (one-small (is_true a && is_true b))
+      (either Small (eqb op 3) _ _ (bits_small bit_or (or_lt 32 _ _ (low_lt 32 a) (low_lt 32 b)))
+      (either Small (eqb op 4) _ _ (bits_small bit_xor (xor_lt 32 _ _ (low_lt 32 a) (low_lt 32 b)))
+      (either Small (eqb op 5) _ _ (bits_small bit_and (and_lt 32 _ _ (low_lt 32 a) (low_lt 32 b)))
       (either Small (eqb op 6) _ _ (one-small (same a b))
       (either Small (eqb op 7) _ _ (one-small (not (same a b)))
       (either Small (eqb op 8) _ _ (one-small (lt_z a b))
@@ -104,9 +104,9 @@ complement-small : (a : ℤ) → mag a < 2 ^ 31 → mag (complement a) < 2 ^ 31
 complement-small (pos n) h = h
 complement-small (negsuc n) h = h
 
-pub unary-small : (a : ℤ) (op : ℕ) → mag a < 2 ^ 31 → mag (unaryOf op a) < 2 ^ 31
-unfolding unaryOf
-unary-small a op h =
+pub unary_small : (a : ℤ) (op : ℕ) → mag a < 2 ^ 31 → mag (unary_of op a) < 2 ^ 31
+unfolding unary_of
+unary_small a op h =
     either (λ z. mag z < 2 ^ 31) (eqb op 15) _ _ (wrap-fits 31 (neg_ℤ a))
     (either (λ z. mag z < 2 ^ 31) (eqb op 19) _ _ (one-small (same a (pos 0)))
     (either (λ z. mag z < 2 ^ 31) (eqb op 20) _ _ (complement-small a h) h))

@@ -9,7 +9,7 @@ use mir.Val.{bits, hbits, sel}
 use mir.ValLaws.{to_z-of_z, to_z_pos, half_full, bits-suc}
 use Rattle.base_values.specs.Bits.{low, signed}
 use Rattle.base_values.specs.Operators.{same}
-use Rattle.base_values.proofs.Wrap.{low-lt}
+use Rattle.base_values.proofs.Wrap.{low_lt}
 
 -- ---- a number of 32 bits, kept in a local and read again
 pub small : {z : ℤ} → mag z < 2 ^ 31 → SFits w32 z
@@ -19,16 +19,16 @@ pub back : {z : ℤ} → SFits w32 z → to_z w32 (of_z w32 z) ≡ z
 back {z} f = to_z-of_z w32 z f
 
 -- ---- bits and their reading
-sel-cond : (t : Bool) (x y : ℤ) → sel t x y ≡ cond t x y
-sel-cond true x y = refl
-sel-cond false x y = refl
+sel_cond : (t : Bool) (x y : ℤ) → sel t x y ≡ cond t x y
+sel_cond true x y = refl
+sel_cond false x y = refl
 
 pub read : (u : ℕ) → to_z w32 u ≡ signed 32 u
-read u = sel-cond (ltb u 2147483648) (pos u) (negsuc (4294967296 - suc u))
+read u = sel_cond (ltb u 2147483648) (pos u) (negsuc (4294967296 - suc u))
 
 -- q * M - (n + 1), where n is d * M + r
-mod-under : (M q d r : ℕ) → r < M → d < q → (q * M - suc (d * M + r)) % M ≡ M - suc r
-mod-under M q d r h k =
+mod_under : (M q d r : ℕ) → r < M → d < q → (q * M - suc (d * M + r)) % M ≡ M - suc r
+mod_under M q d r h k =
     let e : ℕ = q - suc d in
     let s : q * M ≡ (suc d + e) * M = ap (λ (x : ℕ). x * M) (omega arith) in
     let s₁ : (suc d + e) * M ≡ suc d * M + e * M = add-mul (suc d) e M in
@@ -36,17 +36,17 @@ mod-under M q d r h k =
     let s₃ : q * M - suc (d * M + r) ≡ e * M + (M - suc r) = omega arith in
     rw s₃ (digits_mod e (omega arith))
 
-mod-comp : (M q n : ℕ) → zero < M → n < q * M → (q * M - suc n) % M ≡ M - suc (n % M)
-mod-comp M q n p h =
+mod_comp : (M q n : ℕ) → zero < M → n < q * M → (q * M - suc n) % M ≡ M - suc (n % M)
+mod_comp M q n p h =
     subst (λ (x : ℕ). (q * M - suc x) % M ≡ M - suc (n % M)) (div-add-mod' n M)
-    (mod-under M q (n / M) (n % M) (mod-lt n p) ((div-lt_iff_lt-mul p).1 h))
+    (mod_under M q (n / M) (n % M) (mod-lt n p) ((div-lt_iff_lt-mul p).1 h))
 
 low_of : (w : Width) (k : ℕ) (v : ℤ) → k ≤ bits w → SFits w v → of_z w v % 2 ^ k ≡ low k v
 low_of w k (pos n) h f = refl
 low_of w k (negsuc n) h f =
     let s : bits w ≡ (bits w - k) + k = omega arith in
     let e : 2 ^ bits w ≡ 2 ^ (bits w - k) * 2 ^ k = ap (λ (x : ℕ). 2 ^ x) s ∙ pow-add 2 (bits w - k) k in
-    rw e (mod-comp (2 ^ k) (2 ^ (bits w - k)) n (pow_pos k) (rw e at (half_full w f.sfits)))
+    rw e (mod_comp (2 ^ k) (2 ^ (bits w - k)) n (pow_pos k) (rw e at (half_full w f.sfits)))
 
 pub bits32 : {v : ℤ} → SFits w32 v → of_z w32 v ≡ low 32 v
 bits32 {v = pos n} f = sym (mod-eq_of_lt (omega (arith, f.sfits)))
@@ -56,7 +56,7 @@ bits32 {v = negsuc n} f = ap (λ (x : ℕ). 4294967296 - suc x) (sym (mod-eq_of_
 pub masks : {w : Width} (k : ℕ) {v : ℤ} → k ≤ hbits w → SFits w v → to_z w (bit_and (of_z w v) (2 ^ k - 1)) ≡ pos (low k v)
 masks {w} k {v} h f =
     rw (and_mask (of_z w v) k, low_of w k v (omega (arith, bits-suc w)) f)
-    (to_z_pos w (low k v) (lt_of_lt_of_le (low-lt k v) (pow_mono h)))
+    (to_z_pos w (low k v) (lt_of_lt_of_le (low_lt k v) (pow_mono h)))
 
 -- taking 2 ^ k away from k bits
 pub minus : (u m : ℕ) → u < suc m → pos u -ℤ pos (suc m) ≡ negsuc (suc m - suc u)

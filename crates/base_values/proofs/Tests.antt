@@ -5,12 +5,12 @@ pub both : (x y : Bool) → (x && y) ≡ true → (x ≡ true) × (y ≡ true)
 both true y e = (refl, e)
 both false y e = (cc, cc)
 
-abbrev pub allAre : (ℕ → ℕ) → ℕ → ℕ → ℕ → Bool
-allAre f n lo zero = true
-allAre f n lo (suc c) = eqb (f lo) n && allAre f n (suc lo) c
+abbrev pub all_are : (ℕ → ℕ) → ℕ → ℕ → ℕ → Bool
+all_are f n lo zero = true
+all_are f n lo (suc c) = eqb (f lo) n && all_are f n (suc lo) c
 
-pub in_all : (f : ℕ → ℕ) (n lo c : ℕ) → allAre f n lo c ≡ true → (k : ℕ) → lo ≤ k → k < lo + c → n ≡ f k
+pub in_all : (f : ℕ → ℕ) (n lo c : ℕ) → all_are f n lo c ≡ true → (k : ℕ) → lo ≤ k → k < lo + c → n ≡ f k
 in_all f n lo zero t k h g = omega arith
 in_all f n lo (suc c) t k h g =
-    let p : (eqb (f lo) n ≡ true) × (allAre f n (suc lo) c ≡ true) = both (eqb (f lo) n) (allAre f n (suc lo) c) t in
+    let p : (eqb (f lo) n ≡ true) × (all_are f n (suc lo) c ≡ true) = both (eqb (f lo) n) (all_are f n (suc lo) c) t in
     ⊎_elim (λ e. sym (eqb-true (f lo) n p.0) ∙ ap f e) (λ l. in_all f n (suc lo) c p.1 k l (omega arith)) (eq-or-lt_of_le h)

@@ -6,30 +6,30 @@ use lib.Signed.{mag}
 use lib.Arith.{comp_comp}
 use Rattle.base_values.specs.Bits.{low, signed, wrap}
 
-pub low-lt : (k : ℕ) (z : ℤ) → low k z < 2 ^ k
-low-lt k (pos n) = mod-lt n (pow_pos k)
-low-lt k (negsuc n) = omega (arith, pow_pos k)
+pub low_lt : (k : ℕ) (z : ℤ) → low k z < 2 ^ k
+low_lt k (pos n) = mod-lt n (pow_pos k)
+low_lt k (negsuc n) = omega (arith, pow_pos k)
 
 -- ---- the low bits repeat with period 2 ^ k
-period-neg : (M n : ℕ) (b : Bool) → ltb M (suc n) ≡ b → (k : ℕ) → 2 ^ k ≡ M → low k (cond b (negsuc (suc n - suc M)) (pos (M - suc n))) ≡ M - suc (n % M)
-period-neg M n true h k e =
+period_neg : (M n : ℕ) (b : Bool) → ltb M (suc n) ≡ b → (k : ℕ) → 2 ^ k ≡ M → low k (cond b (negsuc (suc n - suc M)) (pos (M - suc n))) ≡ M - suc (n % M)
+period_neg M n true h k e =
     let g : M ≤ n = omega (arith, ltb-true M (suc n) h) in
-    rw (e, sub-suc-suc n M, mod-eq-sub-mod g)
+    rw (e, sub_suc_suc n M, mod-eq-sub-mod g)
   where
-    sub-suc-suc : (n M : ℕ) → suc n - suc M ≡ n - M
-    sub-suc-suc n M = omega arith
-period-neg M n false h k e =
+    sub_suc_suc : (n M : ℕ) → suc n - suc M ≡ n - M
+    sub_suc_suc n M = omega arith
+period_neg M n false h k e =
     let g : n < M = ltb-false M (suc n) h in
     rw (e, mod-eq_of_lt g, mod-eq_of_lt {n = M - suc n} {m = M} (omega arith))
 
-pub low-period : (k : ℕ) (z : ℤ) → low k (z +ℤ pos (2 ^ k)) ≡ low k z
-low-period k (pos n) = add-mod_right n (2 ^ k)
-low-period k (negsuc n) = period-neg (2 ^ k) n (ltb (2 ^ k) (suc n)) refl k refl
+pub low_period : (k : ℕ) (z : ℤ) → low k (z +ℤ pos (2 ^ k)) ≡ low k z
+low_period k (pos n) = add-mod_right n (2 ^ k)
+low_period k (negsuc n) = period_neg (2 ^ k) n (ltb (2 ^ k) (suc n)) refl k refl
 
-low-periods : (k : ℕ) (z : ℤ) (q : ℕ) → low k (z +ℤ pos (q * 2 ^ k)) ≡ low k z
-low-periods k z zero = rw (zero-mul (2 ^ k), +ℤ_idr z)
-low-periods k z (suc q) =
-    rw (suc-mul q (2 ^ k), ← +ℤ_assoc z (pos (q * 2 ^ k)) (pos (2 ^ k)), low-period k) (low-periods k z q)
+low_periods : (k : ℕ) (z : ℤ) (q : ℕ) → low k (z +ℤ pos (q * 2 ^ k)) ≡ low k z
+low_periods k z zero = rw (zero-mul (2 ^ k), +ℤ_idr z)
+low_periods k z (suc q) =
+    rw (suc-mul q (2 ^ k), ← +ℤ_assoc z (pos (q * 2 ^ k)) (pos (2 ^ k)), low_period k) (low_periods k z q)
 
 -- z and its low bits differ by a multiple of 2 ^ k
 record Near (k : ℕ) (z : ℤ) : Type 0 where
@@ -56,11 +56,11 @@ regroup x y p q M =
     let s : (x + p * M) + (y + q * M) ≡ (x + y) + (p + q) * M = omega arith in
     rw s (add-mul-mod_self_right (x + y) (p + q) M)
 
-pub low-add : (k : ℕ) (a b : ℤ) → low k (a +ℤ b) ≡ (low k a + low k b) % 2 ^ k
-low-add k a b =
+pub low_add : (k : ℕ) (a b : ℤ) → low k (a +ℤ b) ≡ (low k a + low k b) % 2 ^ k
+low_add k a b =
     let x : Near k a = near k a in
     let y : Near k b = near k b in
-    sym (low-periods k (a +ℤ b +ℤ pos (x.up * 2 ^ k)) y.up ∙ low-periods k (a +ℤ b) x.up)
+    sym (low_periods k (a +ℤ b +ℤ pos (x.up * 2 ^ k)) y.up ∙ low_periods k (a +ℤ b) x.up)
     ∙ ap (low k) (exchange a b (pos (x.up * 2 ^ k)) (pos (y.up * 2 ^ k)) ∙ ap₂ ◌+ℤ◌ x.is y.is)
     ∙ regroup (low k a) (low k b) x.down y.down (2 ^ k)
 
@@ -70,17 +70,17 @@ back M r b h g =
     mod-add-mod (r + b) M (M - b) ∙ rw e (add-mod_right r M ∙ mod-eq_of_lt h)
 
 -- and of a difference, as the one number that gives back the first
-pub low-sub : (k : ℕ) (a b : ℤ) (r : ℕ) → r < 2 ^ k → (r + low k b) % 2 ^ k ≡ low k a → r ≡ low k (a -ℤ b)
-low-sub k a b r h e =
-    let f : (r + low k b) % 2 ^ k ≡ (low k (a -ℤ b) + low k b) % 2 ^ k = e ∙ sym (ap (low k) (-ℤ-+ℤ_cancel a b)) ∙ low-add k (a -ℤ b) b in
-    sym (back (2 ^ k) r (low k b) h (low-lt k b))
+pub low_sub : (k : ℕ) (a b : ℤ) (r : ℕ) → r < 2 ^ k → (r + low k b) % 2 ^ k ≡ low k a → r ≡ low k (a -ℤ b)
+low_sub k a b r h e =
+    let f : (r + low k b) % 2 ^ k ≡ (low k (a -ℤ b) + low k b) % 2 ^ k = e ∙ sym (ap (low k) (-ℤ-+ℤ_cancel a b)) ∙ low_add k (a -ℤ b) b in
+    sym (back (2 ^ k) r (low k b) h (low_lt k b))
     ∙ ap (λ (x : ℕ). (x + (2 ^ k - low k b)) % 2 ^ k) f
-    ∙ back (2 ^ k) (low k (a -ℤ b)) (low k b) (low-lt k (a -ℤ b)) (low-lt k b)
+    ∙ back (2 ^ k) (low k (a -ℤ b)) (low k b) (low_lt k (a -ℤ b)) (low_lt k b)
 
-pub low-mul : (k : ℕ) (a : ℤ) (n : ℕ) → low k (a *ℤ pos n) ≡ (low k a * n) % 2 ^ k
-low-mul k a zero = rw (*ℤ-zero a, mul-zero (low k a))
-low-mul k a (suc n) =
-    rw (*ℤ_comm a (pos (suc n)), suc_ℤ-*ℤ (pos n) a, *ℤ_comm (pos n) a, low-add k (a *ℤ pos n) a, low-mul k a n, mul-suc (low k a) n, mod-add-mod)
+pub low_mul : (k : ℕ) (a : ℤ) (n : ℕ) → low k (a *ℤ pos n) ≡ (low k a * n) % 2 ^ k
+low_mul k a zero = rw (*ℤ-zero a, mul-zero (low k a))
+low_mul k a (suc n) =
+    rw (*ℤ_comm a (pos (suc n)), suc_ℤ-*ℤ (pos n) a, *ℤ_comm (pos n) a, low_add k (a *ℤ pos n) a, low_mul k a n, mul-suc (low k a) n, mod-add-mod)
 
 -- ---- reading as signed
 module _ (j : ℕ) where
@@ -98,14 +98,14 @@ module _ (j : ℕ) where
       go false e = omega (arith, double, ltb-false u (2 ^ j) e)
 
   pub wrap-fits : (z : ℤ) → mag (wrap (suc j) z) < 2 ^ j
-  wrap-fits z = signed-fits (low (suc j) z) (low-lt (suc j) z)
+  wrap-fits z = signed-fits (low (suc j) z) (low_lt (suc j) z)
 
-  pub wrap-id : (z : ℤ) → mag z < 2 ^ j → wrap (suc j) z ≡ z
-  wrap-id (pos n) h =
+  pub wrap_id : (z : ℤ) → mag z < 2 ^ j → wrap (suc j) z ≡ z
+  wrap_id (pos n) h =
       rw (half, mod-eq_of_lt {n = n} {m = 2 ^ suc j} (omega (arith, double)), lt-ltb n (2 ^ j) h)
-  wrap-id (negsuc n) h =
+  wrap_id (negsuc n) h =
       let f : n < 2 ^ suc j = omega (arith, double) in
       rw (half, mod-eq_of_lt f, le-ltb (2 ^ suc j - suc n) (2 ^ j) (omega (arith, double)), comp_comp f)
 
-  pub wrap-period : (z : ℤ) → wrap (suc j) (z +ℤ pos (2 ^ suc j)) ≡ wrap (suc j) z
-  wrap-period z = ap (signed (suc j)) (low-period (suc j) z)
+  pub wrap_period : (z : ℤ) → wrap (suc j) (z +ℤ pos (2 ^ suc j)) ≡ wrap (suc j) z
+  wrap_period z = ap (signed (suc j)) (low_period (suc j) z)

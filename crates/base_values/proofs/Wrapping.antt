@@ -3,7 +3,7 @@ use Rattle.std.proofs.Common.{◌≡◌, ℕ, zero, suc, ◌+◌, ◌-◌, ◌*�
 use lib.Signed.{mag}
 use mir.ValLaws.{to_z-of_z, to_z_pos}
 use Rattle.base_values.specs.Bits.{low, signed, wrap32}
-use Rattle.base_values.proofs.Wrap.{low-add, low-sub, low-mul}
+use Rattle.base_values.proofs.Wrap.{low_add, low_sub, low_mul}
 use Rattle.base_values.proofs.Machine.{small, back, read, bits32, minus}
 
 -- ---- a 32-bit number as a 64-bit one
@@ -20,35 +20,35 @@ handed z = to_z w64 (of_z w64 (to_z w32 (of_z w32 z)))
 wide : {z : ℤ} → SFits w32 z → handed z ≡ z
 wide {z} f = rw (back f) (to_z-of_z w64 z (wide_fits f))
 
-pub mag-neg : (r a : ℕ) → r ≤ suc a → mag (neg_ℤ (pos r)) ≤ a
-mag-neg zero a h = zero-le
-mag-neg (suc r) a h = omega arith
+pub mag_neg : (r a : ℕ) → r ≤ suc a → mag (neg_ℤ (pos r)) ≤ a
+mag_neg zero a h = zero-le
+mag_neg (suc r) a h = omega arith
 
-mag-mul : (a b : ℤ) → mag (a *ℤ b) ≤ suc (mag a) * suc (mag b)
-mag-mul (pos a) (pos b) = mul-le-mul (omega arith) (omega arith)
-mag-mul (pos a) (negsuc b) = let h : a * suc b ≤ suc a * suc b = mul-le-mul (omega arith) (omega arith) in mag-neg (a * suc b) (suc a * suc b) (omega arith)
-mag-mul (negsuc a) (pos b) = let h : suc a * b ≤ suc a * suc b = mul-le-mul (omega arith) (omega arith) in mag-neg (suc a * b) (suc a * suc b) (omega arith)
-mag-mul (negsuc a) (negsuc b) = le_refl _
+mag_mul : (a b : ℤ) → mag (a *ℤ b) ≤ suc (mag a) * suc (mag b)
+mag_mul (pos a) (pos b) = mul-le-mul (omega arith) (omega arith)
+mag_mul (pos a) (negsuc b) = let h : a * suc b ≤ suc a * suc b = mul-le-mul (omega arith) (omega arith) in mag_neg (a * suc b) (suc a * suc b) (omega arith)
+mag_mul (negsuc a) (pos b) = let h : suc a * b ≤ suc a * suc b = mul-le-mul (omega arith) (omega arith) in mag_neg (suc a * b) (suc a * suc b) (omega arith)
+mag_mul (negsuc a) (negsuc b) = le_refl _
 
 -- ---- what the calls say of the bits, as facts of the numbers
 module _ {a b : ℤ} (fa : SFits w32 a) (fb : SFits w32 b) where
-  pub sum-bits : {x y u : ℕ} → x ≡ low 32 (handed a) → y ≡ low 32 (handed b) → u ≡ (x + y) % 2 ^ 32 → u ≡ low 32 (a +ℤ b)
-  sum-bits ex ey e = rw (ex, ey, wide fa, wide fb, ← low-add 32 a b) at e
+  pub sum_bits : {x y u : ℕ} → x ≡ low 32 (handed a) → y ≡ low 32 (handed b) → u ≡ (x + y) % 2 ^ 32 → u ≡ low 32 (a +ℤ b)
+  sum_bits ex ey e = rw (ex, ey, wide fa, wide fb, ← low_add 32 a b) at e
 
-  pub difference-bits : {x y u : ℕ} → x ≡ low 32 (handed a) → y ≡ low 32 (handed b) → u < 2 ^ 32 → (u + y) % 2 ^ 32 ≡ x → u ≡ low 32 (a -ℤ b)
-  difference-bits ex ey h e = low-sub 32 a b _ h (rw (ex, ey, wide fa, wide fb) at e)
+  pub difference_bits : {x y u : ℕ} → x ≡ low 32 (handed a) → y ≡ low 32 (handed b) → u < 2 ^ 32 → (u + y) % 2 ^ 32 ≡ x → u ≡ low 32 (a -ℤ b)
+  difference_bits ex ey h e = low_sub 32 a b _ h (rw (ex, ey, wide fa, wide fb) at e)
 
   product : SFits w64 (a *ℤ b)
-  product = record { sfits = lt_of_le_of_lt (mag-mul a b) (lt_of_le_of_lt (mul-le-mul fa.sfits fb.sfits) (lit< tt)) }
+  product = record { sfits = lt_of_le_of_lt (mag_mul a b) (lt_of_le_of_lt (mul-le-mul fa.sfits fb.sfits) (lit< tt)) }
 
-  pub product-fits : SFits w64 (handed a *ℤ handed b)
-  product-fits = rw (wide fa, wide fb) product
+  pub product_fits : SFits w64 (handed a *ℤ handed b)
+  product_fits = rw (wide fa, wide fb) product
 
-  pub product-bits : {u : ℕ} → u ≡ low 32 (to_z w64 (of_z w64 (handed a *ℤ handed b))) → u ≡ low 32 (a *ℤ b)
-  product-bits e = rw (wide fa, wide fb, to_z-of_z w64 (a *ℤ b) product) at e
+  pub product_bits : {u : ℕ} → u ≡ low 32 (to_z w64 (of_z w64 (handed a *ℤ handed b))) → u ≡ low 32 (a *ℤ b)
+  product_bits e = rw (wide fa, wide fb, to_z-of_z w64 (a *ℤ b) product) at e
 
-pub left-bits : {a : ℤ} (n : ℕ) → SFits w32 a → to_z w32 ((of_z w32 a * 2 ^ n) % 2 ^ 32) ≡ wrap32 (a *ℤ pos (2 ^ n))
-left-bits {a} n f = rw (bits32 f, ← low-mul 32 a (2 ^ n)) (read (low 32 (a *ℤ pos (2 ^ n))))
+pub left_bits : {a : ℤ} (n : ℕ) → SFits w32 a → to_z w32 ((of_z w32 a * 2 ^ n) % 2 ^ 32) ≡ wrap32 (a *ℤ pos (2 ^ n))
+left_bits {a} n f = rw (bits32 f, ← low_mul 32 a (2 ^ n)) (read (low 32 (a *ℤ pos (2 ^ n))))
 
 -- bits that are those of z, read as signed
 pub wraps : (z : ℤ) {u : ℕ} {r : ℤ} → mag r < 2 ^ 31 → r ≡ signed 32 u → u ≡ low 32 z → to_z w32 (of_z w32 r) ≡ wrap32 z
@@ -59,11 +59,11 @@ module _ (u : ℕ) (f : u < 2 ^ 32) (h : 2 ^ 31 ≤ u) where
   abbrev under : ℤ
   under = to_z w64 u -ℤ pos (2 ^ 32)
 
-  under-is : under ≡ negsuc (2 ^ 32 - suc u)
-  under-is = rw (to_z_pos w64 u (omega arith)) (minus u 4294967295 f)
+  under_is : under ≡ negsuc (2 ^ 32 - suc u)
+  under_is = rw (to_z_pos w64 u (omega arith)) (minus u 4294967295 f)
 
   under-small : SFits w32 under
-  under-small = small (rw under-is (omega arith))
+  under-small = small (rw under_is (omega arith))
 
   pub under-fits : SFits w64 under
   under-fits = wide_fits under-small
@@ -71,8 +71,8 @@ module _ (u : ℕ) (f : u < 2 ^ 32) (h : 2 ^ 31 ≤ u) where
   again : to_z w64 (of_z w64 under) ≡ under
   again = to_z-of_z w64 under under-fits
 
-  pub under-narrows : SFits w32 (to_z w64 (of_z w64 under))
-  under-narrows = rw again under-small
+  pub under_narrows : SFits w32 (to_z w64 (of_z w64 under))
+  under_narrows = rw again under-small
 
   pub under-read : to_z w32 (of_z w32 (to_z w64 (of_z w64 under))) ≡ signed 32 u
-  under-read = rw again (back under-small ∙ under-is ∙ rw (le-ltb u 2147483648 h))
+  under-read = rw again (back under-small ∙ under_is ∙ rw (le-ltb u 2147483648 h))

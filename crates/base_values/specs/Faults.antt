@@ -4,9 +4,9 @@ use Rattle.std.specs.Prelude.{ℕ}
 use Rattle.base_values.specs.declared.Fault.{Fault}
 use Rattle.base_values.specs.declared.Fault.TheVariants.{Divide, Shift, Index, Channel, Fields}
 
-abbrev pub faultNumber : Fault → ℕ
-faultNumber Divide = 1
-faultNumber Shift = 2
-faultNumber Index = 3
-faultNumber Channel = 4
-faultNumber Fields = 5
+abbrev pub fault_number : Fault → ℕ
+fault_number Divide = 1
+fault_number Shift = 2
+fault_number Index = 3
+fault_number Channel = 4
+fault_number Fields = 5

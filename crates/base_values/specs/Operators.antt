@@ -10,8 +10,8 @@ use Rattle.base_values.specs.declared.Answer.{Answer}
 use Rattle.base_values.specs.declared.Answer.TheVariants.{Value, Fails}
 
 -- the binding levels, which unfold only where a proof asks
-unfoldable pub levelOf : ℕ → ℕ
-levelOf op = level op
+unfoldable pub level_of : ℕ → ℕ
+level_of op = level op
 
 abbrev pub same : ℤ → ℤ → Bool
 same (pos a) (pos b) = a == b
@@ -20,68 +20,68 @@ same (negsuc a) (pos b) = false
 same (negsuc a) (negsuc b) = a == b
 
 -- a value as a condition, and a condition as a value
-abbrev pub isTrue : ℤ → Bool
-isTrue a = not (same a (pos 0))
+abbrev pub is_true : ℤ → Bool
+is_true a = not (same a (pos 0))
 
-abbrev pub oneIf : Bool → ℤ
-oneIf true = pos 1
-oneIf false = pos 0
+abbrev pub one_if : Bool → ℤ
+one_if true = pos 1
+one_if false = pos 0
 
 -- what was worked out as 0 or 1
 abbrev pub truth : Answer → Answer
-truth (Value v) = Value (oneIf (isTrue v))
+truth (Value v) = Value (one_if (is_true v))
 truth (Fails f) = Fails f
 
 -- 1 where what was worked out is w, else 0
-abbrev pub equalBy : Answer → ℤ → Answer
-equalBy (Value v) w = Value (oneIf (same v w))
-equalBy (Fails f) w = Fails f
+abbrev pub equal_by : Answer → ℤ → Answer
+equal_by (Value v) w = Value (one_if (same v w))
+equal_by (Fails f) w = Fails f
 
 -- toward zero; the least value by -1 is the one quotient that leaves the range, and gives the least value
-unfoldable pub divideOf : ℤ → ℤ → Answer
-divideOf a b = cond (same b (pos 0)) (Fails Divide) (Value (wrap32 (int_div a b)))
+unfoldable pub divide_of : ℤ → ℤ → Answer
+divide_of a b = cond (same b (pos 0)) (Fails Divide) (Value (wrap32 (int_div a b)))
 
 -- with the dividend's sign
-unfoldable pub remainderOf : ℤ → ℤ → Answer
-remainderOf a b = cond (same b (pos 0)) (Fails Divide) (Value (int_rem a b))
+unfoldable pub remainder_of : ℤ → ℤ → Answer
+remainder_of a b = cond (same b (pos 0)) (Fails Divide) (Value (int_rem a b))
 
 -- by 0 to 31
 abbrev pub shift_by : (ℕ → ℤ) → ℤ → Answer
 shift_by f (pos n) = cond (nat_lt n 32) (Value (f n)) (Fails Shift)
 shift_by f (negsuc n) = Fails Shift
 
-unfoldable pub shiftLeftOf : ℤ → ℤ → Answer
-shiftLeftOf a b = shift_by (λ n. wrap32 (a *ℤ pos (2 ^ n))) b
+unfoldable pub shift_left_of : ℤ → ℤ → Answer
+shift_left_of a b = shift_by (λ n. wrap32 (a *ℤ pos (2 ^ n))) b
 
 -- copying the sign: rounded down
-unfoldable pub shiftRightOf : ℤ → ℤ → Answer
-shiftRightOf a b = shift_by (λ n. shr_z a (2 ^ n)) b
+unfoldable pub shift_right_of : ℤ → ℤ → Answer
+shift_right_of a b = shift_by (λ n. shr_z a (2 ^ n)) b
 
 -- an operation on the 32 bits of each
-abbrev pub onBits : (ℕ → ℕ → ℕ) → ℤ → ℤ → ℤ
-onBits f a b = signed 32 (f (low 32 a) (low 32 b))
+abbrev pub on_bits : (ℕ → ℕ → ℕ) → ℤ → ℤ → ℤ
+on_bits f a b = signed 32 (f (low 32 a) (low 32 b))
 
 -- a number that is no binary operator leaves the first value
-unfoldable pub applyOf : ℕ → ℤ → ℤ → Answer
-applyOf op a b =
-    cond (op == 1) (Value (oneIf (isTrue a || isTrue b)))
-    (cond (op == 2) (Value (oneIf (isTrue a && isTrue b)))
-    (cond (op == 3) (Value (onBits bit_or a b))
-    (cond (op == 4) (Value (onBits bit_xor a b))
-    (cond (op == 5) (Value (onBits bit_and a b))
-    (cond (op == 6) (Value (oneIf (same a b)))
-    (cond (op == 7) (Value (oneIf (not (same a b))))
-    (cond (op == 8) (Value (oneIf (int_lt a b)))
-    (cond (op == 9) (Value (oneIf (int_le a b)))
-    (cond (op == 10) (Value (oneIf (int_lt b a)))
-    (cond (op == 11) (Value (oneIf (int_le b a)))
-    (cond (op == 12) (shiftLeftOf a b)
-    (cond (op == 13) (shiftRightOf a b)
+unfoldable pub apply_of : ℕ → ℤ → ℤ → Answer
+apply_of op a b =
+    cond (op == 1) (Value (one_if (is_true a || is_true b)))
+    (cond (op == 2) (Value (one_if (is_true a && is_true b)))
+    (cond (op == 3) (Value (on_bits bit_or a b))
+    (cond (op == 4) (Value (on_bits bit_xor a b))
+    (cond (op == 5) (Value (on_bits bit_and a b))
+    (cond (op == 6) (Value (one_if (same a b)))
+    (cond (op == 7) (Value (one_if (not (same a b))))
+    (cond (op == 8) (Value (one_if (int_lt a b)))
+    (cond (op == 9) (Value (one_if (int_le a b)))
+    (cond (op == 10) (Value (one_if (int_lt b a)))
+    (cond (op == 11) (Value (one_if (int_le b a)))
+    (cond (op == 12) (shift_left_of a b)
+    (cond (op == 13) (shift_right_of a b)
     (cond (op == 14) (Value (wrap32 (a +ℤ b)))
     (cond (op == 15) (Value (wrap32 (a -ℤ b)))
     (cond (op == 16) (Value (wrap32 (a *ℤ b)))
-    (cond (op == 17) (divideOf a b)
-    (cond (op == 18) (remainderOf a b) (Value a))))))))))))))))))
+    (cond (op == 17) (divide_of a b)
+    (cond (op == 18) (remainder_of a b) (Value a))))))))))))))))))
 
 -- every bit turned: -a - 1
 abbrev pub complement : ℤ → ℤ
@@ -89,8 +89,8 @@ complement (pos n) = negsuc n
 complement (negsuc n) = pos n
 
 -- minus, `!`, `~`; any other number leaves the value
-unfoldable pub unaryOf : ℕ → ℤ → ℤ
-unaryOf op a =
+unfoldable pub unary_of : ℕ → ℤ → ℤ
+unary_of op a =
     cond (op == 15) (wrap32 (neg_ℤ a))
-    (cond (op == 19) (oneIf (same a (pos 0)))
+    (cond (op == 19) (one_if (same a (pos 0)))
     (cond (op == 20) (complement a) a))

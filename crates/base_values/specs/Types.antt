@@ -13,16 +13,16 @@ width_of t =
     (cond (nat_lt t 45) 16 32)))
 
 -- 16 bits and more are signed: short and int
-abbrev pub signedWidth : ℕ → Bool
-signedWidth k = nat_le 16 k
+abbrev pub signed_width : ℕ → Bool
+signed_width k = nat_le 16 k
 
 -- z kept to k bits, signed or not
 abbrev pub keep : Bool → ℕ → ℤ → ℤ
 keep true k z = wrap k z
 keep false k z = pos (low k z)
 
-unfoldable pub castOf : ℕ → ℤ → ℤ
-castOf t v = keep (signedWidth (width_of t)) (width_of t) v
+unfoldable pub cast_of : ℕ → ℤ → ℤ
+cast_of t v = keep (signed_width (width_of t)) (width_of t) v
 
 -- the range of k bits: from -2 ^ (k - 1) to 2 ^ (k - 1) - 1 (`mag` of n and of -(n + 1) is n), or from 0 to 2 ^ k - 1
 abbrev pub within : Bool → ℕ → ℤ → Bool
@@ -31,5 +31,5 @@ within false k (pos n) = nat_lt n (2 ^ k)
 within false k (negsuc n) = false
 
 -- v is a value of the type
-unfoldable pub inType : ℕ → ℤ → Bool
-inType t v = within (signedWidth (width_of t)) (width_of t) v
+unfoldable pub in_type : ℕ → ℤ → Bool
+in_type t v = within (signed_width (width_of t)) (width_of t) v

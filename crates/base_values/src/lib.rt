@@ -2,9 +2,9 @@
 // No function asks anything of its caller. specs/ says what each means.
 ghost use Rattle.std.specs.Prelude.{◌≡◌, ◌+ℤ◌, ◌-ℤ◌, ◌*ℤ◌};
 ghost use Rattle.base_values.specs.Bits.{low, signed, wrap32};
-ghost use Rattle.base_values.specs.Operators.{levelOf, divideOf, remainderOf, shiftLeftOf, shiftRightOf, applyOf, unaryOf};
-ghost use Rattle.base_values.specs.Types.{width_of, castOf};
-ghost use Rattle.base_values.specs.Faults.{faultNumber};
+ghost use Rattle.base_values.specs.Operators.{level_of, divide_of, remainder_of, shift_left_of, shift_right_of, apply_of, unary_of};
+ghost use Rattle.base_values.specs.Types.{width_of, cast_of};
+ghost use Rattle.base_values.specs.Faults.{fault_number};
 
 // Why a step fails.
 #[derive(Drop)]
@@ -24,7 +24,7 @@ pub enum Answer {
 }
 
 pub fn fault_number(f: Fault) -> u8
-    ensures { result ≡ faultNumber f }
+    ensures { result ≡ fault_number f }
 {
     match f {
         Fault::Divide => 1,
@@ -77,7 +77,7 @@ pub fn multiply(a: i32, b: i32) -> i32
 const LEAST: i32 = -2147483648;
 
 pub fn divide(a: i32, b: i32) -> Answer
-    ensures { result ≡ divideOf a b }
+    ensures { result ≡ divide_of a b }
 {
     if b == 0 {
         return Answer::Fails(Fault::Divide);
@@ -89,7 +89,7 @@ pub fn divide(a: i32, b: i32) -> Answer
 }
 
 pub fn remainder(a: i32, b: i32) -> Answer
-    ensures { result ≡ remainderOf a b }
+    ensures { result ≡ remainder_of a b }
 {
     if b == 0 {
         return Answer::Fails(Fault::Divide);
@@ -104,7 +104,7 @@ pub fn remainder(a: i32, b: i32) -> Answer
 const MOST_SHIFT: i32 = 31;
 
 pub fn shift_left(a: i32, b: i32) -> Answer
-    ensures { result ≡ shiftLeftOf a b }
+    ensures { result ≡ shift_left_of a b }
 {
     if (b < 0) | (MOST_SHIFT < b) {
         return Answer::Fails(Fault::Shift);
@@ -113,7 +113,7 @@ pub fn shift_left(a: i32, b: i32) -> Answer
 }
 
 pub fn shift_right(a: i32, b: i32) -> Answer
-    ensures { result ≡ shiftRightOf a b }
+    ensures { result ≡ shift_right_of a b }
 {
     if (b < 0) | (MOST_SHIFT < b) {
         return Answer::Fails(Fault::Shift);
@@ -123,7 +123,7 @@ pub fn shift_right(a: i32, b: i32) -> Answer
 
 // How tightly the binary operator op binds, 1 the loosest; 0 where op is none.
 pub fn level(op: u8) -> u8
-    ensures { result ≡ levelOf op }
+    ensures { result ≡ level_of op }
 {
     match op {
         1 => 1,
@@ -142,7 +142,7 @@ pub fn level(op: u8) -> u8
 
 // The binary operator op on two values; 1 to 18 are || && | ^ & == != < <= > >= << >> + - * / %.
 pub fn apply(op: u8, a: i32, b: i32) -> Answer
-    ensures { result ≡ applyOf op a b }
+    ensures { result ≡ apply_of op a b }
 {
     match op {
         1 => Answer::Value(((a != 0) | (b != 0)) as i32),
@@ -169,7 +169,7 @@ pub fn apply(op: u8, a: i32, b: i32) -> Answer
 
 // The unary operator op on a value: 15 is minus, 19 ! and 20 ~.
 pub fn apply_unary(op: u8, a: i32) -> i32
-    ensures { result ≡ unaryOf op a }
+    ensures { result ≡ unary_of op a }
 {
     match op {
         15 => subtract(0, a),
@@ -193,7 +193,7 @@ pub fn width(ty: u8) -> u32
 
 // The value that a variable of the type holds once v is stored in it.
 pub fn cast(ty: u8, v: i32) -> i32
-    ensures { result ≡ castOf ty v }
+    ensures { result ≡ cast_of ty v }
 {
     let w = width(ty);
     if 16 < w {

@@ -10,15 +10,15 @@ use mathlib.Core.List.{List, []}
 use borrow.Author.Tests.{lt-ltb, le-ltb, ltb-true, ltb-false, le-leb}
 use lib.Dec.{ltb}
 use lib.ListN.{length, take, drop, length-replicate}
-use Rattle.base_ceilings.specs.Ceilings.{normalMost, tablesRoom}
+use Rattle.base_ceilings.specs.Ceilings.{normal_most, tables_room}
 use Rattle.base_bytes.specs.Choice.{pick}
-use Rattle.base_bytes.proofs.Tests.{true-false}
+use Rattle.base_bytes.proofs.Tests.{true_false}
 use Rattle.spec_text.specs.Placed.{Placed}
-use Rattle.spec_text.specs.Writing.{tokensIn}
+use Rattle.spec_text.specs.Writing.{tokens_in}
 use Rattle.spec_grammar.specs.Tree.{Model}
 use Rattle.spec_grammar.specs.Grammar.{Gram}
-use Rattle.spec_grammar.specs.Depth.{too-deep}
-use Rattle.spec_faults.specs.Faults.{faultsOf}
+use Rattle.spec_grammar.specs.Depth.{too_deep}
+use Rattle.spec_faults.specs.Faults.{faults_of}
 use Rattle.spec_rules.specs.Ceilings as ceilings
 use Rattle.spec_refusals.specs.Texts.{Tokens}
 use Rattle.spec_refusals.specs.Legal.{Legal}
@@ -26,29 +26,29 @@ use Rattle.spec_refusals.specs.Rows as rows
 use Rattle.spec_refusals.specs.Rows.{Refusal, Refused}
 use Rattle.read_passes.specs.declared.Judged.{Judged}
 use Rattle.read_passes.specs.declared.Judged.TheVariants as judged
-use Rattle.read_passes.specs.Judging.{judgeOf, tablesText}
+use Rattle.read_passes.specs.Judging.{judge_of, tables_text}
 use Rattle.read_entry.specs.Entries as reading
-use Rattle.read_entry.specs.Entries.{read_of, stays, partStart}
+use Rattle.read_entry.specs.Entries.{read_of, stays, part_start}
 use Rattle.spec_normal.specs.Normal.{normal}
 use Rattle.spec_layout.specs.Layout.{layout}
-use Rattle.normal_entry.specs.Entries.{roomy, put, written_by, textAnswer, textLeft, tablesAnswer, tablesLeft}
-use Rattle.write_texts.specs.Normal.{normalOf, layout_of}
+use Rattle.normal_entry.specs.Entries.{roomy, put, written_by, text_answer, text_left, tables_answer, tables_left}
+use Rattle.write_texts.specs.Normal.{normal_of, layout_of}
 use Rattle.read_genuine.specs.Genuine.{written, genuine}
 use Rattle.normal_entry.specs.declared.Written.{Written}
 use Rattle.normal_entry.specs.declared.Written.TheVariants.{Text, Refused as Kept}
-use Rattle.legal_texts.proofs.Main.{read-legal}
-use Rattle.legal_texts.proofs.Refusals.{refused-exact}
-use Rattle.legal_texts.proofs.Within.{refusal-within}
+use Rattle.legal_texts.proofs.Main.{read_legal}
+use Rattle.legal_texts.proofs.Refusals.{refused_exact}
+use Rattle.legal_texts.proofs.Within.{refusal_within}
 use Rattle.demands.specs.Said as said
 use Rattle.demands.specs.Said.{refusal}
 use Rattle.demands.proofs.Told.{not-values}
 use Rattle.demands.specs.Demand1 as one
 use Rattle.demands.specs.Demand1.{Reader, Writer, TablesWriter}
-use Rattle.demands.proofs.Owned.{blank, judged-by, legal-judged, left-wrote}
+use Rattle.demands.proofs.Owned.{blank, judged_by, legal_judged, left-wrote}
 use Rattle.demands.proofs.Lent.{owner, tables-genuine}
 use Rattle.demands.proofs.Stepper.{stepper}
-use Rattle.demands.proofs.Replayed.{trail-refused}
-use Rattle.demands.proofs.Demand3.{normal-is, layout_is}
+use Rattle.demands.proofs.Replayed.{trail_refused}
+use Rattle.demands.proofs.Demand3.{normal_is, layout_is}
 use Rattle.demands.specs.Lent.{Tables}
 
 -- ---- the reader
@@ -56,56 +56,56 @@ reader-said : (j : Judged) (x i n : ℕ) → (said.reader j ≡ refusal x i n) �
 reader-said judged.Accepted x i n = (λ e. not-values e, λ e. absurd (let z : ◌≡◌ {A = ℕ} 0 1 = cc in omega arith))
 reader-said (judged.Refused y j m) x i n = (λ e. let a : y ≡ x = cc in let b : j ≡ i = cc in let c : m ≡ n = cc in rw (a, b, c) refl, λ e. let a : y ≡ x = cc in let b : j ≡ i = cc in let c : m ≡ n = cc in rw (a, b, c) refl)
 
-blank-room : tablesRoom ≤ length blank
-blank-room = omega (arith, length-replicate {A = ℕ} tablesRoom 0)
+blank-room : tables_room ≤ length blank
+blank-room = omega (arith, length-replicate {A = ℕ} tables_room 0)
 
 -- what the passes of the reader answer, lent room or not
-judged-exact : (t : List ℕ) (x i n : ℕ) → (judgeOf t ≡ judged.Refused x i n) ↔ Refusal t x i n
-judged-exact t x i n = (λ e. of-text ((refused-exact t blank x i n).0 (judged-by t blank blank-room ∙ e)), λ r. sym (judged-by t blank blank-room) ∙ (refused-exact t blank x i n).1 (rows.text blank-room r))
+judged_exact : (t : List ℕ) (x i n : ℕ) → (judge_of t ≡ judged.Refused x i n) ↔ Refusal t x i n
+judged_exact t x i n = (λ e. of_text ((refused_exact t blank x i n).0 (judged_by t blank blank-room ∙ e)), λ r. sym (judged_by t blank blank-room) ∙ (refused_exact t blank x i n).1 (rows.text blank-room r))
   where
-    of-text : {y j m : ℕ} → Refused t (length blank) y j m → Refusal t y j m
-    of-text (rows.too_small h) = absurd (omega (arith, blank-room))
-    of-text (rows.text h r) = r
+    of_text : {y j m : ℕ} → Refused t (length blank) y j m → Refusal t y j m
+    of_text (rows.too_small h) = absurd (omega (arith, blank-room))
+    of_text (rows.text h r) = r
 
 module _ (t : List ℕ) where
-  reader-refuses : (old : List ℕ) (x i n : ℕ) → (said.reader (read_of t old) ≡ refusal x i n) ↔ Refused t (length old) x i n
-  reader-refuses old x i n = (λ e. (refused-exact t old x i n).0 ((reader-said (read_of t old) x i n).0 e), λ r. (reader-said (read_of t old) x i n).1 ((refused-exact t old x i n).1 r))
+  reader_refuses : (old : List ℕ) (x i n : ℕ) → (said.reader (read_of t old) ≡ refusal x i n) ↔ Refused t (length old) x i n
+  reader_refuses old x i n = (λ e. (refused_exact t old x i n).0 ((reader-said (read_of t old) x i n).0 e), λ r. (reader-said (read_of t old) x i n).1 ((refused_exact t old x i n).1 r))
 
-  reader-six : (old : List ℕ) (ps : List Placed) (m : Model) → tablesRoom ≤ length old → Tokens t ps → (g : Gram (tokensIn t ps) m) → too-deep (tokensIn t ps) ≡ none → faultsOf g ≡ []
-      → (said.reader (read_of t old) ≡ refusal 6 0 0) ↔ ((ceilings.modest m ≡ false) ⊎ (normalMost < length (normal m)))
-  reader-six old ps m r k g d l = (λ e. to e (ceilings.modest m) refl (dec_lt normalMost (length (normal m))), from)
+  reader_six : (old : List ℕ) (ps : List Placed) (m : Model) → tables_room ≤ length old → Tokens t ps → (g : Gram (tokens_in t ps) m) → too_deep (tokens_in t ps) ≡ none → faults_of g ≡ []
+      → (said.reader (read_of t old) ≡ refusal 6 0 0) ↔ ((ceilings.modest m ≡ false) ⊎ (normal_most < length (normal m)))
+  reader_six old ps m r k g d l = (λ e. to e (ceilings.modest m) refl (dec_lt normal_most (length (normal m))), from)
     where
-      to : said.reader (read_of t old) ≡ refusal 6 0 0 → (b : Bool) → ceilings.modest m ≡ b → Dec (normalMost < length (normal m)) → (ceilings.modest m ≡ false) ⊎ (normalMost < length (normal m))
+      to : said.reader (read_of t old) ≡ refusal 6 0 0 → (b : Bool) → ceilings.modest m ≡ b → Dec (normal_most < length (normal m)) → (ceilings.modest m ≡ false) ⊎ (normal_most < length (normal m))
       to e false q x = inl q
       to e true q (yes h) = inr h
       to e true q (no h) =
-          let j = legal-judged t record { parts = ps; reads = k; tree = m; gram = g; shallow = d; faultless = l; modest = q; slim = omega (arith, h) } in
-          absurd (let f : judged.Accepted ≡ judged.Refused 6 0 0 = sym j ∙ sym (judged-by t old r) ∙ (reader-said (read_of t old) 6 0 0).0 e in let z : ◌≡◌ {A = ℕ} 0 1 = cc in omega arith)
+          let j = legal_judged t record { parts = ps; reads = k; tree = m; gram = g; shallow = d; faultless = l; modest = q; slim = omega (arith, h) } in
+          absurd (let f : judged.Accepted ≡ judged.Refused 6 0 0 = sym j ∙ sym (judged_by t old r) ∙ (reader-said (read_of t old) 6 0 0).0 e in let z : ◌≡◌ {A = ℕ} 0 1 = cc in omega arith)
 
-      from : (ceilings.modest m ≡ false) ⊎ (normalMost < length (normal m)) → said.reader (read_of t old) ≡ refusal 6 0 0
-      from (inl h) = (reader-refuses old 6 0 0).1 (rows.text r (rows.ceiling k g d l h))
-      from (inr h) = (reader-refuses old 6 0 0).1 (rows.text r (rows.overlong k g d l h))
+      from : (ceilings.modest m ≡ false) ⊎ (normal_most < length (normal m)) → said.reader (read_of t old) ≡ refusal 6 0 0
+      from (inl h) = (reader_refuses old 6 0 0).1 (rows.text r (rows.ceiling k g d l h))
+      from (inr h) = (reader_refuses old 6 0 0).1 (rows.text r (rows.overlong k g d l h))
 
-  reader-unchanged : (old : List ℕ) (x i n : ℕ) → said.reader (read_of t old) ≡ refusal x i n → reading.left_of t old ≡ old
+  reader_unchanged : (old : List ℕ) (x i n : ℕ) → said.reader (read_of t old) ≡ refusal x i n → reading.left_of t old ≡ old
   unfolding reading.left_of
-  reader-unchanged old x i n e = ap (λ (j : Judged). stays j (tablesText t) old) ((reader-said (read_of t old) x i n).0 e)
+  reader_unchanged old x i n e = ap (λ (j : Judged). stays j (tables_text t) old) ((reader-said (read_of t old) x i n).0 e)
 
-  part-is : (x i n : ℕ) → Refusal t x i n → (reading.part t (judgeOf t) ≡ take n (drop i t)) × (partStart (length t) (judgeOf t) ≡ i) × (i + n ≤ length t)
-  part-is x i n r =
-      let e = (judged-exact t x i n).1 r in
-      let w = refusal-within r in
+  part_is : (x i n : ℕ) → Refusal t x i n → (reading.part t (judge_of t) ≡ take n (drop i t)) × (part_start (length t) (judge_of t) ≡ i) × (i + n ≤ length t)
+  part_is x i n r =
+      let e = (judged_exact t x i n).1 r in
+      let w = refusal_within r in
       let h = le-leb (i + n) (length t) w in
       let z : i + n - i ≡ n = omega arith in
-      (ap (reading.part t) e ∙ ap (λ (b : Bool). take (pick b (i + n) 0 - pick b i 0) (drop (pick b i 0) t)) h ∙ ap (λ (k : ℕ). take k (drop i t)) z, ap (partStart (length t)) e ∙ rw h refl, w)
+      (ap (reading.part t) e ∙ ap (λ (b : Bool). take (pick b (i + n) 0 - pick b i 0) (drop (pick b i 0) t)) h ∙ ap (λ (k : ℕ). take k (drop i t)) z, ap (part_start (length t)) e ∙ rw h refl, w)
 
   reader : Reader t
   reader =
       record {
-        refuses = reader-refuses;
-        six = reader-six;
-        unchanged = reader-unchanged;
-        part = part-is;
-        no_part = λ l. (let e = legal-judged t l in (ap (reading.part t) e, ap (partStart (length t)) e));
+        refuses = reader_refuses;
+        six = reader_six;
+        unchanged = reader_unchanged;
+        part = part_is;
+        no_part = λ l. (let e = legal_judged t l in (ap (reading.part t) e, ap (part_start (length t)) e));
       }
 
 -- ---- normal text and layout
@@ -117,94 +117,94 @@ put-kept : (j : Written) (u out : List ℕ) (x i n : ℕ) → said.writer j ≡ 
 put-kept j u out x i n e = ap (λ (w : Written). put w u out) ((writer-said j x i n).0 e)
 
 -- a text that is refused alone for its room
-kept-seven : (u out : List ℕ) (x i n : ℕ) → roomy u out ≡ Kept x i n → (length out < length u) × (x ≡ 7) × (i ≡ 0) × (n ≡ 0)
-kept-seven u out x i n e = go (ltb (length out) (length u)) refl e
+kept_seven : (u out : List ℕ) (x i n : ℕ) → roomy u out ≡ Kept x i n → (length out < length u) × (x ≡ 7) × (i ≡ 0) × (n ≡ 0)
+kept_seven u out x i n e = go (ltb (length out) (length u)) refl e
   where
     go : (b : Bool) → ltb (length out) (length u) ≡ b → pick b (Kept 7 0 0) (Text (length u)) ≡ Kept x i n → (length out < length u) × (x ≡ 7) × (i ≡ 0) × (n ≡ 0)
     go true h e = let a : 7 ≡ x = cc in let b : 0 ≡ i = cc in let c : 0 ≡ n = cc in (ltb-true (length out) (length u) h, sym a, sym b, sym c)
     go false h e = absurd (let z : ◌≡◌ {A = ℕ} 0 1 = cc in omega arith)
 
-seven-kept : (u out : List ℕ) → length out < length u → roomy u out ≡ Kept 7 0 0
-seven-kept u out h = rw (lt-ltb (length out) (length u) h) refl
+seven_kept : (u out : List ℕ) → length out < length u → roomy u out ≡ Kept 7 0 0
+seven_kept u out h = rw (lt-ltb (length out) (length u) h) refl
 
 -- what is written is g of tables, which for the tables of a legal text is f of its tree
-module _ (f : Model → List ℕ) (g : List ℕ → List ℕ) (is : (t : List ℕ) (l : Legal t) → g (tablesText t) ≡ f l.tree) where
-  writer-refuses : (t out : List ℕ) (x i n : ℕ) → (said.writer (textAnswer g t out) ≡ refusal x i n) ↔ one.NotWritten f t (length out) x i n
-  writer-refuses t out x i n = (λ e. to (judgeOf t) refl ((writer-said (textAnswer g t out) x i n).0 e), λ r. (writer-said (textAnswer g t out) x i n).1 (from r))
+module _ (f : Model → List ℕ) (g : List ℕ → List ℕ) (is : (t : List ℕ) (l : Legal t) → g (tables_text t) ≡ f l.tree) where
+  writer_refuses : (t out : List ℕ) (x i n : ℕ) → (said.writer (text_answer g t out) ≡ refusal x i n) ↔ one.NotWritten f t (length out) x i n
+  writer_refuses t out x i n = (λ e. to (judge_of t) refl ((writer-said (text_answer g t out) x i n).0 e), λ r. (writer-said (text_answer g t out) x i n).1 (from r))
     where
-      to : (j : Judged) → judgeOf t ≡ j → textAnswer g t out ≡ Kept x i n → one.NotWritten f t (length out) x i n
+      to : (j : Judged) → judge_of t ≡ j → text_answer g t out ≡ Kept x i n → one.NotWritten f t (length out) x i n
       to judged.Accepted q e =
-          let l = read-legal t blank (judged-by t blank blank-room ∙ q) in
-          let (h, a, b, c) = kept-seven (g (tablesText t)) out x i n (ap (λ (k : Judged). written_by k (g (tablesText t)) out) (sym q) ∙ e) in
+          let l = read_legal t blank (judged_by t blank blank-room ∙ q) in
+          let (h, a, b, c) = kept_seven (g (tables_text t)) out x i n (ap (λ (k : Judged). written_by k (g (tables_text t)) out) (sym q) ∙ e) in
           rw (a, b, c) (one.no_room l (omega (arith, h, ap length (is t l))))
       to (judged.Refused y j m) q e =
-          let k : Kept y j m ≡ Kept x i n = ap (λ (k : Judged). written_by k (g (tablesText t)) out) (sym q) ∙ e in
+          let k : Kept y j m ≡ Kept x i n = ap (λ (k : Judged). written_by k (g (tables_text t)) out) (sym q) ∙ e in
           let a : y ≡ x = cc in
           let b : j ≡ i = cc in
           let c : m ≡ n = cc in
-          one.text ((judged-exact t x i n).0 (q ∙ rw (a, b, c) refl))
+          one.text ((judged_exact t x i n).0 (q ∙ rw (a, b, c) refl))
 
-      from : {y j m : ℕ} → one.NotWritten f t (length out) y j m → textAnswer g t out ≡ Kept y j m
-      from {y} {j} {m} (one.text r) = ap (λ (k : Judged). written_by k (g (tablesText t)) out) ((judged-exact t y j m).1 r)
+      from : {y j m : ℕ} → one.NotWritten f t (length out) y j m → text_answer g t out ≡ Kept y j m
+      from {y} {j} {m} (one.text r) = ap (λ (k : Judged). written_by k (g (tables_text t)) out) ((judged_exact t y j m).1 r)
       from (one.no_room l h) =
-          ap (λ (k : Judged). written_by k (g (tablesText t)) out) (legal-judged t l) ∙ seven-kept (g (tablesText t)) out (omega (arith, h, ap length (is t l)))
+          ap (λ (k : Judged). written_by k (g (tables_text t)) out) (legal_judged t l) ∙ seven_kept (g (tables_text t)) out (omega (arith, h, ap length (is t l)))
 
-  writer : (t : List ℕ) → Writer f t (textAnswer g t) (textLeft g t)
-  writer t = record { refuses = writer-refuses t; unchanged = λ out x i n e. put-kept (textAnswer g t out) (g (tablesText t)) out x i n e }
+  writer : (t : List ℕ) → Writer f t (text_answer g t) (text_left g t)
+  writer t = record { refuses = writer_refuses t; unchanged = λ out x i n e. put-kept (text_answer g t out) (g (tables_text t)) out x i n e }
 
   -- what tables give is their tree's
-  tables-are : (ts : List ℕ) (m : Model) → Tables ts m → g (written ts) ≡ f m
-  tables-are ts m h = ap g (h.wrote ∙ left-wrote h.text h.lent (legal-judged h.text h.legal) h.room) ∙ is h.text h.legal ∙ ap f h.tree
+  tables_are : (ts : List ℕ) (m : Model) → Tables ts m → g (written ts) ≡ f m
+  tables_are ts m h = ap g (h.wrote ∙ left-wrote h.text h.lent (legal_judged h.text h.legal) h.room) ∙ is h.text h.legal ∙ ap f h.tree
 
-  from-refuses : (ts out : List ℕ) (x i n : ℕ) → (said.writer (tablesAnswer g ts out) ≡ refusal x i n) ↔ one.NotWrittenOf f ts (length out) x × (i ≡ 0) × (n ≡ 0)
-  unfolding tablesAnswer
-  from-refuses ts out x i n = (λ e. to (ltb (length ts) tablesRoom) refl (genuine ts) refl ((writer-said (tablesAnswer g ts out) x i n).0 e), λ r. (writer-said (tablesAnswer g ts out) x i n).1 (from r))
+  from_refuses : (ts out : List ℕ) (x i n : ℕ) → (said.writer (tables_answer g ts out) ≡ refusal x i n) ↔ one.NotWrittenOf f ts (length out) x × (i ≡ 0) × (n ≡ 0)
+  unfolding tables_answer
+  from_refuses ts out x i n = (λ e. to (ltb (length ts) tables_room) refl (genuine ts) refl ((writer-said (tables_answer g ts out) x i n).0 e), λ r. (writer-said (tables_answer g ts out) x i n).1 (from r))
     where
       by : Bool → Bool → Written
       by a b = pick a (Kept 7 0 0) (pick b (roomy (g (written ts)) out) (Kept 8 0 0))
 
-      to : (a : Bool) → ltb (length ts) tablesRoom ≡ a → (b : Bool) → genuine ts ≡ b → by (ltb (length ts) tablesRoom) (genuine ts) ≡ Kept x i n → one.NotWrittenOf f ts (length out) x × (i ≡ 0) × (n ≡ 0)
+      to : (a : Bool) → ltb (length ts) tables_room ≡ a → (b : Bool) → genuine ts ≡ b → by (ltb (length ts) tables_room) (genuine ts) ≡ Kept x i n → one.NotWrittenOf f ts (length out) x × (i ≡ 0) × (n ≡ 0)
       to true p b q e =
           let k : Kept 7 0 0 ≡ Kept x i n = ap (λ (y : Bool). by y (genuine ts)) (sym p) ∙ e in
           let u : 7 ≡ x = cc in
           let v : 0 ≡ i = cc in
           let w : 0 ≡ n = cc in
-          (subst (one.NotWrittenOf f ts (length out)) u (one.too_small (ltb-true (length ts) tablesRoom p)), sym v, sym w)
+          (subst (one.NotWrittenOf f ts (length out)) u (one.too_small (ltb-true (length ts) tables_room p)), sym v, sym w)
       to false p true q e =
           let o = owner ts q in
-          let (h, u, v, w) = kept-seven (g (written ts)) out x i n (ap₂ by (sym p) (sym q) ∙ e) in
-          (rw u (one.no_room o.tree (ltb-false (length ts) tablesRoom p) o.tables (omega (arith, h, ap length (tables-are ts o.tree o.tables)))), v, w)
+          let (h, u, v, w) = kept_seven (g (written ts)) out x i n (ap₂ by (sym p) (sym q) ∙ e) in
+          (rw u (one.no_room o.tree (ltb-false (length ts) tables_room p) o.tables (omega (arith, h, ap length (tables_are ts o.tree o.tables)))), v, w)
       to false p false q e =
           let k : Kept 8 0 0 ≡ Kept x i n = ap₂ by (sym p) (sym q) ∙ e in
           let u : 8 ≡ x = cc in
           let v : 0 ≡ i = cc in
           let w : 0 ≡ n = cc in
-          (subst (one.NotWrittenOf f ts (length out)) u (one.no-model (ltb-false (length ts) tablesRoom p) (λ m h. true-false (sym (tables-genuine ts m h) ∙ q))), sym v, sym w)
+          (subst (one.NotWrittenOf f ts (length out)) u (one.no_model (ltb-false (length ts) tables_room p) (λ m h. true_false (sym (tables-genuine ts m h) ∙ q))), sym v, sym w)
 
       not-genuine : ((m : Model) → Tables ts m → ⊥) → (b : Bool) → genuine ts ≡ b → b ≡ false
       not-genuine h true q = let o = owner ts q in absurd (h o.tree o.tables)
       not-genuine h false q = refl
 
-      kept : {y : ℕ} → one.NotWrittenOf f ts (length out) y → tablesAnswer g ts out ≡ Kept y 0 0
-      kept (one.too_small h) = rw (lt-ltb (length ts) tablesRoom h) refl
-      kept (one.no-model r h) = ap₂ by (le-ltb (length ts) tablesRoom r) (not-genuine h (genuine ts) refl)
+      kept : {y : ℕ} → one.NotWrittenOf f ts (length out) y → tables_answer g ts out ≡ Kept y 0 0
+      kept (one.too_small h) = rw (lt-ltb (length ts) tables_room h) refl
+      kept (one.no_model r h) = ap₂ by (le-ltb (length ts) tables_room r) (not-genuine h (genuine ts) refl)
       kept (one.no_room m r h k) =
-          ap₂ by (le-ltb (length ts) tablesRoom r) (tables-genuine ts m h) ∙ seven-kept (g (written ts)) out (omega (arith, k, ap length (tables-are ts m h)))
+          ap₂ by (le-ltb (length ts) tables_room r) (tables-genuine ts m h) ∙ seven_kept (g (written ts)) out (omega (arith, k, ap length (tables_are ts m h)))
 
-      from : one.NotWrittenOf f ts (length out) x × (i ≡ 0) × (n ≡ 0) → tablesAnswer g ts out ≡ Kept x i n
+      from : one.NotWrittenOf f ts (length out) x × (i ≡ 0) × (n ≡ 0) → tables_answer g ts out ≡ Kept x i n
       from (r, a, b) = kept r ∙ ap₂ (Kept x) (sym a) (sym b)
 
-  tables-writer : (ts : List ℕ) → TablesWriter f ts (tablesAnswer g ts) (tablesLeft g ts)
-  tables-writer ts = record { refuses = from-refuses ts; unchanged = λ out x i n e. put-kept (tablesAnswer g ts out) (g (written ts)) out x i n e }
+  tables_writer : (ts : List ℕ) → TablesWriter f ts (tables_answer g ts) (tables_left g ts)
+  tables_writer ts = record { refuses = from_refuses ts; unchanged = λ out x i n e. put-kept (tables_answer g ts out) (g (written ts)) out x i n e }
 
 pub demand1 : one.Demand1
 demand1 =
     record {
       reader = reader;
-      writer = writer normal normalOf normal-is;
-      tables-writer = tables-writer normal normalOf normal-is;
-      layout-writer = writer layout layout_of layout_is;
-      tables-layout-writer = tables-writer layout layout_of layout_is;
+      writer = writer normal normal_of normal_is;
+      tables_writer = tables_writer normal normal_of normal_is;
+      layout_writer = writer layout layout_of layout_is;
+      tables_layout_writer = tables_writer layout layout_of layout_is;
       stepper = stepper;
-      replay = trail-refused;
+      replay = trail_refused;
     }

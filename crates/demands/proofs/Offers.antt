@@ -10,7 +10,7 @@ use lib.ListN.{length}
 use lib.Dec.{eqb}
 use Rattle.base_bytes.specs.Choice.{pick}
 use Rattle.spec_machine.specs.Machine.{Move, Machine, Step, step_of, move_of, numbered, late, list_from, offered, asked}
-use Rattle.step_all.proofs.Asked.{move_at, stepAs, one-asked, asked-given}
+use Rattle.step_all.proofs.Asked.{move_at, step_as, one-asked, asked-given}
 use Rattle.demands.specs.Walks.{Nth, here, later, Offers}
 
 -- ---- the k-th of a list
@@ -43,8 +43,8 @@ among-nth : {x : Step} {l : List Step} → Among x l → (k : ℕ) × Nth x k l
 among-nth front = (1, here)
 among-nth (back h) = let r = among-nth h in (suc r.0, later r.1)
 
-in-nothing : {A : Type 0} {x : Step} → Among x [] → A
-in-nothing {x = x} h = absurd (go h refl)
+in_nothing : {A : Type 0} {x : Step} → Among x [] → A
+in_nothing {x = x} h = absurd (go h refl)
   where
     go : {l : List Step} → Among x l → l ≡ [] → ⊥
     go (front {l = l}) e = let n : suc (length l) ≡ 0 = ap length e in omega arith
@@ -68,7 +68,7 @@ numbered-among p k (q ∷ qs) r x (back h) = go (numbered-among p (k + 1) qs r x
 module _ {S : Type 0} (M : Machine S) (s : S) where
   list-among : (l : Bool) (p n : ℕ) (x : Step) → Among x (list_from M s l p n) → (x.process < p + n) × Nth (move_of x) x.number (M.steps s l x.process)
   unfolding list_from
-  list-among l p zero x h = in-nothing h
+  list-among l p zero x h = in_nothing h
   list-among l p (suc n) x h = go (numbered-among p 1 (M.steps s l p) (list_from M s l (p + 1) n) x h) (λ g. list-among l (p + 1) n x g)
     where
       go : Numbered p 1 (M.steps s l p) x ⊎ Among x (list_from M s l (p + 1) n)
@@ -95,7 +95,7 @@ module _ {S : Type 0} (M : Machine S) (s : S) where
 
   pub offers-asked : (x : Step) → Offers M s x → asked M x.process x.number (offered M s) ≡ some x
   offers-asked x h =
-      let r = nth-place h.listed in inv (one-asked M s x.process x.number r.before r.number h.there) ∙ ap (stepAs x.process x.number) r.found
+      let r = nth-place h.listed in inv (one-asked M s x.process x.number r.before r.number h.there) ∙ ap (step_as x.process x.number) r.found
 
   asked-among : (p k : ℕ) (x : Step) (l : List Step) → asked M p k l ≡ some x → Among x l
   unfolding asked
@@ -108,11 +108,11 @@ module _ {S : Type 0} (M : Machine S) (s : S) where
       go false c e f = back (f e)
 
   -- ---- listed
-  pub listed-exactly : (x : Step) → ((k : ℕ) × Nth x k (offered M s)) ↔ Offers M s x
-  listed-exactly x = (λ r. among-offers x (nth-among r.1), λ h. among-nth (asked-among x.process x.number x (offered M s) (offers-asked x h)))
+  pub listed_exactly : (x : Step) → ((k : ℕ) × Nth x k (offered M s)) ↔ Offers M s x
+  listed_exactly x = (λ r. among-offers x (nth-among r.1), λ h. among-nth (asked-among x.process x.number x (offered M s) (offers-asked x h)))
 
   pub none-listed : offered M s ≡ [] → (x : Step) → Offers M s x → ⊥
-  none-listed e x h = in-nothing (subst (Among x) e (asked-among x.process x.number x (offered M s) (offers-asked x h)))
+  none-listed e x h = in_nothing (subst (Among x) e (asked-among x.process x.number x (offered M s) (offers-asked x h)))
 
   pub first-offers : (x : Step) (l : List Step) → offered M s ≡ x ∷ l → Offers M s x
   first-offers x l e = among-offers x (subst (Among x) (inv e) front)
@@ -129,17 +129,17 @@ abbrev Rising : List Step → Type 0
 Rising [] = Unit {0}
 Rising (x ∷ l) = Above x.process x.number l × Rising l
 
-above-own : (p k j : ℕ) (qs : List Move) (r : List Step) → k < j → Above p k r → Above p k (numbered p j qs ++ r)
-above-own p k j [] r h g = g
-above-own p k j (q ∷ qs) r h g = (inr (refl, h), above-own p k (j + 1) qs r (omega arith) g)
+above_own : (p k j : ℕ) (qs : List Move) (r : List Step) → k < j → Above p k r → Above p k (numbered p j qs ++ r)
+above_own p k j [] r h g = g
+above_own p k j (q ∷ qs) r h g = (inr (refl, h), above_own p k (j + 1) qs r (omega arith) g)
 
 above_other : (p k q j : ℕ) (qs : List Move) (r : List Step) → p < q → Above p k r → Above p k (numbered q j qs ++ r)
 above_other p k q j [] r h g = g
 above_other p k q j (x ∷ qs) r h g = (inl h, above_other p k q (j + 1) qs r h g)
 
-rising-own : (p j : ℕ) (qs : List Move) (r : List Step) → ((k : ℕ) → Above p k r) → Rising r → Rising (numbered p j qs ++ r)
-rising-own p j [] r h g = g
-rising-own p j (q ∷ qs) r h g = (above-own p j (j + 1) qs r (omega arith) (h j), rising-own p (j + 1) qs r h g)
+rising_own : (p j : ℕ) (qs : List Move) (r : List Step) → ((k : ℕ) → Above p k r) → Rising r → Rising (numbered p j qs ++ r)
+rising_own p j [] r h g = g
+rising_own p j (q ∷ qs) r h g = (above_own p j (j + 1) qs r (omega arith) (h j), rising_own p (j + 1) qs r h g)
 
 module _ {S : Type 0} (M : Machine S) (s : S) where
   above-list : (l : Bool) (p k q n : ℕ) → p < q → Above p k (list_from M s l q n)
@@ -147,24 +147,24 @@ module _ {S : Type 0} (M : Machine S) (s : S) where
   above-list l p k q zero h = tt
   above-list l p k q (suc n) h = above_other p k q 1 (M.steps s l q) (list_from M s l (q + 1) n) h (above-list l p k (q + 1) n (omega arith))
 
-  rising-list : (l : Bool) (p n : ℕ) → Rising (list_from M s l p n)
+  rising_list : (l : Bool) (p n : ℕ) → Rising (list_from M s l p n)
   unfolding list_from
-  rising-list l p zero = tt
-  rising-list l p (suc n) = rising-own p 1 (M.steps s l p) (list_from M s l (p + 1) n) (λ k. above-list l p k (p + 1) n (omega arith)) (rising-list l (p + 1) n)
+  rising_list l p zero = tt
+  rising_list l p (suc n) = rising_own p 1 (M.steps s l p) (list_from M s l (p + 1) n) (λ k. above-list l p k (p + 1) n (omega arith)) (rising_list l (p + 1) n)
 
-  rising-offered : Rising (offered M s)
+  rising_offered : Rising (offered M s)
   unfolding offered
-  rising-offered = rising-list (late M s) 0 (M.processes s)
+  rising_offered = rising_list (late M s) 0 (M.processes s)
 
 above-nth : {p k k' : ℕ} {x : Step} {l : List Step} → Nth x k' l → Above p k l → Before p k x.process x.number
 above-nth here h = h.0
 above-nth (later n) h = above-nth n h.1
 
-rising-nth : {k k' : ℕ} {x y : Step} {l : List Step} → Nth x k l → Nth y k' l → Rising l → k < k' → Before x.process x.number y.process y.number
-rising-nth here here h i = absurd (omega arith)
-rising-nth here (later n) h i = above-nth n h.0
-rising-nth (later m) here h i = absurd (omega arith)
-rising-nth (later m) (later n) h i = rising-nth m n h.1 (omega arith)
+rising_nth : {k k' : ℕ} {x y : Step} {l : List Step} → Nth x k l → Nth y k' l → Rising l → k < k' → Before x.process x.number y.process y.number
+rising_nth here here h i = absurd (omega arith)
+rising_nth here (later n) h i = above-nth n h.0
+rising_nth (later m) here h i = absurd (omega arith)
+rising_nth (later m) (later n) h i = rising_nth m n h.1 (omega arith)
 
-pub listed-in-order : {S : Type 0} (M : Machine S) (s : S) {k k' : ℕ} {x y : Step} → k < k' → Nth x k (offered M s) → Nth y k' (offered M s) → Before x.process x.number y.process y.number
-listed-in-order M s h m n = rising-nth m n (rising-offered M s) h
+pub listed_in_order : {S : Type 0} (M : Machine S) (s : S) {k k' : ℕ} {x y : Step} → k < k' → Nth x k (offered M s) → Nth y k' (offered M s) → Before x.process x.number y.process y.number
+listed_in_order M s h m n = rising_nth m n (rising_offered M s) h

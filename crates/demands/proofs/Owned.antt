@@ -7,93 +7,93 @@ use mathlib.Core.List.{List, [], ◌++◌}
 use borrow.Author.Tests.{le-ltb}
 use lib.Dec.{ltb}
 use lib.ListN.{length, drop, replicate, length-append, length-drop, length-replicate}
-use Rattle.base_ceilings.specs.Ceilings.{tablesRoom}
+use Rattle.base_ceilings.specs.Ceilings.{tables_room}
 use Rattle.base_bytes.specs.Choice.{pick}
 use Rattle.spec_text.specs.Placed.{Placed}
-use Rattle.spec_text.specs.Writing.{tokensIn}
+use Rattle.spec_text.specs.Writing.{tokens_in}
 use Rattle.spec_grammar.specs.Tree.{Model}
 use Rattle.spec_grammar.specs.Grammar.{Gram}
 use Rattle.spec_refusals.specs.Legal.{Legal}
-use Rattle.parse_grammar.proofs.Main.{one-tree}
+use Rattle.parse_grammar.proofs.Main.{one_tree}
 use Rattle.text_tokens.specs.Reading.{Reading, tokens, refused}
 use Rattle.read_passes.specs.declared.Judged.{Judged}
 use Rattle.read_passes.specs.declared.Judged.TheVariants as judged
-use Rattle.read_passes.specs.Judging.{judgeOf, tablesText}
+use Rattle.read_passes.specs.Judging.{judge_of, tables_text}
 use Rattle.read_accepts_proof.specs.Meaning.{Accepts}
-use Rattle.read_accepts_proof.proofs.Main.{accepted-means, means-accepted}
+use Rattle.read_accepts_proof.proofs.Main.{accepted_means, means_accepted}
 use Rattle.read_entry.specs.Entries as reader
 use Rattle.read_entry.specs.Entries.{read_of, stays}
 use Rattle.read_genuine.specs.Genuine.{written}
 use Rattle.read_genuine.proofs.Laws.{counted, written-front, some-numbers}
 use Rattle.legal_items.proofs.Whole.{tokens-read}
-use Rattle.legal_texts.proofs.Main.{read-legal, legal-read}
+use Rattle.legal_texts.proofs.Main.{read_legal, legal_read}
 use Rattle.demands.specs.Lent.{Tables}
 
 -- ---- a legal text is accepted, and its tree is the one that the reader finds
 abbrev pub blank : List ℕ
-blank = replicate tablesRoom 0
+blank = replicate tables_room 0
 
-pub judged-by : (t old : List ℕ) → tablesRoom ≤ length old → read_of t old ≡ judgeOf t
+pub judged_by : (t old : List ℕ) → tables_room ≤ length old → read_of t old ≡ judge_of t
 unfolding read_of
-judged-by t old h = ap (λ (b : Bool). pick b (judged.Refused 7 0 0) (judgeOf t)) (le-ltb (length old) tablesRoom h)
+judged_by t old h = ap (λ (b : Bool). pick b (judged.Refused 7 0 0) (judge_of t)) (le-ltb (length old) tables_room h)
 
-pub legal-judged : (t : List ℕ) → Legal t → judgeOf t ≡ judged.Accepted
-legal-judged t l = let h : tablesRoom ≤ length blank = omega (arith, length-replicate {A = ℕ} tablesRoom 0) in sym (judged-by t blank h) ∙ legal-read t blank h l
+pub legal_judged : (t : List ℕ) → Legal t → judge_of t ≡ judged.Accepted
+legal_judged t l = let h : tables_room ≤ length blank = omega (arith, length-replicate {A = ℕ} tables_room 0) in sym (judged_by t blank h) ∙ legal_read t blank h l
 
-pub legal-accepts : (t : List ℕ) → Legal t → Accepts t
-legal-accepts t l = accepted-means t (legal-judged t l)
+pub legal_accepts : (t : List ℕ) → Legal t → Accepts t
+legal_accepts t l = accepted_means t (legal_judged t l)
 
 abbrev parts_of : Reading → List Placed
 parts_of (tokens ps) = ps
 parts_of (refused x i n) = []
 
-pub tree_is : (t : List ℕ) (l : Legal t) → (legal-accepts t l).tree ≡ l.tree
+pub tree_is : (t : List ℕ) (l : Legal t) → (legal_accepts t l).tree ≡ l.tree
 tree_is t l =
-    let a = legal-accepts t l in
+    let a = legal_accepts t l in
     let p : a.parts ≡ l.parts = ap parts_of (sym a.reads ∙ tokens-read t l.parts l.reads) in
-    one-tree (tokensIn t l.parts) a.tree l.tree (subst (λ (ps : List Placed). Gram (tokensIn t ps) a.tree) p a.gram) l.gram
+    one_tree (tokens_in t l.parts) a.tree l.tree (subst (λ (ps : List Placed). Gram (tokens_in t ps) a.tree) p a.gram) l.gram
 
 -- ---- what an accepted text leaves in lent tables that have the room
-module _ (t old : List ℕ) (ok : judgeOf t ≡ judged.Accepted) (r : tablesRoom ≤ length old) where
-  pub left_is : reader.left_of t old ≡ tablesText t ++ drop (length (tablesText t)) old
+module _ (t old : List ℕ) (ok : judge_of t ≡ judged.Accepted) (r : tables_room ≤ length old) where
+  pub left_is : reader.left_of t old ≡ tables_text t ++ drop (length (tables_text t)) old
   unfolding reader.left_of
-  left_is = ap (λ (j : Judged). stays j (tablesText t) old) (judged-by t old r ∙ ok)
+  left_is = ap (λ (j : Judged). stays j (tables_text t) old) (judged_by t old r ∙ ok)
 
-  pub left-roomy : ltb (length (reader.left_of t old)) tablesRoom ≡ false
+  pub left-roomy : ltb (length (reader.left_of t old)) tables_room ≡ false
   left-roomy =
-      le-ltb (length (reader.left_of t old)) tablesRoom
-      (omega (arith, ap length left_is, length-append (tablesText t) (drop (length (tablesText t)) old), length-drop (length (tablesText t)) old))
+      le-ltb (length (reader.left_of t old)) tables_room
+      (omega (arith, ap length left_is, length-append (tables_text t) (drop (length (tables_text t)) old), length-drop (length (tables_text t)) old))
 
-  pub left-wrote : written (reader.left_of t old) ≡ tablesText t
+  pub left-wrote : written (reader.left_of t old) ≡ tables_text t
   left-wrote =
-      let a = accepted-means t ok in
-      ap written left_is ∙ written-front (tablesText t) (drop (length (tablesText t)) old) (counted t a) (some-numbers t a)
+      let a = accepted_means t ok in
+      ap written left_is ∙ written-front (tables_text t) (drop (length (tables_text t)) old) (counted t a) (some-numbers t a)
 
 -- ---- tables of a model, as the passes of the reader say it
 pub data Own (ts : List ℕ) : Model → Type 0 where
-  of-text : (t : List ℕ) (a : Accepts t) → written ts ≡ tablesText t → Own ts a.tree
+  of_text : (t : List ℕ) (a : Accepts t) → written ts ≡ tables_text t → Own ts a.tree
 
 pub owned : (ts : List ℕ) (m : Model) → Tables ts m → Own ts m
 owned ts m h =
     let t = h.text in
     let l = h.legal in
-    subst (Own ts) (tree_is t l ∙ h.tree) (of-text t (legal-accepts t l) (h.wrote ∙ left-wrote t h.lent (legal-judged t l) h.room))
+    subst (Own ts) (tree_is t l ∙ h.tree) (of_text t (legal_accepts t l) (h.wrote ∙ left-wrote t h.lent (legal_judged t l) h.room))
 
-blank-room : tablesRoom ≤ length blank
-blank-room = omega (arith, length-replicate {A = ℕ} tablesRoom 0)
+blank-room : tables_room ≤ length blank
+blank-room = omega (arith, length-replicate {A = ℕ} tables_room 0)
 
-pub accepted-legal : (t : List ℕ) → Accepts t → Legal t
-accepted-legal t a = read-legal t blank (judged-by t blank blank-room ∙ means-accepted t a)
+pub accepted_legal : (t : List ℕ) → Accepts t → Legal t
+accepted_legal t a = read_legal t blank (judged_by t blank blank-room ∙ means_accepted t a)
 
-pub own-tables : (ts : List ℕ) (t : List ℕ) (a : Accepts t) → written ts ≡ tablesText t → Tables ts a.tree
-own-tables ts t a e =
-    let l = accepted-legal t a in
+pub own_tables : (ts : List ℕ) (t : List ℕ) (a : Accepts t) → written ts ≡ tables_text t → Tables ts a.tree
+own_tables ts t a e =
+    let l = accepted_legal t a in
     let p : l.parts ≡ a.parts = ap parts_of (sym (tokens-read t l.parts l.reads) ∙ a.reads) in
     record {
       text = t;
       legal = l;
-      tree = one-tree (tokensIn t a.parts) l.tree a.tree (subst (λ (ps : List Placed). Gram (tokensIn t ps) l.tree) p l.gram) a.gram;
+      tree = one_tree (tokens_in t a.parts) l.tree a.tree (subst (λ (ps : List Placed). Gram (tokens_in t ps) l.tree) p l.gram) a.gram;
       lent = blank;
       room = blank-room;
-      wrote = e ∙ sym (left-wrote t blank (means-accepted t a) blank-room);
+      wrote = e ∙ sym (left-wrote t blank (means_accepted t a) blank-room);
     }

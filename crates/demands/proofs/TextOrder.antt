@@ -7,14 +7,14 @@ use mathlib.Core.List.{List, [], ◌∷◌, ◌++◌}
 use lib.ListN.{length, get_or}
 use Rattle.base_bytes.specs.Choice.{pick}
 use Rattle.base_bytes.specs.Lists.{or_else}
-use Rattle.spec_grammar.specs.Tree.{Model, Sort, action, options, Tree, leaf, select, loop, bare, labelled, end, then, over, option, is-else}
-use Rattle.spec_machine.specs.Sizes.{sizeIn}
+use Rattle.spec_grammar.specs.Tree.{Model, Sort, action, options, Tree, leaf, select, loop, bare, labelled, end, then, over, option, is_else}
+use Rattle.spec_machine.specs.Sizes.{size_in}
 use Rattle.agree_sizes.proofs.Sizes.{some-place}
 use Rattle.spec_machine.specs.Offers.{else_of, offers}
 use Rattle.spec_machine.specs.Ready.{ready}
-use Rattle.spec_machine.specs.State.{State, noProcess}
+use Rattle.spec_machine.specs.State.{State, no_process}
 use Rattle.spec_machine.specs.Machine.{Move, alone as moves, Step, move_of, late}
-use Rattle.spec_machine.specs.Steps.{Found, nothing, found, stageOf, standing, stepsBy, steps_of, machine_of}
+use Rattle.spec_machine.specs.Steps.{Found, nothing, found, stage_of, standing, steps_by, steps_of, machine_of}
 use Rattle.demands.specs.Walks.{Nth, here, later, Offers}
 
 -- all places lie from i on and before e, each behind the one before
@@ -40,60 +40,60 @@ one true i n h = (omega arith, omega arith)
 one false i n h = omega arith
 
 -- ---- `else`
-none-there : (i n : ℕ) → Ascends i [] (i + n)
-none-there i n = omega arith
+none_there : (i n : ℕ) → Ascends i [] (i + n)
+none_there i n = omega arith
 
-elses-ascend : {k : Sort} (t : Tree k) (i : ℕ) → Ascends i (else_of t i) (i + sizeIn t)
-elses-ascend (leaf l) i = one (is-else l) i (sizeIn (leaf l)) (some-place (leaf l))
-elses-ascend (select os) i = none-there i (sizeIn (select os))
-elses-ascend (loop os) i = none-there i (sizeIn (loop os))
-elses-ascend (bare a) i = elses-ascend a i
-elses-ascend (labelled w a) i = spans i (i + 2) (else_of a (i + 2)) (i + 2 + sizeIn a) (i + sizeIn (labelled w a)) (omega arith) (omega arith) (elses-ascend a (i + 2))
-elses-ascend end i = none-there i 0
-elses-ascend (then s q) i = spans i i (else_of s i) (i + sizeIn s) (i + sizeIn (then s q)) (omega arith) (omega arith) (elses-ascend s i)
-elses-ascend over i = none-there i 0
-elses-ascend (option q os) i =
-    let j = i + 2 + sizeIn q in
-    joined i (else_of q (i + 1)) j (else_of os j) (i + sizeIn (option q os)) (spans i (i + 1) (else_of q (i + 1)) (i + 1 + sizeIn q) j (omega arith) (omega arith) (elses-ascend q (i + 1)))
-    (spans j j (else_of os j) (j + sizeIn os) (i + sizeIn (option q os)) (omega arith) (omega arith) (elses-ascend os j))
+elses_ascend : {k : Sort} (t : Tree k) (i : ℕ) → Ascends i (else_of t i) (i + size_in t)
+elses_ascend (leaf l) i = one (is_else l) i (size_in (leaf l)) (some-place (leaf l))
+elses_ascend (select os) i = none_there i (size_in (select os))
+elses_ascend (loop os) i = none_there i (size_in (loop os))
+elses_ascend (bare a) i = elses_ascend a i
+elses_ascend (labelled w a) i = spans i (i + 2) (else_of a (i + 2)) (i + 2 + size_in a) (i + size_in (labelled w a)) (omega arith) (omega arith) (elses_ascend a (i + 2))
+elses_ascend end i = none_there i 0
+elses_ascend (then s q) i = spans i i (else_of s i) (i + size_in s) (i + size_in (then s q)) (omega arith) (omega arith) (elses_ascend s i)
+elses_ascend over i = none_there i 0
+elses_ascend (option q os) i =
+    let j = i + 2 + size_in q in
+    joined i (else_of q (i + 1)) j (else_of os j) (i + size_in (option q os)) (spans i (i + 1) (else_of q (i + 1)) (i + 1 + size_in q) j (omega arith) (omega arith) (elses_ascend q (i + 1)))
+    (spans j j (else_of os j) (j + size_in os) (i + size_in (option q os)) (omega arith) (omega arith) (elses_ascend os j))
 
 module _ (can : Tree action → ℕ → Bool) where
   -- what stands inside a selection, whose numbers begin one behind its own and end one before
-  inside : (os : Tree options) (i : ℕ) → Ascends (i + 1) (offers can os (i + 1)) (i + 1 + sizeIn os) → Ascends i (or_else (offers can os (i + 1)) (else_of os (i + 1))) (i + (sizeIn os + 2))
+  inside : (os : Tree options) (i : ℕ) → Ascends (i + 1) (offers can os (i + 1)) (i + 1 + size_in os) → Ascends i (or_else (offers can os (i + 1)) (else_of os (i + 1))) (i + (size_in os + 2))
   inside os i a =
       let l = offers can os (i + 1) in
       let k = else_of os (i + 1) in
-      spans i (i + 1) (or_else l k) (i + 1 + sizeIn os) (i + (sizeIn os + 2)) (omega arith) (omega arith) (either (i + 1) l k (i + 1 + sizeIn os) a (elses-ascend os (i + 1)))
+      spans i (i + 1) (or_else l k) (i + 1 + size_in os) (i + (size_in os + 2)) (omega arith) (omega arith) (either (i + 1) l k (i + 1 + size_in os) a (elses_ascend os (i + 1)))
 
-  pub offers-ascend : {k : Sort} (t : Tree k) (i : ℕ) → Ascends i (offers can t i) (i + sizeIn t)
+  pub offers_ascend : {k : Sort} (t : Tree k) (i : ℕ) → Ascends i (offers can t i) (i + size_in t)
   unfolding offers
-  offers-ascend (leaf l) i = one (can (leaf l) i) i (sizeIn (leaf l)) (some-place (leaf l))
-  offers-ascend (select os) i = inside os i (offers-ascend os (i + 1))
-  offers-ascend (loop os) i = inside os i (offers-ascend os (i + 1))
-  offers-ascend (bare a) i = offers-ascend a i
-  offers-ascend (labelled w a) i = spans i (i + 2) (offers can a (i + 2)) (i + 2 + sizeIn a) (i + sizeIn (labelled w a)) (omega arith) (omega arith) (offers-ascend a (i + 2))
-  offers-ascend end i = none-there i 0
-  offers-ascend (then s q) i = spans i i (offers can s i) (i + sizeIn s) (i + sizeIn (then s q)) (omega arith) (omega arith) (offers-ascend s i)
-  offers-ascend over i = none-there i 0
-  offers-ascend (option q os) i =
-      let j = i + 2 + sizeIn q in
-      joined i (offers can q (i + 1)) j (offers can os j) (i + sizeIn (option q os)) (spans i (i + 1) (offers can q (i + 1)) (i + 1 + sizeIn q) j (omega arith) (omega arith) (offers-ascend q (i + 1)))
-      (spans j j (offers can os j) (j + sizeIn os) (i + sizeIn (option q os)) (omega arith) (omega arith) (offers-ascend os j))
+  offers_ascend (leaf l) i = one (can (leaf l) i) i (size_in (leaf l)) (some-place (leaf l))
+  offers_ascend (select os) i = inside os i (offers_ascend os (i + 1))
+  offers_ascend (loop os) i = inside os i (offers_ascend os (i + 1))
+  offers_ascend (bare a) i = offers_ascend a i
+  offers_ascend (labelled w a) i = spans i (i + 2) (offers can a (i + 2)) (i + 2 + size_in a) (i + size_in (labelled w a)) (omega arith) (omega arith) (offers_ascend a (i + 2))
+  offers_ascend end i = none_there i 0
+  offers_ascend (then s q) i = spans i i (offers can s i) (i + size_in s) (i + size_in (then s q)) (omega arith) (omega arith) (offers_ascend s i)
+  offers_ascend over i = none_there i 0
+  offers_ascend (option q os) i =
+      let j = i + 2 + size_in q in
+      joined i (offers can q (i + 1)) j (offers can os j) (i + size_in (option q os)) (spans i (i + 1) (offers can q (i + 1)) (i + 1 + size_in q) j (omega arith) (omega arith) (offers_ascend q (i + 1)))
+      (spans j j (offers can os j) (j + size_in os) (i + size_in (option q os)) (omega arith) (omega arith) (offers_ascend os j))
 
 -- ---- the steps of a process
 nth-from : {q k : ℕ} {l : List ℕ} → Nth q k l → (i e : ℕ) → Ascends i l e → i ≤ q
 nth-from here i e a = a.0
 nth-from (later n) i e a = omega (arith, a.0, nth-from n _ e a.1)
 
-pub one-at-least : {A : Type 0} {y : A} {k : ℕ} {l : List A} → Nth y k l → 1 ≤ k
-one-at-least here = omega arith
-one-at-least (later n) = omega arith
+pub one_at_least : {A : Type 0} {y : A} {k : ℕ} {l : List A} → Nth y k l → 1 ≤ k
+one_at_least here = omega arith
+one_at_least (later n) = omega arith
 
-nth-ascends : {q q' k k' : ℕ} {l : List ℕ} → Nth q k l → Nth q' k' l → (i e : ℕ) → Ascends i l e → k < k' → q < q'
-nth-ascends here here i e a h = absurd (omega arith)
-nth-ascends here (later n) i e a h = nth-from n _ e a.1
-nth-ascends (later m) here i e a h = absurd (omega (arith, one-at-least m))
-nth-ascends (later m) (later n) i e a h = nth-ascends m n _ e a.1 (omega arith)
+nth_ascends : {q q' k k' : ℕ} {l : List ℕ} → Nth q k l → Nth q' k' l → (i e : ℕ) → Ascends i l e → k < k' → q < q'
+nth_ascends here here i e a h = absurd (omega arith)
+nth_ascends here (later n) i e a h = nth-from n _ e a.1
+nth_ascends (later m) here i e a h = absurd (omega (arith, one_at_least m))
+nth_ascends (later m) (later n) i e a h = nth_ascends m n _ e a.1 (omega arith)
 
 nth-none : {A : Type 0} {y : A} {k : ℕ} {l : List A} → Nth y k l → l ≡ [] → ⊥
 nth-none {l = z ∷ l} here e = let n : suc (length l) ≡ 0 = ap length e in omega arith
@@ -106,17 +106,17 @@ nth-alone (q ∷ l) here = here
 nth-alone (q ∷ l) (later n) = later (nth-alone l n)
 
 module _ (m : Model) (σ : State) (p : ℕ) where
-  by-found : (l : Bool) (j : ℕ) (f : Found) {q q' k k' : ℕ} → Nth q k (stepsBy m σ p l j f) → Nth q' k' (stepsBy m σ p l j f) → k < k' → q < q'
-  by-found l j nothing n n' h = absurd (nth-none n refl)
-  by-found l j (found a x o) n n' h = nth-ascends n n' j (j + sizeIn a) (offers-ascend (λ y i. ready (stageOf m σ p) l y) a j) h
+  by_found : (l : Bool) (j : ℕ) (f : Found) {q q' k k' : ℕ} → Nth q k (steps_by m σ p l j f) → Nth q' k' (steps_by m σ p l j f) → k < k' → q < q'
+  by_found l j nothing n n' h = absurd (nth-none n refl)
+  by_found l j (found a x o) n n' h = nth_ascends n n' j (j + size_in a) (offers_ascend (λ y i. ready (stage_of m σ p) l y) a j) h
 
   -- "then text order": of two steps of a process, the one with the higher number stands behind the other
-  text-order-of : {y z : Move} {k k' : ℕ} → Nth y k (moves (steps_of m σ p (late (machine_of m) σ))) → Nth z k' (moves (steps_of m σ p (late (machine_of m) σ))) → k < k' → y.place < z.place
+  text_order_of : {y z : Move} {k k' : ℕ} → Nth y k (moves (steps_of m σ p (late (machine_of m) σ))) → Nth z k' (moves (steps_of m σ p (late (machine_of m) σ))) → k < k' → y.place < z.place
   unfolding steps_of
-  text-order-of a b h =
+  text_order_of a b h =
       let l = steps_of m σ p (late (machine_of m) σ) in
-      by-found (late (machine_of m) σ) (get_or σ.processes p noProcess).place (standing m σ p (get_or σ.processes p noProcess).place) (nth-alone l a) (nth-alone l b) h
+      by_found (late (machine_of m) σ) (get_or σ.processes p no_process).place (standing m σ p (get_or σ.processes p no_process).place) (nth-alone l a) (nth-alone l b) h
 
-pub text-order : (m : Model) (σ : State) (x y : Step) → Offers (machine_of m) σ x → Offers (machine_of m) σ y → x.process ≡ y.process → x.number < y.number → x.place < y.place
-text-order m σ x y a b e h =
-    text-order-of m σ x.process a.listed (subst (λ p. Nth (move_of y) y.number (moves (steps_of m σ p (late (machine_of m) σ)))) (inv e) b.listed) h
+pub text_order : (m : Model) (σ : State) (x y : Step) → Offers (machine_of m) σ x → Offers (machine_of m) σ y → x.process ≡ y.process → x.number < y.number → x.place < y.place
+text_order m σ x y a b e h =
+    text_order_of m σ x.process a.listed (subst (λ p. Nth (move_of y) y.number (moves (steps_of m σ p (late (machine_of m) σ)))) (inv e) b.listed) h

@@ -5,20 +5,20 @@ use mathlib.Core.Path.{◌≡◌, ap}
 use mathlib.Core.List.{List, []}
 use Rattle.demands.specs.Said.{Said, refusal, values}
 
-abbrev pub isRefusal : Said → ℕ
-isRefusal (refusal x i n) = 1
-isRefusal (values l) = 0
+abbrev pub is_refusal : Said → ℕ
+is_refusal (refusal x i n) = 1
+is_refusal (values l) = 0
 
 abbrev pub number : Said → ℕ
 number (refusal x i n) = x
 number (values l) = 0
 
-abbrev pub valuesIn : Said → List ℕ
-valuesIn (refusal x i n) = []
-valuesIn (values l) = l
+abbrev pub values_in : Said → List ℕ
+values_in (refusal x i n) = []
+values_in (values l) = l
 
 pub not-values : {X : Type 0} {l : List ℕ} {x i n : ℕ} → values l ≡ refusal x i n → X
-not-values e = absurd (let z : ◌≡◌ {A = ℕ} 0 1 = ap isRefusal e in omega arith)
+not-values e = absurd (let z : ◌≡◌ {A = ℕ} 0 1 = ap is_refusal e in omega arith)
 
-pub not-refusal : {X : Type 0} {l : List ℕ} {x i n : ℕ} → refusal x i n ≡ values l → X
-not-refusal e = absurd (let z : ◌≡◌ {A = ℕ} 1 0 = ap isRefusal e in omega arith)
+pub not_refusal : {X : Type 0} {l : List ℕ} {x i n : ℕ} → refusal x i n ≡ values l → X
+not_refusal e = absurd (let z : ◌≡◌ {A = ℕ} 1 0 = ap is_refusal e in omega arith)

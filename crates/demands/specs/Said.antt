@@ -3,7 +3,7 @@
 -- answered", its place (0 where the table says 0) and the length of its part (0 where it has none); all else has its values. Verdicts have the numbers of trails: assert 1, fault 2, finished 3,
 -- blocked 4, open 5; faults theirs (specs/Faults.antt of `base_values`).
 use Rattle.std.specs.Prelude.{ℕ, List, [], ◌∷◌}
-use Rattle.base_values.specs.Faults.{faultNumber}
+use Rattle.base_values.specs.Faults.{fault_number}
 use Rattle.base_outcome.specs.declared.Partner.{Partner}
 use Rattle.base_outcome.specs.declared.Partner.TheVariants.{Nobody, With}
 use Rattle.read_passes.specs.declared.Judged.{Judged}
@@ -59,7 +59,7 @@ verdict (standing.Refused x) = refusal x 0 0
 abbrev pub step : Stepped → Said
 step (stepped.Took n) = values (0 ∷ n ∷ [])
 step stepped.Assert = values (1 ∷ [])
-step (stepped.Fault f) = values (2 ∷ faultNumber f ∷ [])
+step (stepped.Fault f) = values (2 ∷ fault_number f ∷ [])
 step (stepped.Refused x) = refusal x 0 0
 
 -- the automatic run: its verdict and its count, and of a fault which
@@ -68,7 +68,7 @@ ended ending.Finished n = 3 ∷ n ∷ []
 ended ending.Blocked n = 4 ∷ n ∷ []
 ended ending.Open n = 5 ∷ n ∷ []
 ended ending.Assert n = 1 ∷ n ∷ []
-ended (ending.Fault f) n = 2 ∷ n ∷ faultNumber f ∷ []
+ended (ending.Fault f) n = 2 ∷ n ∷ fault_number f ∷ []
 
 abbrev pub run : Ran → Said
 run (ran.Ended e n) = values (ended e n)

@@ -25,12 +25,12 @@ module _ {S : Type 0} (M : Machine S) where
 
   -- from a state and with a limit a run takes these steps, ends so, and leaves a state: "takes first offered steps until none is, one fails or an unsigned limit is met"
   pub data Runs : ℕ → S → List Step → Ending → S → Type 0 where
-    limit-met : (s : S) → Runs zero s [] (stood (verdict M s)) s
-    none-offered : (n : ℕ) (s : S) → offered M s ≡ [] → Runs (suc n) s [] (stood (verdict M s)) s
+    limit_met : (s : S) → Runs zero s [] (stood (verdict M s)) s
+    none_offered : (n : ℕ) (s : S) → offered M s ≡ [] → Runs (suc n) s [] (stood (verdict M s)) s
     -- "A failed assertion or fault changes no state"; "After a failing step its run has no further turn, and only its own verdict holds"
-    assertion-failed : (n : ℕ) (s : S) (x : Step) (l : List Step) → offered M s ≡ x ∷ l → advance M s x ≡ (Refuted, s) → Runs (suc n) s (x ∷ []) refuted s
-    at-fault : (n : ℕ) (s : S) (x : Step) (l : List Step) (f : Fault) → offered M s ≡ x ∷ l → advance M s x ≡ (Faulted f, s) → Runs (suc n) s (x ∷ []) (faulted f) s
-    one_more : (n : ℕ) (s t : S) (x : Step) (l xs : List Step) (e : Ending) (u : S) → offered M s ≡ x ∷ l → advance M s x ≡ (Done, t) → Runs n t xs e u
+    assertion_failed : (n : ℕ) (s : S) (x : Step) (l : List Step) → offered M s ≡ x ∷ l → advance M s x ≡ (Refuted, s) → Runs (suc n) s (x ∷ []) refuted s
+    at_fault : (n : ℕ) (s : S) (x : Step) (l : List Step) (f : Fault) → offered M s ≡ x ∷ l → advance M s x ≡ (Faulted f, s) → Runs (suc n) s (x ∷ []) (faulted f) s
+    one_more_lem : (n : ℕ) (s t : S) (x : Step) (l xs : List Step) (e : Ending) (u : S) → offered M s ≡ x ∷ l → advance M s x ≡ (Done, t) → Runs n t xs e u
         → Runs (suc n) s (x ∷ xs) e u
 
   -- the record's step is offered, and fails with this verdict
@@ -48,10 +48,10 @@ module _ {S : Type 0} (M : Machine S) where
   -- the records from a line on, from a state, with a claim behind them, meet a refusal at a line: "replay's 11 and 12 leave the state reached before the refused record"
   pub data Stops (claim : Claim) : List Recorded → ℕ → S → ℕ → ℕ → S → Type 0 where
     -- "11: trail step .. not offered"
-    not-offered : (a : Recorded) (more : List Recorded) (line : ℕ) (s : S) → ((y : Move) → Offers s (chosen a y) → ⊥) → Stops claim (a ∷ more) line s 11 line s
+    not_offered : (a : Recorded) (more : List Recorded) (line : ℕ) (s : S) → ((y : Move) → Offers s (chosen a y) → ⊥) → Stops claim (a ∷ more) line s 11 line s
     -- "A step after a failed assertion or fault is 11"
-    after-failure : (a b : Recorded) (more : List Recorded) (line : ℕ) (s : S) (c : Claim) → Fails a s c → Stops claim (a ∷ b ∷ more) line s 11 (line + 1) s
+    after_failure : (a b : Recorded) (more : List Recorded) (line : ℕ) (s : S) (c : Claim) → Fails a s c → Stops claim (a ∷ b ∷ more) line s 11 (line + 1) s
     -- "12: trail's claimed verdict is not the one reached", at the last line
-    other-verdict : (l : List Recorded) (line : ℕ) (s : S) (c : Claim) (t : S) → Walks l s c t → (c ≡ claim → ⊥) → Stops claim l line s 12 (line + length l) t
+    other_verdict : (l : List Recorded) (line : ℕ) (s : S) (c : Claim) (t : S) → Walks l s c t → (c ≡ claim → ⊥) → Stops claim l line s 12 (line + length l) t
     later : (a : Recorded) (more : List Recorded) (line : ℕ) (s t : S) (y : Move) (x n : ℕ) (u : S) → Offers s (chosen a y) → advance M s (chosen a y) ≡ (Done, t)
         → Stops claim more (line + 1) t x n u → Stops claim (a ∷ more) line s x n u

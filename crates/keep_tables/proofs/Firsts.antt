@@ -4,7 +4,7 @@ use mathlib.Core.Path.{◌≡◌, refl, sym, ap, subst, ◌∙◌}
 use mathlib.Core.Bool.{Bool, true, false}
 use native.Mathlib.Omega.{arith}
 use native.Mathlib.Decide.{ℕ_discrete, dec_lt}
-use Rattle.base_bytes.proofs.Tests.{true-false}
+use Rattle.base_bytes.proofs.Tests.{true_false}
 use Rattle.rule_sheets.specs.Walks.{first}
 
 module _ (p : ℕ → Bool) where
@@ -12,9 +12,9 @@ module _ (p : ℕ → Bool) where
   unfolding first
   first_step i k e = rw e
 
-  first-stop : (i k : ℕ) → p i ≡ true → first p i (suc k) ≡ i
+  first_stop : (i k : ℕ) → p i ≡ true → first p i (suc k) ≡ i
   unfolding first
-  first-stop i k e = rw e
+  first_stop i k e = rw e
 
   first-none : (i : ℕ) → first p i 0 ≡ i
   unfolding first
@@ -26,12 +26,12 @@ module _ (p : ℕ → Bool) where
     pub holds : f < i + k → p f ≡ true
     pub before : (j : ℕ) → i ≤ j → j < f → p j ≡ false
 
-  pub first-is : (k i : ℕ) → First i k (first p i k)
-  first-is zero i = subst (First i 0) (sym (first-none i)) (record { from = omega arith; to = omega arith; holds = λ h. absurd (omega arith); before = λ j g h. absurd (omega arith) })
-  first-is (suc k) i = go (p i) refl (first-is k (i + 1))
+  pub first_is : (k i : ℕ) → First i k (first p i k)
+  first_is zero i = subst (First i 0) (sym (first-none i)) (record { from = omega arith; to = omega arith; holds = λ h. absurd (omega arith); before = λ j g h. absurd (omega arith) })
+  first_is (suc k) i = go (p i) refl (first_is k (i + 1))
     where
       go : (b : Bool) → p i ≡ b → First (i + 1) k (first p (i + 1) k) → First i (suc k) (first p i (suc k))
-      go true e r = subst (First i (suc k)) (sym (first-stop i k e)) (record { from = omega arith; to = omega arith; holds = λ h. e; before = λ j g h. absurd (omega arith) })
+      go true e r = subst (First i (suc k)) (sym (first_stop i k e)) (record { from = omega arith; to = omega arith; holds = λ h. e; before = λ j g h. absurd (omega arith) })
       go false e r =
           subst (First i (suc k)) (sym (first_step i k e))
           (record { from = let x = r.from in omega arith; to = let x = r.to in omega arith; holds = λ h. r.holds (omega arith); before = λ j g h. at j g h (ℕ_discrete j i) })
@@ -41,9 +41,9 @@ module _ (p : ℕ → Bool) where
           at j g h (no z) = r.before j (omega arith) h
 
   -- not behind one that passes
-  pub first-most : (i k e : ℕ) → i ≤ e → p e ≡ true → first p i k ≤ e
-  first-most i k e h q = go (dec_lt e (first p i k))
+  pub first_most : (i k e : ℕ) → i ≤ e → p e ≡ true → first p i k ≤ e
+  first_most i k e h q = go (dec_lt e (first p i k))
     where
       go : Dec (e < first p i k) → first p i k ≤ e
-      go (yes g) = absurd (true-false (sym q ∙ (first-is k i).before e h g))
+      go (yes g) = absurd (true_false (sym q ∙ (first_is k i).before e h g))
       go (no g) = omega arith

@@ -8,22 +8,22 @@ use native.Mathlib.Decide.{ℕ_discrete}
 use lib.ListN.{length, get_or, length-map}
 use lib.Dec.{eqb, ltb}
 use borrow.Author.Tests.{eqb-true, le-ltb}
-use Rattle.base_ceilings.specs.Ceilings.{itemsMost}
+use Rattle.base_ceilings.specs.Ceilings.{items_most}
 use Rattle.base_bytes.specs.Choice.{pick}
-use Rattle.spec_text.specs.Writing.{tokensIn}
+use Rattle.spec_text.specs.Writing.{tokens_in}
 use Rattle.parse_code.specs.Code.{code}
 use Rattle.table_entries.specs.Entry.{nothing}
 use Rattle.table_entries.specs.Items.{entry_of}
 use Rattle.rule_item.specs.Rules.{bad}
-use Rattle.rule_least.specs.Faults.{place, sooner, joined, leastFrom, leastOf, checked}
+use Rattle.rule_least.specs.Faults.{place, sooner, joined, least_from, least_of, checked}
 use Rattle.rule_least.specs.declared.Fault.{Fault}
 use Rattle.rule_least.specs.declared.Fault.TheVariants.{None, At}
-use Rattle.rule_ceilings.specs.Ceilings.{passed, anyPassed}
-use Rattle.keep_forms.proofs.Scans.{codes-stand, model-formed}
+use Rattle.rule_ceilings.specs.Ceilings.{passed, any_passed}
+use Rattle.keep_forms.proofs.Scans.{codes_stand, model_formed}
 use Rattle.keep_forms.proofs.Aims.{model-aims}
 use Rattle.read_accepts_proof.specs.Meaning.{Accepts}
 use Rattle.keep_tables.specs.Facts.{homes, starts, heights, Facts}
-use Rattle.keep_tables.proofs.Tables.{few-items, ss, ks, codesAt, saidAt, entries-are, entries-length, entry-is, entry-code}
+use Rattle.keep_tables.proofs.Tables.{few_items, ss, ks, codes_at, said_at, entries_are, entries-length, entry_is, entry-code}
 
 -- ---- no item has a fault
 is_none : Fault → ℕ
@@ -50,39 +50,39 @@ module _ (cs vs hs ss ts toks : List ℕ) where
       go true q e = (eqb-true (bad cs vs hs ss ts j) 0 q, e)
       go false q e = absurd (sooner-some (place cs vs hs ss ts toks j) (bad cs vs hs ss ts j) f e)
 
-  free-at : (n j : ℕ) → leastFrom cs vs hs ss ts toks j n ≡ None → (i : ℕ) → j ≤ i → i < j + n → bad cs vs hs ss ts i ≡ 0
-  unfolding leastFrom
-  free-at zero j e i g h = absurd (omega arith)
-  free-at (suc n) j e i g h = go (ℕ_discrete i j) (free-at n (j + 1) (joined-none j _ e).1 i)
+  free_at : (n j : ℕ) → least_from cs vs hs ss ts toks j n ≡ None → (i : ℕ) → j ≤ i → i < j + n → bad cs vs hs ss ts i ≡ 0
+  unfolding least_from
+  free_at zero j e i g h = absurd (omega arith)
+  free_at (suc n) j e i g h = go (ℕ_discrete i j) (free_at n (j + 1) (joined-none j _ e).1 i)
     where
       go : Dec (i ≡ j) → (j + 1 ≤ i → i < j + 1 + n → bad cs vs hs ss ts i ≡ 0) → bad cs vs hs ss ts i ≡ 0
       go (yes z) r = ap (bad cs vs hs ss ts) z ∙ (joined-none j _ e).0
       go (no z) r = r (omega arith) (omega arith)
 
-pub checked-free : (cs vs toks : List ℕ) → checked cs vs toks ≡ None → (j : ℕ) → j < length cs → bad cs vs (homes cs) (starts cs) (heights cs) j ≡ 0
-unfolding checked leastOf
-checked-free cs vs toks e j h = free-at cs vs (homes cs) (starts cs) (heights cs) toks (length cs) 0 e j (omega arith) (omega arith)
+pub checked_free : (cs vs toks : List ℕ) → checked cs vs toks ≡ None → (j : ℕ) → j < length cs → bad cs vs (homes cs) (starts cs) (heights cs) j ≡ 0
+unfolding checked least_of
+checked_free cs vs toks e j h = free_at cs vs (homes cs) (starts cs) (heights cs) toks (length cs) 0 e j (omega arith) (omega arith)
 
-pub passed_none : (cs vs : List ℕ) → passed cs vs ≡ false → anyPassed cs vs (homes cs) ≡ false
+pub passed_none : (cs vs : List ℕ) → passed cs vs ≡ false → any_passed cs vs (homes cs) ≡ false
 unfolding passed
-passed_none cs vs e = let f = few-items cs vs e in sym (ap (λ b. pick b true (anyPassed cs vs (homes cs))) (le-ltb itemsMost (length cs) f)) ∙ e
+passed_none cs vs e = let f = few_items cs vs e in sym (ap (λ b. pick b true (any_passed cs vs (homes cs))) (le-ltb items_most (length cs) f)) ∙ e
 
 -- ---- the whole
 module _ (t : List ℕ) (a : Accepts t) where
-  codes-length : length (codesAt t a) ≡ length (code a.tree)
-  codes-length = sym (entries-length t a) ∙ ap length (entries-are t a) ∙ length-map (code a.tree) entry_of
+  codes_length : length (codes_at t a) ≡ length (code a.tree)
+  codes_length = sym (entries-length t a) ∙ ap length (entries_are t a) ∙ length-map (code a.tree) entry_of
 
-  codes-are : (k : ℕ) → k < length (code a.tree) → (get_or (map entry_of (code a.tree)) k nothing).code ≡ get_or (codesAt t a) (0 + k) 0
-  codes-are k h =
-      ap (λ l. (get_or l k nothing).code) (sym (entries-are t a)) ∙ ap (λ e. e.code) (entry-is t a k (let e = codes-length in omega arith)) ∙ entry-code t a k
-      ∙ ap (λ i. get_or (codesAt t a) i 0) (let e : k ≡ 0 + k = omega arith in e)
+  codes_are : (k : ℕ) → k < length (code a.tree) → (get_or (map entry_of (code a.tree)) k nothing).code ≡ get_or (codes_at t a) (0 + k) 0
+  codes_are k h =
+      ap (λ l. (get_or l k nothing).code) (sym (entries_are t a)) ∙ ap (λ e. e.code) (entry_is t a k (let e = codes_length in omega arith)) ∙ entry-code t a k
+      ∙ ap (λ i. get_or (codes_at t a) i 0) (let e : k ≡ 0 + k = omega arith in e)
 
-  pub text-facts : Facts (codesAt t a) (saidAt t a)
-  text-facts =
+  pub text_facts : Facts (codes_at t a) (said_at t a)
+  text_facts =
       record {
-        few = few-items (codesAt t a) (saidAt t a) a.within;
-        formed = model-formed (tokensIn t a.parts) a.tree a.gram (codesAt t a) codes-length (codes-stand (code a.tree) (codesAt t a) 0 codes-are);
-        aimed = model-aims (tokensIn t a.parts) a.tree a.gram (codesAt t a) codes-length (codes-stand (code a.tree) (codesAt t a) 0 codes-are);
-        ruled = checked-free (codesAt t a) (saidAt t a) (ks t a) a.faultless;
-        ceiled = passed_none (codesAt t a) (saidAt t a) a.within;
+        few = few_items (codes_at t a) (said_at t a) a.within;
+        formed = model_formed (tokens_in t a.parts) a.tree a.gram (codes_at t a) codes_length (codes_stand (code a.tree) (codes_at t a) 0 codes_are);
+        aimed = model-aims (tokens_in t a.parts) a.tree a.gram (codes_at t a) codes_length (codes_stand (code a.tree) (codes_at t a) 0 codes_are);
+        ruled = checked_free (codes_at t a) (said_at t a) (ks t a) a.faultless;
+        ceiled = passed_none (codes_at t a) (said_at t a) a.within;
       }

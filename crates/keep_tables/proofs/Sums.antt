@@ -35,7 +35,7 @@ module _ (f : ℕ → ℕ) where
       let c : sum f (i + 1 + n) m ≡ sum f (i + suc n) m = ap (λ k. sum f k m) (let z : i + 1 + n ≡ i + suc n = omega arith in z) in
       omega arith
 
-  pub sum-nones : (n i : ℕ) → ((j : ℕ) → i ≤ j → j < i + n → f j ≡ 0) → sum f i n ≡ 0
+  pub sum_nones : (n i : ℕ) → ((j : ℕ) → i ≤ j → j < i + n → f j ≡ 0) → sum f i n ≡ 0
   unfolding sum
-  sum-nones zero i h = refl
-  sum-nones (suc n) i h = let a = h i (omega arith) (omega arith) in let b = sum-nones n (i + 1) (λ j p q. h j (omega arith) (omega arith)) in omega arith
+  sum_nones zero i h = refl
+  sum_nones (suc n) i h = let a = h i (omega arith) (omega arith) in let b = sum_nones n (i + 1) (λ j p q. h j (omega arith) (omega arith)) in omega arith

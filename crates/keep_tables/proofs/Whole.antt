@@ -1,22 +1,22 @@
 -- THE TABLES OF AN ACCEPTED TEXT ARE WELL.
 use Prim.Native.Nat.{ℕ}
 use mathlib.Core.List.{List}
-use Rattle.read_passes.specs.Judging.{tablesText}
+use Rattle.read_passes.specs.Judging.{tables_text}
 use Rattle.read_accepts_proof.specs.Meaning.{Accepts}
 use Rattle.keep_tables.specs.Well.{Well}
 use Rattle.keep_tables.specs.Held.{Held}
-use Rattle.keep_tables.specs.Facts.{linksIn, Facts}
-use Rattle.keep_tables.proofs.Tables.{codesAt, saidAt, text-held}
-use Rattle.keep_tables.proofs.Known.{text-facts}
-use Rattle.keep_tables.proofs.Variables.{text-few, text-sized, text-locals-local}
+use Rattle.keep_tables.specs.Facts.{links_in, Facts}
+use Rattle.keep_tables.proofs.Tables.{codes_at, said_at, text-held}
+use Rattle.keep_tables.proofs.Known.{text_facts}
+use Rattle.keep_tables.proofs.Variables.{text_few, text-sized, text_locals_local}
 
-well-by : (t cs vs : List ℕ) → Held t cs vs (linksIn cs vs) → Facts cs vs → Well t
-well-by t cs vs H K =
+well_by : (t cs vs : List ℕ) → Held t cs vs (links_in cs vs) → Facts cs vs → Well t
+well_by t cs vs H K =
     record {
-      few = text-few t cs vs H K;
+      few = text_few t cs vs H K;
       sized = text-sized t cs vs H K;
-      locals-local = text-locals-local t cs vs H K;
+      locals_local = text_locals_local t cs vs H K;
     }
 
-pub text-well : (text : List ℕ) → Accepts text → Well (tablesText text)
-text-well text a = well-by (tablesText text) (codesAt text a) (saidAt text a) (text-held text a) (text-facts text a)
+pub text-well : (text : List ℕ) → Accepts text → Well (tables_text text)
+text-well text a = well_by (tables_text text) (codes_at text a) (said_at text a) (text-held text a) (text_facts text a)

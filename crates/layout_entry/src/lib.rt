@@ -1,16 +1,16 @@
 // The entries that write the layout, the printed edition: of a model's text, and of tables.
 ghost use Rattle.std.specs.Prelude.{◌≡◌, ◌≤◌, length};
-ghost use Rattle.base_ceilings.specs.Ceilings.{textMost};
+ghost use Rattle.base_ceilings.specs.Ceilings.{text_most};
 ghost use Rattle.write_texts.specs.Normal.{layout_of};
 ghost use Rattle.normal_entry.specs.Entries.{roomy, put};
-ghost use Rattle.layout_entry.specs.Entries.{answer_of, left_of, answerFrom, leftFrom};
+ghost use Rattle.layout_entry.specs.Entries.{answer_of, left_of, answer_from, left_from};
 
 use normal_entry::Written;
 use read_passes::Judged;
 
 // The layout of the tables w, if there is room for it.
 fn lay(w: &[u32], out: &mut [u8]) -> Written
-    requires { length (layout_of w.now) ≤ textMost }
+    requires { length (layout_of w.now) ≤ text_most }
     ensures value { result ≡ roomy (layout_of w.now) out.old }
     ensures out_after { out.new ≡ put result (layout_of w.now) out.old }
 {
@@ -38,8 +38,8 @@ pub fn layout(text: &[u8], out: &mut [u8]) -> Written
 
 // The layout that tables hold.
 pub fn layout_of(tables: &[u32], out: &mut [u8]) -> Written
-    ensures value { result ≡ answerFrom tables.now out.old }
-    ensures out_after { out.new ≡ leftFrom tables.now out.old }
+    ensures value { result ≡ answer_from tables.now out.old }
+    ensures out_after { out.new ≡ left_from tables.now out.old }
 {
     if tables.len() < base_ceilings::TABLES_ROOM {
         return Written::Refused(7, 0, 0);

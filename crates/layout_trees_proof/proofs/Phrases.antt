@@ -10,7 +10,7 @@ use Rattle.base_bytes.specs.Choice.{both}
 use Rattle.base_kinds.specs.Kinds.{Token, kind_of}
 use Rattle.parse_grammar.proofs.Tests.{both_left, both_right}
 use Rattle.spec_layout.specs.Layout.{Line, line}
-use Rattle.write_lines.specs.Lines.{placeBehind, bodies, opens, closes, openBehind, startsLine, endsLine}
+use Rattle.write_lines.specs.Lines.{place_behind, bodies, opens, closes, open_behind, starts_line, ends_line}
 use Rattle.layout_trees_proof.proofs.Laid.{Laid, along, anew}
 
 -- from place p to place q, on the line begun or as the first of a new one
@@ -31,35 +31,35 @@ beside {x = x} {y = y} f g =
 -- a token of kind k only leads from p to q
 abbrev pub leads : ℕ → ℕ → ℕ → Bool
 leads p q k =
-    both (not (startsLine p k)) (both (not (endsLine p k)) (both (not (opens k)) (both (not (closes k)) (both (eqb (placeBehind p k) q) (eqb (bodies q) (bodies p))))))
+    both (not (starts_line p k)) (both (not (ends_line p k)) (both (not (opens k)) (both (not (closes k)) (both (eqb (place_behind p k) q) (eqb (bodies q) (bodies p))))))
 
 record Leading (p q k : ℕ) : Type 0 where
-  no_start : startsLine p k ≡ false
-  no_end : endsLine p k ≡ false
-  same-open : (s : ℕ) → openBehind k s ≡ s
-  place : placeBehind p k ≡ q
-  same-bodies : bodies q ≡ bodies p
+  no_start : starts_line p k ≡ false
+  no_end : ends_line p k ≡ false
+  same_open : (s : ℕ) → open_behind k s ≡ s
+  place : place_behind p k ≡ q
+  same_bodies : bodies q ≡ bodies p
 
 leading : (p q k : ℕ) → T (leads p q k) → Leading p q k
 leading p q k t =
-    let a = both_right (not (startsLine p k)) _ t in
-    let b = both_right (not (endsLine p k)) _ a in
+    let a = both_right (not (starts_line p k)) _ t in
+    let b = both_right (not (ends_line p k)) _ a in
     let c = both_right (not (opens k)) _ b in
     let d = both_right (not (closes k)) _ c in
     record {
-      no_start = is_false _ (both_left (not (startsLine p k)) _ t);
-      no_end = is_false _ (both_left (not (endsLine p k)) _ a);
-      same-open = λ s. rw (is_false (opens k) (both_left (not (opens k)) _ b), is_false (closes k) (both_left (not (closes k)) _ c));
-      place = eqb→eq _ _ (both_left (eqb (placeBehind p k) q) _ d);
-      same-bodies = eqb→eq _ _ (both_right (eqb (placeBehind p k) q) _ d);
+      no_start = is_false _ (both_left (not (starts_line p k)) _ t);
+      no_end = is_false _ (both_left (not (ends_line p k)) _ a);
+      same_open = λ s. rw (is_false (opens k) (both_left (not (opens k)) _ b), is_false (closes k) (both_left (not (closes k)) _ c));
+      place = eqb→eq _ _ (both_left (eqb (place_behind p k) q) _ d);
+      same_bodies = eqb→eq _ _ (both_right (eqb (place_behind p k) q) _ d);
     }
 
 pub turn : {p q : ℕ} (c : Token) → T (leads p q (kind_of c)) → Passage p q (c ∷ [])
 turn {p} {q} c t =
     let l = leading p q (kind_of c) t in
     record {
-      stay = λ s ts on ls h. along c l.no_start (rw (l.no_end, l.same-open s, l.place) h);
-      begin = λ s ts on ls h. anew c refl (s + bodies p) (rw (l.same-open s, l.place, l.same-bodies) (omega arith)) (rw (l.no_end, l.same-open s, l.place) h);
+      stay = λ s ts on ls h. along c l.no_start (rw (l.no_end, l.same_open s, l.place) h);
+      begin = λ s ts on ls h. anew c refl (s + bodies p) (rw (l.same_open s, l.place, l.same_bodies) (omega arith)) (rw (l.no_end, l.same_open s, l.place) h);
     }
 
 -- at one place

@@ -4,6 +4,6 @@ use Rattle.std.specs.Prelude.{List, [], ◌∷◌, ◌++◌}
 use Rattle.base_kinds.specs.Kinds.{Token}
 use Rattle.spec_layout.specs.Layout.{Line}
 
-abbrev pub joined-tokens : List Line → List Token
-joined-tokens [] = []
-joined-tokens (l ∷ ls) = l.tokens ++ joined-tokens ls
+abbrev pub joined_tokens : List Line → List Token
+joined_tokens [] = []
+joined_tokens (l ∷ ls) = l.tokens ++ joined_tokens ls

@@ -15,25 +15,25 @@ use Rattle.parse_code.specs.Code.{code}
 use Rattle.parse_spots.specs.Spots.{spots}
 use Rattle.parse_spots.proofs.Coded.{spots-code}
 use Rattle.spec_rules.specs.Units.{of_model}
-use Rattle.spec_faults.specs.Faults.{faultsOf}
+use Rattle.spec_faults.specs.Faults.{faults_of}
 use Rattle.legal_terms.specs.Says.{Says}
-use Rattle.legal_terms.specs.Faulted.{faultsFrom, Stand, Statements}
-use Rattle.legal_declarations.proofs.Standing.{long, items-long}
+use Rattle.legal_terms.specs.Faulted.{faults_from, Stand, Statements}
+use Rattle.legal_declarations.proofs.Standing.{long, items_long}
 use Rattle.legal_declarations.proofs.Homes.{inside-none}
 use Rattle.legal_declarations.proofs.Scopes.{scoped_start}
 use Rattle.legal_declarations.proofs.Judging.{hs}
-use Rattle.legal_declarations.proofs.Parts.{units-through}
+use Rattle.legal_declarations.proofs.Parts.{units_through}
 
 count-start : (cs hs : List ℕ) (set : ℕ) → ltb 0 (count cs hs set 0 0 0) ≡ false
 unfolding count sum
 count-start cs hs set = refl
 
 pub all-faults : (m : Model) (cs vs toks : List ℕ) → Says m cs vs → Statements m cs vs toks → (ts : List Token) (g : Gram ts m) → Stand (code m) toks 0 (spots g 0)
-    → faultsFrom cs vs toks 0 (length cs) ≡ faultsOf g
+    → faults_from cs vs toks 0 (length cs) ≡ faults_of g
 all-faults m cs vs toks S ruled ts g y =
     let h = hs m cs vs S in
-    let size = items-long (spots g 0) (code m) (spots-code g 0) in
+    let size = items_long (spots g 0) (code m) (spots-code g 0) in
     let lg = long m cs vs S in
-    let r = units-through m cs vs toks S ruled g false false [] 0 0 (record { ends = omega arith; room = omega arith; stand = y })
+    let r = units_through m cs vs toks S ruled g false false [] 0 0 (record { ends = omega arith; room = omega arith; stand = y })
     (record { scope = scoped_start m cs vs h S 0; inside = inside-none cs; nine = count-start cs h 9; ten = count-start cs h 10 }) in
-    ap (faultsFrom cs vs toks 0) (let z : length cs ≡ length cs - 0 = omega arith in z) ∙ (r.gives (of_model m) r.scope).are
+    ap (faults_from cs vs toks 0) (let z : length cs ≡ length cs - 0 = omega arith in z) ∙ (r.gives (of_model m) r.scope).are

@@ -8,32 +8,32 @@ use mathlib.Core.List.{List, [], map}
 use lib.ListN.{length}
 use lib.Dec.{ltb}
 use borrow.Author.Tests.{le-ltb}
-use Rattle.base_ceilings.specs.Ceilings.{itemsMost, normalMost, tablesRoom}
+use Rattle.base_ceilings.specs.Ceilings.{items_most, normal_most, tables_room}
 use Rattle.base_bytes.specs.Choice.{pick}
-use Rattle.base_bytes.proofs.Tests.{true-false}
+use Rattle.base_bytes.proofs.Tests.{true_false}
 use Rattle.base_kinds.specs.Kinds.{Token}
 use Rattle.spec_grammar.specs.Tree.{Model}
 use Rattle.spec_grammar.specs.Grammar.{Gram}
-use Rattle.spec_text.specs.Writing.{tokensIn}
-use Rattle.parse_machine.specs.Machine.{place-of}
+use Rattle.spec_text.specs.Writing.{tokens_in}
+use Rattle.parse_machine.specs.Machine.{place_of}
 use Rattle.parse_machine.specs.Answer.{parsed}
 use Rattle.parse_machine.proofs.Main.{accepts}
 use Rattle.rule_least.specs.Faults.{checked}
 use Rattle.rule_least.specs.declared.Fault.TheVariants.{None}
 use Rattle.read_passes.specs.declared.Judged.TheVariants.{Accepted, Refused}
-use Rattle.read_passes.specs.Judging.{judgeOf}
+use Rattle.read_passes.specs.Judging.{judge_of}
 use Rattle.read_accepts_proof.specs.Meaning.{Accepts, Grammatical, codes_of, said}
-use Rattle.read_accepts_proof.proofs.Main.{kinds-are, all-proper, short, accepted-means, means-accepted}
-use Rattle.read_accepts_proof.proofs.Alike.{overlong-is, accepted-slim}
+use Rattle.read_accepts_proof.proofs.Main.{kinds_are, all_proper, short, accepted_means, means_accepted}
+use Rattle.read_accepts_proof.proofs.Alike.{overlong_is, accepted_slim}
 use Rattle.read_entry.specs.Entries.{read_of}
 use Rattle.spec_normal.specs.Normal.{normal}
-use Rattle.spec_faults.specs.Faults.{faultsOf}
+use Rattle.spec_faults.specs.Faults.{faults_of}
 use Rattle.spec_rules.specs.Ceilings as ceilings
 use Rattle.legal_terms.specs.Says.{Says}
 use Rattle.spec_text.specs.Placed.{Placed}
 use Rattle.text_tokens.specs.Reading.{tokens, reading}
-use Rattle.text_spacing_proof.proofs.Exact.{reading-exact}
-use Rattle.spec_grammar.specs.Depth.{too-deep}
+use Rattle.text_spacing_proof.proofs.Exact.{reading_exact}
+use Rattle.spec_grammar.specs.Depth.{too_deep}
 use Rattle.spec_refusals.specs.Texts.{Tokens}
 use Rattle.spec_refusals.specs.Legal.{Legal}
 use Rattle.legal_items.proofs.Says.{text_says}
@@ -41,37 +41,37 @@ use Rattle.legal_items.proofs.Modest.{passed-modest}
 
 denied : (b : Bool) → not b ≡ false → b ≡ true
 denied true e = refl
-denied false e = absurd (true-false e)
+denied false e = absurd (true_false e)
 
 -- the tokens of a text are those of its layout
 pub laid-tokens : (t : List ℕ) (ps : List Placed) → reading t ≡ tokens ps → Tokens t ps
-laid-tokens t ps e = let (l, h, k) = (reading-exact t ps).0 e in record { laid = l; short = h; few = k }
+laid-tokens t ps e = let (l, h, k) = (reading_exact t ps).0 e in record { laid = l; short = h; few = k }
 
 pub tokens-read : (t : List ℕ) (ps : List Placed) → Tokens t ps → reading t ≡ tokens ps
-tokens-read t ps l = (reading-exact t ps).1 (l.laid, l.short, l.few)
+tokens-read t ps l = (reading_exact t ps).1 (l.laid, l.short, l.few)
 
 -- the first half of what acceptance means
-pub accepted-parses : (t : List ℕ) → Accepts t → Grammatical t
-accepted-parses t a = record { parts = a.parts; reads = a.reads; tree = a.tree; gram = a.gram; shallow = a.shallow; numbers = a.numbers; written = a.written; coded = a.coded }
+pub accepted_parses : (t : List ℕ) → Accepts t → Grammatical t
+accepted_parses t a = record { parts = a.parts; reads = a.reads; tree = a.tree; gram = a.gram; shallow = a.shallow; numbers = a.numbers; written = a.written; coded = a.coded }
 
 -- a text with a tree that is not too deep has its items
-unfoldable pub text-parses : (t : List ℕ) (ps : List Placed) (m : Model) → Tokens t ps → Gram (tokensIn t ps) m → too-deep (tokensIn t ps) ≡ none → Grammatical t
-text-parses t ps m l g d =
-    let ts = tokensIn t ps in
+unfoldable pub text_parses : (t : List ℕ) (ps : List Placed) (m : Model) → Tokens t ps → Gram (tokens_in t ps) m → too_deep (tokens_in t ps) ≡ none → Grammatical t
+text_parses t ps m l g d =
+    let ts = tokens_in t ps in
     let r = tokens-read t ps l in
-    let (o, h, c) = accepts ts (all-proper t ps) (short t ps r) itemsMost (omega arith) m g d in
-    record { parts = ps; reads = r; tree = m; gram = g; shallow = d; numbers = o; written = ap (λ (ks : List ℕ). parsed ks itemsMost) (inv (kinds-are t ps)) ∙ h; coded = c }
+    let (o, h, c) = accepts ts (all_proper t ps) (short t ps r) items_most (omega arith) m g d in
+    record { parts = ps; reads = r; tree = m; gram = g; shallow = d; numbers = o; written = ap (λ (ks : List ℕ). parsed ks items_most) (inv (kinds_are t ps)) ∙ h; coded = c }
 
-pub legal-parses : (t : List ℕ) → Legal t → Grammatical t
-legal-parses t l = text-parses t l.parts l.tree l.reads l.gram l.shallow
+pub legal_parses : (t : List ℕ) → Legal t → Grammatical t
+legal_parses t l = text_parses t l.parts l.tree l.reads l.gram l.shallow
 
 -- what the rules say of every tree
-module _ (rules : (m : Model) (ts : List Token) (g : Gram ts m) (cs vs toks : List ℕ) → Says m cs vs → (checked cs vs toks ≡ None → faultsOf g ≡ []) × (faultsOf g ≡ [] → checked cs vs toks ≡ None)) where
-  pub accepted-lawful : (t : List ℕ) → judgeOf t ≡ Accepted → Legal t
-  unfolding accepted-parses
-  accepted-lawful t q =
-      let a = accepted-means t q in
-      let p = accepted-parses t a in
+module _ (rules : (m : Model) (ts : List Token) (g : Gram ts m) (cs vs toks : List ℕ) → Says m cs vs → (checked cs vs toks ≡ None → faults_of g ≡ []) × (faults_of g ≡ [] → checked cs vs toks ≡ None)) where
+  pub accepted_lawful : (t : List ℕ) → judge_of t ≡ Accepted → Legal t
+  unfolding accepted_parses
+  accepted_lawful t q =
+      let a = accepted_means t q in
+      let p = accepted_parses t a in
       let s = text_says t p in
       record {
         parts = a.parts;
@@ -79,17 +79,17 @@ module _ (rules : (m : Model) (ts : List Token) (g : Gram ts m) (cs vs toks : Li
         tree = a.tree;
         gram = a.gram;
         shallow = a.shallow;
-        faultless = (rules a.tree (tokensIn t a.parts) a.gram (codes_of t p) (said t p) (map place-of a.numbers) s).0 a.faultless;
+        faultless = (rules a.tree (tokens_in t a.parts) a.gram (codes_of t p) (said t p) (map place_of a.numbers) s).0 a.faultless;
         modest = denied (ceilings.modest a.tree) (inv (passed-modest a.tree (codes_of t p) (said t p) s) ∙ a.within);
-        slim = accepted-slim t a;
+        slim = accepted_slim t a;
       }
 
-  pub lawful-accepted : (t : List ℕ) → Legal t → judgeOf t ≡ Accepted
-  unfolding legal-parses text-parses
-  lawful-accepted t l =
-      let p = legal-parses t l in
+  pub lawful_accepted : (t : List ℕ) → Legal t → judge_of t ≡ Accepted
+  unfolding legal_parses text_parses
+  lawful_accepted t l =
+      let p = legal_parses t l in
       let s = text_says t p in
-      means-accepted t
+      means_accepted t
       record {
         parts = p.parts;
         reads = p.reads;
@@ -99,20 +99,20 @@ module _ (rules : (m : Model) (ts : List Token) (g : Gram ts m) (cs vs toks : Li
         numbers = p.numbers;
         written = p.written;
         coded = p.coded;
-        faultless = (rules p.tree (tokensIn t p.parts) p.gram (codes_of t p) (said t p) (map place-of p.numbers) s).1 l.faultless;
+        faultless = (rules p.tree (tokens_in t p.parts) p.gram (codes_of t p) (said t p) (map place_of p.numbers) s).1 l.faultless;
         within = passed-modest p.tree (codes_of t p) (said t p) s ∙ ap not l.modest;
-        slim = overlong-is t p.parts p.tree p.reads p.gram p.numbers p.written p.coded ∙ le-ltb normalMost (length (normal p.tree)) l.slim;
+        slim = overlong_is t p.parts p.tree p.reads p.gram p.numbers p.written p.coded ∙ le-ltb normal_most (length (normal p.tree)) l.slim;
       }
 
   -- the same of the reader's entry, whose tables are lent with room or refused
   pub read-lawful : (t old : List ℕ) → read_of t old ≡ Accepted → Legal t
   unfolding read_of
-  read-lawful t old q = go (ltb (length old) tablesRoom) q
+  read-lawful t old q = go (ltb (length old) tables_room) q
     where
-      go : (b : Bool) → pick b (Refused 7 0 0) (judgeOf t) ≡ Accepted → Legal t
+      go : (b : Bool) → pick b (Refused 7 0 0) (judge_of t) ≡ Accepted → Legal t
       go true e = absurd (let z : ◌≡◌ {A = ℕ} 0 1 = cc in omega arith)
-      go false e = accepted-lawful t e
+      go false e = accepted_lawful t e
 
-  pub lawful-read : (t old : List ℕ) → tablesRoom ≤ length old → Legal t → read_of t old ≡ Accepted
+  pub lawful-read : (t old : List ℕ) → tables_room ≤ length old → Legal t → read_of t old ≡ Accepted
   unfolding read_of
-  lawful-read t old h l = rw (le-ltb (length old) tablesRoom h) (lawful-accepted t l)
+  lawful-read t old h l = rw (le-ltb (length old) tables_room h) (lawful_accepted t l)

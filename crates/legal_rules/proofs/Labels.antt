@@ -4,13 +4,13 @@ use mathlib.Core.Bool.{Bool, true, false, not}
 use mathlib.Core.List.{List, [], ◌∷◌, ◌++◌, append_assoc, append-nil}
 use Rattle.base_bytes.specs.Choice.{pick, both, either}
 use Rattle.base_bytes.specs.Lists.{same}
-use Rattle.base_bytes.proofs.Lists.{same_refl, same-eq}
-use Rattle.base_bytes.proofs.Tests.{true-false}
+use Rattle.base_bytes.proofs.Lists.{same_refl, same_eq}
+use Rattle.base_bytes.proofs.Tests.{true_false}
 use Rattle.spec_text.specs.Names.{pid}
 use Rattle.spec_grammar.specs.Tree.{Name}
 use Rattle.spec_rules.specs.Statements.{has}
 use Rattle.legal_rules.specs.Statements.{apart}
-use Rattle.legal_rules.proofs.None.{both_end, both-assoc}
+use Rattle.legal_rules.proofs.None.{both_end, both_assoc}
 
 has-append : (l k : List Name) (w : Name) → has (l ++ k) w ≡ either (has l w) (has k w)
 has-append [] k w = refl
@@ -43,7 +43,7 @@ unfolding fresh
 fresh-append b [] k = ap (λ (x : List Name). fresh x k) (sym (append-nil b))
 fresh-append b (w ∷ l) k =
     ap (both (not (either (same w pid) (has b w)))) (fresh-append (b ++ w ∷ []) l k ∙ ap (λ (x : List Name). both (fresh (b ++ w ∷ []) l) (fresh x k)) (append_assoc b (w ∷ []) l))
-    ∙ sym (both-assoc (not (either (same w pid) (has b w))) (fresh (b ++ w ∷ []) l) (fresh (b ++ (w ∷ l)) k))
+    ∙ sym (both_assoc (not (either (same w pid) (has b w))) (fresh (b ++ w ∷ []) l) (fresh (b ++ (w ∷ l)) k))
 
 -- none of the second is of the first
 unfoldable none : List Name → List Name → Bool
@@ -54,7 +54,7 @@ same_turn : (v w : Name) → same v w ≡ same w v
 same_turn v w = same_tests (same v w) (same w v) (turn v w) (turn w v)
   where
     turn : (v w : Name) → same v w ≡ true → same w v ≡ true
-    turn v w e = ap (same w) (same-eq v w e) ∙ same_refl w
+    turn v w e = ap (same w) (same_eq v w e) ∙ same_refl w
 
 none-turned : (n s h x : Bool) → both (not (either n (either s false))) (both x (not h)) ≡ both (both (not n) x) (not (either s h))
 none-turned true s h x = refl

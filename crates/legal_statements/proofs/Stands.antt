@@ -6,27 +6,27 @@ use mathlib.Core.Bool.{true, false}
 use mathlib.Core.List.{List, [], ◌∷◌, ◌++◌, map, append_assoc, append-nil}
 use lib.ListN.{length, get_or, length-map, length-append}
 use lib.Dec.{ltb}
-use Rattle.rule_item.specs.Rules.{badBy}
-use Rattle.rule_least.specs.Faults.{placeBy}
+use Rattle.rule_item.specs.Rules.{bad_by}
+use Rattle.rule_least.specs.Faults.{place_by}
 use Rattle.link_phrases_proof.specs.Phrases.{At, Proper}
 use Rattle.spec_grammar.specs.Tree.{Shape, Exp}
-use Rattle.base_codes.specs.Items.{Item, code_of, i-plain}
-use Rattle.base_codes.specs.Sets.{ruleOf}
-use Rattle.parse_code.specs.Code.{code-exp}
+use Rattle.base_codes.specs.Items.{Item, code_of, i_plain}
+use Rattle.base_codes.specs.Sets.{rule_of}
+use Rattle.parse_code.specs.Code.{code_exp}
 use Rattle.parse_spots.specs.Spots.{Spot, items}
 use Rattle.table_entries.specs.Items.{Known, AllKnown}
-use Rattle.agree_eval.proofs.Operators.{known-proper}
-use Rattle.spec_faults.specs.Faults.{Faults, faultAt}
+use Rattle.agree_eval.proofs.Operators.{known_proper}
+use Rattle.spec_faults.specs.Faults.{Faults, fault_at}
 use Rattle.legal_terms.specs.Says.{item_at}
-use Rattle.legal_terms.specs.Faulted.{faultOf}
+use Rattle.legal_terms.specs.Faulted.{fault_of}
 use Rattle.legal_statements.specs.Scene.{Scene, xs, homes, starts, heights, fault, faults, IsItem, IsSpot, Each, In, StandsIn, SpotsIn}
 
-known_at : (l : List Item) (i : ℕ) → AllKnown l → i < length l → Known (get_or l i i-plain)
+known_at : (l : List Item) (i : ℕ) → AllKnown l → i < length l → Known (get_or l i i_plain)
 known_at [] i k h = absurd (omega arith)
 known_at (x ∷ l) zero k h = k.0
 known_at (x ∷ l) (suc i) k h = known_at l i k.1 (omega arith)
 
-mapped_at : (l : List Item) (i : ℕ) → i < length l → get_or (map code_of l) i 0 ≡ code_of (get_or l i i-plain)
+mapped_at : (l : List Item) (i : ℕ) → i < length l → get_or (map code_of l) i 0 ≡ code_of (get_or l i i_plain)
 mapped_at [] i h = absurd (omega arith)
 mapped_at (x ∷ l) zero h = refl
 mapped_at (x ∷ l) (suc i) h = mapped_at l i (omega arith)
@@ -75,8 +75,8 @@ module _ (S : Scene) where
   pub code_at : (x : Item) (l : List Item) (i : ℕ) → StandsIn S i (x ∷ l) → get_or S.cs i 0 ≡ code_of x
   code_at x l i s = code_is i x s.items.0 (omega (arith, s.high, S.within))
 
-  pub code-of : (x : Spot) (l : List Spot) (i : ℕ) → SpotsIn S i (x ∷ l) → get_or S.cs i 0 ≡ code_of x.0
-  code-of x l i s = code_is i x.0 s.items.0.0 (omega (arith, s.high, S.within))
+  pub code_of_lem : (x : Spot) (l : List Spot) (i : ℕ) → SpotsIn S i (x ∷ l) → get_or S.cs i 0 ≡ code_of x.0
+  code_of_lem x l i s = code_is i x.0 s.items.0.0 (omega (arith, s.high, S.within))
 
   -- all their codes
   pub codes_at : (l : List Item) (i : ℕ) → StandsIn S i l → At S.cs i l
@@ -88,8 +88,8 @@ module _ (S : Scene) where
   known (x ∷ l) i s =
       (subst Known s.items.0 (known_at (xs S) i S.says.known (omega (arith, s.high, S.within, as_many))), known l (suc i) (next x l i s))
 
-  pub proper : {s : Shape} (e : Exp s) (i : ℕ) → StandsIn S i (code-exp e) → Proper e
-  proper e i s = known-proper e (known (code-exp e) i s)
+  pub proper : {s : Shape} (e : Exp s) (i : ℕ) → StandsIn S i (code_exp e) → Proper e
+  proper e i s = known_proper e (known (code_exp e) i s)
 
   -- ---- faults
   pub faults-none : (i : ℕ) → faults S i [] ≡ []
@@ -115,32 +115,32 @@ module _ (S : Scene) where
   faults-last l x i k e a b = faults-both l (x ∷ []) i k e a (faults-one x k b)
 
   -- by the rule of its code
-  pub fault-by : (j c r b p : ℕ) → get_or S.cs j 0 ≡ c → ruleOf c ≡ r → badBy S.cs S.vs (homes S) (starts S) (heights S) r j ≡ b
-      → placeBy S.cs (starts S) S.toks r j ≡ p → fault S j ≡ faultAt b p
-  unfolding faultOf
-  fault-by j c r b p e f g h =
-      let z = ap ruleOf e ∙ f in
-      ap₂ (λ (n m : ℕ). faultAt n m) (ap (λ n. badBy S.cs S.vs (homes S) (starts S) (heights S) n j) z ∙ g) (ap (λ n. placeBy S.cs (starts S) S.toks n j) z ∙ h)
+  pub fault_by : (j c r b p : ℕ) → get_or S.cs j 0 ≡ c → rule_of c ≡ r → bad_by S.cs S.vs (homes S) (starts S) (heights S) r j ≡ b
+      → place_by S.cs (starts S) S.toks r j ≡ p → fault S j ≡ fault_at b p
+  unfolding fault_of
+  fault_by j c r b p e f g h =
+      let z = ap rule_of e ∙ f in
+      ap₂ (λ (n m : ℕ). fault_at n m) (ap (λ n. bad_by S.cs S.vs (homes S) (starts S) (heights S) n j) z ∙ g) (ap (λ n. place_by S.cs (starts S) S.toks n j) z ∙ h)
 
   -- where a fault stands: at the item's own token, or at that of the item before it
-  pub place-own : (r j n : ℕ) → ltb r 7 ≡ true → get_or S.toks j 0 ≡ n → placeBy S.cs (starts S) S.toks r j ≡ n
-  unfolding placeBy
-  place-own r j n e t = rw e t
+  pub place_own : (r j n : ℕ) → ltb r 7 ≡ true → get_or S.toks j 0 ≡ n → place_by S.cs (starts S) S.toks r j ≡ n
+  unfolding place_by
+  place_own r j n e t = rw e t
 
-  pub place-before : (r i n : ℕ) → ltb r 7 ≡ false → ltb r 15 ≡ true → get_or S.toks i 0 ≡ n → placeBy S.cs (starts S) S.toks r (suc i) ≡ n
-  unfolding placeBy
+  pub place-before : (r i n : ℕ) → ltb r 7 ≡ false → ltb r 15 ≡ true → get_or S.toks i 0 ≡ n → place_by S.cs (starts S) S.toks r (suc i) ≡ n
+  unfolding place_by
   place-before r i n e f t = let z : suc i - 1 ≡ i = omega arith in rw (e, f, z) t
 
   -- items with no rule have none
-  fault-free : (x : Spot) (l : List Spot) (i : ℕ) → SpotsIn S i (x ∷ l) → ruleOf (code_of x.0) ≡ 0 → fault S i ≡ []
-  unfolding badBy
-  fault-free x l i s r = fault-by i (code_of x.0) 0 0 (placeBy S.cs (starts S) S.toks 0 i) (code-of x l i s) r refl refl
+  fault_free : (x : Spot) (l : List Spot) (i : ℕ) → SpotsIn S i (x ∷ l) → rule_of (code_of x.0) ≡ 0 → fault S i ≡ []
+  unfolding bad_by
+  fault_free x l i s r = fault_by i (code_of x.0) 0 0 (place_by S.cs (starts S) S.toks 0 i) (code_of_lem x l i s) r refl refl
 
-  pub free-first : (x : Spot) (l : List Spot) (i : ℕ) → SpotsIn S i (x ∷ l) → ruleOf (code_of x.0) ≡ 0 → faults S i (x ∷ l) ≡ faults S (suc i) l
-  free-first x l i s r = faults-first x l i (fault-free x l i s r) refl
+  pub free_first : (x : Spot) (l : List Spot) (i : ℕ) → SpotsIn S i (x ∷ l) → rule_of (code_of x.0) ≡ 0 → faults S i (x ∷ l) ≡ faults S (suc i) l
+  free_first x l i s r = faults-first x l i (fault_free x l i s r) refl
 
-  pub free_one : (x : Spot) (i : ℕ) → SpotsIn S i (x ∷ []) → ruleOf (code_of x.0) ≡ 0 → faults S i (x ∷ []) ≡ []
-  free_one x i s r = free-first x [] i s r ∙ faults-none (suc i)
+  pub free_one : (x : Spot) (i : ℕ) → SpotsIn S i (x ∷ []) → rule_of (code_of x.0) ≡ 0 → faults S i (x ∷ []) ≡ []
+  free_one x i s r = free_first x [] i s r ∙ faults-none (suc i)
 
-  pub free-last : (l : List Spot) (x : Spot) (i k : ℕ) {f : Faults} → k ≡ i + length l → SpotsIn S i (l ++ x ∷ []) → ruleOf (code_of x.0) ≡ 0 → faults S i l ≡ f → faults S i (l ++ x ∷ []) ≡ f
-  free-last l x i k {f} e s r a = faults-last l x i k e a (fault-free x [] k (back l (x ∷ []) i k e s) r) ∙ append-nil f
+  pub free_last : (l : List Spot) (x : Spot) (i k : ℕ) {f : Faults} → k ≡ i + length l → SpotsIn S i (l ++ x ∷ []) → rule_of (code_of x.0) ≡ 0 → faults S i l ≡ f → faults S i (l ++ x ∷ []) ≡ f
+  free_last l x i k {f} e s r a = faults-last l x i k e a (fault_free x [] k (back l (x ∷ []) i k e s) r) ∙ append-nil f

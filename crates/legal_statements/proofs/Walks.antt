@@ -7,12 +7,12 @@ use mathlib.Core.List.{List}
 use lib.ListN.{get_or}
 use lib.Dec.{eqb, ltb}
 use borrow.Author.Tests.{lt-ltb, le-ltb, ne_eqb}
-use Rattle.base_codes.specs.Codes.{c-do, c-else, c-fi, c-if, c-od, c-option}
+use Rattle.base_codes.specs.Codes.{c_do, c_else, c_fi, c_if, c_od, c_option}
 use Rattle.base_bytes.specs.Choice.{pick, either}
-use Rattle.base_bytes.proofs.Tests.{both-no}
+use Rattle.base_bytes.proofs.Tests.{both_no}
 use Rattle.rule_sheets.specs.Walks.{first, sum}
 use Rattle.rule_search.specs.Search.{declares, find, one, count}
-use Rattle.rule_item.specs.Rules.{depthOn, twinAt, twin}
+use Rattle.rule_item.specs.Rules.{depth_on, twin_at, twin}
 
 -- ---- one below n passes the test
 unfoldable pub any : (ℕ → Bool) → ℕ → Bool
@@ -57,13 +57,13 @@ found_from p (suc k) i n e a = go (p i) refl (λ b. found_from p k (i + 1) n (om
         ∙ sym (ap (any p) (let z : n ≡ suc i + k = omega arith in z) ∙ any-more p k (suc i) (any_next p i ∙ ap (either (any p i)) f ∙ either-last (any p i)))
     go false f r = r (ap (any p) (let z : i + 1 ≡ suc i = omega arith in z) ∙ any_next p i ∙ ap₂ either a f)
 
-pub found-any : (p : ℕ → Bool) (n : ℕ) → ltb (first p 0 n) n ≡ any p n
-found-any p n = found_from p n 0 n (omega arith) (any-zero p)
+pub found_any : (p : ℕ → Bool) (n : ℕ) → ltb (first p 0 n) n ≡ any p n
+found_any p n = found_from p n 0 n (omega arith) (any-zero p)
 
 module _ (cs vs hs : List ℕ) where
   pub find-any : (set w h n : ℕ) → eqb w 0 ≡ false → ltb (find cs vs hs set w h n) n ≡ any (declares cs vs hs set w h) n
   unfolding find
-  find-any set w h n e = rw e (found-any (declares cs vs hs set w h) n)
+  find-any set w h n e = rw e (found_any (declares cs vs hs set w h) n)
 
   pub find-pid : (set w h n : ℕ) → eqb w 0 ≡ true → find cs vs hs set w h n ≡ n
   unfolding find
@@ -93,28 +93,28 @@ count_none cs hs set h n f = ap (sum (one cs hs set h) 0) (let z : n - 0 ≡ n =
 
 -- ---- going back over one item, by its code
 module _ (cs : List ℕ) (k d c : ℕ) (it : get_or cs k 0 ≡ c) where
-  pub twin-over : 1 ≤ d → either (eqb c c-fi) (eqb c c-od) ≡ false → either (eqb c c-if) (eqb c c-do) ≡ false → eqb c c-option ≡ false → twin cs (suc k) d ≡ twin cs k d
-  unfolding twin twinAt depthOn
-  twin-over h a b e = rw (it, ne_eqb d 0 (λ z. omega arith), a, b, e, both-no (eqb d 1) {b = false} refl) refl
+  pub twin-over : 1 ≤ d → either (eqb c c_fi) (eqb c c_od) ≡ false → either (eqb c c_if) (eqb c c_do) ≡ false → eqb c c_option ≡ false → twin cs (suc k) d ≡ twin cs k d
+  unfolding twin twin_at depth_on
+  twin-over h a b e = rw (it, ne_eqb d 0 (λ z. omega arith), a, b, e, both_no (eqb d 1) {b = false} refl) refl
 
-  pub twin-in : 1 ≤ d → either (eqb c c-fi) (eqb c c-od) ≡ true → eqb c c-option ≡ false → twin cs (suc k) d ≡ twin cs k (d + 1)
-  unfolding twin twinAt depthOn
-  twin-in h a e = rw (it, ne_eqb d 0 (λ z. omega arith), a, e, both-no (eqb d 1) {b = false} refl) refl
+  pub twin_in : 1 ≤ d → either (eqb c c_fi) (eqb c c_od) ≡ true → eqb c c_option ≡ false → twin cs (suc k) d ≡ twin cs k (d + 1)
+  unfolding twin twin_at depth_on
+  twin_in h a e = rw (it, ne_eqb d 0 (λ z. omega arith), a, e, both_no (eqb d 1) {b = false} refl) refl
 
-  pub twin-out : 1 ≤ d → either (eqb c c-fi) (eqb c c-od) ≡ false → either (eqb c c-if) (eqb c c-do) ≡ true → eqb c c-option ≡ false → twin cs (suc k) d ≡ twin cs k (d - 1)
-  unfolding twin twinAt depthOn
-  twin-out h a b e = rw (it, ne_eqb d 0 (λ z. omega arith), a, b, e, both-no (eqb d 1) {b = false} refl) refl
+  pub twin_out : 1 ≤ d → either (eqb c c_fi) (eqb c c_od) ≡ false → either (eqb c c_if) (eqb c c_do) ≡ true → eqb c c_option ≡ false → twin cs (suc k) d ≡ twin cs k (d - 1)
+  unfolding twin twin_at depth_on
+  twin_out h a b e = rw (it, ne_eqb d 0 (λ z. omega arith), a, b, e, both_no (eqb d 1) {b = false} refl) refl
 
-pub twin-deep : (cs : List ℕ) (k d : ℕ) → get_or cs k 0 ≡ c-option → 2 ≤ d → twin cs (suc k) d ≡ twin cs k d
-unfolding twin twinAt depthOn
+pub twin-deep : (cs : List ℕ) (k d : ℕ) → get_or cs k 0 ≡ c_option → 2 ≤ d → twin cs (suc k) d ≡ twin cs k d
+unfolding twin twin_at depth_on
 twin-deep cs k d it h = rw (it, ne_eqb d 0 (λ z. omega arith), ne_eqb d 1 (λ z. omega arith)) refl
 
-pub twin-option : (cs : List ℕ) (k : ℕ) → get_or cs k 0 ≡ c-option → twin cs (suc k) 1 ≡ pick (eqb (get_or cs (k + 1) 0) c-else) true (twin cs k 1)
-unfolding twin twinAt depthOn
-twin-option cs k it = rw it refl
+pub twin_option : (cs : List ℕ) (k : ℕ) → get_or cs k 0 ≡ c_option → twin cs (suc k) 1 ≡ pick (eqb (get_or cs (k + 1) 0) c_else) true (twin cs k 1)
+unfolding twin twin_at depth_on
+twin_option cs k it = rw it refl
 
 -- the selection begins: nothing is found outside it
 pub twin-outside : (cs : List ℕ) (k : ℕ) → twin cs k 0 ≡ false
-unfolding twin twinAt depthOn
+unfolding twin twin_at depth_on
 twin-outside cs zero = refl
 twin-outside cs (suc k) = twin-outside cs k

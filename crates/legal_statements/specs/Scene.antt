@@ -2,7 +2,7 @@
 -- The statements of a body among the items of a model with their tokens, and the faults of these items: document 01, rows 2, 4 and 5 of "What is answered" (specs/Rules.antt of `rule_item`).
 use Rattle.std.specs.Prelude.{ℕ, suc, ◌+◌, ◌≤◌, ◌≡◌, List, [], ◌∷◌, ◌++◌, length, get_or}
 use Rattle.rule_sheets.specs.Homes.{homes_of}
-use Rattle.rule_sheets.specs.Spans.{startsOf, heightsOf}
+use Rattle.rule_sheets.specs.Spans.{starts_of, heights_of}
 use Rattle.rule_least.specs.Faults.{blank}
 use Rattle.spec_grammar.specs.Tree.{Model}
 use Rattle.base_codes.specs.Items.{Item}
@@ -12,7 +12,7 @@ use Rattle.spec_rules.specs.Statements.{Place}
 use Rattle.spec_faults.specs.Faults.{Faults}
 use Rattle.legal_terms.specs.Says.{Says, item_at}
 use Rattle.legal_terms.specs.Setting.{Setting}
-use Rattle.legal_terms.specs.Faulted.{faultOf}
+use Rattle.legal_terms.specs.Faulted.{fault_of}
 
 -- the statements of the body numbered h stand from item `from` to before item `to` of the model
 pub record Scene : Type 0 where
@@ -36,14 +36,14 @@ module _ (S : Scene) where
   homes = homes_of S.cs blank
 
   abbrev pub starts : List ℕ
-  starts = startsOf S.cs blank
+  starts = starts_of S.cs blank
 
   abbrev pub heights : List ℕ
-  heights = heightsOf S.cs starts blank
+  heights = heights_of S.cs starts blank
 
   -- the fault of item j
   abbrev pub fault : ℕ → Faults
-  fault j = faultOf S.cs S.vs S.toks j
+  fault j = fault_of S.cs S.vs S.toks j
 
   -- the faults of these items, which begin at item i
   unfoldable pub faults : ℕ → List Spot → Faults

@@ -10,17 +10,17 @@ use lib.Dec.{eqb, ltb}
 use borrow.Author.Tests.{ltb-true, ltb-false}
 use Rattle.base_bytes.specs.Choice.{pick}
 use Rattle.rule_item.specs.Rules.{bad}
-use Rattle.rule_least.specs.Faults.{place, sooner, joined, leastFrom, leastOf, checked}
+use Rattle.rule_least.specs.Faults.{place, sooner, joined, least_from, least_of, checked}
 use Rattle.rule_least.specs.declared.Fault as answers
 use Rattle.rule_least.specs.declared.Fault.TheVariants.{None, At}
 use Rattle.rule_least.proofs.Theorems.{sooner-some}
-use Rattle.spec_faults.specs.Faults.{Fault, Faults, faultAt, Among, here, there, Least}
-use Rattle.legal_terms.specs.Faulted.{homes, starts, heights, faultOf, faultsFrom}
+use Rattle.spec_faults.specs.Faults.{Fault, Faults, fault_at, Among, here, there, Least}
+use Rattle.legal_terms.specs.Faulted.{homes, starts, heights, fault_of, faults_from}
 
 -- the least of a list, from its end
-abbrev pub leastIn : Faults → answers.Fault
-leastIn [] = None
-leastIn (f ∷ l) = sooner f.token f.number (leastIn l)
+abbrev pub least_in : Faults → answers.Fault
+least_in [] = None
+least_in (f ∷ l) = sooner f.token f.number (least_in l)
 
 -- number x at k comes no later than y at j
 abbrev NoLater : ℕ → ℕ → ℕ → ℕ → Type 0
@@ -64,9 +64,9 @@ first p m q l x k e = go (ltb p q) refl (ltb q p) refl (ltb l m) refl e
     go false u false v false w e = mine e (inr (let y = ltb-false p q u in let z = ltb-false q p v in omega arith, ltb-false l m w))
 
 -- ---- of a list
-empty-least : (l : Faults) → leastIn l ≡ None → l ≡ []
+empty-least : (l : Faults) → least_in l ≡ None → l ≡ []
 empty-least [] h = refl
-empty-least (g ∷ m) h = absurd (sooner-some g.token g.number (leastIn m) h)
+empty-least (g ∷ m) h = absurd (sooner-some g.token g.number (least_in m) h)
 
 alone : (f : Fault) (x k : ℕ) → sooner f.token f.number None ≡ At x k → (f.number ≡ x) × (f.token ≡ k)
 unfolding sooner
@@ -75,14 +75,14 @@ alone f x k e = (cc, cc)
 same_head : (f : Fault) (l : Faults) {y j : ℕ} → f.number ≡ y → f.token ≡ j → Among y j (f ∷ l)
 same_head f l a b = rw (← a, ← b) here
 
-in-least : (l : Faults) (x k : ℕ) → leastIn l ≡ At x k → Least l x k
-in-least [] x k e = absurd (not_none e)
-in-least (f ∷ l) x k e = go (leastIn l) refl (in-least l) e
+in_least : (l : Faults) (x k : ℕ) → least_in l ≡ At x k → Least l x k
+in_least [] x k e = absurd (not_none e)
+in_least (f ∷ l) x k e = go (least_in l) refl (in_least l) e
   where
     near : (y j : ℕ) → Among y j (f ∷ []) → f.number ≡ x → f.token ≡ k → NoLater x k y j
     near y j here a b = inr (sym b, omega arith)
 
-    go : (r : answers.Fault) → leastIn l ≡ r → ((y j : ℕ) → leastIn l ≡ At y j → Least l y j) → sooner f.token f.number r ≡ At x k → Least (f ∷ l) x k
+    go : (r : answers.Fault) → least_in l ≡ r → ((y j : ℕ) → least_in l ≡ At y j → Least l y j) → sooner f.token f.number r ≡ At x k → Least (f ∷ l) x k
     go None q r e =
         let z = alone f x k e in
         let w = empty-least l q in
@@ -107,47 +107,47 @@ once x k y j (inl a) (inr (b, c)) = absurd (omega arith)
 once x k y j (inr (a, b)) (inl c) = absurd (omega arith)
 once x k y j (inr (a, b)) (inr (c, d)) = (omega arith, a)
 
-least-in : (l : Faults) (x k : ℕ) → Least l x k → leastIn l ≡ At x k
-least-in l x k s = go (leastIn l) refl
+least_in_lem : (l : Faults) (x k : ℕ) → Least l x k → least_in l ≡ At x k
+least_in_lem l x k s = go (least_in l) refl
   where
     some : {l : Faults} → Among x k l → 0 < length l
     some here = omega arith
     some (there n) = omega arith
 
-    go : (r : answers.Fault) → leastIn l ≡ r → r ≡ At x k
+    go : (r : answers.Fault) → least_in l ≡ r → r ≡ At x k
     go None q = absurd (omega (arith, some s.is, ap length (empty-least l q)))
     go (At y j) q =
-        let z = in-least l y j q in
+        let z = in_least l y j q in
         let (a, b) = once x k y j (s.soonest y j z.is) (z.soonest x k s.is) in
         rw (a, b) refl
 
 -- ---- of items
 module _ (cs vs toks : List ℕ) where
-  joins-fault : (j : ℕ) (l : Faults) → joined cs vs (homes cs vs toks) (starts cs vs toks) (heights cs vs toks) toks j (leastIn l) ≡ leastIn (faultOf cs vs toks j ++ l)
-  unfolding joined faultOf
+  joins-fault : (j : ℕ) (l : Faults) → joined cs vs (homes cs vs toks) (starts cs vs toks) (heights cs vs toks) toks j (least_in l) ≡ least_in (fault_of cs vs toks j ++ l)
+  unfolding joined fault_of
   joins-fault j l = go (eqb (bad cs vs (homes cs vs toks) (starts cs vs toks) (heights cs vs toks) j) 0)
     where
       go : (b : Bool)
-          → pick b (leastIn l) (sooner (place cs vs (homes cs vs toks) (starts cs vs toks) (heights cs vs toks) toks j) (bad cs vs (homes cs vs toks) (starts cs vs toks) (heights cs vs toks) j) (leastIn l))
-          ≡ leastIn (pick b [] (record { number = bad cs vs (homes cs vs toks) (starts cs vs toks) (heights cs vs toks) j; token = place cs vs (homes cs vs toks) (starts cs vs toks) (heights cs vs toks) toks j } ∷ []) ++ l)
+          → pick b (least_in l) (sooner (place cs vs (homes cs vs toks) (starts cs vs toks) (heights cs vs toks) toks j) (bad cs vs (homes cs vs toks) (starts cs vs toks) (heights cs vs toks) j) (least_in l))
+          ≡ least_in (pick b [] (record { number = bad cs vs (homes cs vs toks) (starts cs vs toks) (heights cs vs toks) j; token = place cs vs (homes cs vs toks) (starts cs vs toks) (heights cs vs toks) toks j } ∷ []) ++ l)
       go true = refl
       go false = refl
 
-  least-from : (n j : ℕ) → leastFrom cs vs (homes cs vs toks) (starts cs vs toks) (heights cs vs toks) toks j n ≡ leastIn (faultsFrom cs vs toks j n)
-  unfolding leastFrom faultsFrom
+  least-from : (n j : ℕ) → least_from cs vs (homes cs vs toks) (starts cs vs toks) (heights cs vs toks) toks j n ≡ least_in (faults_from cs vs toks j n)
+  unfolding least_from faults_from
   least-from zero j = refl
   least-from (suc n) j =
       let e : j + 1 ≡ suc j = omega arith in
       ap (joined cs vs (homes cs vs toks) (starts cs vs toks) (heights cs vs toks) toks j)
-      (ap (λ i. leastFrom cs vs (homes cs vs toks) (starts cs vs toks) (heights cs vs toks) toks i n) e ∙ least-from n (suc j))
-      ∙ joins-fault j (faultsFrom cs vs toks (suc j) n)
+      (ap (λ i. least_from cs vs (homes cs vs toks) (starts cs vs toks) (heights cs vs toks) toks i n) e ∙ least-from n (suc j))
+      ∙ joins-fault j (faults_from cs vs toks (suc j) n)
 
-  checked-in : checked cs vs toks ≡ leastIn (faultsFrom cs vs toks 0 (length cs))
-  unfolding checked leastOf
-  checked-in = least-from (length cs) 0
+  checked_in : checked cs vs toks ≡ least_in (faults_from cs vs toks 0 (length cs))
+  unfolding checked least_of
+  checked_in = least-from (length cs) 0
 
-  pub checked-least : (x k : ℕ) → (checked cs vs toks ≡ At x k) ↔ Least (faultsFrom cs vs toks 0 (length cs)) x k
-  checked-least x k = (λ e. in-least (faultsFrom cs vs toks 0 (length cs)) x k (sym checked-in ∙ e), λ s. checked-in ∙ least-in (faultsFrom cs vs toks 0 (length cs)) x k s)
+  pub checked-least : (x k : ℕ) → (checked cs vs toks ≡ At x k) ↔ Least (faults_from cs vs toks 0 (length cs)) x k
+  checked-least x k = (λ e. in_least (faults_from cs vs toks 0 (length cs)) x k (sym checked_in ∙ e), λ s. checked_in ∙ least_in_lem (faults_from cs vs toks 0 (length cs)) x k s)
 
-  pub checked-none : (checked cs vs toks ≡ None) ↔ (faultsFrom cs vs toks 0 (length cs) ≡ [])
-  checked-none = (λ e. empty-least (faultsFrom cs vs toks 0 (length cs)) (sym checked-in ∙ e), λ e. checked-in ∙ ap leastIn e)
+  pub checked-none : (checked cs vs toks ≡ None) ↔ (faults_from cs vs toks 0 (length cs) ≡ [])
+  checked-none = (λ e. empty-least (faults_from cs vs toks 0 (length cs)) (sym checked_in ∙ e), λ e. checked_in ∙ ap least_in e)

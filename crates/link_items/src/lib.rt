@@ -1,7 +1,7 @@
 // The links of a model, one number for each item: declarations, marks, ends and the places that follow, so that a stepper finds all it needs at once.
 ghost use Rattle.std.specs.Prelude.{◌≡◌, ◌+◌, ◌-◌, ◌≤◌, ◌<◌, min, length, get_or, set};
-ghost use Rattle.base_ceilings.specs.Ceilings.{itemsMost};
-ghost use Rattle.link_items.specs.Links.{sizeKept};
+ghost use Rattle.base_ceilings.specs.Ceilings.{items_most};
+ghost use Rattle.link_items.specs.Links.{size_kept};
 ghost use Rattle.rule_search.specs.Chain.{Chained};
 ghost use Rattle.rule_search.specs.Search as seek;
 ghost use Rattle.base_codes.specs.Sets as sets;
@@ -26,7 +26,7 @@ fn type_at(codes: &[u8], d: usize) -> usize
 
 fn size_at(codes: &[u8], args: &[u32], d: usize) -> usize
     ensures value { result ≡ spec.size_at codes.now args.now d }
-    ensures upper_bound { result ≤ sizeKept }
+    ensures upper_bound { result ≤ size_kept }
 {
     if rule_item::is_array(codes, d) {
         base_bytes::least(SIZE_KEPT, base_bytes::word_on(args, d, 1))
@@ -43,8 +43,8 @@ fn local_at(homes: &[u32], d: usize) -> usize
 }
 
 fn offset_at(codes: &[u8], args: &[u32], homes: &[u32], d: usize) -> usize
-    requires { d ≤ itemsMost }
-    ensures value { result ≡ spec.offsetAt codes.now args.now homes.now d }
+    requires { d ≤ items_most }
+    ensures value { result ≡ spec.offset_at codes.now args.now homes.now d }
     ensures upper_bound { result ≤ 65535 }
 {
     let mut n: usize = 0;
@@ -58,7 +58,7 @@ fn offset_at(codes: &[u8], args: &[u32], homes: &[u32], d: usize) -> usize
 
 // A variable's type, whether it is local, its size and where its numbers begin, in one number.
 fn slot_at(codes: &[u8], args: &[u32], homes: &[u32], d: usize) -> usize
-    requires { d ≤ itemsMost }
+    requires { d ≤ items_most }
     ensures { result ≡ spec.slot_at codes.now args.now homes.now d }
 {
     let t = type_at(codes, d);
@@ -138,8 +138,8 @@ fn link_by(
     class: u8,
     j: usize,
 ) -> usize
-    requires { (j < length codes.now) × (length codes.now ≤ itemsMost) × Chained codes.now args.now chain.now }
-    ensures { result ≡ spec.linkBy codes.now args.now homes.now starts.now class links.now j }
+    requires { (j < length codes.now) × (length codes.now ≤ items_most) × Chained codes.now args.now chain.now }
+    ensures { result ≡ spec.link_by codes.now args.now homes.now starts.now class links.now j }
 {
     match class {
         1 => meant(codes, args, homes, chain, word_at(starts, j), j),
@@ -179,8 +179,8 @@ fn fill_back(
     starts: &[u32],
     links: &mut [u32],
 )
-    requires { (length codes.now ≤ itemsMost) × Chained codes.now args.now chain.now }
-    ensures { links.new ≡ spec.filledBack codes.now args.now homes.now starts.now (length codes.now) links.old }
+    requires { (length codes.now ≤ items_most) × Chained codes.now args.now chain.now }
+    ensures { links.new ≡ spec.filled_back codes.now args.now homes.now starts.now (length codes.now) links.old }
 {
     let mut j = codes.len();
     while 0 < j {
@@ -201,7 +201,7 @@ fn fill_back(
 
 // The links of a model, into an array that stays as it is where there are too many items.
 pub fn fill_links(codes: &[u8], args: &[u32], links: &mut [u32])
-    ensures { links.new ≡ spec.linksOf codes.now args.now links.old }
+    ensures { links.new ≡ spec.links_of codes.now args.now links.old }
 {
     if base_ceilings::ITEMS_MOST < codes.len() {
         return;

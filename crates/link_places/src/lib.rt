@@ -8,14 +8,14 @@ use base_codes::{is_alone, is_lead, is_part};
 
 // Or is it none, so a mark?
 pub fn is_mark(c: u8) -> bool
-    ensures { result ≡ places.isMark c }
+    ensures { result ≡ places.is_mark c }
 {
     if is_part(c) { false } else { true }
 }
 
 // The first item from i on that is no part of an expression.
 pub fn mark_from(codes: &[u8], i: usize) -> usize
-    ensures { result ≡ places.markFrom codes.now i }
+    ensures { result ≡ places.mark_from codes.now i }
 {
     let mut k = i;
     while k < codes.len() {
@@ -29,7 +29,7 @@ pub fn mark_from(codes: &[u8], i: usize) -> usize
 
 // Does a statement have its place here?
 pub fn is_place(codes: &[u8], p: usize) -> bool
-    ensures { result ≡ places.isPlace codes.now p }
+    ensures { result ≡ places.is_place codes.now p }
 {
     if codes.len() <= p {
         return false;
@@ -48,7 +48,7 @@ pub fn is_place(codes: &[u8], p: usize) -> bool
 }
 
 fn is_stop(codes: &[u8], p: usize) -> bool
-    ensures { result ≡ places.isStop codes.now p }
+    ensures { result ≡ places.is_stop codes.now p }
 {
     either(
         base_bytes::byte_at(codes, p) == base_codes::END_BODY,
@@ -58,7 +58,7 @@ fn is_stop(codes: &[u8], p: usize) -> bool
 
 // The first place, or end of a body, from item k on.
 pub fn place_from(codes: &[u8], k: usize) -> usize
-    ensures { result ≡ places.placeFrom codes.now k }
+    ensures { result ≡ places.place_from codes.now k }
 {
     let mut i = k;
     while i < codes.len() {
@@ -71,7 +71,7 @@ pub fn place_from(codes: &[u8], k: usize) -> usize
 }
 
 fn is_opening(pair: u8, c: u8) -> bool
-    ensures { result ≡ sets.isOpening pair c }
+    ensures { result ≡ sets.is_opening pair c }
 {
     match pair {
         0 => either(c == base_codes::IF, c == base_codes::DO),
@@ -82,7 +82,7 @@ fn is_opening(pair: u8, c: u8) -> bool
 }
 
 fn is_closing(pair: u8, c: u8) -> bool
-    ensures { result ≡ sets.isClosing pair c }
+    ensures { result ≡ sets.is_closing pair c }
 {
     match pair {
         0 => either(c == base_codes::FI, c == base_codes::OD),
@@ -107,7 +107,7 @@ fn deeper(pair: u8, c: u8, d: usize) -> usize
 
 // The item that closes what is open before item k.
 pub fn close_of(codes: &[u8], pair: u8, k: usize) -> usize
-    ensures { result ≡ places.closeOf codes.now pair k }
+    ensures { result ≡ places.close_of_lem codes.now pair k }
 {
     let mut i = k;
     let mut d: usize = 1;
@@ -135,7 +135,7 @@ fn shallower(c: u8, d: usize) -> usize
 // The item that opened the selection in which item k stands.
 fn open_of(codes: &[u8], k: usize) -> usize
     requires { k < length codes.now }
-    ensures { result ≡ places.openOf codes.now k 1 }
+    ensures { result ≡ places.open_of codes.now k 1 }
 {
     let mut i = k;
     let mut d: usize = 1;
@@ -152,7 +152,7 @@ fn open_of(codes: &[u8], k: usize) -> usize
 
 fn past_option(codes: &[u8], links: &[u32], k: usize) -> usize
     requires { k < length codes.now }
-    ensures { result ≡ places.pastOption codes.now links.now k }
+    ensures { result ≡ places.past_option codes.now links.now k }
 {
     let o = open_of(codes, k);
     if base_bytes::byte_at(codes, o) == base_codes::DO {
@@ -176,7 +176,7 @@ pub fn next_from(codes: &[u8], links: &[u32], k: usize) -> usize
 
 // The place behind the loop that item j is in.
 pub fn past_loop(codes: &[u8], links: &[u32], j: usize) -> usize
-    ensures { result ≡ places.pastLoop codes.now links.now j }
+    ensures { result ≡ places.past_loop codes.now links.now j }
 {
     word_at(links, close_of(codes, 1, j))
 }

@@ -1,12 +1,12 @@
--- Mechanism, held to the specification by `demand3` (crate `demands`) as far as accepted texts and their tables go; a refusal it hands on from `judgeOf` and `genuine`.
+-- Mechanism, held to the specification by `demand3` (crate `demands`) as far as accepted texts and their tables go; a refusal it hands on from `judge_of` and `genuine`.
 -- The entries that write normal text, each with one answer and one content of lent memory: document 01, "What is answered": "7 first (last for normal text's own room)";
 -- row 7 "a lent buffer shorter than its room; for normal text, than that text", row 8 "tables are those of no accepted text".
 use Rattle.std.specs.Prelude.{List, ◌++◌, ℕ, ltb, length, drop}
-use Rattle.base_ceilings.specs.Ceilings.{tablesRoom}
+use Rattle.base_ceilings.specs.Ceilings.{tables_room}
 use Rattle.base_bytes.specs.Choice.{pick}
 use Rattle.read_passes.specs.declared.Judged.{Judged}
-use Rattle.read_passes.specs.Judging.{judgeOf, tablesText}
-use Rattle.write_texts.specs.Normal.{normalOf}
+use Rattle.read_passes.specs.Judging.{judge_of, tables_text}
+use Rattle.write_texts.specs.Normal.{normal_of}
 use Rattle.read_genuine.specs.Genuine.{written, genuine}
 use Rattle.normal_entry.specs.declared.Written.{Written}
 use Rattle.normal_entry.specs.declared.Written.TheVariants.{Text, Refused}
@@ -29,28 +29,28 @@ written_by (judged.Refused x i n) u old = Refused x i n
 -- ## what is written of numbers that are tables is f of them: here the normal text, in `layout_entry` the layout
 module _ (f : List ℕ → List ℕ) where
   -- from a text: the reader's refusals in their order, then 7
-  abbrev pub textAnswer : List ℕ → List ℕ → Written
-  textAnswer t old = written_by (judgeOf t) (f (tablesText t)) old
+  abbrev pub text_answer : List ℕ → List ℕ → Written
+  text_answer t old = written_by (judge_of t) (f (tables_text t)) old
 
-  abbrev pub textLeft : List ℕ → List ℕ → List ℕ
-  textLeft t old = put (textAnswer t old) (f (tablesText t)) old
+  abbrev pub text_left : List ℕ → List ℕ → List ℕ
+  text_left t old = put (text_answer t old) (f (tables_text t)) old
 
   -- from tables: 7 for their room, 8, then 7 for the text's own
-  unfoldable pub tablesAnswer : List ℕ → List ℕ → Written
-  tablesAnswer ts old = pick (ltb (length ts) tablesRoom) (Refused 7 0 0) (pick (genuine ts) (roomy (f (written ts)) old) (Refused 8 0 0))
+  unfoldable pub tables_answer : List ℕ → List ℕ → Written
+  tables_answer ts old = pick (ltb (length ts) tables_room) (Refused 7 0 0) (pick (genuine ts) (roomy (f (written ts)) old) (Refused 8 0 0))
 
-  abbrev pub tablesLeft : List ℕ → List ℕ → List ℕ
-  tablesLeft ts old = put (tablesAnswer ts old) (f (written ts)) old
+  abbrev pub tables_left : List ℕ → List ℕ → List ℕ
+  tables_left ts old = put (tables_answer ts old) (f (written ts)) old
 
 -- ## the normal text
 abbrev pub answer_of : List ℕ → List ℕ → Written
-answer_of t old = textAnswer normalOf t old
+answer_of t old = text_answer normal_of t old
 
 abbrev pub left_of : List ℕ → List ℕ → List ℕ
-left_of t old = textLeft normalOf t old
+left_of t old = text_left normal_of t old
 
-abbrev pub answerFrom : List ℕ → List ℕ → Written
-answerFrom ts old = tablesAnswer normalOf ts old
+abbrev pub answer_from : List ℕ → List ℕ → Written
+answer_from ts old = tables_answer normal_of ts old
 
-abbrev pub leftFrom : List ℕ → List ℕ → List ℕ
-leftFrom ts old = tablesLeft normalOf ts old
+abbrev pub left_from : List ℕ → List ℕ → List ℕ
+left_from ts old = tables_left normal_of ts old

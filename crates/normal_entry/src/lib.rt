@@ -1,8 +1,8 @@
 // The entries that write normal text: of a model's text, and of tables.
 ghost use Rattle.std.specs.Prelude.{◌≡◌, ◌≤◌, length};
-ghost use Rattle.base_ceilings.specs.Ceilings.{normalMost};
-ghost use Rattle.write_texts.specs.Normal.{normalOf};
-ghost use Rattle.normal_entry.specs.Entries.{roomy, put, answer_of, left_of, answerFrom, leftFrom};
+ghost use Rattle.base_ceilings.specs.Ceilings.{normal_most};
+ghost use Rattle.write_texts.specs.Normal.{normal_of};
+ghost use Rattle.normal_entry.specs.Entries.{roomy, put, answer_of, left_of, answer_from, left_from};
 
 use read_passes::Judged;
 
@@ -15,9 +15,9 @@ pub enum Written {
 
 // The normal text of the tables w, if there is room for it.
 fn lay(w: &[u32], out: &mut [u8]) -> Written
-    requires { length (normalOf w.now) ≤ normalMost }
-    ensures value { result ≡ roomy (normalOf w.now) out.old }
-    ensures out_after { out.new ≡ put result (normalOf w.now) out.old }
+    requires { length (normal_of w.now) ≤ normal_most }
+    ensures value { result ≡ roomy (normal_of w.now) out.old }
+    ensures out_after { out.new ≡ put result (normal_of w.now) out.old }
 {
     let mut text = [0u8; base_ceilings::NORMAL_MOST];
     let n = write_texts::write_normal(w, &mut text);
@@ -43,8 +43,8 @@ pub fn normal(text: &[u8], out: &mut [u8]) -> Written
 
 // The normal text that tables hold.
 pub fn normal_of(tables: &[u32], out: &mut [u8]) -> Written
-    ensures value { result ≡ answerFrom tables.now out.old }
-    ensures out_after { out.new ≡ leftFrom tables.now out.old }
+    ensures value { result ≡ answer_from tables.now out.old }
+    ensures out_after { out.new ≡ left_from tables.now out.old }
 {
     if tables.len() < base_ceilings::TABLES_ROOM {
         return Written::Refused(7, 0, 0);

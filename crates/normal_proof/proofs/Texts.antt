@@ -5,44 +5,44 @@ use native.Mathlib.Omega.{arith}
 use mathlib.Core.Path.{◌≡◌, sym, ◌∙◌, ap}
 use mathlib.Core.List.{List}
 use lib.ListN.{length}
-use Rattle.base_ceilings.specs.Ceilings.{normalMost}
+use Rattle.base_ceilings.specs.Ceilings.{normal_most}
 use Rattle.read_passes.specs.declared.Judged.TheVariants.{Accepted}
-use Rattle.read_passes.specs.Judging.{judgeOf, tablesText}
-use Rattle.read_accepts_proof.specs.Meaning.{Accepts, linksAt}
-use Rattle.read_accepts_proof.proofs.Main.{accepted-means}
-use Rattle.read_accepts_proof.proofs.Alike.{accepted-slim}
-use Rattle.read_accepts_proof.proofs.Tables.{text-tables, tree-tables}
-use Rattle.write_texts.specs.Normal.{normalOf}
+use Rattle.read_passes.specs.Judging.{judge_of, tables_text}
+use Rattle.read_accepts_proof.specs.Meaning.{Accepts, links_at}
+use Rattle.read_accepts_proof.proofs.Main.{accepted_means}
+use Rattle.read_accepts_proof.proofs.Alike.{accepted_slim}
+use Rattle.read_accepts_proof.proofs.Tables.{text-tables, tree_tables}
+use Rattle.write_texts.specs.Normal.{normal_of}
 use Rattle.spec_normal.specs.Normal.{normal}
-use Rattle.normal_proof.proofs.Trees.{never-longer, normal-reads, tables-normal, printed-accepted, printed-tree, printed-alike}
-use Rattle.normal_proof.specs.Texts.{normalText}
+use Rattle.normal_proof.proofs.Trees.{never_longer, normal-reads, tables-normal, printed_accepted, printed_tree, printed-alike}
+use Rattle.normal_proof.specs.Texts.{normal_text}
 
 module _ (t : List ℕ) (a : Accepts t) where
-  pub text-normal : normalText t ≡ normal a.tree
-  text-normal = ap normalOf (text-tables t a) ∙ tables-normal t a (linksAt t a)
+  pub text-normal : normal_text t ≡ normal a.tree
+  text-normal = ap normal_of (text-tables t a) ∙ tables-normal t a (links_at t a)
 
-  pub text-never-longer : length (normalText t) ≤ length t
-  text-never-longer = omega (arith, ap length text-normal, never-longer t a)
+  pub text_never_longer : length (normal_text t) ≤ length t
+  text_never_longer = omega (arith, ap length text-normal, never_longer t a)
 
-  pub text-short : length (normalText t) ≤ normalMost
-  text-short = omega (arith, ap length text-normal, accepted-slim t a)
+  pub text-short : length (normal_text t) ≤ normal_most
+  text-short = omega (arith, ap length text-normal, accepted_slim t a)
 
-  pub text-accepted : judgeOf (normalText t) ≡ Accepted
-  text-accepted = ap judgeOf text-normal ∙ printed-accepted t a (normal a.tree) (normal-reads t a)
+  pub text_accepted : judge_of (normal_text t) ≡ Accepted
+  text_accepted = ap judge_of text-normal ∙ printed_accepted t a (normal a.tree) (normal-reads t a)
 
   again : Accepts (normal a.tree)
-  again = accepted-means (normal a.tree) (printed-accepted t a (normal a.tree) (normal-reads t a))
+  again = accepted_means (normal a.tree) (printed_accepted t a (normal a.tree) (normal-reads t a))
 
   -- "reads back to the same tables": so every entry that takes tables answers alike for a text and its normal text
-  pub normal-tables : tablesText (normalText t) ≡ tablesText t
-  normal-tables = ap tablesText text-normal ∙ tree-tables (normal a.tree) t again a (printed-tree t a (normal a.tree) (normal-reads t a) again)
+  pub normal-tables : tables_text (normal_text t) ≡ tables_text t
+  normal-tables = ap tables_text text-normal ∙ tree_tables (normal a.tree) t again a (printed_tree t a (normal a.tree) (normal-reads t a) again)
 
-  pub own-normal : normalText (normalText t) ≡ normalText t
-  own-normal = ap normalOf normal-tables
+  pub own_normal : normal_text (normal_text t) ≡ normal_text t
+  own_normal = ap normal_of normal-tables
 
 module _ (t u : List ℕ) (a : Accepts t) (b : Accepts u) where
-  pub equal-texts : normalText t ≡ normalText u → a.tree ≡ b.tree
-  equal-texts e = printed-alike t u a b (normal a.tree) (normal b.tree) (normal-reads t a) (normal-reads u b) (sym (text-normal t a) ∙ e ∙ text-normal u b)
+  pub equal_texts : normal_text t ≡ normal_text u → a.tree ≡ b.tree
+  equal_texts e = printed-alike t u a b (normal a.tree) (normal b.tree) (normal-reads t a) (normal-reads u b) (sym (text-normal t a) ∙ e ∙ text-normal u b)
 
-  pub same-texts : a.tree ≡ b.tree → normalText t ≡ normalText u
-  same-texts e = text-normal t a ∙ ap normal e ∙ sym (text-normal u b)
+  pub same_texts : a.tree ≡ b.tree → normal_text t ≡ normal_text u
+  same_texts e = text-normal t a ∙ ap normal e ∙ sym (text-normal u b)

@@ -1,4 +1,4 @@
--- Bridge: what `parse-sound`, `parse-complete` (crate `parse_grammar`) hold the parser to; that it says all that the tree says, by `code-injective` (crate `parse_code`).
+-- Bridge: what `parse-sound`, `parse_complete` (crate `parse_grammar`) hold the parser to; that it says all that the tree says, by `code_injective` (crate `parse_code`).
 -- The code of a tree: a list of items in text order, expressions in postfix, on which all later passes work. It says all that the tree says (proofs/Build.antt).
 -- An item with a payload comes from one token (name, number, string, type). It is followed, at once or after an index, by the mark that says what it is for:
 --   a reference   name plain | name INDEX index, with INDEX an expression; as an operand nothing follows, else: len, target, increment, decrement, send, receive or into
@@ -14,108 +14,108 @@
 --   a body        body DECLARATIONS STATEMENTS end-body
 use Rattle.std.proofs.Math.Option.{Option, none, some}
 use Rattle.std.specs.Prelude.{List, [], ◌∷◌, ◌++◌, ℕ}
-use Rattle.base_codes.specs.Items.{Item, i-active, i-active-many, i-argument, i-assert, i-assign, i-binary, i-body, i-break, i-channel, i-choice, i-constant, i-declared, i-decrement, i-do, i-else, i-end, i-end-body, i-end-option, i-equal, i-express, i-false, i-fi, i-field, i-global, i-goto, i-group, i-if, i-increment, i-index, i-init, i-into, i-label, i-query, i-local, i-message, i-minus, i-mtypes, i-name, i-named, i-number, i-od, i-option, i-otherwise, i-parameter, i-plain, i-proctype, i-receive, i-run, i-send, i-set-run, i-size, i-skip, i-target, i-text, i-timeout, i-true, i-type, i-unary, i-value}
-use Rattle.spec_grammar.specs.Tree.{Name, Shape, Exp, plain, indexed, num, tru, fls, get, query, unary, binary, choice, Expr, Received, into, equal, exactly, exactly-true, exactly-false, Leaf, express, assign, increment, decrement, send, receive, assert, print, skip, goto, break, timeout, else, run, set-run, Sort, Tree, leaf, select, loop, bare, labelled, end, then, over, option, Value, unset, set-number, set-minus, set-true, set-false, set-name, set-channel, Variable, variable, Declaration, declare, Group, group, Body, body, Activity, idle, once, times, Part, mtypes, global, process, init, Model}
+use Rattle.base_codes.specs.Items.{Item, i_active, i_active_many, i_argument, i_assert, i_assign, i_binary, i_body, i_break, i_channel, i_choice, i_constant, i_declared, i_decrement, i_do, i_else, i_end, i_end_body, i_end_option, i_equal, i_express, i_false, i_fi, i_field, i_global, i_goto, i_group, i_if, i_increment, i_index, i_init, i_into, i_label, i_query, i_local, i_message, i_minus, i_mtypes, i_name, i_named, i_number, i_od, i_option, i_otherwise, i_parameter, i_plain, i_proctype, i_receive, i_run, i_send, i_set_run, i_size, i_skip, i_target, i_text, i_timeout, i_true, i_type, i_unary, i_value}
+use Rattle.spec_grammar.specs.Tree.{Name, Shape, Exp, plain, indexed, num, tru, fls, get, query, unary, binary, choice, Expr, Received, into, equal, exactly, exactly_true, exactly_false, Leaf, express, assign, increment, decrement, send, receive, assert, print, skip, goto, break, timeout, else, run, set_run, Sort, Tree, leaf, select, loop, bare, labelled, end, then, over, option, Value, unset, set_number, set_minus, set_true, set_false, set_name, set_channel, Variable, variable, Declaration, declare, Group, group, Body, body, Activity, idle, once, times, Part, mtypes, global, process, init, Model}
 
 abbrev pub each : {A : Type 0} → (A → List Item) → List A → List Item
 each f [] = []
 each f (a ∷ l) = f a ++ each f l
 
-abbrev pub code-exp : {s : Shape} → Exp s → List Item
-code-exp (plain w) = i-name w ∷ i-plain ∷ []
-code-exp (indexed w e) = i-name w ∷ code-exp e ++ i-index ∷ []
-code-exp (num n) = i-number n ∷ []
-code-exp tru = i-true ∷ []
-code-exp fls = i-false ∷ []
-code-exp (get r) = code-exp r
-code-exp (query o r) = code-exp r ++ i-query o ∷ []
-code-exp (unary o e) = code-exp e ++ i-unary o ∷ []
-code-exp (binary o a b) = code-exp a ++ code-exp b ++ i-binary o ∷ []
-code-exp (choice a b c) = code-exp a ++ code-exp b ++ i-otherwise ∷ code-exp c ++ i-choice ∷ []
+abbrev pub code_exp : {s : Shape} → Exp s → List Item
+code_exp (plain w) = i_name w ∷ i_plain ∷ []
+code_exp (indexed w e) = i_name w ∷ code_exp e ++ i_index ∷ []
+code_exp (num n) = i_number n ∷ []
+code_exp tru = i_true ∷ []
+code_exp fls = i_false ∷ []
+code_exp (get r) = code_exp r
+code_exp (query o r) = code_exp r ++ i_query o ∷ []
+code_exp (unary o e) = code_exp e ++ i_unary o ∷ []
+code_exp (binary o a b) = code_exp a ++ code_exp b ++ i_binary o ∷ []
+code_exp (choice a b c) = code_exp a ++ code_exp b ++ i_otherwise ∷ code_exp c ++ i_choice ∷ []
 
-abbrev pub code-argument : Expr → List Item
-code-argument e = code-exp e ++ i-argument ∷ []
+abbrev pub code_argument : Expr → List Item
+code_argument e = code_exp e ++ i_argument ∷ []
 
-abbrev pub code-received : Received → List Item
-code-received (into r) = code-exp r ++ i-into ∷ []
-code-received (equal e) = code-exp e ++ i-equal ∷ []
-code-received (exactly n) = i-number n ∷ i-constant ∷ []
-code-received exactly-true = i-true ∷ i-constant ∷ []
-code-received exactly-false = i-false ∷ i-constant ∷ []
+abbrev pub code_received : Received → List Item
+code_received (into r) = code_exp r ++ i_into ∷ []
+code_received (equal e) = code_exp e ++ i_equal ∷ []
+code_received (exactly n) = i_number n ∷ i_constant ∷ []
+code_received exactly_true = i_true ∷ i_constant ∷ []
+code_received exactly_false = i_false ∷ i_constant ∷ []
 
-abbrev pub code-leaf : Leaf → List Item
-code-leaf (express e) = code-exp e ++ i-express ∷ []
-code-leaf (assign r e) = code-exp r ++ i-target ∷ code-exp e ++ i-assign ∷ []
-code-leaf (increment r) = code-exp r ++ i-increment ∷ []
-code-leaf (decrement r) = code-exp r ++ i-decrement ∷ []
-code-leaf (send o r es) = code-exp r ++ i-send o ∷ each code-argument es ++ i-end ∷ []
-code-leaf (receive o r xs) = code-exp r ++ i-receive o ∷ each code-received xs ++ i-end ∷ []
-code-leaf (assert e) = code-exp e ++ i-assert ∷ []
-code-leaf (print w es) = i-text w ∷ each code-argument es ++ i-end ∷ []
-code-leaf skip = i-skip ∷ []
-code-leaf (goto w) = i-name w ∷ i-goto ∷ []
-code-leaf break = i-break ∷ []
-code-leaf timeout = i-timeout ∷ []
-code-leaf else = i-else ∷ []
-code-leaf (run w es) = i-name w ∷ i-run ∷ each code-argument es ++ i-end ∷ []
-code-leaf (set-run r w es) = code-exp r ++ i-target ∷ i-name w ∷ i-set-run ∷ each code-argument es ++ i-end ∷ []
+abbrev pub code_leaf : Leaf → List Item
+code_leaf (express e) = code_exp e ++ i_express ∷ []
+code_leaf (assign r e) = code_exp r ++ i_target ∷ code_exp e ++ i_assign ∷ []
+code_leaf (increment r) = code_exp r ++ i_increment ∷ []
+code_leaf (decrement r) = code_exp r ++ i_decrement ∷ []
+code_leaf (send o r es) = code_exp r ++ i_send o ∷ each code_argument es ++ i_end ∷ []
+code_leaf (receive o r xs) = code_exp r ++ i_receive o ∷ each code_received xs ++ i_end ∷ []
+code_leaf (assert e) = code_exp e ++ i_assert ∷ []
+code_leaf (print w es) = i_text w ∷ each code_argument es ++ i_end ∷ []
+code_leaf skip = i_skip ∷ []
+code_leaf (goto w) = i_name w ∷ i_goto ∷ []
+code_leaf break = i_break ∷ []
+code_leaf timeout = i_timeout ∷ []
+code_leaf else = i_else ∷ []
+code_leaf (run w es) = i_name w ∷ i_run ∷ each code_argument es ++ i_end ∷ []
+code_leaf (set_run r w es) = code_exp r ++ i_target ∷ i_name w ∷ i_set_run ∷ each code_argument es ++ i_end ∷ []
 
-abbrev pub code-tree : {k : Sort} → Tree k → List Item
-code-tree (leaf l) = code-leaf l
-code-tree (select os) = i-if ∷ code-tree os ++ i-fi ∷ []
-code-tree (loop os) = i-do ∷ code-tree os ++ i-od ∷ []
-code-tree (bare a) = code-tree a
-code-tree (labelled w a) = i-name w ∷ i-label ∷ code-tree a
-code-tree end = []
-code-tree (then s q) = code-tree s ++ code-tree q
-code-tree over = []
-code-tree (option q os) = i-option ∷ code-tree q ++ i-end-option ∷ code-tree os
+abbrev pub code_tree : {k : Sort} → Tree k → List Item
+code_tree (leaf l) = code_leaf l
+code_tree (select os) = i_if ∷ code_tree os ++ i_fi ∷ []
+code_tree (loop os) = i_do ∷ code_tree os ++ i_od ∷ []
+code_tree (bare a) = code_tree a
+code_tree (labelled w a) = i_name w ∷ i_label ∷ code_tree a
+code_tree end = []
+code_tree (then s q) = code_tree s ++ code_tree q
+code_tree over = []
+code_tree (option q os) = i_option ∷ code_tree q ++ i_end_option ∷ code_tree os
 
-abbrev pub code-field : ℕ → List Item
-code-field k = i-type k ∷ i-field ∷ []
+abbrev pub code_field : ℕ → List Item
+code_field k = i_type k ∷ i_field ∷ []
 
-abbrev pub code-size : Option ℕ → List Item
-code-size none = []
-code-size (some n) = i-number n ∷ i-size ∷ []
+abbrev pub code_size : Option ℕ → List Item
+code_size none = []
+code_size (some n) = i_number n ∷ i_size ∷ []
 
-abbrev pub code-value : Value → List Item
-code-value unset = []
-code-value (set-number n) = i-number n ∷ i-value ∷ []
-code-value (set-minus n) = i-number n ∷ i-minus ∷ []
-code-value set-true = i-true ∷ i-value ∷ []
-code-value set-false = i-false ∷ i-value ∷ []
-code-value (set-name w) = i-name w ∷ i-named ∷ []
-code-value (set-channel n ks) = i-number n ∷ i-channel ∷ each code-field ks
+abbrev pub code_value : Value → List Item
+code_value unset = []
+code_value (set_number n) = i_number n ∷ i_value ∷ []
+code_value (set_minus n) = i_number n ∷ i_minus ∷ []
+code_value set_true = i_true ∷ i_value ∷ []
+code_value set_false = i_false ∷ i_value ∷ []
+code_value (set_name w) = i_name w ∷ i_named ∷ []
+code_value (set_channel n ks) = i_number n ∷ i_channel ∷ each code_field ks
 
-abbrev pub code-variable : Variable → List Item
-code-variable (variable w s v) = i-name w ∷ i-declared ∷ code-size s ++ code-value v
+abbrev pub code_variable : Variable → List Item
+code_variable (variable w s v) = i_name w ∷ i_declared ∷ code_size s ++ code_value v
 
 -- the mark is `local` or `global`
-abbrev pub code-declaration : Item → Declaration → List Item
-code-declaration i (declare k xs) = i-type k ∷ i ∷ each code-variable xs
+abbrev pub code_declaration : Item → Declaration → List Item
+code_declaration i (declare k xs) = i_type k ∷ i ∷ each code_variable xs
 
-abbrev pub code-parameter : Name → List Item
-code-parameter w = i-name w ∷ i-parameter ∷ []
+abbrev pub code_parameter : Name → List Item
+code_parameter w = i_name w ∷ i_parameter ∷ []
 
-abbrev pub code-group : Group → List Item
-code-group (group k ws) = i-type k ∷ i-group ∷ each code-parameter ws
+abbrev pub code_group : Group → List Item
+code_group (group k ws) = i_type k ∷ i_group ∷ each code_parameter ws
 
 abbrev pub code_body : Body → List Item
-code_body (body ds q) = i-body ∷ each (code-declaration i-local) ds ++ code-tree q ++ i-end-body ∷ []
+code_body (body ds q) = i_body ∷ each (code_declaration i_local) ds ++ code_tree q ++ i_end_body ∷ []
 
-abbrev pub code-activity : Activity → Name → List Item
-code-activity idle w = i-name w ∷ i-proctype ∷ []
-code-activity once w = i-name w ∷ i-active ∷ []
-code-activity (times n) w = i-number n ∷ i-name w ∷ i-active-many ∷ []
+abbrev pub code_activity : Activity → Name → List Item
+code_activity idle w = i_name w ∷ i_proctype ∷ []
+code_activity once w = i_name w ∷ i_active ∷ []
+code_activity (times n) w = i_number n ∷ i_name w ∷ i_active_many ∷ []
 
-abbrev pub code-message : Name → List Item
-code-message w = i-name w ∷ i-message ∷ []
+abbrev pub code_message : Name → List Item
+code_message w = i_name w ∷ i_message ∷ []
 
-abbrev pub code-part : Part → List Item
-code-part (mtypes ws) = i-mtypes ∷ each code-message ws
-code-part (global d) = code-declaration i-global d
-code-part (process a w gs b) = code-activity a w ++ each code-group gs ++ code_body b
-code-part (init b) = i-init ∷ code_body b
+abbrev pub code_part : Part → List Item
+code_part (mtypes ws) = i_mtypes ∷ each code_message ws
+code_part (global d) = code_declaration i_global d
+code_part (process a w gs b) = code_activity a w ++ each code_group gs ++ code_body b
+code_part (init b) = i_init ∷ code_body b
 
 abbrev pub code : Model → List Item
-code m = each code-part m
+code m = each code_part m

@@ -1,11 +1,11 @@
 // How deep brackets and selections nest, over the kinds of tokens: the ceilings that are judged beside the grammar.
 ghost use Rattle.std.specs.Prelude.{◌≡◌, ◌-◌, ◌≤◌};
-ghost use Rattle.base_ceilings.specs.Ceilings.{bracketsMost};
-ghost use Rattle.parse_machine.specs.Depth.{brackets, selections, too-deep};
+ghost use Rattle.base_ceilings.specs.Ceilings.{brackets_most};
+ghost use Rattle.parse_machine.specs.Depth.{brackets, selections, too_deep};
 
 // How many brackets are open after a token, where n were open before it.
 fn brackets(k: u8, n: usize) -> usize
-    requires { n ≤ bracketsMost }
+    requires { n ≤ brackets_most }
     ensures { result ≡ brackets k n }
 {
     match k {
@@ -21,7 +21,7 @@ fn brackets(k: u8, n: usize) -> usize
 
 // The same for selections.
 fn selections(k: u8, n: usize) -> usize
-    requires { n ≤ bracketsMost }
+    requires { n ≤ brackets_most }
     ensures { result ≡ selections k n }
 {
     match k {
@@ -35,7 +35,7 @@ fn selections(k: u8, n: usize) -> usize
 
 // The place of the first token that is too deep; one past the end where there is none.
 pub fn first_too_deep(kinds: &[u8]) -> usize
-    ensures { result ≡ too-deep kinds.now }
+    ensures { result ≡ too_deep kinds.now }
 {
     let mut b: usize = 0;
     let mut s: usize = 0;

@@ -14,45 +14,45 @@ use Rattle.spec_grammar.specs.Grammar.{Gram}
 use Rattle.base_codes.specs.Items.{Item}
 use Rattle.parse_code.specs.Code.{code}
 use Rattle.parse_grammar.specs.Engine.{Answer, ok, bad}
-use Rattle.parse_grammar.specs.Guide.{parse-model}
-use Rattle.spec_grammar.specs.Depth.{too-deep}
-use Rattle.parse_grammar.specs.Judge.{GrammarAnswer, accepted, refused-2, refused-3, judged, judge}
+use Rattle.parse_grammar.specs.Guide.{parse_model}
+use Rattle.spec_grammar.specs.Depth.{too_deep}
+use Rattle.parse_grammar.specs.Judge.{GrammarAnswer, accepted, refused_2, refused_3, judged, judge}
 use Rattle.spec_grammar.specs.Viable.{StrayAt}
 use Rattle.spec_grammar.specs.Refusals.{Two, Three}
-use Rattle.parse_grammar.proofs.Main.{parse-sound, parse-complete, parse-refused}
+use Rattle.parse_grammar.proofs.Main.{parse-sound, parse_complete, parse_refused}
 
 -- accepted exactly where there is a tree and no token passes a ceiling
-pub judge-sound : (ts : List Token) (o : List Item) → judge ts ≡ accepted o → (m : Model) × Gram ts m × (o ≡ code m) × (too-deep ts ≡ none)
-judge-sound ts o e = go (parse-model ts) refl (too-deep ts) refl e
+pub judge-sound : (ts : List Token) (o : List Item) → judge ts ≡ accepted o → (m : Model) × Gram ts m × (o ≡ code m) × (too_deep ts ≡ none)
+judge-sound ts o e = go (parse_model ts) refl (too_deep ts) refl e
   where
-    pick : (x : Bool) (i j : ℕ) → cond x (refused-2 i) (refused-3 j) ≡ accepted o → ◌≡◌ {A = ℕ} 0 1
+    pick : (x : Bool) (i j : ℕ) → cond x (refused_2 i) (refused_3 j) ≡ accepted o → ◌≡◌ {A = ℕ} 0 1
     pick true i j e = cc
     pick false i j e = cc
 
-    go : (a : Answer Item) → parse-model ts ≡ a → (d : Option ℕ) → too-deep ts ≡ d → judged a d ≡ accepted o → (m : Model) × Gram ts m × (o ≡ code m) × (too-deep ts ≡ none)
+    go : (a : Answer Item) → parse_model ts ≡ a → (d : Option ℕ) → too_deep ts ≡ d → judged a d ≡ accepted o → (m : Model) × Gram ts m × (o ≡ code m) × (too_deep ts ≡ none)
     go (ok p) h none i e = let q : p ≡ o = cc in let (m, x, y) = parse-sound ts o (rw q at h) in (m, x, y, i)
     go (ok p) h (some k) i e = absurd (let z : ◌≡◌ {A = ℕ} 0 1 = cc in omega arith)
     go (bad j) h none i e = absurd (let z : ◌≡◌ {A = ℕ} 0 1 = cc in omega arith)
     go (bad j) h (some k) i e = absurd (omega (arith, pick (leb k j) k j e))
 
-pub judge-complete : (ts : List Token) (m : Model) → Gram ts m → too-deep ts ≡ none → judge ts ≡ accepted (code m)
-judge-complete ts m x h = rw (parse-complete ts m x, h)
+pub judge_complete : (ts : List Token) (m : Model) → Gram ts m → too_deep ts ≡ none → judge ts ≡ accepted (code m)
+judge_complete ts m x h = rw (parse_complete ts m x, h)
 
 -- refusal 3 is at the exact place of the grammar
-pub judge-three : (ts : List Token) (i : ℕ) → judge ts ≡ refused-3 i → Three ts i
-judge-three ts i e = go (parse-model ts) refl (too-deep ts) refl e
+pub judge-three : (ts : List Token) (i : ℕ) → judge ts ≡ refused_3 i → Three ts i
+judge-three ts i e = go (parse_model ts) refl (too_deep ts) refl e
   where
-    pick : (x : Bool) (k j : ℕ) → cond x (refused-2 k) (refused-3 j) ≡ refused-3 i → (x ≡ false) × (j ≡ i)
+    pick : (x : Bool) (k j : ℕ) → cond x (refused_2 k) (refused_3 j) ≡ refused_3 i → (x ≡ false) × (j ≡ i)
     pick true k j e = absurd (let z : ◌≡◌ {A = ℕ} 0 1 = cc in omega arith)
     pick false k j e = (refl, cc)
 
-    go : (a : Answer Item) → parse-model ts ≡ a → (d : Option ℕ) → too-deep ts ≡ d → judged a d ≡ refused-3 i → Three ts i
+    go : (a : Answer Item) → parse_model ts ≡ a → (d : Option ℕ) → too_deep ts ≡ d → judged a d ≡ refused_3 i → Three ts i
     go (ok p) h none g e = absurd (let z : ◌≡◌ {A = ℕ} 0 1 = cc in omega arith)
     go (ok p) h (some k) g e = absurd (let z : ◌≡◌ {A = ℕ} 0 1 = cc in omega arith)
-    go (bad j) h none g e = let q : j ≡ i = cc in record { place = parse-refused ts i (rw q at h); first = λ k f. absurd (let z : ◌≡◌ {A = ℕ} 0 1 = cc in omega arith) }
+    go (bad j) h none g e = let q : j ≡ i = cc in record { place = parse_refused ts i (rw q at h); first = λ k f. absurd (let z : ◌≡◌ {A = ℕ} 0 1 = cc in omega arith) }
     go (bad j) h (some k) g e =
         let (x, q) = pick (leb k j) k j e in
-        record { place = parse-refused ts i (rw q at h); first = λ k' f. let r : k ≡ k' = cc in omega (arith, leb-false k j x) }
+        record { place = parse_refused ts i (rw q at h); first = λ k' f. let r : k ≡ k' = cc in omega (arith, leb-false k j x) }
 
 take-take : {A : Type 0} (i j : ℕ) (l : List A) → i ≤ j → (us : List A) × (take i l ++ us ≡ take j l)
 take-take zero j l h = (take j l, refl)
@@ -64,8 +64,8 @@ pub before : (ts : List Token) (i j : ℕ) → i ≤ j → (us : List Token) × 
 before ts i j h (us, m, x) = let (vs, e) = take-take i j ts h in (vs ++ us, m, rw (← append_assoc, e) x)
 
 -- refusal 3 stands at one place
-pub stray-once : (ts : List Token) (i j : ℕ) → StrayAt ts i → StrayAt ts j → i ≡ j
-stray-once ts i j a b = go (leb i j) refl (leb j i) refl
+pub stray_once : (ts : List Token) (i j : ℕ) → StrayAt ts i → StrayAt ts j → i ≡ j
+stray_once ts i j a b = go (leb i j) refl (leb j i) refl
   where
     sooner : (i j : ℕ) → StrayAt ts i → StrayAt ts j → i < j → ⊥
     sooner i j a b h = let (us, m, g) = before ts (suc i) j h b.viable in a.dead (omega (arith, b.within)) us m g
@@ -75,14 +75,14 @@ stray-once ts i j a b = go (leb i j) refl (leb j i) refl
     go true p false q = absurd (sooner i j a b (leb-false j i q))
     go true p true q = omega (arith, leb-true i j p, leb-true j i q)
 
-pub judge-two : (ts : List Token) (i : ℕ) → judge ts ≡ refused-2 i → Two ts i
-judge-two ts i e = go (parse-model ts) refl (too-deep ts) refl e
+pub judge-two : (ts : List Token) (i : ℕ) → judge ts ≡ refused_2 i → Two ts i
+judge-two ts i e = go (parse_model ts) refl (too_deep ts) refl e
   where
-    pick : (x : Bool) (k j : ℕ) → cond x (refused-2 k) (refused-3 j) ≡ refused-2 i → (x ≡ true) × (k ≡ i)
+    pick : (x : Bool) (k j : ℕ) → cond x (refused_2 k) (refused_3 j) ≡ refused_2 i → (x ≡ true) × (k ≡ i)
     pick true k j e = (refl, cc)
     pick false k j e = absurd (let z : ◌≡◌ {A = ℕ} 0 1 = cc in omega arith)
 
-    go : (a : Answer Item) → parse-model ts ≡ a → (d : Option ℕ) → too-deep ts ≡ d → judged a d ≡ refused-2 i → Two ts i
+    go : (a : Answer Item) → parse_model ts ≡ a → (d : Option ℕ) → too_deep ts ≡ d → judged a d ≡ refused_2 i → Two ts i
     go (ok p) h none g e = absurd (let z : ◌≡◌ {A = ℕ} 0 1 = cc in omega arith)
     go (ok p) h (some k) g e =
         let q : k ≡ i = cc in
@@ -91,4 +91,4 @@ judge-two ts i e = go (parse-model ts) refl (too-deep ts) refl e
     go (bad j) h none g e = absurd (let z : ◌≡◌ {A = ℕ} 0 1 = cc in omega arith)
     go (bad j) h (some k) g e =
         let (x, q) = pick (leb k j) k j e in
-        record { place = rw q at g; viable = before ts i j (omega (arith, leb-true k j x)) (parse-refused ts j h).viable }
+        record { place = rw q at g; viable = before ts i j (omega (arith, leb-true k j x)) (parse_refused ts j h).viable }

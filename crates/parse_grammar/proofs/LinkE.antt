@@ -7,14 +7,14 @@ use Prim.Native.Nat.{ℕ, zero, suc, ◌≤◌}
 use native.Mathlib.Omega.{arith}
 use lib.Dec.{T, eqb, eqb→eq, eqb-suc-zero}
 use Rattle.base_kinds.specs.Kinds.{Token, sym, level}
-use Rattle.spec_grammar.specs.Marks.{'rpar, '], ':, '->, k-len}
+use Rattle.spec_grammar.specs.Marks.{'rpar, '], ':, '->, k_len}
 use Rattle.spec_grammar.specs.Tree.{Expr}
-use Rattle.spec_grammar.specs.Grammar.{is-minus, is-not, is-flip, E, e-plain, e-index, e-number, e-true, e-false, is-len, e-query, e-group, e-choice, e-unary, e-binary, e_up}
-use Rattle.base_codes.specs.Items.{Item, i-binary, i-choice, i-express, i-index, i-query, i-otherwise, i-unary}
-use Rattle.parse_code.specs.Code.{code-exp}
-use Rattle.spec_grammar.proofs.Levels.{operator-small, level-top}
+use Rattle.spec_grammar.specs.Grammar.{is_minus, is_not, is_flip, E, e_plain, e_index, e_number, e_true, e_false, is_len, e_query, e_group, e_choice, e_unary, e_binary, e_up}
+use Rattle.base_codes.specs.Items.{Item, i_binary, i_choice, i_express, i_index, i_query, i_otherwise, i_unary}
+use Rattle.parse_code.specs.Code.{code_exp}
+use Rattle.spec_grammar.proofs.Levels.{operator_small, level_top}
 use Rattle.parse_grammar.specs.Engine.{nt, tm, act, In, here, there, L, emit, eat, by}
-use Rattle.parse_grammar.specs.Productions.{NT, e1, e2, e3, e4, e5, e6, e7, e8, e9, e10, t1, t2, t3, t4, t5, t6, t7, t8, t9, t10, n-operand, n-ref, n-ix, n-closing, n-action, n-after-ref, sy, any_name, Right, key, eats, operators, operation, tails, prods, G}
+use Rattle.parse_grammar.specs.Productions.{NT, e1, e2, e3, e4, e5, e6, e7, e8, e9, e10, t1, t2, t3, t4, t5, t6, t7, t8, t9, t10, n_operand, n_ref, n_ix, n_closing, n_action, n_after_ref, sy, any_name, Right, key, eats, operators, operation, tails, prods, G}
 use Rattle.parse_grammar.proofs.Tests.{below_out}
 use Rattle.parse_grammar.proofs.Inst.{eqb_same}
 use Rattle.base_bytes.specs.Choice.{either}
@@ -32,8 +32,8 @@ ne (suc (suc (suc (suc (suc (suc (suc zero))))))) = e7
 ne (suc (suc (suc (suc (suc (suc (suc (suc zero)))))))) = e8
 ne (suc (suc (suc (suc (suc (suc (suc (suc (suc zero))))))))) = e9
 ne (suc (suc (suc (suc (suc (suc (suc (suc (suc (suc zero)))))))))) = e10
-ne (suc (suc (suc (suc (suc (suc (suc (suc (suc (suc (suc zero))))))))))) = n-operand
-ne (suc (suc (suc (suc (suc (suc (suc (suc (suc (suc (suc (suc l)))))))))))) = n-ref
+ne (suc (suc (suc (suc (suc (suc (suc (suc (suc (suc (suc zero))))))))))) = n_operand
+ne (suc (suc (suc (suc (suc (suc (suc (suc (suc (suc (suc (suc l)))))))))))) = n_ref
 
 abbrev pub tl : ℕ → NT
 tl zero = t1
@@ -125,65 +125,65 @@ abbrev member : ℕ → List ℕ → Bool
 member i [] = false
 member i (j ∷ l) = either (eqb i j) (member i l)
 
-member-in : (i : ℕ) (l : List ℕ) → T (member i l) → In i l
-member-in i [] t = absurd t
-member-in i (j ∷ l) t = go (eqb i j) refl t (member-in i l)
+member_in : (i : ℕ) (l : List ℕ) → T (member i l) → In i l
+member_in i [] t = absurd t
+member_in i (j ∷ l) t = go (eqb i j) refl t (member_in i l)
   where
     go : (b : Bool) → eqb i j ≡ b → T (either b (member i l)) → (T (member i l) → In i l) → In i (j ∷ l)
     go true e u f = let p : i ≡ j = eqb→eq i j (rw e tt) in rw p here
     go false e u f = there (f u)
 
-map-in : {X Y : Type 0} (f : X → Y) (l : List X) (x : X) → In x l → In (f x) (map f l)
-map-in f (y ∷ l) x here = here
-map-in f (y ∷ l) x (there m) = there (map-in f l x m)
+map_in : {X Y : Type 0} (f : X → Y) (l : List X) (x : X) → In x l → In (f x) (map f l)
+map_in f (y ∷ l) x here = here
+map_in f (y ∷ l) x (there m) = there (map_in f l x m)
 
-abbrev operator-test : ℕ → Bool
-operator-test o = either (eqb (level o) 0) (member o (operators (level o)))
+abbrev operator_test : ℕ → Bool
+operator_test o = either (eqb (level o) 0) (member o (operators (level o)))
 
-is-operator : (o l : ℕ) → level o ≡ suc l → T (member o (operators (suc l)))
-is-operator o l e =
-    let t : T (either (eqb (suc l) 0) (member o (operators (suc l)))) = rw e at (below_out 19 operator-test tt o (operator-small o l e)) in
+is_operator : (o l : ℕ) → level o ≡ suc l → T (member o (operators (suc l)))
+is_operator o l e =
+    let t : T (either (eqb (suc l) 0) (member o (operators (suc l)))) = rw e at (below_out 19 operator_test tt o (operator_small o l e)) in
     rw (eqb-suc-zero l) at t
 
-operator-row : (l : ℕ) {r : Right} → 1 ≤ l → l ≤ 10 → In r (map (operation (ne (suc l)) (tl l)) (operators l)) → In r (prods (tl l))
-operator-row zero h i m = absurd (omega arith)
-operator-row (suc zero) h i m = there m
-operator-row (suc (suc zero)) h i m = there m
-operator-row (suc (suc (suc zero))) h i m = there m
-operator-row (suc (suc (suc (suc zero)))) h i m = there m
-operator-row (suc (suc (suc (suc (suc zero))))) h i m = there m
-operator-row (suc (suc (suc (suc (suc (suc zero)))))) h i m = there m
-operator-row (suc (suc (suc (suc (suc (suc (suc zero))))))) h i m = there m
-operator-row (suc (suc (suc (suc (suc (suc (suc (suc zero)))))))) h i m = there m
-operator-row (suc (suc (suc (suc (suc (suc (suc (suc (suc zero))))))))) h i m = there m
-operator-row (suc (suc (suc (suc (suc (suc (suc (suc (suc (suc zero)))))))))) h i m = there m
-operator-row (suc (suc (suc (suc (suc (suc (suc (suc (suc (suc (suc l))))))))))) h i m = absurd (omega arith)
+operator_row : (l : ℕ) {r : Right} → 1 ≤ l → l ≤ 10 → In r (map (operation (ne (suc l)) (tl l)) (operators l)) → In r (prods (tl l))
+operator_row zero h i m = absurd (omega arith)
+operator_row (suc zero) h i m = there m
+operator_row (suc (suc zero)) h i m = there m
+operator_row (suc (suc (suc zero))) h i m = there m
+operator_row (suc (suc (suc (suc zero)))) h i m = there m
+operator_row (suc (suc (suc (suc (suc zero))))) h i m = there m
+operator_row (suc (suc (suc (suc (suc (suc zero)))))) h i m = there m
+operator_row (suc (suc (suc (suc (suc (suc (suc zero))))))) h i m = there m
+operator_row (suc (suc (suc (suc (suc (suc (suc (suc zero)))))))) h i m = there m
+operator_row (suc (suc (suc (suc (suc (suc (suc (suc (suc zero))))))))) h i m = there m
+operator_row (suc (suc (suc (suc (suc (suc (suc (suc (suc (suc zero)))))))))) h i m = there m
+operator_row (suc (suc (suc (suc (suc (suc (suc (suc (suc (suc (suc l))))))))))) h i m = absurd (omega arith)
 
-pub operator-in : (o l : ℕ) → level o ≡ suc l → In (operation (ne (suc (suc l))) (tl (suc l)) o) (prods (tl (suc l)))
-operator-in o l e = operator-row (suc l) (omega arith) (level-top o l e)
-    (map-in (operation (ne (suc (suc l))) (tl (suc l))) (operators (suc l)) o (member-in o (operators (suc l)) (is-operator o l e)))
+pub operator_in : (o l : ℕ) → level o ≡ suc l → In (operation (ne (suc (suc l))) (tl (suc l)) o) (prods (tl (suc l)))
+operator_in o l e = operator_row (suc l) (omega arith) (level_top o l e)
+    (map_in (operation (ne (suc (suc l))) (tl (suc l))) (operators (suc l)) o (member_in o (operators (suc l)) (is_operator o l e)))
 
 pub eats-same : (o : ℕ) → eats (sy o) (sym o) ≡ some []
 eats-same o = rw (eqb_same o)
 
 -- after an expression of level l, an operator of that level
-operates : (o l : ℕ) {k : Right} {w : List Token} {p : List Item} → level o ≡ suc l → L G (nt (ne (suc (suc l))) ∷ act (i-binary o) ∷ nt (tl (suc l)) ∷ k) w p →
+operates : (o l : ℕ) {k : Right} {w : List Token} {p : List Item} → level o ≡ suc l → L G (nt (ne (suc (suc l))) ∷ act (i_binary o) ∷ nt (tl (suc l)) ∷ k) w p →
     L G (nt (tl (suc l)) ∷ k) (sym o ∷ w) p
-operates o l e d = by (operator-in o l e) (eat {a = []} (eats-same o) d)
+operates o l e d = by (operator_in o l e) (eat {a = []} (eats-same o) d)
 
-to-cont : (l : ℕ) {k : Right} {w : List Token} {o : List Item} → 1 ≤ l → l ≤ 10 → L G (nt (tl l) ∷ k) w o → L G (cont l k) w o
-to-cont zero h i d = absurd (omega arith)
-to-cont (suc zero) h i d = d
-to-cont (suc (suc zero)) h i d = d
-to-cont (suc (suc (suc zero))) h i d = d
-to-cont (suc (suc (suc (suc zero)))) h i d = d
-to-cont (suc (suc (suc (suc (suc zero))))) h i d = d
-to-cont (suc (suc (suc (suc (suc (suc zero)))))) h i d = d
-to-cont (suc (suc (suc (suc (suc (suc (suc zero))))))) h i d = d
-to-cont (suc (suc (suc (suc (suc (suc (suc (suc zero)))))))) h i d = d
-to-cont (suc (suc (suc (suc (suc (suc (suc (suc (suc zero))))))))) h i d = d
-to-cont (suc (suc (suc (suc (suc (suc (suc (suc (suc (suc zero)))))))))) h i d = d
-to-cont (suc (suc (suc (suc (suc (suc (suc (suc (suc (suc (suc l))))))))))) h i d = absurd (omega arith)
+to_cont : (l : ℕ) {k : Right} {w : List Token} {o : List Item} → 1 ≤ l → l ≤ 10 → L G (nt (tl l) ∷ k) w o → L G (cont l k) w o
+to_cont zero h i d = absurd (omega arith)
+to_cont (suc zero) h i d = d
+to_cont (suc (suc zero)) h i d = d
+to_cont (suc (suc (suc zero))) h i d = d
+to_cont (suc (suc (suc (suc zero)))) h i d = d
+to_cont (suc (suc (suc (suc (suc zero))))) h i d = d
+to_cont (suc (suc (suc (suc (suc (suc zero)))))) h i d = d
+to_cont (suc (suc (suc (suc (suc (suc (suc zero))))))) h i d = d
+to_cont (suc (suc (suc (suc (suc (suc (suc (suc zero)))))))) h i d = d
+to_cont (suc (suc (suc (suc (suc (suc (suc (suc (suc zero))))))))) h i d = d
+to_cont (suc (suc (suc (suc (suc (suc (suc (suc (suc (suc zero)))))))))) h i d = d
+to_cont (suc (suc (suc (suc (suc (suc (suc (suc (suc (suc (suc l))))))))))) h i d = absurd (omega arith)
 
 from-cont : (l : ℕ) {k : Right} {w : List Token} {o : List Item} → 1 ≤ l → l ≤ 10 → L G (cont l k) w o → L G (nt (tl l) ∷ k) w o
 from-cont zero h i d = absurd (omega arith)
@@ -199,18 +199,18 @@ from-cont (suc (suc (suc (suc (suc (suc (suc (suc (suc zero))))))))) h i d = d
 from-cont (suc (suc (suc (suc (suc (suc (suc (suc (suc (suc zero)))))))))) h i d = d
 from-cont (suc (suc (suc (suc (suc (suc (suc (suc (suc (suc (suc l))))))))))) h i d = absurd (omega arith)
 
-to-conts : (l : ℕ) (k : Right) {w : List Token} {o : List Item} → suc l ≤ 10 → L G (nt (tl (suc l)) ∷ conts l k) w o → L G (conts (suc l) k) w o
-to-conts zero k h d = d
-to-conts (suc zero) k h d = d
-to-conts (suc (suc zero)) k h d = d
-to-conts (suc (suc (suc zero))) k h d = d
-to-conts (suc (suc (suc (suc zero)))) k h d = d
-to-conts (suc (suc (suc (suc (suc zero))))) k h d = d
-to-conts (suc (suc (suc (suc (suc (suc zero)))))) k h d = d
-to-conts (suc (suc (suc (suc (suc (suc (suc zero))))))) k h d = d
-to-conts (suc (suc (suc (suc (suc (suc (suc (suc zero)))))))) k h d = d
-to-conts (suc (suc (suc (suc (suc (suc (suc (suc (suc zero))))))))) k h d = d
-to-conts (suc (suc (suc (suc (suc (suc (suc (suc (suc (suc l)))))))))) k h d = absurd (omega arith)
+to_conts : (l : ℕ) (k : Right) {w : List Token} {o : List Item} → suc l ≤ 10 → L G (nt (tl (suc l)) ∷ conts l k) w o → L G (conts (suc l) k) w o
+to_conts zero k h d = d
+to_conts (suc zero) k h d = d
+to_conts (suc (suc zero)) k h d = d
+to_conts (suc (suc (suc zero))) k h d = d
+to_conts (suc (suc (suc (suc zero)))) k h d = d
+to_conts (suc (suc (suc (suc (suc zero))))) k h d = d
+to_conts (suc (suc (suc (suc (suc (suc zero)))))) k h d = d
+to_conts (suc (suc (suc (suc (suc (suc (suc zero))))))) k h d = d
+to_conts (suc (suc (suc (suc (suc (suc (suc (suc zero)))))))) k h d = d
+to_conts (suc (suc (suc (suc (suc (suc (suc (suc (suc zero))))))))) k h d = d
+to_conts (suc (suc (suc (suc (suc (suc (suc (suc (suc (suc l)))))))))) k h d = absurd (omega arith)
 
 from-conts : (l : ℕ) (k : Right) {w : List Token} {o : List Item} → suc l ≤ 10 → L G (conts (suc l) k) w o → L G (nt (tl (suc l)) ∷ conts l k) w o
 from-conts zero k h d = d
@@ -225,85 +225,85 @@ from-conts (suc (suc (suc (suc (suc (suc (suc (suc zero)))))))) k h d = d
 from-conts (suc (suc (suc (suc (suc (suc (suc (suc (suc zero))))))))) k h d = d
 from-conts (suc (suc (suc (suc (suc (suc (suc (suc (suc (suc l)))))))))) k h d = absurd (omega arith)
 
-pub e-bound : {l : ℕ} {ts : List Token} {e : Expr} → E l ts e → l ≤ 12
-e-bound e-plain = omega arith
-e-bound (e-index x) = omega arith
-e-bound e-number = omega arith
-e-bound e-true = omega arith
-e-bound e-false = omega arith
-e-bound (e-query is-len x) = omega arith
-e-bound (e-group x) = omega arith
-e-bound (e-choice x y z) = omega arith
-e-bound (e-unary u x) = omega arith
-e-bound (e-binary i x y) = omega (arith, e-bound x)
-e-bound (e_up x) = omega (arith, e-bound x)
+pub e_bound : {l : ℕ} {ts : List Token} {e : Expr} → E l ts e → l ≤ 12
+e_bound e_plain = omega arith
+e_bound (e_index x) = omega arith
+e_bound e_number = omega arith
+e_bound e_true = omega arith
+e_bound e_false = omega arith
+e_bound (e_query is_len x) = omega arith
+e_bound (e_group x) = omega arith
+e_bound (e_choice x y z) = omega arith
+e_bound (e_unary u x) = omega arith
+e_bound (e_binary i x y) = omega (arith, e_bound x)
+e_bound (e_up x) = omega (arith, e_bound x)
 
 -- an expression of level l, then what the operators still to come derive
-pub e-in : {l : ℕ} {ts : List Token} {e : Expr} → E l ts e → (k : Right) (w : List Token) (o : List Item) → 1 ≤ l → L G (cont l k) w o → L G (nt (ne l) ∷ k) (ts ++ w) (code-exp e ++ o)
-e-in e-plain k w o h d = by here (eat refl (by here (emit d)))
-e-in (e-index x) k w o h d = simp append_assoc (by here (eat refl (by (there here) (eat refl (e-in x (key '] ∷ act i-index ∷ k) ('] ∷ w) (i-index ∷ o) (omega arith) (leave 1 (eat refl (emit d))))))))
-e-in e-number k w o h d = by (there here) (by here (eat refl d))
-e-in e-true k w o h d = by (there here) (by (there here) (eat refl (emit d)))
-e-in e-false k w o h d = by (there here) (by (there (there here)) (eat refl (emit d)))
-e-in (e-query is-len x) k w o h d =
-    simp append_assoc (by (there here) (by (there (there (there here))) (eat refl (eat refl (e-in x (key 'rpar ∷ act (i-query k-len) ∷ k) ('rpar ∷ w) (i-query k-len ∷ o) (omega arith) (eat refl (emit d)))))))
-e-in (e-group x) k w o h d =
-    simp append_assoc (by (there here) (by (there (there (there (there here)))) (eat refl (e-in x (nt n-closing ∷ k) ('rpar ∷ w) o (omega arith) (leave 1 (by here (eat refl d)))))))
-e-in (e-choice {ys = ys} {zs = zs} {b = b} {c = c} x y z) k w o h d =
-    let dz = e-in z (key 'rpar ∷ act i-choice ∷ k) ('rpar ∷ w) (i-choice ∷ o) (omega arith) (leave 1 (eat refl (emit d))) in
-    let dy = e-in y (key ': ∷ act i-otherwise ∷ nt e1 ∷ key 'rpar ∷ act i-choice ∷ k) (': ∷ zs ++ 'rpar ∷ w) (i-otherwise ∷ code-exp c ++ i-choice ∷ o) (omega arith) (leave 1 (eat refl (emit dz))) in
-    let dx = e-in x (nt n-closing ∷ k) ('-> ∷ (ys ++ (': ∷ zs ++ 'rpar ∷ w))) (code-exp b ++ (i-otherwise ∷ code-exp c ++ i-choice ∷ o)) (omega arith) (leave 1 (by (there here) (eat refl dy))) in
+pub e_in : {l : ℕ} {ts : List Token} {e : Expr} → E l ts e → (k : Right) (w : List Token) (o : List Item) → 1 ≤ l → L G (cont l k) w o → L G (nt (ne l) ∷ k) (ts ++ w) (code_exp e ++ o)
+e_in e_plain k w o h d = by here (eat refl (by here (emit d)))
+e_in (e_index x) k w o h d = simp append_assoc (by here (eat refl (by (there here) (eat refl (e_in x (key '] ∷ act i_index ∷ k) ('] ∷ w) (i_index ∷ o) (omega arith) (leave 1 (eat refl (emit d))))))))
+e_in e_number k w o h d = by (there here) (by here (eat refl d))
+e_in e_true k w o h d = by (there here) (by (there here) (eat refl (emit d)))
+e_in e_false k w o h d = by (there here) (by (there (there here)) (eat refl (emit d)))
+e_in (e_query is_len x) k w o h d =
+    simp append_assoc (by (there here) (by (there (there (there here))) (eat refl (eat refl (e_in x (key 'rpar ∷ act (i_query k_len) ∷ k) ('rpar ∷ w) (i_query k_len ∷ o) (omega arith) (eat refl (emit d)))))))
+e_in (e_group x) k w o h d =
+    simp append_assoc (by (there here) (by (there (there (there (there here)))) (eat refl (e_in x (nt n_closing ∷ k) ('rpar ∷ w) o (omega arith) (leave 1 (by here (eat refl d)))))))
+e_in (e_choice {ys = ys} {zs = zs} {b = b} {c = c} x y z) k w o h d =
+    let dz = e_in z (key 'rpar ∷ act i_choice ∷ k) ('rpar ∷ w) (i_choice ∷ o) (omega arith) (leave 1 (eat refl (emit d))) in
+    let dy = e_in y (key ': ∷ act i_otherwise ∷ nt e1 ∷ key 'rpar ∷ act i_choice ∷ k) (': ∷ zs ++ 'rpar ∷ w) (i_otherwise ∷ code_exp c ++ i_choice ∷ o) (omega arith) (leave 1 (eat refl (emit dz))) in
+    let dx = e_in x (nt n_closing ∷ k) ('-> ∷ (ys ++ (': ∷ zs ++ 'rpar ∷ w))) (code_exp b ++ (i_otherwise ∷ code_exp c ++ i_choice ∷ o)) (omega arith) (leave 1 (by (there here) (eat refl dy))) in
     simp append_assoc (by (there here) (by (there (there (there (there here)))) (eat refl dx)))
-e-in (e-unary is-minus x) k w o h d =
-    simp append_assoc (by (there here) (by (there (there (there (there (there here))))) (eat refl (e-in x (act (i-unary 15) ∷ k) w (i-unary 15 ∷ o) (omega arith) (emit d)))))
-e-in (e-unary is-not x) k w o h d =
-    simp append_assoc (by (there here) (by (there (there (there (there (there (there here)))))) (eat refl (e-in x (act (i-unary 19) ∷ k) w (i-unary 19 ∷ o) (omega arith) (emit d)))))
-e-in (e-unary is-flip x) k w o h d =
-    simp append_assoc (by (there here) (by (there (there (there (there (there (there (there here))))))) (eat refl (e-in x (act (i-unary 20) ∷ k) w (i-unary 20 ∷ o) (omega arith) (emit d)))))
-e-in (e-binary {l = l} {o = p} {ys = ys} {b = b} i x y) k w o h d =
+e_in (e_unary is_minus x) k w o h d =
+    simp append_assoc (by (there here) (by (there (there (there (there (there here))))) (eat refl (e_in x (act (i_unary 15) ∷ k) w (i_unary 15 ∷ o) (omega arith) (emit d)))))
+e_in (e_unary is_not x) k w o h d =
+    simp append_assoc (by (there here) (by (there (there (there (there (there (there here)))))) (eat refl (e_in x (act (i_unary 19) ∷ k) w (i_unary 19 ∷ o) (omega arith) (emit d)))))
+e_in (e_unary is_flip x) k w o h d =
+    simp append_assoc (by (there here) (by (there (there (there (there (there (there (there here))))))) (eat refl (e_in x (act (i_unary 20) ∷ k) w (i_unary 20 ∷ o) (omega arith) (emit d)))))
+e_in (e_binary {l = l} {o = p} {ys = ys} {b = b} i x y) k w o h d =
     simp append_assoc
-    (e-in x k (sym p ∷ ys ++ w) (code-exp b ++ i-binary p ∷ o) h (to-cont (suc l) (omega arith) (level-top p l i)
-    (operates p l i (e-in y (act (i-binary p) ∷ nt (tl (suc l)) ∷ k) w (i-binary p ∷ o) (omega arith) (leave (suc (suc l)) (emit (from-cont (suc l) (omega arith) (level-top p l i) d)))))))
-e-in (e_up {l = l} x) k w o h d = climb l h (e-bound x) (e-in x (cont l k) w o (omega arith) (leave (suc l) d))
+    (e_in x k (sym p ∷ ys ++ w) (code_exp b ++ i_binary p ∷ o) h (to_cont (suc l) (omega arith) (level_top p l i)
+    (operates p l i (e_in y (act (i_binary p) ∷ nt (tl (suc l)) ∷ k) w (i_binary p ∷ o) (omega arith) (leave (suc (suc l)) (emit (from-cont (suc l) (omega arith) (level_top p l i) d)))))))
+e_in (e_up {l = l} x) k w o h d = climb l h (e_bound x) (e_in x (cont l k) w o (omega arith) (leave (suc l) d))
 
 -- a reference
-pub ref-in : {l : ℕ} {ts : List Token} {e : Expr} → E l ts e → 12 ≤ l → (k : Right) (w : List Token) (o : List Item) → L G k w o → L G (tm any_name ∷ nt n-ix ∷ k) (ts ++ w) (code-exp e ++ o)
-ref-in e-plain h k w o d = eat refl (by here (emit d))
-ref-in (e-index x) h k w o d = simp append_assoc (eat refl (by (there here) (eat refl (e-in x (key '] ∷ act i-index ∷ k) ('] ∷ w) (i-index ∷ o) (omega arith) (leave 1 (eat refl (emit d)))))))
-ref-in e-number h k w o d = absurd (omega arith)
-ref-in e-true h k w o d = absurd (omega arith)
-ref-in e-false h k w o d = absurd (omega arith)
-ref-in (e-query is-len x) h k w o d = absurd (omega arith)
-ref-in (e-group x) h k w o d = absurd (omega arith)
-ref-in (e-choice x y z) h k w o d = absurd (omega arith)
-ref-in (e-unary u x) h k w o d = absurd (omega arith)
-ref-in (e-binary {l = l} {o = p} i x y) h k w o d = absurd (omega (arith, level-top p l i))
-ref-in (e_up x) h k w o d = ref-in x (omega arith) k w o d
+pub ref_in : {l : ℕ} {ts : List Token} {e : Expr} → E l ts e → 12 ≤ l → (k : Right) (w : List Token) (o : List Item) → L G k w o → L G (tm any_name ∷ nt n_ix ∷ k) (ts ++ w) (code_exp e ++ o)
+ref_in e_plain h k w o d = eat refl (by here (emit d))
+ref_in (e_index x) h k w o d = simp append_assoc (eat refl (by (there here) (eat refl (e_in x (key '] ∷ act i_index ∷ k) ('] ∷ w) (i_index ∷ o) (omega arith) (leave 1 (eat refl (emit d)))))))
+ref_in e_number h k w o d = absurd (omega arith)
+ref_in e_true h k w o d = absurd (omega arith)
+ref_in e_false h k w o d = absurd (omega arith)
+ref_in (e_query is_len x) h k w o d = absurd (omega arith)
+ref_in (e_group x) h k w o d = absurd (omega arith)
+ref_in (e_choice x y z) h k w o d = absurd (omega arith)
+ref_in (e_unary u x) h k w o d = absurd (omega arith)
+ref_in (e_binary {l = l} {o = p} i x y) h k w o d = absurd (omega (arith, level_top p l i))
+ref_in (e_up x) h k w o d = ref_in x (omega arith) k w o d
 
 -- an expression that a statement begins with
-pub start-in : {l : ℕ} {ts : List Token} {e : Expr} → E l ts e → (k : Right) (w : List Token) (o : List Item) → 1 ≤ l → L G (conts l (act i-express ∷ k)) w o → L G (nt n-action ∷ k) (ts ++ w) (code-exp e ++ o)
-start-in e-plain k w o h d = by here (eat refl (by here (emit (by (there (there (there (there (there here))))) d))))
-start-in (e-index x) k w o h d = by here (ref-in (e-index x) (omega arith) (nt n-after-ref ∷ k) w o (by (there (there (there (there (there here))))) d))
-start-in e-number k w o h d = by (there here) (by here (by here (eat refl d)))
-start-in e-true k w o h d = by (there here) (by here (by (there here) (eat refl (emit d))))
-start-in e-false k w o h d = by (there here) (by here (by (there (there here)) (eat refl (emit d))))
-start-in (e-query is-len x) k w o h d =
-    simp append_assoc (by (there here) (by here (by (there (there (there here))) (eat refl (eat refl (e-in x (key 'rpar ∷ act (i-query k-len) ∷ tails (act i-express ∷ k)) ('rpar ∷ w) (i-query k-len ∷ o) (omega arith) (eat refl (emit d))))))))
-start-in (e-group x) k w o h d =
-    simp append_assoc (by (there here) (by here (by (there (there (there (there here)))) (eat refl (e-in x (nt n-closing ∷ tails (act i-express ∷ k)) ('rpar ∷ w) o (omega arith) (leave 1 (by here (eat refl d))))))))
-start-in (e-choice {ys = ys} {zs = zs} {b = b} {c = c} x y z) k w o h d =
-    let dz = e-in z (key 'rpar ∷ act i-choice ∷ tails (act i-express ∷ k)) ('rpar ∷ w) (i-choice ∷ o) (omega arith) (leave 1 (eat refl (emit d))) in
-    let dy = e-in y (key ': ∷ act i-otherwise ∷ nt e1 ∷ key 'rpar ∷ act i-choice ∷ tails (act i-express ∷ k)) (': ∷ zs ++ 'rpar ∷ w) (i-otherwise ∷ code-exp c ++ i-choice ∷ o) (omega arith) (leave 1 (eat refl (emit dz))) in
-    let dx = e-in x (nt n-closing ∷ tails (act i-express ∷ k)) ('-> ∷ (ys ++ (': ∷ zs ++ 'rpar ∷ w))) (code-exp b ++ (i-otherwise ∷ code-exp c ++ i-choice ∷ o)) (omega arith) (leave 1 (by (there here) (eat refl dy))) in
+pub start_in : {l : ℕ} {ts : List Token} {e : Expr} → E l ts e → (k : Right) (w : List Token) (o : List Item) → 1 ≤ l → L G (conts l (act i_express ∷ k)) w o → L G (nt n_action ∷ k) (ts ++ w) (code_exp e ++ o)
+start_in e_plain k w o h d = by here (eat refl (by here (emit (by (there (there (there (there (there here))))) d))))
+start_in (e_index x) k w o h d = by here (ref_in (e_index x) (omega arith) (nt n_after_ref ∷ k) w o (by (there (there (there (there (there here))))) d))
+start_in e_number k w o h d = by (there here) (by here (by here (eat refl d)))
+start_in e_true k w o h d = by (there here) (by here (by (there here) (eat refl (emit d))))
+start_in e_false k w o h d = by (there here) (by here (by (there (there here)) (eat refl (emit d))))
+start_in (e_query is_len x) k w o h d =
+    simp append_assoc (by (there here) (by here (by (there (there (there here))) (eat refl (eat refl (e_in x (key 'rpar ∷ act (i_query k_len) ∷ tails (act i_express ∷ k)) ('rpar ∷ w) (i_query k_len ∷ o) (omega arith) (eat refl (emit d))))))))
+start_in (e_group x) k w o h d =
+    simp append_assoc (by (there here) (by here (by (there (there (there (there here)))) (eat refl (e_in x (nt n_closing ∷ tails (act i_express ∷ k)) ('rpar ∷ w) o (omega arith) (leave 1 (by here (eat refl d))))))))
+start_in (e_choice {ys = ys} {zs = zs} {b = b} {c = c} x y z) k w o h d =
+    let dz = e_in z (key 'rpar ∷ act i_choice ∷ tails (act i_express ∷ k)) ('rpar ∷ w) (i_choice ∷ o) (omega arith) (leave 1 (eat refl (emit d))) in
+    let dy = e_in y (key ': ∷ act i_otherwise ∷ nt e1 ∷ key 'rpar ∷ act i_choice ∷ tails (act i_express ∷ k)) (': ∷ zs ++ 'rpar ∷ w) (i_otherwise ∷ code_exp c ++ i_choice ∷ o) (omega arith) (leave 1 (eat refl (emit dz))) in
+    let dx = e_in x (nt n_closing ∷ tails (act i_express ∷ k)) ('-> ∷ (ys ++ (': ∷ zs ++ 'rpar ∷ w))) (code_exp b ++ (i_otherwise ∷ code_exp c ++ i_choice ∷ o)) (omega arith) (leave 1 (by (there here) (eat refl dy))) in
     simp append_assoc (by (there here) (by here (by (there (there (there (there here)))) (eat refl dx))))
-start-in (e-unary is-minus x) k w o h d =
-    simp append_assoc (by (there here) (by here (by (there (there (there (there (there here))))) (eat refl (e-in x (act (i-unary 15) ∷ tails (act i-express ∷ k)) w (i-unary 15 ∷ o) (omega arith) (emit d))))))
-start-in (e-unary is-not x) k w o h d =
-    simp append_assoc (by (there here) (by here (by (there (there (there (there (there (there here)))))) (eat refl (e-in x (act (i-unary 19) ∷ tails (act i-express ∷ k)) w (i-unary 19 ∷ o) (omega arith) (emit d))))))
-start-in (e-unary is-flip x) k w o h d =
-    simp append_assoc (by (there here) (by here (by (there (there (there (there (there (there (there here))))))) (eat refl (e-in x (act (i-unary 20) ∷ tails (act i-express ∷ k)) w (i-unary 20 ∷ o) (omega arith) (emit d))))))
-start-in (e-binary {l = l} {o = p} {ys = ys} {b = b} i x y) k w o h d =
+start_in (e_unary is_minus x) k w o h d =
+    simp append_assoc (by (there here) (by here (by (there (there (there (there (there here))))) (eat refl (e_in x (act (i_unary 15) ∷ tails (act i_express ∷ k)) w (i_unary 15 ∷ o) (omega arith) (emit d))))))
+start_in (e_unary is_not x) k w o h d =
+    simp append_assoc (by (there here) (by here (by (there (there (there (there (there (there here)))))) (eat refl (e_in x (act (i_unary 19) ∷ tails (act i_express ∷ k)) w (i_unary 19 ∷ o) (omega arith) (emit d))))))
+start_in (e_unary is_flip x) k w o h d =
+    simp append_assoc (by (there here) (by here (by (there (there (there (there (there (there (there here))))))) (eat refl (e_in x (act (i_unary 20) ∷ tails (act i_express ∷ k)) w (i_unary 20 ∷ o) (omega arith) (emit d))))))
+start_in (e_binary {l = l} {o = p} {ys = ys} {b = b} i x y) k w o h d =
     simp append_assoc
-    (start-in x k (sym p ∷ ys ++ w) (code-exp b ++ i-binary p ∷ o) h (to-conts l (act i-express ∷ k) (level-top p l i)
-    (operates p l i (e-in y (act (i-binary p) ∷ nt (tl (suc l)) ∷ conts l (act i-express ∷ k)) w (i-binary p ∷ o) (omega arith) (leave (suc (suc l)) (emit (from-conts l (act i-express ∷ k) (level-top p l i) d)))))))
-start-in (e_up {l = l} x) k w o h d = start-in x k w o (omega arith) (loosen l (act i-express ∷ k) h d)
+    (start_in x k (sym p ∷ ys ++ w) (code_exp b ++ i_binary p ∷ o) h (to_conts l (act i_express ∷ k) (level_top p l i)
+    (operates p l i (e_in y (act (i_binary p) ∷ nt (tl (suc l)) ∷ conts l (act i_express ∷ k)) w (i_binary p ∷ o) (omega arith) (leave (suc (suc l)) (emit (from-conts l (act i_express ∷ k) (level_top p l i) d)))))))
+start_in (e_up {l = l} x) k w o h d = start_in x k w o (omega arith) (loosen l (act i_express ∷ k) h d)

@@ -21,9 +21,9 @@ abbrev pub implies : Bool → Bool → Bool
 implies true b = b
 implies false b = true
 
-pub implies-out : (a b : Bool) → T (implies a b) → T a → T b
-implies-out true b t u = t
-implies-out false b t u = absurd u
+pub implies_out : (a b : Bool) → T (implies a b) → T a → T b
+implies_out true b t u = t
+implies_out false b t u = absurd u
 
 pub both_left : (a b : Bool) → T (both a b) → T a
 both_left true b t = tt
@@ -33,9 +33,9 @@ pub both_right : (a b : Bool) → T (both a b) → T b
 both_right true b t = t
 both_right false b t = absurd t
 
-pub both-in : (a b : Bool) → T a → T b → T (both a b)
-both-in true b s t = t
-both-in false b s t = s
+pub both_in : (a b : Bool) → T a → T b → T (both a b)
+both_in true b s t = t
+both_in false b s t = s
 
 pub either_left : (a b : Bool) → T a → T (either a b)
 either_left true b t = tt
@@ -45,9 +45,9 @@ pub either-right : (a b : Bool) → T b → T (either a b)
 either-right true b t = tt
 either-right false b t = t
 
-pub either-out : (a n x : Bool) → T (either a (both n x)) → T a ⊎ (T n × T x)
-either-out true n x t = inl tt
-either-out false n x t = inr (both_left n x t, both_right n x t)
+pub either_out : (a n x : Bool) → T (either a (both n x)) → T a ⊎ (T n × T x)
+either_out true n x t = inl tt
+either_out false n x t = inr (both_left n x t, both_right n x t)
 
 -- a test passes at each number below n
 abbrev pub below : ℕ → (ℕ → Bool) → Bool
@@ -62,8 +62,8 @@ below_out (suc n) f t i h = go (dec_lt i n) (below_out n f (both_right (f n) (be
     go (yes l) r = r l
     go (no l) r = let e : n ≡ i = omega arith in rw e at (both_left (f n) (below n f) t)
 
-pub is-some : {X : Type 0} {o : Option X} {x : X} → o ≡ some x → T (is_some o)
-is-some e = rw e tt
+pub is_some_lem : {X : Type 0} {o : Option X} {x : X} → o ≡ some x → T (is_some o)
+is_some_lem e = rw e tt
 
 -- at most one of a list passes
 abbrev pub none_of : {X : Type 0} → (X → Bool) → List X → Bool
@@ -74,25 +74,25 @@ abbrev pub one_of : {X : Type 0} → (X → Bool) → List X → Bool
 one_of p [] = true
 one_of p (x ∷ l) = both (implies (p x) (none_of p l)) (one_of p l)
 
-pub none-of-out : {X : Type 0} (p : X → Bool) (l : List X) (y : X) → T (none_of p l) → In y l → T (p y) → ⊥
-none-of-out p (x ∷ l) y t here u = implies-out (p x) false (both_left (implies (p x) false) (none_of p l) t) u
-none-of-out p (x ∷ l) y t (there m) u = none-of-out p l y (both_right (implies (p x) false) (none_of p l) t) m u
+pub none_of_out : {X : Type 0} (p : X → Bool) (l : List X) (y : X) → T (none_of p l) → In y l → T (p y) → ⊥
+none_of_out p (x ∷ l) y t here u = implies_out (p x) false (both_left (implies (p x) false) (none_of p l) t) u
+none_of_out p (x ∷ l) y t (there m) u = none_of_out p l y (both_right (implies (p x) false) (none_of p l) t) m u
 
-pub pick-sel : {X : Type 0} (p : X → Bool) (l : List X) (y : X) → T (one_of p l) → In y l → T (p y) → pick p l ≡ some y
-pick-sel p (x ∷ l) y t here u = go (p x) u
+pub pick_sel : {X : Type 0} (p : X → Bool) (l : List X) (y : X) → T (one_of p l) → In y l → T (p y) → pick p l ≡ some y
+pick_sel p (x ∷ l) y t here u = go (p x) u
   where
     go : (b : Bool) → T b → cond b (some x) (pick p l) ≡ some x
     go true u' = refl
     go false u' = absurd u'
-pick-sel p (x ∷ l) y t (there m) u = go (p x) (both_left (implies (p x) (none_of p l)) (one_of p l) t) (pick-sel p l y (both_right (implies (p x) (none_of p l)) (one_of p l) t) m u)
+pick_sel p (x ∷ l) y t (there m) u = go (p x) (both_left (implies (p x) (none_of p l)) (one_of p l) t) (pick_sel p l y (both_right (implies (p x) (none_of p l)) (one_of p l) t) m u)
   where
     go : (b : Bool) → T (implies b (none_of p l)) → pick p l ≡ some y → cond b (some x) (pick p l) ≡ some y
-    go true t' e = absurd (none-of-out p l y t' m u)
+    go true t' e = absurd (none_of_out p l y t' m u)
     go false t' e = e
 
-pub pick-in : {X : Type 0} (p : X → Bool) (l : List X) (y : X) → pick p l ≡ some y → In y l
-pick-in p [] y e = absurd (is-some e)
-pick-in p (x ∷ l) y e = go (p x) e (pick-in p l y)
+pub pick_in : {X : Type 0} (p : X → Bool) (l : List X) (y : X) → pick p l ≡ some y → In y l
+pick_in p [] y e = absurd (is_some_lem e)
+pick_in p (x ∷ l) y e = go (p x) e (pick_in p l y)
   where
     go : (b : Bool) → cond b (some x) (pick p l) ≡ some y → (pick p l ≡ some y → In y l) → In y (x ∷ l)
     go true e' f = let q : x ≡ y = cc in rw q here

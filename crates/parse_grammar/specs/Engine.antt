@@ -1,4 +1,4 @@
--- Mechanism, held to the specification by `parse-sound`, `parse-complete` (crate `parse_grammar`), but for `In` and `L`, of proofs alone.
+-- Mechanism, held to the specification by `parse-sound`, `parse_complete` (crate `parse_grammar`), but for `In` and `L`, of proofs alone.
 -- A grammar as data, with outputs; what it derives; and a predictive machine over it, with one token of lookahead.
 -- Document 01, "first token that can continue no text of the grammar", is answered by this machine for any grammar that passes the tests of proofs/Core.antt.
 use Rattle.std.specs.Prelude.{◌≡◌, Bool, true, false, cond, List, [], ◌∷◌, ◌++◌, ℕ, zero, suc, ◌+◌}
@@ -85,9 +85,9 @@ abbrev pub next : {N S A : Type 0} → Option (Moved N S A) → (List (Sym N S A
 next none f = bad 0
 next (some p) f = later p.0 (f p.1)
 
-abbrev pub or-more : {A : Type 0} → Option (List A) → ℕ → ℕ → ℕ
-or-more none c v = c
-or-more (some a) c v = c + v
+abbrev pub or_more : {A : Type 0} → Option (List A) → ℕ → ℕ → ℕ
+or_more none c v = c
+or_more (some a) c v = c + v
 
 module _ {C S N A : Type 0} (G : Grammar C S N A) (U : Guide C S N A) where
   -- the kinds that may come first in what the symbols derive, with F after them
@@ -106,7 +106,7 @@ module _ {C S N A : Type 0} (G : Grammar C S N A) (U : Guide C S N A) where
   bound [] = 0
   bound (act a ∷ k) = suc (bound k)
   bound (tm t ∷ k) = 1
-  bound (nt n ∷ k) = or-more (U.nul n) (U.cost n) (bound k)
+  bound (nt n ∷ k) = or_more (U.nul n) (U.cost n) (bound k)
 
   -- one token: the output written, and the symbols that are left
   abbrev pub step : ℕ → List (Sym N S A) → C → Option (Moved N S A)

@@ -1,6 +1,6 @@
 -- Mechanism, of the grammar as data: the other fixed tokens by name, as specs/Marks.antt of `spec_grammar` has those that the grammar names.
 use Rattle.base_kinds.specs.Kinds.{Token, sym}
-use Rattle.spec_grammar.specs.Marks.{k-bang, k-ask, k-len}
+use Rattle.spec_grammar.specs.Marks.{k_bang, k_ask, k_len}
 
 abbrev pub '|| : Token
 '|| = sym 1
@@ -18,13 +18,13 @@ abbrev pub '* : Token
 '* = sym 16
 
 abbrev pub '! : Token
-'! = sym k-bang
+'! = sym k_bang
 
 abbrev pub '~ : Token
 '~ = sym 20
 
 abbrev pub '? : Token
-'? = sym k-ask
+'? = sym k_ask
 
 abbrev pub '!! : Token
 '!! = sym 36
@@ -51,4 +51,4 @@ abbrev pub 'int : Token
 'int = sym 45
 
 abbrev pub 'len : Token
-'len = sym k-len
+'len = sym k_len

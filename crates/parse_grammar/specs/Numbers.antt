@@ -1,21 +1,21 @@
 -- Mechanism, of proofs alone: so that what is tested of every number holds of every nonterminal (proofs/Numbered.antt).
 -- The nonterminals by number, for tables.
 use Rattle.std.specs.Prelude.{List, [], ◌∷◌, ℕ, get_or}
-use Rattle.parse_grammar.specs.Productions.{NT, e1, e2, e3, e4, e5, e6, e7, e8, e9, e10, t1, t2, t3, t4, t5, t6, t7, t8, t9, t10, n-operand, n-ref, n-ix, n-opened, n-closing, n-argument, n-arguments, n-more-arguments, n-sent, n-received, n-more-received, n-got, n-statement, n-after-name, n-action, n-after-ref, n-right-side, n-other, n-sequence, n-more-statements, n-after-separator, n-option, n-more-options, n-plain-type, n-type, n-value, n-set, n-variable, n-size, n-more-variables, n-chan-variable, n-chan-rest, n-chan-value, n_field, n-more-fields, n-more-chan-variables, n-declaration, n-body, n-items, n-parted, n-more-parted, n-parameters, n-group, n-more-groups, n-parameter, n-more-parameters, n-unit, n-after-mtype, n-message, n-more-messages, n-activity, n-process, n-model, n-more-units}
+use Rattle.parse_grammar.specs.Productions.{NT, e1, e2, e3, e4, e5, e6, e7, e8, e9, e10, t1, t2, t3, t4, t5, t6, t7, t8, t9, t10, n_operand, n_ref, n_ix, n_opened, n_closing, n_argument, n_arguments, n_more_arguments, n_sent, n_received, n_more_received, n_got, n_statement, n_after_name, n_action, n_after_ref, n_right_side, n_other, n_sequence, n_more_statements, n_after_separator, n_option, n_more_options, n_plain_type, n_type, n_value, n_set, n_variable, n_size, n_more_variables, n_chan_variable, n_chan_rest, n_chan_value, n_field, n_more_fields, n_more_chan_variables, n_declaration, n_body, n_items, n_parted, n_more_parted, n_parameters, n_group, n_more_groups, n_parameter, n_more_parameters, n_unit, n_after_mtype, n_message, n_more_messages, n_activity, n_process, n_model, n_more_units}
 
-abbrev pub all-symbols : List NT
-all-symbols =
+abbrev pub all_symbols : List NT
+all_symbols =
     e1 ∷ e2 ∷ e3 ∷ e4 ∷ e5 ∷ e6 ∷ e7 ∷ e8 ∷ e9 ∷ e10 ∷ t1 ∷ t2 ∷
-    t3 ∷ t4 ∷ t5 ∷ t6 ∷ t7 ∷ t8 ∷ t9 ∷ t10 ∷ n-operand ∷ n-ref ∷ n-ix ∷ n-opened ∷
-    n-closing ∷ n-argument ∷ n-arguments ∷ n-more-arguments ∷ n-sent ∷ n-received ∷ n-more-received ∷ n-got ∷ n-statement ∷ n-after-name ∷ n-action ∷ n-after-ref ∷
-    n-right-side ∷ n-other ∷ n-sequence ∷ n-more-statements ∷ n-after-separator ∷ n-option ∷ n-more-options ∷ n-plain-type ∷ n-type ∷ n-value ∷ n-set ∷ n-variable ∷
-    n-size ∷ n-more-variables ∷ n-chan-variable ∷ n-chan-rest ∷ n-chan-value ∷ n_field ∷ n-more-fields ∷ n-more-chan-variables ∷ n-declaration ∷ n-body ∷ n-items ∷ n-parted ∷
-    n-more-parted ∷ n-parameters ∷ n-group ∷ n-more-groups ∷ n-parameter ∷ n-more-parameters ∷ n-unit ∷ n-after-mtype ∷ n-message ∷ n-more-messages ∷ n-activity ∷ n-process ∷
-    n-model ∷ n-more-units ∷
+    t3 ∷ t4 ∷ t5 ∷ t6 ∷ t7 ∷ t8 ∷ t9 ∷ t10 ∷ n_operand ∷ n_ref ∷ n_ix ∷ n_opened ∷
+    n_closing ∷ n_argument ∷ n_arguments ∷ n_more_arguments ∷ n_sent ∷ n_received ∷ n_more_received ∷ n_got ∷ n_statement ∷ n_after_name ∷ n_action ∷ n_after_ref ∷
+    n_right_side ∷ n_other ∷ n_sequence ∷ n_more_statements ∷ n_after_separator ∷ n_option ∷ n_more_options ∷ n_plain_type ∷ n_type ∷ n_value ∷ n_set ∷ n_variable ∷
+    n_size ∷ n_more_variables ∷ n_chan_variable ∷ n_chan_rest ∷ n_chan_value ∷ n_field ∷ n_more_fields ∷ n_more_chan_variables ∷ n_declaration ∷ n_body ∷ n_items ∷ n_parted ∷
+    n_more_parted ∷ n_parameters ∷ n_group ∷ n_more_groups ∷ n_parameter ∷ n_more_parameters ∷ n_unit ∷ n_after_mtype ∷ n_message ∷ n_more_messages ∷ n_activity ∷ n_process ∷
+    n_model ∷ n_more_units ∷
     []
 
-abbrev pub symbol-at : ℕ → NT
-symbol-at i = get_or all-symbols i n-model
+abbrev pub symbol_at : ℕ → NT
+symbol_at i = get_or all_symbols i n_model
 
 abbrev pub number_of : NT → ℕ
 number_of e1 = 0
@@ -38,57 +38,57 @@ number_of t7 = 16
 number_of t8 = 17
 number_of t9 = 18
 number_of t10 = 19
-number_of n-operand = 20
-number_of n-ref = 21
-number_of n-ix = 22
-number_of n-opened = 23
-number_of n-closing = 24
-number_of n-argument = 25
-number_of n-arguments = 26
-number_of n-more-arguments = 27
-number_of n-sent = 28
-number_of n-received = 29
-number_of n-more-received = 30
-number_of n-got = 31
-number_of n-statement = 32
-number_of n-after-name = 33
-number_of n-action = 34
-number_of n-after-ref = 35
-number_of n-right-side = 36
-number_of n-other = 37
-number_of n-sequence = 38
-number_of n-more-statements = 39
-number_of n-after-separator = 40
-number_of n-option = 41
-number_of n-more-options = 42
-number_of n-plain-type = 43
-number_of n-type = 44
-number_of n-value = 45
-number_of n-set = 46
-number_of n-variable = 47
-number_of n-size = 48
-number_of n-more-variables = 49
-number_of n-chan-variable = 50
-number_of n-chan-rest = 51
-number_of n-chan-value = 52
+number_of n_operand = 20
+number_of n_ref = 21
+number_of n_ix = 22
+number_of n_opened = 23
+number_of n_closing = 24
+number_of n_argument = 25
+number_of n_arguments = 26
+number_of n_more_arguments = 27
+number_of n_sent = 28
+number_of n_received = 29
+number_of n_more_received = 30
+number_of n_got = 31
+number_of n_statement = 32
+number_of n_after_name = 33
+number_of n_action = 34
+number_of n_after_ref = 35
+number_of n_right_side = 36
+number_of n_other = 37
+number_of n_sequence = 38
+number_of n_more_statements = 39
+number_of n_after_separator = 40
+number_of n_option = 41
+number_of n_more_options = 42
+number_of n_plain_type = 43
+number_of n_type = 44
+number_of n_value = 45
+number_of n_set = 46
+number_of n_variable = 47
+number_of n_size = 48
+number_of n_more_variables = 49
+number_of n_chan_variable = 50
+number_of n_chan_rest = 51
+number_of n_chan_value = 52
 number_of n_field = 53
-number_of n-more-fields = 54
-number_of n-more-chan-variables = 55
-number_of n-declaration = 56
-number_of n-body = 57
-number_of n-items = 58
-number_of n-parted = 59
-number_of n-more-parted = 60
-number_of n-parameters = 61
-number_of n-group = 62
-number_of n-more-groups = 63
-number_of n-parameter = 64
-number_of n-more-parameters = 65
-number_of n-unit = 66
-number_of n-after-mtype = 67
-number_of n-message = 68
-number_of n-more-messages = 69
-number_of n-activity = 70
-number_of n-process = 71
-number_of n-model = 72
-number_of n-more-units = 73
+number_of n_more_fields = 54
+number_of n_more_chan_variables = 55
+number_of n_declaration = 56
+number_of n_body = 57
+number_of n_items = 58
+number_of n_parted = 59
+number_of n_more_parted = 60
+number_of n_parameters = 61
+number_of n_group = 62
+number_of n_more_groups = 63
+number_of n_parameter = 64
+number_of n_more_parameters = 65
+number_of n_unit = 66
+number_of n_after_mtype = 67
+number_of n_message = 68
+number_of n_more_messages = 69
+number_of n_activity = 70
+number_of n_process = 71
+number_of n_model = 72
+number_of n_more_units = 73

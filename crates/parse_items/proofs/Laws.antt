@@ -7,26 +7,26 @@ use mathlib.Core.Path.{◌≡◌, refl, ap, ◌∙◌}
 use mathlib.Core.List.{List, [], ◌∷◌, ◌++◌, map}
 use lib.ListN.{length, get_or, take, drop, set}
 use borrow.Author.Tests.{lt-ltb, le-ltb}
-use Rattle.parse_tables.specs.Tables.{choices, rights, production, productionBy, span}
-use Rattle.parse_machine.specs.Machine.{marked, mark, symbol-of, place-of, count-of}
+use Rattle.parse_tables.specs.Tables.{choices, rights, production, production_by, span}
+use Rattle.parse_machine.specs.Machine.{marked, mark, symbol_of, place_of, count_of_lem}
 use Rattle.parse_items.specs.Views.{Spread}
 
 -- ---- items into an array: one turn
-spread-suc : (f : ℕ → ℕ) (s d : List ℕ) (i v : ℕ) → i < length s → i < length d → v ≡ f (get_or s i 0) → set (map f (take i s) ++ drop i d) i v ≡ map f (take (suc i) s) ++ drop (suc i) d
-spread-suc f [] d i v h g e = absurd (not-suc-le-zero h)
-spread-suc f (x ∷ s) [] i v h g e = absurd (not-suc-le-zero g)
-spread-suc f (x ∷ s) (y ∷ d) zero v h g e = ap (λ (z : ℕ). z ∷ d) e
-spread-suc f (x ∷ s) (y ∷ d) (suc i) v h g e = ap (f x ∷◌) (spread-suc f s d i v (le_of_suc-le-suc h) (le_of_suc-le-suc g) e)
+spread_suc : (f : ℕ → ℕ) (s d : List ℕ) (i v : ℕ) → i < length s → i < length d → v ≡ f (get_or s i 0) → set (map f (take i s) ++ drop i d) i v ≡ map f (take (suc i) s) ++ drop (suc i) d
+spread_suc f [] d i v h g e = absurd (not-suc-le-zero h)
+spread_suc f (x ∷ s) [] i v h g e = absurd (not-suc-le-zero g)
+spread_suc f (x ∷ s) (y ∷ d) zero v h g e = ap (λ (z : ℕ). z ∷ d) e
+spread_suc f (x ∷ s) (y ∷ d) (suc i) v h g e = ap (f x ∷◌) (spread_suc f s d i v (le_of_suc-le-suc h) (le_of_suc-le-suc g) e)
 
-pub spread-law : (f : ℕ → ℕ) (s d e : List ℕ) (i v : ℕ) → i < length s → i < length d → v ≡ f (get_or s i 0) → e ≡ map f (take i s) ++ drop i d →
+pub spread_law : (f : ℕ → ℕ) (s d e : List ℕ) (i v : ℕ) → i < length s → i < length d → v ≡ f (get_or s i 0) → e ≡ map f (take i s) ++ drop i d →
     set e i v ≡ map f (take (i + 1) s) ++ drop (i + 1) d
-spread-law f s d e i v h g q p = rw (p, add-one) (spread-suc f s d i v h g q)
+spread_law f s d e i v h g q p = rw (p, add-one) (spread_suc f s d i v h g q)
 
-pub spread_end : (i n : ℕ) (work codes codes' tokens tokens' sizes sizes' : List ℕ) → n ≤ i → i ≤ n → codes' ≡ map symbol-of (take i work) ++ drop i codes →
-    tokens' ≡ map place-of (take i work) ++ drop i tokens → sizes' ≡ map count-of (take i work) ++ drop i sizes → Spread n work codes codes' tokens tokens' sizes sizes'
+pub spread_end : (i n : ℕ) (work codes codes' tokens tokens' sizes sizes' : List ℕ) → n ≤ i → i ≤ n → codes' ≡ map symbol_of (take i work) ++ drop i codes →
+    tokens' ≡ map place_of (take i work) ++ drop i tokens → sizes' ≡ map count_of_lem (take i work) ++ drop i sizes → Spread n work codes codes' tokens tokens' sizes sizes'
 spread_end i n work codes codes' tokens tokens' sizes sizes' h g a b c =
     let e : i ≡ n = omega arith in
-    record { codes-are = rw e at a; tokens-are = rw e at b; sizes-are = rw e at c }
+    record { codes_are = rw e at a; tokens_are = rw e at b; sizes_are = rw e at c }
 
 -- ---- a right side on the stack: one turn, from the last symbol to the first
 push-suc : (l : List ℕ) (j v : ℕ) → j < length l → drop j (set l j v) ≡ v ∷ drop (suc j) l
@@ -34,11 +34,11 @@ push-suc [] j v h = absurd (not-suc-le-zero h)
 push-suc (a ∷ l) zero v h = refl
 push-suc (a ∷ l) (suc j) v h = push-suc l j v (le_of_suc-le-suc h)
 
-pub push-law : (l below : List ℕ) (at at' k k' first size b v : ℕ) → at ≡ suc at' → k ≡ suc k' → k ≤ size → at' < length l →
+pub push_law : (l below : List ℕ) (at at' k k' first size b v : ℕ) → at ≡ suc at' → k ≡ suc k' → k ≤ size → at' < length l →
     v ≡ get_or rights (first + k') 0 + b → drop at l ≡ marked b (span (first + k) (size - k)) ++ below →
     drop at' (set l at' v) ≡ marked b (span (first + k') (size - k')) ++ below
 unfolding span
-push-law l below at at' k k' first size b v ea ek h g ev inv =
+push_law l below at at' k k' first size b v ea ek h g ev inv =
     let e : size - k' ≡ suc (size - k) = omega arith in
     let f : first + k' + 1 ≡ first + k = omega arith in
     push-suc l at' v g ∙ rw (ev, ← ea, inv, e, f)
@@ -52,27 +52,27 @@ span-length i (suc n) = ap suc (span-length (i + 1) n)
 pub mark-now : (v pos n : ℕ) → v % 256 < 143 → (o : List ℕ) → length o ≡ n → 256 * pos + 1048576 * n ≡ mark v pos o
 mark-now v pos n h o e = simp (lt-ltb (v % 256) 143 h, e)
 
-pub mark-then : (v pos n : ℕ) → 143 ≤ v % 256 → (o : List ℕ) → length o ≡ n → v - v % 256 ≡ mark v pos o
-mark-then v pos n h o e = simp (le-ltb (v % 256) 143 h)
+pub mark_then : (v pos n : ℕ) → 143 ≤ v % 256 → (o : List ℕ) → length o ≡ n → v - v % 256 ≡ mark v pos o
+mark_then v pos n h o e = simp (le-ltb (v % 256) 143 h)
 
 pub push-start : (l : List ℕ) (top first n b : ℕ) → drop top l ≡ marked b (span (first + n) (n - n)) ++ drop top l
 unfolding span
 push-start l top first n b = let e : n - n ≡ 0 = omega arith in rw e
 
-pub push-end : (l l₀ : List ℕ) (top first n b at k : ℕ) → k ≤ 0 → at + (n - k) ≡ top → length l ≡ length l₀ → drop at l ≡ marked b (span (first + k) (n - k)) ++ drop top l₀ →
+pub push_end : (l l₀ : List ℕ) (top first n b at k : ℕ) → k ≤ 0 → at + (n - k) ≡ top → length l ≡ length l₀ → drop at l ≡ marked b (span (first + k) (n - k)) ++ drop top l₀ →
     (drop at l ≡ marked b (span first n) ++ drop top l₀) × (at ≡ top - n) × (length l ≡ length l₀)
-push-end l l₀ top first n b at k h g e inv =
+push_end l l₀ top first n b at k h g e inv =
     let z : first + k ≡ first = omega arith in
     let y : n - k ≡ n = omega arith in
     (rw (z, y) at inv, omega arith, e)
 
 -- ---- the tables that are lent
-pub side-at : (sides : List ℕ) (i b x y : ℕ) → sides ≡ rights → x ≡ y → y ≡ get_or sides i 0 → x + b ≡ get_or rights i 0 + b
-side-at sides i b x y e p q = rw (← e, ← q, p)
+pub side_at : (sides : List ℕ) (i b x y : ℕ) → sides ≡ rights → x ≡ y → y ≡ get_or sides i 0 → x + b ≡ get_or rights i 0 + b
+side_at sides i b x y e p q = rw (← e, ← q, p)
 
-pub size-at : (sides : List ℕ) (i x y : ℕ) → sides ≡ rights → x ≡ y → y ≡ get_or sides i 0 → x ≡ get_or rights i 0
-size-at sides i x y e p q = rw (← e, ← q, p)
+pub size_at : (sides : List ℕ) (i x y : ℕ) → sides ≡ rights → x ≡ y → y ≡ get_or sides i 0 → x ≡ get_or rights i 0
+size_at sides i x y e p q = rw (← e, ← q, p)
 
-pub by-choices : (rows : List ℕ) (x k r : ℕ) → rows ≡ choices → r ≡ productionBy rows x k → r ≡ production x k
+pub by_choices : (rows : List ℕ) (x k r : ℕ) → rows ≡ choices → r ≡ production_by rows x k → r ≡ production x k
 unfolding production
-by-choices rows x k r e p = p ∙ ap (λ (t : List ℕ). productionBy t x k) e
+by_choices rows x k r e p = p ∙ ap (λ (t : List ℕ). production_by t x k) e

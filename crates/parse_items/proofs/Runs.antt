@@ -6,13 +6,13 @@ use mathlib.Core.List.{List, [], ◌∷◌, map}
 use lib.ListN.{length, take, drop, set, length-set, drop_of_length-le}
 use lib.Seq.{length-take-le, drop-cons, get_or-set_same}
 use borrow.Author.Tests.{lt-ltb, le-ltb, le-leb, lt-leb}
-use Rattle.base_ceilings.specs.Ceilings.{itemsMost, tokensMost}
+use Rattle.base_ceilings.specs.Ceilings.{items_most, tokens_most}
 use Rattle.base_kinds.specs.Kinds.{Token, kind_of}
 use Rattle.parse_grammar.specs.Judge.{judge}
-use Rattle.parse_machine.specs.Depth.{too-deep}
-use Rattle.parse_machine.specs.Items.{All-proper, meant}
-use Rattle.parse_machine.proofs.Judge.{same-judgement}
-use Rattle.parse_machine.specs.Machine.{Outcome, done, refused, spent, Next, Config, step, next, run, start, machine, most-stack}
+use Rattle.parse_machine.specs.Depth.{too_deep}
+use Rattle.parse_machine.specs.Items.{AllProper, meant}
+use Rattle.parse_machine.proofs.Judge.{same_judgement}
+use Rattle.parse_machine.specs.Machine.{Outcome, done, refused, spent, Next, Config, step, next, run, start, machine, most_stack}
 use Rattle.parse_machine.specs.Answer.{items, refuse, judged, parsed}
 use Rattle.parse_items.specs.Parse.{Parses}
 use Rattle.parse_items.specs.Views.{conf, Stepped, Ran, Spread}
@@ -28,8 +28,8 @@ one_left l j x h e =
     drop-cons (set l j x) j 0 (rw (length-set l j x) h)
     ∙ rw (get_or-set_same l j x 0 h, drop_of_length-le (set l j x) {i = suc j} (rw (length-set l j x) (omega arith)))
 
-pub start-law : (ks l o : List ℕ) (f : ℕ) → length l ≡ most-stack → run ks f start ≡ run ks f (conf (set l (most-stack - 1) 141) o (record { sp = (most-stack - 1); pos = 0; n = 0 }))
-start-law ks l o f h = ap (λ (s : List ℕ). run ks f (record { st = s; pos = 0; out = [] })) (sym (one_left l (most-stack - 1) 141 (omega arith) h))
+pub start_law : (ks l o : List ℕ) (f : ℕ) → length l ≡ most_stack → run ks f start ≡ run ks f (conf (set l (most_stack - 1) 141) o (record { sp = (most_stack - 1); pos = 0; n = 0 }))
+start_law ks l o f h = ap (λ (s : List ℕ). run ks f (record { st = s; pos = 0; out = [] })) (sym (one_left l (most_stack - 1) 141 (omega arith) h))
 
 turn : (ks : List ℕ) (f : ℕ) (c : Config) → 0 < f → run ks f c ≡ next (run ks (f - 1)) (step ks c)
 unfolding run
@@ -50,69 +50,69 @@ module _ (ks a o a' o' : List ℕ) (s : State) (f : ℕ) (res : Outcome) (x : St
   after : (n : Next) → step ks (conf a o s) ≡ n → res ≡ next (run ks (f - 1)) n
   after n e = r ∙ turn ks f (conf a o s) h ∙ ap (next (run ks (f - 1))) e
 
-  pub go-run : (s' : State) → x ≡ Go s' → (s'.sp ≤ most-stack) × (s'.n ≤ itemsMost) × (s'.pos ≤ tokensMost) × (res ≡ run ks (f - 1) (conf a' o' s'))
-  go-run s' e = let w = at_variant (Go s') e in (w.1, w.2, w.3, after _ w.0)
+  pub go_run : (s' : State) → x ≡ Go s' → (s'.sp ≤ most_stack) × (s'.n ≤ items_most) × (s'.pos ≤ tokens_most) × (res ≡ run ks (f - 1) (conf a' o' s'))
+  go_run s' e = let w = at_variant (Go s') e in (w.1, w.2, w.3, after _ w.0)
 
-  pub stop-run : (i : ℕ) → x ≡ Stop i → res ≡ refused i
-  stop-run i e = after _ (at_variant (Stop i) e)
+  pub stop_run : (i : ℕ) → x ≡ Stop i → res ≡ refused i
+  stop_run i e = after _ (at_variant (Stop i) e)
 
-  pub done-run : (n : ℕ) → x ≡ Done n → (res ≡ done (take n o')) × (n ≤ itemsMost)
-  done-run n e = let w = at_variant (Done n) e in (after _ w.0, w.1)
+  pub done_run : (n : ℕ) → x ≡ Done n → (res ≡ done (take n o')) × (n ≤ items_most)
+  done_run n e = let w = at_variant (Done n) e in (after _ w.0, w.1)
 
-  pub spent-run : x ≡ Spent → res ≡ spent
-  spent-run e = after _ (at_variant Spent e)
+  pub spent_run : x ≡ Spent → res ≡ spent
+  spent_run e = after _ (at_variant Spent e)
 
 -- ---- the entry
-means-law : (ks : List ℕ) (room : ℕ) (ts : List Token) → map kind_of ts ≡ ks → All-proper ts → length ts ≤ tokensMost → itemsMost ≤ room → meant ts (parsed ks room) ≡ judge ts
-means-law ks room ts e proper short enough = rw (← e) (same-judgement ts proper short room enough)
+means_law : (ks : List ℕ) (room : ℕ) (ts : List Token) → map kind_of ts ≡ ks → AllProper ts → length ts ≤ tokens_most → items_most ≤ room → meant ts (parsed ks room) ≡ judge ts
+means_law ks room ts e proper short enough = rw (← e) (same_judgement ts proper short room enough)
 
 module _ (ks codes tokens sizes : List ℕ) (room : ℕ) where
   pub refusing : (k i : ℕ) → parsed ks room ≡ refuse k i → Parses ks room (Refused k i) codes codes tokens tokens sizes sizes
-  refusing k i e = record { answered = rw e; codes-are = rw e; tokens-are = rw e; sizes-are = rw e; means = means-law ks room }
+  refusing k i e = record { answered = rw e; codes_are = rw e; tokens_are = rw e; sizes_are = rw e; means = means_law ks room }
 
-  pub no_room : room < itemsMost → parsed ks room ≡ refuse 7 0
+  pub no_room : room < items_most → parsed ks room ≡ refuse 7 0
   unfolding parsed
-  no_room h = simp (lt-ltb room itemsMost h)
+  no_room h = simp (lt-ltb room items_most h)
 
-  module _ (h : itemsMost ≤ room) where
-    pub too_long : tokensMost < length ks → parsed ks room ≡ refuse 2 tokensMost
+  module _ (h : items_most ≤ room) where
+    pub too_long : tokens_most < length ks → parsed ks room ≡ refuse 2 tokens_most
     unfolding parsed
-    too_long g = simp (le-ltb room itemsMost h, lt-ltb tokensMost (length ks) g)
+    too_long g = simp (le-ltb room items_most h, lt-ltb tokens_most (length ks) g)
 
-    module _ (g : length ks ≤ tokensMost) (d : ℕ) (ed : d ≡ too-deep ks) (x : Halt) (o : List ℕ) (k : Ran (machine ks) x o) where
-      is-judged : parsed ks room ≡ judged d (length ks) (machine ks)
+    module _ (g : length ks ≤ tokens_most) (d : ℕ) (ed : d ≡ too_deep ks) (x : Halt) (o : List ℕ) (k : Ran (machine ks) x o) where
+      is_judged : parsed ks room ≡ judged d (length ks) (machine ks)
       unfolding parsed
-      is-judged = simp (le-ltb room itemsMost h, le-ltb tokensMost (length ks) g, ← ed)
+      is_judged = simp (le-ltb room items_most h, le-ltb tokens_most (length ks) g, ← ed)
 
       variant : (y : Halt) → x ≡ y → Ran (machine ks) y o
       variant y e = subst (λ (z : Halt). Ran (machine ks) z o) e k
 
       pub deep-first : (i : ℕ) → x ≡ Stopped i → d ≤ i → parsed ks room ≡ refuse 2 d
-      deep-first i e l = is-judged ∙ ap (judged d (length ks)) (variant (Stopped i) e) ∙ simp (le-leb d i l)
+      deep-first i e l = is_judged ∙ ap (judged d (length ks)) (variant (Stopped i) e) ∙ simp (le-leb d i l)
 
       pub fault-first : (i : ℕ) → x ≡ Stopped i → i < d → parsed ks room ≡ refuse 3 i
-      fault-first i e l = is-judged ∙ ap (judged d (length ks)) (variant (Stopped i) e) ∙ simp (lt-leb d i l)
+      fault-first i e l = is_judged ∙ ap (judged d (length ks)) (variant (Stopped i) e) ∙ simp (lt-leb d i l)
 
       pub deep-text : (n : ℕ) → x ≡ Accepted n → d ≤ length ks → parsed ks room ≡ refuse 2 d
-      deep-text n e l = is-judged ∙ ap (judged d (length ks)) (variant (Accepted n) e).0 ∙ simp (le-leb d (length ks) l)
+      deep-text n e l = is_judged ∙ ap (judged d (length ks)) (variant (Accepted n) e).0 ∙ simp (le-leb d (length ks) l)
 
       pub exhausted : x ≡ Exhausted → parsed ks room ≡ refuse 6 0
-      exhausted e = is-judged ∙ ap (judged d (length ks)) (variant Exhausted e)
+      exhausted e = is_judged ∙ ap (judged d (length ks)) (variant Exhausted e)
 
-      pub small : (n : ℕ) → x ≡ Accepted n → n ≤ itemsMost
+      pub small : (n : ℕ) → x ≡ Accepted n → n ≤ items_most
       small n e = (variant (Accepted n) e).1
 
-      module _ (n : ℕ) (e : x ≡ Accepted n) (l : length ks < d) (lo : length o ≡ itemsMost) where
+      module _ (n : ℕ) (e : x ≡ Accepted n) (l : length ks < d) (lo : length o ≡ items_most) where
         accepted : parsed ks room ≡ items (take n o)
-        accepted = is-judged ∙ ap (judged d (length ks)) (variant (Accepted n) e).0 ∙ simp (lt-leb d (length ks) l)
+        accepted = is_judged ∙ ap (judged d (length ks)) (variant (Accepted n) e).0 ∙ simp (lt-leb d (length ks) l)
 
         pub accepting : (codes' tokens' sizes' : List ℕ) → Spread n o codes codes' tokens tokens' sizes sizes' → Parses ks room (Items n) codes codes' tokens tokens' sizes sizes'
         accepting codes' tokens' sizes' w =
             let t : length (take n o) ≡ n = length-take-le n o (omega (arith, small n e)) in
             record {
               answered = rw (accepted, t);
-              codes-are = rw (accepted, t) w.codes-are;
-              tokens-are = rw (accepted, t) w.tokens-are;
-              sizes-are = rw (accepted, t) w.sizes-are;
-              means = means-law ks room;
+              codes_are = rw (accepted, t) w.codes_are;
+              tokens_are = rw (accepted, t) w.tokens_are;
+              sizes_are = rw (accepted, t) w.sizes_are;
+              means = means_law ks room;
             }

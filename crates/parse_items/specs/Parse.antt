@@ -2,12 +2,12 @@
 -- What the entry promises of an answer (specs/Answer.antt of `parse_machine`) and of the lent arrays: "A refusal changes no lent number or byte .. What lies beyond the
 -- written part stays" (document 01, "What is answered, and what stays behind").
 use Rattle.std.specs.Prelude.{ℕ, ◌≤◌, ◌≡◌, List, ◌++◌, map, length, drop}
-use Rattle.base_ceilings.specs.Ceilings.{itemsMost, tokensMost}
+use Rattle.base_ceilings.specs.Ceilings.{items_most, tokens_most}
 use Rattle.base_kinds.specs.Kinds.{Token, kind_of}
 use Rattle.parse_grammar.specs.Judge.{judge}
-use Rattle.parse_machine.specs.Machine.{symbol-of, place-of, count-of}
+use Rattle.parse_machine.specs.Machine.{symbol_of, place_of, count_of_lem}
 use Rattle.parse_machine.specs.Answer.{Answer, items, refuse, parsed}
-use Rattle.parse_machine.specs.Items.{All-proper, meant}
+use Rattle.parse_machine.specs.Items.{AllProper, meant}
 use Rattle.parse_items.specs.declared.Parsed.{Parsed}
 use Rattle.parse_items.specs.declared.Parsed.TheVariants.{Items, Refused}
 
@@ -24,7 +24,7 @@ filled f (refuse k i) l = l
 -- pass (specs/Depth.antt of `spec_grammar`)
 pub record Parses (ks : List ℕ) (room : ℕ) (r : Parsed) (codes codes' tokens tokens' sizes sizes' : List ℕ) : Type 0 where
   pub answered : r ≡ answer (parsed ks room)
-  pub codes-are : codes' ≡ filled symbol-of (parsed ks room) codes
-  pub tokens-are : tokens' ≡ filled place-of (parsed ks room) tokens
-  pub sizes-are : sizes' ≡ filled count-of (parsed ks room) sizes
-  pub means : (ts : List Token) → map kind_of ts ≡ ks → All-proper ts → length ts ≤ tokensMost → itemsMost ≤ room → meant ts (parsed ks room) ≡ judge ts
+  pub codes_are : codes' ≡ filled symbol_of (parsed ks room) codes
+  pub tokens_are : tokens' ≡ filled place_of (parsed ks room) tokens
+  pub sizes_are : sizes' ≡ filled count_of_lem (parsed ks room) sizes
+  pub means : (ts : List Token) → map kind_of ts ≡ ks → AllProper ts → length ts ≤ tokens_most → items_most ≤ room → meant ts (parsed ks room) ≡ judge ts

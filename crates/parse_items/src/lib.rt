@@ -1,8 +1,8 @@
 // Parsing: from the kinds of tokens to the items of the tree, by one loop over an explicit stack that the tables of `parse_tables` drive.
 ghost use Rattle.std.specs.Prelude.{◌≡◌, List, ◌++◌, ℕ, ◌+◌, ◌-◌, ◌*◌, ◌≤◌, ◌<◌, min, length, take, drop};
-ghost use Rattle.base_ceilings.specs.Ceilings.{itemsMost, tokensMost};
+ghost use Rattle.base_ceilings.specs.Ceilings.{items_most, tokens_most};
 ghost use Rattle.parse_tables.specs.Tables.{choices, rights, span};
-ghost use Rattle.parse_machine.specs.Machine.{symbol-of, place-of, count-of, clipped, column, marked, mark, write, expand, step, machine, most-stack, placeRoom};
+ghost use Rattle.parse_machine.specs.Machine.{symbol_of, place_of, count_of_lem, clipped, column, marked, mark, write, expand, step, machine, most_stack, place_room};
 ghost use Rattle.parse_items.specs.Parse.{Parses};
 ghost use Rattle.parse_items.specs.Views.{Stepped, Ran, Spread, conf};
 
@@ -91,7 +91,7 @@ fn column(kinds: &[u8], pos: usize) -> u8
 
 // An item for the stack's number v and the token at, if there is room.
 fn write(out: &mut [usize], v: usize, at: usize, s: State) -> Step
-    requires { (at < placeRoom) × (s.sp ≤ most-stack) × (s.n ≤ itemsMost) × (s.pos ≤ tokensMost) × (length out.old ≡ itemsMost) }
+    requires { (at < place_room) × (s.sp ≤ most_stack) × (s.n ≤ items_most) × (s.pos ≤ tokens_most) × (length out.old ≡ items_most) }
     ensures { (a : List ℕ) → Stepped (write v at (drop s.sp a) s.pos (take s.n out.old)) result a out.new }
 {
     let n = s.n;
@@ -115,7 +115,7 @@ fn push(
     n: usize,
     marking: usize,
 ) -> usize
-    requires { (sides.now ≡ rights) × (n ≤ top) × (top ≤ length stack.old) × (first < itemsMost) × (n < 256) × (marking ≤ 18446744073709551360) }
+    requires { (sides.now ≡ rights) × (n ≤ top) × (top ≤ length stack.old) × (first < items_most) × (n < 256) × (marking ≤ 18446744073709551360) }
     ensures { (drop result stack.new ≡ marked marking (span first n) ++ drop top stack.old) × (result ≡ top - n) × (length stack.new ≡ length stack.old) }
 {
     let mut k = n;
@@ -130,7 +130,7 @@ fn push(
 
 // What is added to each symbol of a right side.
 fn mark_of(v: usize, pos: usize, n: usize) -> usize
-    requires { (pos ≤ tokensMost) × (n ≤ itemsMost) }
+    requires { (pos ≤ tokens_most) × (n ≤ items_most) }
     ensures { ((o : List ℕ) → length o ≡ n → result ≡ mark v pos o) × (result ≤ 18446744073709551360) }
 {
     if v % 256 < LATE {
@@ -142,8 +142,8 @@ fn mark_of(v: usize, pos: usize, n: usize) -> usize
 
 // The symbols of the right side p take the place of v, which is on top.
 fn expand(sides: &[u8], stack: &mut [usize], v: usize, p: usize, s: State) -> Step
-    requires { (sides.now ≡ rights) × (p < 512) × (s.sp < most-stack) × (s.n ≤ itemsMost) × (s.pos ≤ tokensMost) × (length stack.old ≡ most-stack) }
-    ensures { (o : List ℕ) → length o ≡ itemsMost → Stepped (expand v (drop (s.sp + 1) stack.old) s.pos (take s.n o) p) result stack.new o }
+    requires { (sides.now ≡ rights) × (p < 512) × (s.sp < most_stack) × (s.n ≤ items_most) × (s.pos ≤ tokens_most) × (length stack.old ≡ most_stack) }
+    ensures { (o : List ℕ) → length o ≡ items_most → Stepped (expand v (drop (s.sp + 1) stack.old) s.pos (take s.n o) p) result stack.new o }
 {
     let sp = s.sp;
     let pos = s.pos;
@@ -160,7 +160,7 @@ fn expand(sides: &[u8], stack: &mut [usize], v: usize, p: usize, s: State) -> St
 }
 
 fn symbol_of(v: usize) -> u8
-    ensures { result ≡ symbol-of v }
+    ensures { result ≡ symbol_of v }
 {
     (v % 256) as u8
 }
@@ -174,7 +174,7 @@ fn step_on(
     out: &mut [usize],
     s: State,
 ) -> Step
-    requires { (rows.now ≡ choices) × (sides.now ≡ rights) × (s.sp ≤ most-stack) × (s.n ≤ itemsMost) × (s.pos ≤ tokensMost) × (length kinds.now ≤ tokensMost) × (length stack.old ≡ most-stack) × (length out.old ≡ itemsMost) }
+    requires { (rows.now ≡ choices) × (sides.now ≡ rights) × (s.sp ≤ most_stack) × (s.n ≤ items_most) × (s.pos ≤ tokens_most) × (length kinds.now ≤ tokens_most) × (length stack.old ≡ most_stack) × (length out.old ≡ items_most) }
     ensures { Stepped (step kinds.now (conf stack.old out.old s)) result stack.new out.new }
 {
     let sp = s.sp;
@@ -222,7 +222,7 @@ fn step_on(
 
 // The loop.
 fn run(rows: &[u8], sides: &[u8], kinds: &[u8], stack: &mut [usize], out: &mut [usize]) -> Halt
-    requires { (rows.now ≡ choices) × (sides.now ≡ rights) × (length kinds.now ≤ tokensMost) × (length stack.old ≡ most-stack) × (length out.old ≡ itemsMost) }
+    requires { (rows.now ≡ choices) × (sides.now ≡ rights) × (length kinds.now ≤ tokens_most) × (length stack.old ≡ most_stack) × (length out.old ≡ items_most) }
     ensures { Ran (machine kinds.now) result out.new }
 {
     stack[BOTTOM] = MODEL;
@@ -255,7 +255,7 @@ fn run(rows: &[u8], sides: &[u8], kinds: &[u8], stack: &mut [usize], out: &mut [
 
 // The loop, with its tables laid out.
 fn drive(kinds: &[u8], stack: &mut [usize], out: &mut [usize]) -> Halt
-    requires { (length kinds.now ≤ tokensMost) × (length stack.old ≡ most-stack) × (length out.old ≡ itemsMost) }
+    requires { (length kinds.now ≤ tokens_most) × (length stack.old ≡ most_stack) × (length out.old ≡ items_most) }
     ensures { Ran (machine kinds.now) result out.new }
 {
     let mut rows = [0u8; 5476];
@@ -266,13 +266,13 @@ fn drive(kinds: &[u8], stack: &mut [usize], out: &mut [usize]) -> Halt
 }
 
 fn token_of(v: usize) -> u32
-    ensures { result ≡ place-of v }
+    ensures { result ≡ place_of v }
 {
     (v / 256 % PLACE_ROOM) as u32
 }
 
 fn size_of(v: usize) -> u32
-    ensures { result ≡ count-of v }
+    ensures { result ≡ count_of_lem v }
 {
     (v / 1048576 % 65536) as u32
 }

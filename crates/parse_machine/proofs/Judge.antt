@@ -10,33 +10,33 @@ use mathlib.Core.Logic.{⊎_elim}
 use lib.ListN.{length, length-map}
 use lib.Dec.{ltb, leb, lit≤}
 use borrow.Author.Tests.{lt-ltb, le-ltb, le-leb, lt-leb, ltb-false}
-use Rattle.base_ceilings.specs.Ceilings.{bracketsMost, itemsMost, selectionsMost, tokensMost}
+use Rattle.base_ceilings.specs.Ceilings.{brackets_most, items_most, selections_most, tokens_most}
 use Rattle.base_kinds.specs.Kinds.{Token, kind_of}
 use Rattle.base_bytes.specs.Choice.{pick, both, either}
 use Rattle.base_codes.specs.Items.{Item}
 use Rattle.parse_grammar.specs.Engine.{nt, Answer as Parse, ok, bad, later, ended, Moved, next, bound, step, finish, parse}
-use Rattle.parse_grammar.specs.Productions.{NT, n-model, Ter, Right, G}
-use Rattle.parse_grammar.specs.Guide.{U, parse-model}
-use Rattle.parse_grammar.specs.Judge.{judged as judged-by}
-use Rattle.spec_grammar.specs.Depth.{opens-bracket, closes-bracket, opens-selection, closes-selection, count-after, passes, one_later, deep-from}
-use Rattle.parse_grammar.specs.Judge.{refused-2, refused-3, judge}
-use Rattle.parse_machine.specs.Depth.{deep, too-deep}
+use Rattle.parse_grammar.specs.Productions.{NT, n_model, Ter, Right, G}
+use Rattle.parse_grammar.specs.Guide.{U, parse_model}
+use Rattle.parse_grammar.specs.Judge.{judged as judged_by}
+use Rattle.spec_grammar.specs.Depth.{opens_bracket, closes_bracket, opens_selection, closes_selection, count_after, passes, one_later, deep_from}
+use Rattle.parse_grammar.specs.Judge.{refused_2, refused_3, judge}
+use Rattle.parse_machine.specs.Depth.{deep, too_deep}
 use Rattle.parse_machine.specs.Machine.{Outcome, done, refused, spent, machine}
 use Rattle.parse_machine.specs.Answer.{refuse, judged, parsed}
-use Rattle.parse_machine.specs.Items.{answer-of, All-proper, meant}
-use Rattle.parse_machine.proofs.Never.{lt-or-ge, Fine, never-spent}
+use Rattle.parse_machine.specs.Items.{answer_of, AllProper, meant}
+use Rattle.parse_machine.proofs.Never.{lt_or_ge, Fine, never_spent}
 use Rattle.parse_machine.proofs.Same.{same_answer}
 use Rattle.spec_grammar.specs.Depth as parsing
 
 -- ---- depth
-over : (u d : Bool) (n m : ℕ) → n ≤ m → ltb m (count-after u d n) ≡ both u (leb m n)
-over true d n m h = ⊎_elim (λ g. lt-ltb-le g) (λ g. lt-ltb-ge g) (lt-or-ge n m)
+over : (u d : Bool) (n m : ℕ) → n ≤ m → ltb m (count_after u d n) ≡ both u (leb m n)
+over true d n m h = ⊎_elim (λ g. lt_ltb_le g) (λ g. lt_ltb_ge g) (lt_or_ge n m)
   where
-    lt-ltb-le : n < m → ltb m (n + 1) ≡ leb m n
-    lt-ltb-le g = le-ltb m (n + 1) (omega arith) ∙ inv (lt-leb m n g)
+    lt_ltb_le : n < m → ltb m (n + 1) ≡ leb m n
+    lt_ltb_le g = le-ltb m (n + 1) (omega arith) ∙ inv (lt-leb m n g)
 
-    lt-ltb-ge : m ≤ n → ltb m (n + 1) ≡ leb m n
-    lt-ltb-ge g = lt-ltb m (n + 1) (omega arith) ∙ inv (le-leb m n g)
+    lt_ltb_ge : m ≤ n → ltb m (n + 1) ≡ leb m n
+    lt_ltb_ge g = lt-ltb m (n + 1) (omega arith) ∙ inv (le-leb m n g)
 over false true n m h = le-ltb m (n - 1) (omega arith)
 over false false n m h = le-ltb m n h
 
@@ -54,36 +54,36 @@ placed-later : (i n : ℕ) (o : Option ℕ) → placed (i + 1) n o ≡ placed i 
 placed-later i n none = omega arith
 placed-later i n (some j) = omega arith
 
-placed-cond : (b : Bool) (i n x : ℕ) (o : Option ℕ) → (b ≡ false → x ≡ placed i n o) → cond b i x ≡ placed i n (cond b (some 0) o)
-placed-cond true i n x o e = omega arith
-placed-cond false i n x o e = e refl
+placed_cond : (b : Bool) (i n x : ℕ) (o : Option ℕ) → (b ≡ false → x ≡ placed i n o) → cond b i x ≡ placed i n (cond b (some 0) o)
+placed_cond true i n x o e = omega arith
+placed_cond false i n x o e = e refl
 
 neither : (a b : Bool) → either a b ≡ false → (a ≡ false) × (b ≡ false)
 neither true b e = absurd (let z : ◌≡◌ {A = ℕ} 0 1 = ap (λ (c : Bool). cond c 1 0) (inv e) in omega arith)
 neither false b e = (refl, e)
 
-deep-same : (ts : List Token) (b s i : ℕ) → b ≤ bracketsMost → s ≤ selectionsMost → deep (map kind_of ts) b s i ≡ placed i (length ts) (deep-from b s ts)
+deep-same : (ts : List Token) (b s i : ℕ) → b ≤ brackets_most → s ≤ selections_most → deep (map kind_of ts) b s i ≡ placed i (length ts) (deep_from b s ts)
 unfolding deep
 deep-same [] b s i hb hs = omega arith
 deep-same (t ∷ ts) b s i hb hs =
-    let b' : ℕ = count-after (opens-bracket t) (closes-bracket t) b in
-    let s' : ℕ = count-after (opens-selection t) (closes-selection t) s in
-    let x : ltb bracketsMost b' ≡ both (opens-bracket t) (leb bracketsMost b) = over (opens-bracket t) (closes-bracket t) b bracketsMost hb in
-    let y : ltb selectionsMost s' ≡ both (opens-selection t) (leb selectionsMost s) = over (opens-selection t) (closes-selection t) s selectionsMost hs in
-    picks (ltb bracketsMost b') (ltb selectionsMost s') i (deep (map kind_of ts) b' s' (i + 1))
-    ∙ placed-cond (either (ltb bracketsMost b') (ltb selectionsMost s')) i (suc (length ts)) (deep (map kind_of ts) b' s' (i + 1)) (one_later (deep-from b' s' ts))
+    let b' : ℕ = count_after (opens_bracket t) (closes_bracket t) b in
+    let s' : ℕ = count_after (opens_selection t) (closes_selection t) s in
+    let x : ltb brackets_most b' ≡ both (opens_bracket t) (leb brackets_most b) = over (opens_bracket t) (closes_bracket t) b brackets_most hb in
+    let y : ltb selections_most s' ≡ both (opens_selection t) (leb selections_most s) = over (opens_selection t) (closes_selection t) s selections_most hs in
+    picks (ltb brackets_most b') (ltb selections_most s') i (deep (map kind_of ts) b' s' (i + 1))
+    ∙ placed_cond (either (ltb brackets_most b') (ltb selections_most s')) i (suc (length ts)) (deep (map kind_of ts) b' s' (i + 1)) (one_later (deep_from b' s' ts))
     (λ e.
-    let n = neither (ltb bracketsMost b') (ltb selectionsMost s') e in
-    deep-same ts b' s' (i + 1) (ltb-false bracketsMost b' n.0) (ltb-false selectionsMost s' n.1) ∙ placed-later i (length ts) (deep-from b' s' ts))
-    ∙ ap (λ (c : Bool). placed i (suc (length ts)) (cond (either c (ltb selectionsMost s')) (some 0) (one_later (deep-from b' s' ts)))) x
-    ∙ ap (λ (c : Bool). placed i (suc (length ts)) (cond (either (both (opens-bracket t) (leb bracketsMost b)) c) (some 0) (one_later (deep-from b' s' ts)))) y
+    let n = neither (ltb brackets_most b') (ltb selections_most s') e in
+    deep-same ts b' s' (i + 1) (ltb-false brackets_most b' n.0) (ltb-false selections_most s' n.1) ∙ placed-later i (length ts) (deep_from b' s' ts))
+    ∙ ap (λ (c : Bool). placed i (suc (length ts)) (cond (either c (ltb selections_most s')) (some 0) (one_later (deep_from b' s' ts)))) x
+    ∙ ap (λ (c : Bool). placed i (suc (length ts)) (cond (either (both (opens_bracket t) (leb brackets_most b)) c) (some 0) (one_later (deep_from b' s' ts)))) y
 
 -- a place that is some token's
-inside : (ts : List Token) (b s j : ℕ) → deep-from b s ts ≡ some j → j < length ts
+inside : (ts : List Token) (b s j : ℕ) → deep_from b s ts ≡ some j → j < length ts
 inside [] b s j e = absurd (let z : ◌≡◌ {A = ℕ} 0 1 = cc in omega arith)
 inside (t ∷ ts) b s j e =
-    first (passes b s t) (deep-from (count-after (opens-bracket t) (closes-bracket t) b) (count-after (opens-selection t) (closes-selection t) s) ts) e
-    (inside ts (count-after (opens-bracket t) (closes-bracket t) b) (count-after (opens-selection t) (closes-selection t) s))
+    first (passes b s t) (deep_from (count_after (opens_bracket t) (closes_bracket t) b) (count_after (opens_selection t) (closes_selection t) s) ts) e
+    (inside ts (count_after (opens_bracket t) (closes_bracket t) b) (count_after (opens_selection t) (closes_selection t) s))
   where
     first : (a : Bool) (o : Option ℕ) → cond a (some 0) (one_later o) ≡ some j → ((k : ℕ) → o ≡ some k → k < length ts) → j < suc (length ts)
     first true o h r = let z : 0 ≡ j = cc in omega arith
@@ -91,30 +91,30 @@ inside (t ∷ ts) b s j e =
     first false (some k) h r = let z : suc k ≡ j = cc in omega (arith, r k refl)
 
 -- ---- the place of a refusal is a token's, or the end
-not-past : (w : List Token) (k : Right) (i : ℕ) → parse G U k w ≡ bad i → i ≤ length w
-not-past [] k i e = at-end (finish G U k) e
+not_past : (w : List Token) (k : Right) (i : ℕ) → parse G U k w ≡ bad i → i ≤ length w
+not_past [] k i e = at_end (finish G U k) e
   where
-    at-end : (x : Option (List Item)) → ended x ≡ bad i → i ≤ 0
-    at-end none h = let z : 0 ≡ i = cc in omega arith
-    at-end (some o) h = absurd (let z : ◌≡◌ {A = ℕ} 0 1 = cc in omega arith)
-not-past (c ∷ w) k i e = more (step G U (bound G U k) k c) e (not-past w)
+    at_end : (x : Option (List Item)) → ended x ≡ bad i → i ≤ 0
+    at_end none h = let z : 0 ≡ i = cc in omega arith
+    at_end (some o) h = absurd (let z : ◌≡◌ {A = ℕ} 0 1 = cc in omega arith)
+not_past (c ∷ w) k i e = more (step G U (bound G U k) k c) e (not_past w)
   where
-    later-on : (o : List Item) (x : Parse Item) → later o x ≡ bad i → ((j : ℕ) → x ≡ bad j → j ≤ length w) → i ≤ suc (length w)
-    later-on o (ok p) h r = absurd (let z : ◌≡◌ {A = ℕ} 0 1 = cc in omega arith)
-    later-on o (bad j) h r = let z : suc j ≡ i = cc in omega (arith, r j refl)
+    later_on : (o : List Item) (x : Parse Item) → later o x ≡ bad i → ((j : ℕ) → x ≡ bad j → j ≤ length w) → i ≤ suc (length w)
+    later_on o (ok p) h r = absurd (let z : ◌≡◌ {A = ℕ} 0 1 = cc in omega arith)
+    later_on o (bad j) h r = let z : suc j ≡ i = cc in omega (arith, r j refl)
 
     more : (x : Option (Moved NT Ter Item)) → next x (λ k'. parse G U k' w) ≡ bad i → ((k' : Right) (j : ℕ) → parse G U k' w ≡ bad j → j ≤ length w) → i ≤ suc (length w)
     more none h r = let z : 0 ≡ i = cc in omega arith
-    more (some p) h r = later-on p.0 (parse G U p.1 w) h (r p.1)
+    more (some p) h r = later_on p.0 (parse G U p.1 w) h (r p.1)
 
 -- ---- together
 module _ (ts : List Token) where
-  by_place : (b : Bool) (j i : ℕ) → meant ts (pick b (refuse 2 j) (refuse 3 i)) ≡ cond b (refused-2 j) (refused-3 i)
+  by_place : (b : Bool) (j i : ℕ) → meant ts (pick b (refuse 2 j) (refuse 3 i)) ≡ cond b (refused_2 j) (refused_3 i)
   by_place true j i = refl
   by_place false j i = refl
 
-  all_told : (o : Outcome) (p : Parse Item) (d : Option ℕ) → Fine o → answer-of ts o ≡ p → ((j : ℕ) → d ≡ some j → j < length ts) → ((i : ℕ) → p ≡ bad i → i ≤ length ts) →
-      meant ts (judged (placed 0 (length ts) d) (length ts) o) ≡ judged-by p d
+  all_told : (o : Outcome) (p : Parse Item) (d : Option ℕ) → Fine o → answer_of ts o ≡ p → ((j : ℕ) → d ≡ some j → j < length ts) → ((i : ℕ) → p ≡ bad i → i ≤ length ts) →
+      meant ts (judged (placed 0 (length ts) d) (length ts) o) ≡ judged_by p d
   all_told (done o) p none fine e h g = rw (← e) (simp (lt-leb (0 + length ts + 1) (length ts) (omega arith)))
   all_told (done o) p (some j) fine e h g =
       let z : 0 + j ≡ j = omega arith in
@@ -125,17 +125,17 @@ module _ (ts : List Token) where
       rw (← e, z) (by_place (leb j i) j i)
   all_told spent p d fine e h g = absurd fine
 
-  module _ (proper : All-proper ts) (short : length ts ≤ tokensMost) (room : ℕ) (enough : itemsMost ≤ room) where
+  module _ (proper : AllProper ts) (short : length ts ≤ tokens_most) (room : ℕ) (enough : items_most ≤ room) where
     many : length (map kind_of ts) ≡ length ts
     many = length-map ts kind_of
 
-    is-judged : parsed (map kind_of ts) room ≡ judged (placed 0 (length ts) (parsing.too-deep ts)) (length ts) (machine (map kind_of ts))
+    is_judged : parsed (map kind_of ts) room ≡ judged (placed 0 (length ts) (parsing.too_deep ts)) (length ts) (machine (map kind_of ts))
     unfolding parsed
-    is-judged = simp (le-ltb room itemsMost enough, many, le-ltb tokensMost (length ts) short) (rw (deep-same ts 0 0 0 (lit≤ tt) (lit≤ tt)))
+    is_judged = simp (le-ltb room items_most enough, many, le-ltb tokens_most (length ts) short) (rw (deep-same ts 0 0 0 (lit≤ tt) (lit≤ tt)))
 
     -- THE SAME JUDGEMENT
-    pub same-judgement : meant ts (parsed (map kind_of ts) room) ≡ judge ts
-    same-judgement =
-        ap (meant ts) is-judged
-        ∙ all_told (machine (map kind_of ts)) (parse-model ts) (parsing.too-deep ts) (never-spent (map kind_of ts) (rw many short)) (same_answer ts proper short) (inside ts 0 0)
-        (not-past ts (nt n-model ∷ []))
+    pub same_judgement : meant ts (parsed (map kind_of ts) room) ≡ judge ts
+    same_judgement =
+        ap (meant ts) is_judged
+        ∙ all_told (machine (map kind_of ts)) (parse_model ts) (parsing.too_deep ts) (never_spent (map kind_of ts) (rw many short)) (same_answer ts proper short) (inside ts 0 0)
+        (not_past ts (nt n_model ∷ []))

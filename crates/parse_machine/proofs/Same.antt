@@ -11,24 +11,24 @@ use lib.ListN.{length, get_or, drop, length-map, get_or-map, drop_of_length-le}
 use lib.Seq.{drop-cons}
 use lib.Dec.{T, eqb, ltb, leb, ltb→lt, lit≤}
 use borrow.Author.Tests.{eq-eqb, ne_eqb, lt-ltb, le-ltb, eqb-false, eqb-true, ltb-true, ltb-false}
-use Rattle.base_ceilings.specs.Ceilings.{itemsMost, tokensMost}
-use Rattle.base_codes.specs.Codes.{c-or-else}
+use Rattle.base_ceilings.specs.Ceilings.{items_most, tokens_most}
+use Rattle.base_codes.specs.Codes.{c_or_else}
 use Rattle.base_kinds.specs.Kinds.{Token, sym, kind_of}
 use Rattle.base_bytes.specs.Choice.{pick, both}
 use Rattle.base_codes.specs.Items.{Item}
 use Rattle.parse_grammar.specs.Engine.{Sym, nt, tm, act, Answer, ok, bad, later, left_out, ended, Moved, chosen, next as nexts, choose, bound, step as steps, finish, parse}
 use Rattle.parse_grammar.specs.Productions.{NT, Ter, Right, eats, G}
-use Rattle.parse_grammar.specs.Guide.{U, parse-model}
-use Rattle.parse_grammar.proofs.Core.{pre, on-act, on-eat, on-use, finish-app}
+use Rattle.parse_grammar.specs.Guide.{U, parse_model}
+use Rattle.parse_grammar.proofs.Core.{pre, on_act, on_eat, on_use, finish_app}
 use Rattle.parse_grammar.proofs.Tests.{both_left, both_right}
 use Rattle.parse_grammar.proofs.Inst.{K, good}
 use Rattle.parse_tables.specs.Numbering.{symbol, terminal, nonterminal, item}
 use Rattle.parse_tables.specs.Tables.{bases, rights, production, span, right}
-use Rattle.parse_tables.proofs.Tables.{refuses, uses, no-kind-table, no-kind-guide, not-empty, empty, each_right, at_right}
-use Rattle.parse_machine.specs.Machine.{packed, symbol-of, place-of, clipped, column, Config, Outcome, done, refused, Next, go, outputOf, write, eat, mark, marked, expand, step-on, next, run, start, machine, most-steps, most-stack, placeRoom}
-use Rattle.parse_machine.specs.Items.{held, read, answer-of, All-proper}
-use Rattle.parse_machine.proofs.Never.{lt-or-ge, Fine, never-spent, column-low, column-end, mark-plain}
-use Rattle.parse_machine.proofs.Eaten.{eaten-items, eats-same, eats-other, proper-at}
+use Rattle.parse_tables.proofs.Tables.{refuses, uses, no_kind_table, no_kind_guide, not-empty, empty, each_right, at_right}
+use Rattle.parse_machine.specs.Machine.{packed, symbol_of, place_of, clipped, column, Config, Outcome, done, refused, Next, go, output_of, write, eat, mark, marked, expand, step_on, next, run, start, machine, most_steps, most_stack, place_room}
+use Rattle.parse_machine.specs.Items.{held, read, answer_of, AllProper}
+use Rattle.parse_machine.proofs.Never.{lt_or_ge, Fine, never_spent, column-low, column_end, mark_plain}
+use Rattle.parse_machine.proofs.Eaten.{eaten_items, eats-same, eats_other, proper_at}
 
 -- ---- numbers of symbols
 abbrev pub solid? : List ℕ → Bool
@@ -43,55 +43,55 @@ abbrev Solid : List ℕ → Type 0
 Solid [] = Unit {0}
 Solid (v ∷ st) = (1 ≤ v % 256) × Solid st
 
-unfoldable pub solid-rights : ℕ → ℕ → Bool
-solid-rights x p = solid? (right p)
+unfoldable pub solid_rights : ℕ → ℕ → Bool
+solid_rights x p = solid? (right p)
 
-pub solid-all : T (each_right solid-rights)
-unfolding solid-rights bases right span rights
-solid-all = tt
+pub solid_all : T (each_right solid_rights)
+unfolding solid_rights bases right span rights
+solid_all = tt
 
-below-256 : (y b : ℕ) → y < 256 → b % 256 ≡ 0 → (y + b) % 256 ≡ y
-below-256 y b h e = omega arith
+below_256 : (y b : ℕ) → y < 256 → b % 256 ≡ 0 → (y + b) % 256 ≡ y
+below_256 y b h e = omega arith
 
 symbols-marked : (b : ℕ) (r st : List ℕ) → b % 256 ≡ 0 → T (solid? r) → symbols (marked b r ++ st) ≡ map symbol r ++ symbols st
 symbols-marked b [] st e t = refl
 symbols-marked b (y ∷ r) st e t =
     let h : y < 256 = ltb→lt y 256 (both_right (ltb 0 y) (ltb y 256) (both_left (both (ltb 0 y) (ltb y 256)) (solid? r) t)) in
-    rw (below-256 y b h e, symbols-marked b r st e (both_right (both (ltb 0 y) (ltb y 256)) (solid? r) t))
+    rw (below_256 y b h e, symbols-marked b r st e (both_right (both (ltb 0 y) (ltb y 256)) (solid? r) t))
 
-solid-marked : (b : ℕ) (r st : List ℕ) → b % 256 ≡ 0 → T (solid? r) → Solid st → Solid (marked b r ++ st)
-solid-marked b [] st e t s = s
-solid-marked b (y ∷ r) st e t s =
+solid_marked : (b : ℕ) (r st : List ℕ) → b % 256 ≡ 0 → T (solid? r) → Solid st → Solid (marked b r ++ st)
+solid_marked b [] st e t s = s
+solid_marked b (y ∷ r) st e t s =
     let q : T (both (ltb 0 y) (ltb y 256)) = both_left (both (ltb 0 y) (ltb y 256)) (solid? r) t in
     let h : y < 256 = ltb→lt y 256 (both_right (ltb 0 y) (ltb y 256) q) in
     let l : 0 < y = ltb→lt 0 y (both_left (ltb 0 y) (ltb y 256) q) in
-    (rw (below-256 y b h e) l, solid-marked b r st e (both_right (both (ltb 0 y) (ltb y 256)) (solid? r) t) s)
+    (rw (below_256 y b h e) l, solid_marked b r st e (both_right (both (ltb 0 y) (ltb y 256)) (solid? r) t) s)
 
-pub is-terminal : (x : ℕ) → x < 73 → symbol x ≡ tm (terminal x)
-is-terminal x h = simp (lt-ltb x 73 h)
+pub is_terminal : (x : ℕ) → x < 73 → symbol x ≡ tm (terminal x)
+is_terminal x h = simp (lt-ltb x 73 h)
 
-pub is-nonterminal : (x : ℕ) → 73 ≤ x → x < c-or-else → symbol x ≡ nt (nonterminal x)
-is-nonterminal x l h = simp (le-ltb x 73 l, lt-ltb x c-or-else h)
+pub is_nonterminal : (x : ℕ) → 73 ≤ x → x < c_or_else → symbol x ≡ nt (nonterminal x)
+is_nonterminal x l h = simp (le-ltb x 73 l, lt-ltb x c_or_else h)
 
-pub is-act : (x : ℕ) → c-or-else ≤ x → symbol x ≡ act (item x)
-is-act x h = simp (le-ltb x 73 (omega arith), le-ltb x c-or-else h)
+pub is_act : (x : ℕ) → c_or_else ≤ x → symbol x ≡ act (item x)
+is_act x h = simp (le-ltb x 73 (omega arith), le-ltb x c_or_else h)
 
 -- ---- the equations of `parse_grammar`, where it refuses and at the end
 on_none : (n : NT) (k : Right) (c : Token) (w : List Token) → choose G U n (U.kind c) ≡ none → parse G U (nt n ∷ k) (c ∷ w) ≡ bad 0
-on_none n k c w e = ap (λ (x : Option (Moved NT Ter Item)). nexts x (λ k'. parse G U k' w)) (go-by (bound G U (nt n ∷ k)))
+on_none n k c w e = ap (λ (x : Option (Moved NT Ter Item)). nexts x (λ k'. parse G U k' w)) (go_by (bound G U (nt n ∷ k)))
   where
-    go-by : (f : ℕ) → steps G U f (nt n ∷ k) c ≡ none
-    go-by zero = refl
-    go-by (suc f) = ap (λ (y : Option Right). chosen y (λ r. steps G U f (r ++ k) c)) e
+    go_by : (f : ℕ) → steps G U f (nt n ∷ k) c ≡ none
+    go_by zero = refl
+    go_by (suc f) = ap (λ (y : Option Right). chosen y (λ r. steps G U f (r ++ k) c)) e
 
-on-other : (t : Ter) (k : Right) (c : Token) (w : List Token) → eats t c ≡ none → parse G U (tm t ∷ k) (c ∷ w) ≡ bad 0
-on-other t k c w e = rw e
+on_other : (t : Ter) (k : Right) (c : Token) (w : List Token) → eats t c ≡ none → parse G U (tm t ∷ k) (c ∷ w) ≡ bad 0
+on_other t k c w e = rw e
 
-at-end-use : (n : NT) (r k : Right) → finish G U r ≡ U.nul n → parse G U (nt n ∷ k) [] ≡ parse G U (r ++ k) []
-at-end-use n r k e = ap ended (ap (λ (x : Option (List Item)). left_out x (finish G U k)) (inv e) ∙ inv (finish-app G U K good r k))
+at_end_use : (n : NT) (r k : Right) → finish G U r ≡ U.nul n → parse G U (nt n ∷ k) [] ≡ parse G U (r ++ k) []
+at_end_use n r k e = ap ended (ap (λ (x : Option (List Item)). left_out x (finish G U k)) (inv e) ∙ inv (finish_app G U K good r k))
 
-at-end-none : (n : NT) (k : Right) → U.nul n ≡ none → parse G U (nt n ∷ k) [] ≡ bad 0
-at-end-none n k e = ap (λ (x : Option (List Item)). ended (left_out x (finish G U k))) e
+at_end_none : (n : NT) (k : Right) → U.nul n ≡ none → parse G U (nt n ∷ k) [] ≡ bad 0
+at_end_none n k e = ap (λ (x : Option (List Item)). ended (left_out x (finish G U k))) e
 
 -- ---- what is still to come, after o at place i
 abbrev moved : ℕ → List Item → Answer Item → Answer Item
@@ -110,21 +110,21 @@ map_snoc : (f : ℕ → Item) (o : List ℕ) (x : ℕ) → map f (o ++ x ∷ [])
 map_snoc f [] x = refl
 map_snoc f (y ∷ o) x = ap (f y ∷◌) (map_snoc f o x)
 
-symbol-packed : (x at n : ℕ) → x < 256 → symbol-of (packed x at n) ≡ x
+symbol-packed : (x at n : ℕ) → x < 256 → symbol_of (packed x at n) ≡ x
 symbol-packed x at n h = omega arith
 
-place-packed : (x at n : ℕ) → x < 256 → at < placeRoom → place-of (packed x at n) ≡ at
+place-packed : (x at n : ℕ) → x < 256 → at < place_room → place_of (packed x at n) ≡ at
 place-packed x at n h g = omega arith
 
-read_held : (ts : List Token) (x at n : ℕ) → x < c-or-else → at < placeRoom → read ts (packed x at n) ≡ held (get_or ts at (sym 0))
-read_held ts x at n h g = simp (symbol-packed x at n (omega arith), place-packed x at n (omega arith) g, lt-ltb x c-or-else h)
+read_held : (ts : List Token) (x at n : ℕ) → x < c_or_else → at < place_room → read ts (packed x at n) ≡ held (get_or ts at (sym 0))
+read_held ts x at n h g = simp (symbol-packed x at n (omega arith), place-packed x at n (omega arith) g, lt-ltb x c_or_else h)
 
-read-act : (ts : List Token) (x at n : ℕ) → c-or-else ≤ x → x < 256 → read ts (packed x at n) ≡ item x
-read-act ts x at n l h = simp (symbol-packed x at n h, le-ltb x c-or-else l)
+read_act : (ts : List Token) (x at n : ℕ) → c_or_else ≤ x → x < 256 → read ts (packed x at n) ≡ item x
+read_act ts x at n l h = simp (symbol-packed x at n h, le-ltb x c_or_else l)
 
-kind-cases : (k : ℕ) → (k ≡ 0) ⊎ (0 < k)
-kind-cases zero = inl refl
-kind-cases (suc k) = inr (omega arith)
+kind_cases : (k : ℕ) → (k ≡ 0) ⊎ (0 < k)
+kind_cases zero = inl refl
+kind_cases (suc k) = inr (omega arith)
 
 clipped-zero : (k : ℕ) → k ≡ 0 → clipped k ≡ 73
 clipped-zero k e = simp (eq-eqb k 0 e)
@@ -133,21 +133,21 @@ clipped-more : (k : ℕ) → 0 < k → clipped k ≡ min k 73
 clipped-more k h = let ne : k ≡ 0 → ⊥ = (λ e. omega arith) in simp (ne_eqb k 0 ne)
 
 -- what `parse_grammar` chooses is what the tables choose, at any token
-module _ (x : ℕ) (lo : 73 ≤ x) (hi : x < c-or-else) (c : Token) where
+module _ (x : ℕ) (lo : 73 ≤ x) (hi : x < c_or_else) (c : Token) where
   chooses_none : production x (clipped (kind_of c)) ≡ 0 → choose G U (nonterminal x) (U.kind c) ≡ none
   chooses_none e =
-      ⊎_elim (λ z. let k : U.kind c ≡ 0 = omega arith in rw k (no-kind-guide x lo hi))
-      (λ h. refuses x lo hi (U.kind c) (omega arith) (omega arith) (rw (clipped-more (kind_of c) h) at e)) (kind-cases (kind_of c))
+      ⊎_elim (λ z. let k : U.kind c ≡ 0 = omega arith in rw k (no_kind_guide x lo hi))
+      (λ h. refuses x lo hi (U.kind c) (omega arith) (omega arith) (rw (clipped-more (kind_of c) h) at e)) (kind_cases (kind_of c))
 
   pub chooses : (production x (clipped (kind_of c)) ≡ 0 → ⊥) → choose G U (nonterminal x) (U.kind c) ≡ some (map symbol (right (production x (clipped (kind_of c)))))
   chooses ne =
-      ⊎_elim (λ z. absurd (ne (ap (production x) (clipped-zero (kind_of c) z) ∙ no-kind-table x lo hi)))
-      (λ h. rw (clipped-more (kind_of c) h) (uses x lo hi (U.kind c) (omega arith) (omega arith) (rw (clipped-more (kind_of c) h) at ne))) (kind-cases (kind_of c))
+      ⊎_elim (λ z. absurd (ne (ap (production x) (clipped-zero (kind_of c) z) ∙ no_kind_table x lo hi)))
+      (λ h. rw (clipped-more (kind_of c) h) (uses x lo hi (U.kind c) (omega arith) (omega arith) (rw (clipped-more (kind_of c) h) at ne))) (kind_cases (kind_of c))
 
 -- ---- one step
 module _ (ts : List Token) where
   abbrev Says : Outcome → Answer Item → Type 0
-  Says o a = Fine o → answer-of ts o ≡ a
+  Says o a = Fine o → answer_of ts o ≡ a
 
   says-pick : (b : Bool) (x y : Next) (f : Config → Outcome) (a : Answer Item) → (b ≡ true → Says (next f x) a) → (b ≡ false → Says (next f y) a) → Says (next f (pick b x y)) a
   says-pick true x y f a p q = p refl
@@ -162,9 +162,9 @@ module _ (ts : List Token) where
   pub many : length (map kind_of ts) ≡ length ts
   many = length-map ts kind_of
 
-  pub column-is : (pos : ℕ) → pos < length ts → column (map kind_of ts) pos ≡ clipped (kind_of (get_or ts pos (sym 0)))
+  pub column_is : (pos : ℕ) → pos < length ts → column (map kind_of ts) pos ≡ clipped (kind_of (get_or ts pos (sym 0)))
   unfolding column
-  column-is pos h = simp (many, lt-ltb pos (length ts) h, kind_at pos)
+  column_is pos h = simp (many, lt-ltb pos (length ts) h, kind_at pos)
 
   pub opened : (pos : ℕ) → pos < length ts → drop pos ts ≡ get_or ts pos (sym 0) ∷ drop (pos + 1) ts
   opened pos h = rw add-one (drop-cons ts pos (sym 0) h)
@@ -172,46 +172,46 @@ module _ (ts : List Token) where
   pub ended_at : (pos : ℕ) → length ts ≤ pos → drop pos ts ≡ []
   ended_at pos h = drop_of_length-le ts h
 
-  module _ (proper : All-proper ts) (short : length ts ≤ tokensMost) (f : Config → Outcome) (ih : (c : Config) → Solid c.st → Says (f c) (rest c.st c.pos c.out))
+  module _ (proper : AllProper ts) (short : length ts ≤ tokens_most) (f : Config → Outcome) (ih : (c : Config) → Solid c.st → Says (f c) (rest c.st c.pos c.out))
       (v : ℕ) (st : List ℕ) (pos : ℕ) (out : List ℕ) (solid : Solid (v ∷ st)) where
     -- an item to write
-    act-is : c-or-else ≤ v % 256 → rest st pos (outputOf v (place-of v) out) ≡ rest (v ∷ st) pos out
-    act-is h =
+    act_is : c_or_else ≤ v % 256 → rest st pos (output_of v (place_of v) out) ≡ rest (v ∷ st) pos out
+    act_is h =
         let a : Answer Item = parse G U (symbols st) (drop pos ts) in
-        ap (λ (o : List Item). moved pos o a) (map_snoc (read ts) out _ ∙ ap (λ (i : Item). map (read ts) out ++ i ∷ []) (read-act ts (v % 256) (place-of v) _ h (omega arith)))
+        ap (λ (o : List Item). moved pos o a) (map_snoc (read ts) out _ ∙ ap (λ (i : Item). map (read ts) out ++ i ∷ []) (read_act ts (v % 256) (place_of v) _ h (omega arith)))
         ∙ inv (moved-pre pos (map (read ts) out) (item (v % 256)) a)
-        ∙ ap (moved pos (map (read ts) out)) (inv (on-act G U K good (item (v % 256)) (symbols st) (drop pos ts)))
-        ∙ ap (λ (s : Sym NT Ter Item). moved pos (map (read ts) out) (parse G U (s ∷ symbols st) (drop pos ts))) (inv (is-act (v % 256) h))
+        ∙ ap (moved pos (map (read ts) out)) (inv (on_act G U K good (item (v % 256)) (symbols st) (drop pos ts)))
+        ∙ ap (λ (s : Sym NT Ter Item). moved pos (map (read ts) out) (parse G U (s ∷ symbols st) (drop pos ts))) (inv (is_act (v % 256) h))
 
-    act-says : c-or-else ≤ v % 256 → Says (next f (write v (place-of v) st pos out)) (rest (v ∷ st) pos out)
+    act_says : c_or_else ≤ v % 256 → Says (next f (write v (place_of v) st pos out)) (rest (v ∷ st) pos out)
     unfolding write
-    act-says h =
-        says-pick (ltb (length out) itemsMost) _ _ f (rest (v ∷ st) pos out)
-        (λ e fine. ih (record { st = st; pos = pos; out = outputOf v (place-of v) out }) solid.1 fine ∙ act-is h) (λ e fine. absurd fine)
+    act_says h =
+        says-pick (ltb (length out) items_most) _ _ f (rest (v ∷ st) pos out)
+        (λ e fine. ih (record { st = st; pos = pos; out = output_of v (place_of v) out }) solid.1 fine ∙ act_is h) (λ e fine. absurd fine)
 
     -- a terminal
     module _ (low : v % 256 < 73) where
       abbrev after : Answer Item → Answer Item
       after a = moved pos (map (read ts) out) a
 
-      as-terminal : rest (v ∷ st) pos out ≡ after (parse G U (tm (terminal (v % 256)) ∷ symbols st) (drop pos ts))
-      as-terminal = ap (λ (s : Sym NT Ter Item). after (parse G U (s ∷ symbols st) (drop pos ts))) (is-terminal (v % 256) low)
+      as_terminal : rest (v ∷ st) pos out ≡ after (parse G U (tm (terminal (v % 256)) ∷ symbols st) (drop pos ts))
+      as_terminal = ap (λ (s : Sym NT Ter Item). after (parse G U (s ∷ symbols st) (drop pos ts))) (is_terminal (v % 256) low)
 
-      stop-at-end : length ts ≤ pos → bad pos ≡ rest (v ∷ st) pos out
-      stop-at-end h = inv (as-terminal ∙ ap (λ (l : List Token). after (parse G U (tm (terminal (v % 256)) ∷ symbols st) l)) (ended_at pos h) ∙ ap bad (omega arith))
+      stop_at_end : length ts ≤ pos → bad pos ≡ rest (v ∷ st) pos out
+      stop_at_end h = inv (as_terminal ∙ ap (λ (l : List Token). after (parse G U (tm (terminal (v % 256)) ∷ symbols st) l)) (ended_at pos h) ∙ ap bad (omega arith))
 
       module _ (here : pos < length ts) where
-        stop-here : (v % 256 ≡ clipped (kind_of (get_or ts pos (sym 0))) → ⊥) → bad pos ≡ rest (v ∷ st) pos out
-        stop-here ne =
-            inv (as-terminal ∙ ap (λ (l : List Token). after (parse G U (tm (terminal (v % 256)) ∷ symbols st) l)) (opened pos here)
-            ∙ ap after (on-other (terminal (v % 256)) (symbols st) (get_or ts pos (sym 0)) (drop (pos + 1) ts) (eats-other (get_or ts pos (sym 0)) (v % 256) solid.0 low ne))
+        stop_here : (v % 256 ≡ clipped (kind_of (get_or ts pos (sym 0))) → ⊥) → bad pos ≡ rest (v ∷ st) pos out
+        stop_here ne =
+            inv (as_terminal ∙ ap (λ (l : List Token). after (parse G U (tm (terminal (v % 256)) ∷ symbols st) l)) (opened pos here)
+            ∙ ap after (on_other (terminal (v % 256)) (symbols st) (get_or ts pos (sym 0)) (drop (pos + 1) ts) (eats_other (get_or ts pos (sym 0)) (v % 256) solid.0 low ne))
             ∙ ap bad (omega arith))
 
-        go_on : v % 256 ≡ clipped (kind_of (get_or ts pos (sym 0))) → moved (pos + 1) (map (read ts) out ++ eaten-items (v % 256) (get_or ts pos (sym 0))) (parse G U (symbols st) (drop (pos + 1) ts)) ≡ rest (v ∷ st) pos out
+        go_on : v % 256 ≡ clipped (kind_of (get_or ts pos (sym 0))) → moved (pos + 1) (map (read ts) out ++ eaten_items (v % 256) (get_or ts pos (sym 0))) (parse G U (symbols st) (drop (pos + 1) ts)) ≡ rest (v ∷ st) pos out
         go_on e =
-            inv (as-terminal ∙ ap (λ (l : List Token). after (parse G U (tm (terminal (v % 256)) ∷ symbols st) l)) (opened pos here)
-            ∙ ap after (on-eat G U K good (terminal (v % 256)) (symbols st) (get_or ts pos (sym 0)) (eaten-items (v % 256) (get_or ts pos (sym 0))) (drop (pos + 1) ts) (eats-same (get_or ts pos (sym 0)) (v % 256) (proper-at ts pos proper here) low e))
-            ∙ moved_later pos (map (read ts) out) (eaten-items (v % 256) (get_or ts pos (sym 0))) (parse G U (symbols st) (drop (pos + 1) ts)))
+            inv (as_terminal ∙ ap (λ (l : List Token). after (parse G U (tm (terminal (v % 256)) ∷ symbols st) l)) (opened pos here)
+            ∙ ap after (on_eat G U K good (terminal (v % 256)) (symbols st) (get_or ts pos (sym 0)) (eaten_items (v % 256) (get_or ts pos (sym 0))) (drop (pos + 1) ts) (eats-same (get_or ts pos (sym 0)) (v % 256) (proper_at ts pos proper here) low e))
+            ∙ moved_later pos (map (read ts) out) (eaten_items (v % 256) (get_or ts pos (sym 0))) (parse G U (symbols st) (drop (pos + 1) ts)))
 
         silent : v % 256 < 70 → v % 256 ≡ clipped (kind_of (get_or ts pos (sym 0))) → rest st (pos + 1) out ≡ rest (v ∷ st) pos out
         silent h e =
@@ -219,7 +219,7 @@ module _ (ts : List Token) where
             (inv (append-nil (map (read ts) out)) ∙ ap (λ (b : Bool). map (read ts) out ++ pick b [] (held (get_or ts pos (sym 0)) ∷ [])) (inv (lt-ltb (v % 256) 70 h)))
             ∙ go_on e
 
-        heard : 70 ≤ v % 256 → v % 256 ≡ clipped (kind_of (get_or ts pos (sym 0))) → rest st (pos + 1) (outputOf v pos out) ≡ rest (v ∷ st) pos out
+        heard : 70 ≤ v % 256 → v % 256 ≡ clipped (kind_of (get_or ts pos (sym 0))) → rest st (pos + 1) (output_of v pos out) ≡ rest (v ∷ st) pos out
         heard h e =
             ap (λ (o : List Item). moved (pos + 1) o (parse G U (symbols st) (drop (pos + 1) ts)))
             (map_snoc (read ts) out _ ∙ ap (λ (i : Item). map (read ts) out ++ i ∷ []) (read_held ts (v % 256) pos _ (omega arith) (omega arith))
@@ -229,14 +229,14 @@ module _ (ts : List Token) where
         name-says : 70 ≤ v % 256 → v % 256 ≡ clipped (kind_of (get_or ts pos (sym 0))) → Says (next f (write v pos st (pos + 1) out)) (rest (v ∷ st) pos out)
         unfolding write
         name-says h e =
-            says-pick (ltb (length out) itemsMost) _ _ f (rest (v ∷ st) pos out)
-            (λ g fine. ih (record { st = st; pos = pos + 1; out = outputOf v pos out }) solid.1 fine ∙ heard h e) (λ g fine. absurd fine)
+            says-pick (ltb (length out) items_most) _ _ f (rest (v ∷ st) pos out)
+            (λ g fine. ih (record { st = st; pos = pos + 1; out = output_of v pos out }) solid.1 fine ∙ heard h e) (λ g fine. absurd fine)
 
-        eat-says : v % 256 ≡ clipped (kind_of (get_or ts pos (sym 0))) → Says (next f (pick (ltb (symbol-of v) 70) (go (record { st = st; pos = pos + 1; out = out })) (write v pos st (pos + 1) out))) (rest (v ∷ st) pos out)
+        eat-says : v % 256 ≡ clipped (kind_of (get_or ts pos (sym 0))) → Says (next f (pick (ltb (symbol_of v) 70) (go (record { st = st; pos = pos + 1; out = out })) (write v pos st (pos + 1) out))) (rest (v ∷ st) pos out)
         eat-says e =
-            says-pick (ltb (symbol-of v) 70) (go (record { st = st; pos = pos + 1; out = out })) (write v pos st (pos + 1) out) f (rest (v ∷ st) pos out)
-            (λ h fine. ih (record { st = st; pos = pos + 1; out = out }) solid.1 fine ∙ silent (ltb-true (symbol-of v) 70 h) e)
-            (λ h. name-says (ltb-false (symbol-of v) 70 h) e)
+            says-pick (ltb (symbol_of v) 70) (go (record { st = st; pos = pos + 1; out = out })) (write v pos st (pos + 1) out) f (rest (v ∷ st) pos out)
+            (λ h fine. ih (record { st = st; pos = pos + 1; out = out }) solid.1 fine ∙ silent (ltb-true (symbol_of v) 70 h) e)
+            (λ h. name-says (ltb-false (symbol_of v) 70 h) e)
 
       terminal-says : Says (next f (eat (map kind_of ts) v st pos out)) (rest (v ∷ st) pos out)
       unfolding eat
@@ -244,95 +244,95 @@ module _ (ts : List Token) where
           says-pick (ltb pos (length (map kind_of ts))) _ _ f (rest (v ∷ st) pos out)
           (λ h.
           let here : pos < length ts = rw many at (ltb-true pos (length (map kind_of ts)) h) in
-          says-pick (eqb (symbol-of v) (column (map kind_of ts) pos)) _ _ f (rest (v ∷ st) pos out)
-          (λ e. eat-says here (eqb-true (symbol-of v) (column (map kind_of ts) pos) e ∙ column-is pos here))
-          (λ e fine. stop-here here (λ z. eqb-false (symbol-of v) (column (map kind_of ts) pos) e (z ∙ inv (column-is pos here)))))
-          (λ h fine. stop-at-end (rw many at (ltb-false pos (length (map kind_of ts)) h)))
+          says-pick (eqb (symbol_of v) (column (map kind_of ts) pos)) _ _ f (rest (v ∷ st) pos out)
+          (λ e. eat-says here (eqb-true (symbol_of v) (column (map kind_of ts) pos) e ∙ column_is pos here))
+          (λ e fine. stop_here here (λ z. eqb-false (symbol_of v) (column (map kind_of ts) pos) e (z ∙ inv (column_is pos here)))))
+          (λ h fine. stop_at_end (rw many at (ltb-false pos (length (map kind_of ts)) h)))
 
     -- a nonterminal
-    module _ (lo : 73 ≤ v % 256) (hi : v % 256 < c-or-else) (p : ℕ) (ep : p ≡ production (v % 256) (column (map kind_of ts) pos)) where
-      abbrev after-all : Answer Item → Answer Item
-      after-all a = moved pos (map (read ts) out) a
+    module _ (lo : 73 ≤ v % 256) (hi : v % 256 < c_or_else) (p : ℕ) (ep : p ≡ production (v % 256) (column (map kind_of ts) pos)) where
+      abbrev after_all : Answer Item → Answer Item
+      after_all a = moved pos (map (read ts) out) a
 
-      as-nonterminal : (l : List Token) → drop pos ts ≡ l → rest (v ∷ st) pos out ≡ after-all (parse G U (nt (nonterminal (v % 256)) ∷ symbols st) l)
-      as-nonterminal l e =
-          ap (λ (s : Sym NT Ter Item). after-all (parse G U (s ∷ symbols st) (drop pos ts))) (is-nonterminal (v % 256) lo hi)
-          ∙ ap (λ (w : List Token). after-all (parse G U (nt (nonterminal (v % 256)) ∷ symbols st) w)) e
+      as_nonterminal : (l : List Token) → drop pos ts ≡ l → rest (v ∷ st) pos out ≡ after_all (parse G U (nt (nonterminal (v % 256)) ∷ symbols st) l)
+      as_nonterminal l e =
+          ap (λ (s : Sym NT Ter Item). after_all (parse G U (s ∷ symbols st) (drop pos ts))) (is_nonterminal (v % 256) lo hi)
+          ∙ ap (λ (w : List Token). after_all (parse G U (nt (nonterminal (v % 256)) ∷ symbols st) w)) e
 
       by_token : pos < length ts → p ≡ production (v % 256) (clipped (kind_of (get_or ts pos (sym 0))))
-      by_token h = ep ∙ ap (production (v % 256)) (column-is pos h)
+      by_token h = ep ∙ ap (production (v % 256)) (column_is pos h)
 
       by_end : length ts ≤ pos → p ≡ production (v % 256) 0
-      by_end h = ep ∙ ap (production (v % 256)) (column-end (map kind_of ts) pos (rw many h))
+      by_end h = ep ∙ ap (production (v % 256)) (column_end (map kind_of ts) pos (rw many h))
 
       stuck : p ≡ 0 → bad pos ≡ rest (v ∷ st) pos out
       stuck e =
           ⊎_elim
-          (λ h. inv (as-nonterminal _ (opened pos h) ∙ ap after-all (on_none (nonterminal (v % 256)) (symbols st) (get_or ts pos (sym 0)) (drop (pos + 1) ts) (chooses_none (v % 256) lo hi (get_or ts pos (sym 0)) (inv (by_token h) ∙ e))) ∙ ap bad (omega arith)))
-          (λ h. inv (as-nonterminal _ (ended_at pos h) ∙ ap after-all (at-end-none (nonterminal (v % 256)) (symbols st) (not-empty (v % 256) lo hi (inv (by_end h) ∙ e))) ∙ ap bad (omega arith)))
-          (lt-or-ge pos (length ts))
+          (λ h. inv (as_nonterminal _ (opened pos h) ∙ ap after_all (on_none (nonterminal (v % 256)) (symbols st) (get_or ts pos (sym 0)) (drop (pos + 1) ts) (chooses_none (v % 256) lo hi (get_or ts pos (sym 0)) (inv (by_token h) ∙ e))) ∙ ap bad (omega arith)))
+          (λ h. inv (as_nonterminal _ (ended_at pos h) ∙ ap after_all (at_end_none (nonterminal (v % 256)) (symbols st) (not-empty (v % 256) lo hi (inv (by_end h) ∙ e))) ∙ ap bad (omega arith)))
+          (lt_or_ge pos (length ts))
 
       module _ (ne : p ≡ 0 → ⊥) where
-        is-solid : T (solid? (right p))
-        unfolding solid-rights
-        is-solid = rw ep (at_right solid-rights solid-all (v % 256) (column (map kind_of ts) pos) lo hi (column-low (map kind_of ts) pos) (rw ep at ne))
+        is_solid : T (solid? (right p))
+        unfolding solid_rights
+        is_solid = rw ep (at_right solid_rights solid_all (v % 256) (column (map kind_of ts) pos) lo hi (column-low (map kind_of ts) pos) (rw ep at ne))
 
         used : parse G U (map symbol (right p) ++ symbols st) (drop pos ts) ≡ parse G U (nt (nonterminal (v % 256)) ∷ symbols st) (drop pos ts)
         used =
             ⊎_elim
-            (λ h. rw (opened pos h) (inv (on-use G U K good (nonterminal (v % 256)) (symbols st) (map symbol (right p)) (get_or ts pos (sym 0)) (drop (pos + 1) ts) (rw (by_token h) (chooses (v % 256) lo hi (get_or ts pos (sym 0)) (rw (by_token h) at ne))))))
-            (λ h. rw (ended_at pos h) (inv (at-end-use (nonterminal (v % 256)) (map symbol (right p)) (symbols st) (rw (by_end h) (empty (v % 256) lo hi (rw (by_end h) at ne))))))
-            (lt-or-ge pos (length ts))
+            (λ h. rw (opened pos h) (inv (on_use G U K good (nonterminal (v % 256)) (symbols st) (map symbol (right p)) (get_or ts pos (sym 0)) (drop (pos + 1) ts) (rw (by_token h) (chooses (v % 256) lo hi (get_or ts pos (sym 0)) (rw (by_token h) at ne))))))
+            (λ h. rw (ended_at pos h) (inv (at_end_use (nonterminal (v % 256)) (map symbol (right p)) (symbols st) (rw (by_end h) (empty (v % 256) lo hi (rw (by_end h) at ne))))))
+            (lt_or_ge pos (length ts))
 
         unfolded : rest (marked (mark v pos out) (right p) ++ st) pos out ≡ rest (v ∷ st) pos out
         unfolded =
-            ap (λ (k : Right). after-all (parse G U k (drop pos ts))) (symbols-marked (mark v pos out) (right p) st (mark-plain v pos out) is-solid)
-            ∙ ap after-all used
-            ∙ inv (as-nonterminal (drop pos ts) refl)
+            ap (λ (k : Right). after_all (parse G U k (drop pos ts))) (symbols-marked (mark v pos out) (right p) st (mark_plain v pos out) is_solid)
+            ∙ ap after_all used
+            ∙ inv (as_nonterminal (drop pos ts) refl)
 
       nonterminal-says : Says (next f (expand v st pos out p)) (rest (v ∷ st) pos out)
       unfolding expand
       nonterminal-says =
           says-pick (eqb p 0) _ _ f (rest (v ∷ st) pos out) (λ e fine. stuck (eqb-true p 0 e))
-          (λ e. says-pick (leb (length (right p) + length st) most-stack) _ _ f (rest (v ∷ st) pos out)
+          (λ e. says-pick (leb (length (right p) + length st) most_stack) _ _ f (rest (v ∷ st) pos out)
           (λ g fine.
-          ih (record { st = marked (mark v pos out) (right p) ++ st; pos = pos; out = out }) (solid-marked (mark v pos out) (right p) st (mark-plain v pos out) (is-solid (eqb-false p 0 e)) solid.1) fine
+          ih (record { st = marked (mark v pos out) (right p) ++ st; pos = pos; out = out }) (solid_marked (mark v pos out) (right p) st (mark_plain v pos out) (is_solid (eqb-false p 0 e)) solid.1) fine
           ∙ unfolded (eqb-false p 0 e))
           (λ g fine. absurd fine))
 
   -- where the stack is empty
-  empty-says : (f : Config → Outcome) (pos : ℕ) (out : List ℕ) → Says (next f (step-on (map kind_of ts) [] pos out)) (rest [] pos out)
-  unfolding step-on
+  empty-says : (f : Config → Outcome) (pos : ℕ) (out : List ℕ) → Says (next f (step_on (map kind_of ts) [] pos out)) (rest [] pos out)
+  unfolding step_on
   empty-says f pos out =
-      ⊎_elim (λ h fine. more h) (λ h fine. over h) (lt-or-ge pos (length ts))
+      ⊎_elim (λ h fine. more h) (λ h fine. over h) (lt_or_ge pos (length ts))
     where
-      more : pos < length ts → answer-of ts (pick (ltb pos (length (map kind_of ts))) (refused pos) (done out)) ≡ rest [] pos out
+      more : pos < length ts → answer_of ts (pick (ltb pos (length (map kind_of ts))) (refused pos) (done out)) ≡ rest [] pos out
       more h = simp (many, lt-ltb pos (length ts) h) (inv (ap (λ (l : List Token). moved pos (map (read ts) out) (parse G U [] l)) (opened pos h) ∙ ap bad (omega arith)))
 
-      over : length ts ≤ pos → answer-of ts (pick (ltb pos (length (map kind_of ts))) (refused pos) (done out)) ≡ rest [] pos out
+      over : length ts ≤ pos → answer_of ts (pick (ltb pos (length (map kind_of ts))) (refused pos) (done out)) ≡ rest [] pos out
       over h = simp (many, le-ltb pos (length ts) h) (inv (ap (λ (l : List Token). moved pos (map (read ts) out) (parse G U [] l)) (ended_at pos h) ∙ ap ok (append-nil (map (read ts) out))))
 
-  module _ (proper : All-proper ts) (short : length ts ≤ tokensMost) where
-    turn-says : (f : Config → Outcome) → ((c : Config) → Solid c.st → Says (f c) (rest c.st c.pos c.out)) → (st : List ℕ) (pos : ℕ) (out : List ℕ) → Solid st →
-        Says (next f (step-on (map kind_of ts) st pos out)) (rest st pos out)
-    unfolding step-on
-    turn-says f ih [] pos out solid = empty-says f pos out
-    turn-says f ih (v ∷ st) pos out solid =
-        says-pick (ltb (symbol-of v) 73) (eat (map kind_of ts) v st pos out) _ f (rest (v ∷ st) pos out)
-        (λ e. terminal-says proper short f ih v st pos out solid (ltb-true (symbol-of v) 73 e))
-        (λ e. says-pick (ltb (symbol-of v) c-or-else) (expand v st pos out (production (symbol-of v) (column (map kind_of ts) pos))) _ f (rest (v ∷ st) pos out)
-        (λ g. nonterminal-says proper short f ih v st pos out solid (ltb-false (symbol-of v) 73 e) (ltb-true (symbol-of v) c-or-else g) _ refl)
-        (λ g. act-says proper short f ih v st pos out solid (ltb-false (symbol-of v) c-or-else g)))
+  module _ (proper : AllProper ts) (short : length ts ≤ tokens_most) where
+    turn_says : (f : Config → Outcome) → ((c : Config) → Solid c.st → Says (f c) (rest c.st c.pos c.out)) → (st : List ℕ) (pos : ℕ) (out : List ℕ) → Solid st →
+        Says (next f (step_on (map kind_of ts) st pos out)) (rest st pos out)
+    unfolding step_on
+    turn_says f ih [] pos out solid = empty-says f pos out
+    turn_says f ih (v ∷ st) pos out solid =
+        says-pick (ltb (symbol_of v) 73) (eat (map kind_of ts) v st pos out) _ f (rest (v ∷ st) pos out)
+        (λ e. terminal-says proper short f ih v st pos out solid (ltb-true (symbol_of v) 73 e))
+        (λ e. says-pick (ltb (symbol_of v) c_or_else) (expand v st pos out (production (symbol_of v) (column (map kind_of ts) pos))) _ f (rest (v ∷ st) pos out)
+        (λ g. nonterminal-says proper short f ih v st pos out solid (ltb-false (symbol_of v) 73 e) (ltb-true (symbol_of v) c_or_else g) _ refl)
+        (λ g. act_says proper short f ih v st pos out solid (ltb-false (symbol_of v) c_or_else g)))
 
     run-says : (f : ℕ) (c : Config) → Solid c.st → Says (run (map kind_of ts) f c) (rest c.st c.pos c.out)
     unfolding run
     run-says zero c solid = λ fine. absurd fine
-    run-says (suc f) c solid = turn-says (run (map kind_of ts) f) (run-says f) c.st c.pos c.out solid
+    run-says (suc f) c solid = turn_says (run (map kind_of ts) f) (run-says f) c.st c.pos c.out solid
 
     moved_none : (x : Answer Item) → moved 0 [] x ≡ x
     moved_none (ok p) = refl
     moved_none (bad j) = ap bad (omega arith)
 
     -- THE SAME ANSWER
-    pub same_answer : answer-of ts (machine (map kind_of ts)) ≡ parse-model ts
-    same_answer = run-says most-steps start (lit≤ tt, tt) (never-spent (map kind_of ts) (rw many short)) ∙ moved_none (parse-model ts)
+    pub same_answer : answer_of ts (machine (map kind_of ts)) ≡ parse_model ts
+    same_answer = run-says most_steps start (lit≤ tt, tt) (never_spent (map kind_of ts) (rw many short)) ∙ moved_none (parse_model ts)

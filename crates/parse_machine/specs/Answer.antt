@@ -2,9 +2,9 @@
 -- The answer for a list of kinds. Document 01, "What is answered", "Order: 7 first .., then length, .. then grammar with bracket and if/do depth (2, 3).
 -- Within a pass the smallest place wins, then the smallest number."
 use Rattle.std.specs.Prelude.{ℕ, List, length, ltb, leb}
-use Rattle.base_ceilings.specs.Ceilings.{itemsMost, tokensMost}
+use Rattle.base_ceilings.specs.Ceilings.{items_most, tokens_most}
 use Rattle.base_bytes.specs.Choice.{pick}
-use Rattle.parse_machine.specs.Depth.{too-deep}
+use Rattle.parse_machine.specs.Depth.{too_deep}
 use Rattle.parse_machine.specs.Machine.{Outcome, done, refused, spent, machine}
 
 -- the items, or the number and the place of a refusal
@@ -21,5 +21,5 @@ judged d n spent = refuse 6 0
 -- room is the length of the shortest array that is lent
 unfoldable pub parsed : List ℕ → ℕ → Answer
 parsed ks room =
-    pick (ltb room itemsMost) (refuse 7 0)
-    (pick (ltb tokensMost (length ks)) (refuse 2 tokensMost) (judged (too-deep ks) (length ks) (machine ks)))
+    pick (ltb room items_most) (refuse 7 0)
+    (pick (ltb tokens_most (length ks)) (refuse 2 tokens_most) (judged (too_deep ks) (length ks) (machine ks)))

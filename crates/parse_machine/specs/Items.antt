@@ -1,4 +1,4 @@
--- Mechanism, held to the specification by `items-mean`, `accepts` (crate `parse_machine`), but for `answer-of`, `meant`, `In-range`, `All-in-range`, of proofs alone.
+-- Mechanism, held to the specification by `items-mean`, `accepts` (crate `parse_machine`), but for `answer_of`, `meant`, `InRange`, `AllInRange`, of proofs alone.
 -- What the machine's numbers say of a list of tokens: the items of a tree's code, each name, number and string with what its token holds; and the answer as `parse_grammar` gives it.
 -- THE LAYOUT OF ITEMS (their order is that of specs/Code.antt of `parse_code`, their numbers those of specs/Numbering.antt of `parse_tables`). Each has a token and a size,
 -- the number of items just before it that belong to it. Token and size are
@@ -11,34 +11,34 @@
 --   fi, od, end-option, end-body: the token that opened (`if`, `do`, `::`, `{`), the items from the opening one on · if, do, option, body, mtypes, init, skip ..: its keyword or mark, 0
 --   local, global, group, field: the type, 1 · size, channel: `[`, 1 · value: its token, 1 · minus: `-`, 1 · proctype: `proctype`, 1 · active: `active`, 1 · active-many: `active`, 2
 use Rattle.std.specs.Prelude.{ℕ, suc, ◌≤◌, ◌<◌, cond, List, [], ◌∷◌, map, ◌⊎◌, get_or, eqb, ltb}
-use Rattle.base_codes.specs.Codes.{c-or-else}
+use Rattle.base_codes.specs.Codes.{c_or_else}
 use Rattle.base_kinds.specs.Kinds.{Token, sym, name, number, text}
-use Rattle.base_codes.specs.Items.{Item, i-name, i-number, i-plain, i-text}
+use Rattle.base_codes.specs.Items.{Item, i_name, i_number, i_plain, i_text}
 use Rattle.parse_grammar.specs.Engine.{Answer as Parse, ok, bad}
-use Rattle.parse_grammar.specs.Judge.{GrammarAnswer, accepted, refused-2, refused-3}
+use Rattle.parse_grammar.specs.Judge.{GrammarAnswer, accepted, refused_2, refused_3}
 use Rattle.parse_tables.specs.Numbering.{item}
-use Rattle.parse_machine.specs.Machine.{Outcome, done, refused, spent, symbol-of, place-of, count-of}
+use Rattle.parse_machine.specs.Machine.{Outcome, done, refused, spent, symbol_of, place_of, count_of_lem}
 use Rattle.parse_machine.specs.Answer.{Answer, items, refuse}
 
 -- what a token holds
 abbrev pub held : Token → Item
-held (sym k) = i-plain
-held (name w) = i-name w
-held (number n) = i-number n
-held (text w) = i-text w
+held (sym k) = i_plain
+held (name w) = i_name w
+held (number n) = i_number n
+held (text w) = i_text w
 
 -- the item of code c at token k: below the codes of marks the symbol is a terminal, and its token has what it holds
-abbrev pub readAs : List Token → ℕ → ℕ → Item
-readAs ts c k = cond (ltb c c-or-else) (held (get_or ts k (sym 0))) (item c)
+abbrev pub read_as : List Token → ℕ → ℕ → Item
+read_as ts c k = cond (ltb c c_or_else) (held (get_or ts k (sym 0))) (item c)
 
 -- the item of a number
 abbrev pub read : List Token → ℕ → Item
-read ts v = readAs ts (symbol-of v) (place-of v)
+read ts v = read_as ts (symbol_of v) (place_of v)
 
-abbrev pub answer-of : List Token → Outcome → Parse Item
-answer-of ts (done o) = ok (map (read ts) o)
-answer-of ts (refused i) = bad i
-answer-of ts spent = bad 0
+abbrev pub answer_of : List Token → Outcome → Parse Item
+answer_of ts (done o) = ok (map (read ts) o)
+answer_of ts (refused i) = bad i
+answer_of ts spent = bad 0
 
 -- names, numbers and strings have their kinds to themselves
 abbrev pub Proper : Token → Type 0
@@ -47,21 +47,21 @@ Proper (name w) = Unit {0}
 Proper (number n) = Unit {0}
 Proper (text w) = Unit {0}
 
-abbrev pub All-proper : List Token → Type 0
-All-proper [] = Unit {0}
-All-proper (c ∷ ts) = Proper c × All-proper ts
+abbrev pub AllProper : List Token → Type 0
+AllProper [] = Unit {0}
+AllProper (c ∷ ts) = Proper c × AllProper ts
 
 -- an answer as `parse_grammar` judges: the items, refusal 2 or refusal 3 at a place
 abbrev pub meant : List Token → Answer → GrammarAnswer
 meant ts (items o) = accepted (map (read ts) o)
-meant ts (refuse k i) = cond (eqb k 2) (refused-2 i) (refused-3 i)
+meant ts (refuse k i) = cond (eqb k 2) (refused_2 i) (refused_3 i)
 
 -- the item at place i, where there are n tokens: its token is one of them or the end, one that it holds surely one of them, and its size reaches no further than the first item
-pub record In-range (n i v : ℕ) : Type 0 where
-  pub token : place-of v ≤ n
-  pub size : count-of v ≤ i
-  pub own : symbol-of v < 73 → place-of v < n
+pub record InRange (n i v : ℕ) : Type 0 where
+  pub token : place_of v ≤ n
+  pub size : count_of_lem v ≤ i
+  pub own : symbol_of v < 73 → place_of v < n
 
-abbrev pub All-in-range : ℕ → ℕ → List ℕ → Type 0
-All-in-range n i [] = Unit {0}
-All-in-range n i (v ∷ o) = In-range n i v × All-in-range n (suc i) o
+abbrev pub AllInRange : ℕ → ℕ → List ℕ → Type 0
+AllInRange n i [] = Unit {0}
+AllInRange n i (v ∷ o) = InRange n i v × AllInRange n (suc i) o

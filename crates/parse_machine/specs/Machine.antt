@@ -4,8 +4,8 @@
 -- A number on the stack is a symbol, with the place and the count of items at which its right side was begun. An item is a symbol, with the place of its token
 -- and the count of items written since then.
 use Rattle.std.specs.Prelude.{ℕ, zero, suc, ◌+◌, ◌-◌, ◌*◌, ◌/◌, ◌%◌, min, List, [], ◌∷◌, ◌++◌, length, get_or, ltb, leb, eqb}
-use Rattle.base_ceilings.specs.Ceilings.{itemsMost, tokensMost}
-use Rattle.base_codes.specs.Codes.{c-or-else}
+use Rattle.base_ceilings.specs.Ceilings.{items_most, tokens_most}
+use Rattle.base_codes.specs.Codes.{c_or_else}
 use Rattle.base_bytes.specs.Choice.{pick}
 use Rattle.parse_tables.specs.Tables.{production, right}
 
@@ -13,18 +13,18 @@ use Rattle.parse_tables.specs.Tables.{production, right}
 abbrev pub packed : ℕ → ℕ → ℕ → ℕ
 packed x at n = x + 256 * at + 1048576 * n
 
-abbrev pub symbol-of : ℕ → ℕ
-symbol-of v = v % 256
+abbrev pub symbol_of : ℕ → ℕ
+symbol_of v = v % 256
 
 -- room for a place, more than tokens need
-abbrev pub placeRoom : ℕ
-placeRoom = 4096
+abbrev pub place_room : ℕ
+place_room = 4096
 
-abbrev pub place-of : ℕ → ℕ
-place-of v = v / 256 % placeRoom
+abbrev pub place_of : ℕ → ℕ
+place_of v = v / 256 % place_room
 
-abbrev pub count-of : ℕ → ℕ
-count-of v = v / 1048576 % 65536
+abbrev pub count_of_lem : ℕ → ℕ
+count_of_lem v = v / 1048576 % 65536
 
 -- the column of the tables for a kind: 73 for what is none
 abbrev pub clipped : ℕ → ℕ
@@ -50,30 +50,30 @@ pub data Next : Type 0 where
   stop : Outcome → Next
 
 -- the fuel and the room of the stack, by what a token asks for at most
-abbrev pub most-steps : ℕ
-most-steps = 40 * tokensMost
+abbrev pub most_steps : ℕ
+most_steps = 40 * tokens_most
 
-abbrev pub most-stack : ℕ
-most-stack = 20 * tokensMost
+abbrev pub most_stack : ℕ
+most_stack = 20 * tokens_most
 
 -- an item at the end, for the stack's number v and a token
-abbrev pub outputOf : ℕ → ℕ → List ℕ → List ℕ
-outputOf v at out = out ++ packed (symbol-of v) at (length out - count-of v) ∷ []
+abbrev pub output_of : ℕ → ℕ → List ℕ → List ℕ
+output_of v at out = out ++ packed (symbol_of v) at (length out - count_of_lem v) ∷ []
 
 -- a symbol that writes
 unfoldable pub write : ℕ → ℕ → List ℕ → ℕ → List ℕ → Next
-write v at st pos out = pick (ltb (length out) itemsMost) (go (record { st = st; pos = pos; out = outputOf v at out })) (stop spent)
+write v at st pos out = pick (ltb (length out) items_most) (go (record { st = st; pos = pos; out = output_of v at out })) (stop spent)
 
 -- a terminal is eaten where its kind stands; a name, a number or a string writes its item
 unfoldable pub eat : List ℕ → ℕ → List ℕ → ℕ → List ℕ → Next
 eat ks v st pos out =
     pick (ltb pos (length ks))
-    (pick (eqb (symbol-of v) (column ks pos)) (pick (ltb (symbol-of v) 70) (go (record { st = st; pos = pos + 1; out = out })) (write v pos st (pos + 1) out)) (stop (refused pos)))
+    (pick (eqb (symbol_of v) (column ks pos)) (pick (ltb (symbol_of v) 70) (go (record { st = st; pos = pos + 1; out = out })) (write v pos st (pos + 1) out)) (stop (refused pos)))
     (stop (refused pos))
 
 -- what is added to each symbol of a right side: the place and the count now; from symbol 143 on those of v, which goes on with what was begun there
 abbrev pub mark : ℕ → ℕ → List ℕ → ℕ
-mark v pos out = pick (ltb (symbol-of v) 143) (256 * pos + 1048576 * length out) (v - symbol-of v)
+mark v pos out = pick (ltb (symbol_of v) 143) (256 * pos + 1048576 * length out) (v - symbol_of v)
 
 abbrev pub marked : ℕ → List ℕ → List ℕ
 marked b [] = []
@@ -83,17 +83,17 @@ marked b (x ∷ r) = (x + b) ∷ marked b r
 unfoldable pub expand : ℕ → List ℕ → ℕ → List ℕ → ℕ → Next
 expand v st pos out p =
     pick (eqb p 0) (stop (refused pos))
-    (pick (leb (length (right p) + length st) most-stack) (go (record { st = marked (mark v pos out) (right p) ++ st; pos = pos; out = out })) (stop spent))
+    (pick (leb (length (right p) + length st) most_stack) (go (record { st = marked (mark v pos out) (right p) ++ st; pos = pos; out = out })) (stop spent))
 
-unfoldable pub step-on : List ℕ → List ℕ → ℕ → List ℕ → Next
-step-on ks [] pos out = stop (pick (ltb pos (length ks)) (refused pos) (done out))
-step-on ks (v ∷ st) pos out =
-    pick (ltb (symbol-of v) 73) (eat ks v st pos out)
-    (pick (ltb (symbol-of v) c-or-else) (expand v st pos out (production (symbol-of v) (column ks pos)))
-    (write v (place-of v) st pos out))
+unfoldable pub step_on : List ℕ → List ℕ → ℕ → List ℕ → Next
+step_on ks [] pos out = stop (pick (ltb pos (length ks)) (refused pos) (done out))
+step_on ks (v ∷ st) pos out =
+    pick (ltb (symbol_of v) 73) (eat ks v st pos out)
+    (pick (ltb (symbol_of v) c_or_else) (expand v st pos out (production (symbol_of v) (column ks pos)))
+    (write v (place_of v) st pos out))
 
 abbrev pub step : List ℕ → Config → Next
-step ks c = step-on ks c.st c.pos c.out
+step ks c = step_on ks c.st c.pos c.out
 
 abbrev pub next : (Config → Outcome) → Next → Outcome
 next f (go c) = f c
@@ -108,4 +108,4 @@ abbrev pub start : Config
 start = record { st = 141 ∷ []; pos = 0; out = [] }
 
 abbrev pub machine : List ℕ → Outcome
-machine ks = run ks most-steps start
+machine ks = run ks most_steps start

@@ -7,158 +7,158 @@ use lib.ListN.{length, length-append}
 use Rattle.base_kinds.specs.Kinds.{Token, sym}
 use Rattle.spec_grammar.specs.Marks.{'lpar, 'rpar, 'comma, 'semi}
 use Rattle.spec_grammar.specs.Tree.{Name, Value, Variable, Declaration, Group, Body, Part, Model}
-use Rattle.spec_grammar.specs.Grammar.{Listed, Maybe-listed, no-list, a-list, Semicolons, no-semi, semi, Trailing, none-trails, semi-trails, arrow-trails, Parted, by-semi, by-arrow, A-name, a-name, Is-type, is-bit, is-bool, is_byte, is-mtype, is-pid, is-chan, is-short, is-int, A-type, a-type, A-value, v-number, v-minus, v-true, v-false, v-name, A-variable, x-bare, x-set, x-array, x-array-set, x-channel, A-declaration, declaration, A-group, a-group, Items, statements, declared, A-body, a_body, not-active, active, active-times, A-unit, u-mtypes, u-global, u-process, u-init, Gram, g-last, g-more}
-use Rattle.base_codes.specs.Items.{i-global, i-local, i-type}
+use Rattle.spec_grammar.specs.Grammar.{Listed, MaybeListed, no_list, a_list, Semicolons, no_semi, semi, Trailing, none_trails, semi_trails, arrow_trails, Parted, by_semi, by_arrow, AName, a_name, IsType, is_bit, is_bool, is_byte, is_mtype, is_pid, is_chan, is_short, is_int, AType, a_type, AValue, v_number, v_minus, v_true, v_false, v_name, AVariable, x_bare, x_set, x_array, x_array_set, x_channel, ADeclaration, declaration, AGroup, a_group, Items, statements, declared, ABody, a_body, not_active, active, active_times, AUnit, u_mtypes, u_global, u_process, u_init, Gram, g_last, g_more}
+use Rattle.base_codes.specs.Items.{i_global, i_local, i_type}
 use Rattle.parse_grammar.specs.Engine.{nt, here, there}
-use Rattle.parse_grammar.specs.Productions.{n-type, n-value, n-variable, n-more-variables, n-chan-variable, n_field, n-more-fields, n-more-chan-variables, n-declaration, n-body, n-items, n-parted, n-more-parted, n-parameters, n-group, n-more-groups, n-parameter, n-more-parameters, n-unit, n-message, n-more-messages, n-process, n-model, n-more-units}
-use Rattle.parse_spots.specs.Spots.{Spot, spots-listed, spots-maybe, spots-field, spots-value, spots-variable, spots-declaration, spots-parameter, spots-group, spots-items, spots-body, spots-message-name, spots-unit, spots}
-use Rattle.parse_spots_proof.specs.Marked.{Stack, ◌from◌, M, m-done}
+use Rattle.parse_grammar.specs.Productions.{n_type, n_value, n_variable, n_more_variables, n_chan_variable, n_field, n_more_fields, n_more_chan_variables, n_declaration, n_body, n_items, n_parted, n_more_parted, n_parameters, n_group, n_more_groups, n_parameter, n_more_parameters, n_unit, n_message, n_more_messages, n_process, n_model, n_more_units}
+use Rattle.parse_spots.specs.Spots.{Spot, spots_listed, spots_maybe, spots_field, spots_value, spots_variable, spots_declaration, spots_parameter, spots_group, spots_items, spots_body, spots_message_name, spots_unit, spots}
+use Rattle.parse_spots_proof.specs.Marked.{Stack, ◌from◌, M, m_done}
 use Rattle.parse_spots_proof.proofs.Expressions.{emit, eat, put, by, fit, to}
-use Rattle.parse_spots_proof.proofs.Statements.{Derives, list-in, d-in}
+use Rattle.parse_spots_proof.proofs.Statements.{Derives, list_in, d_in}
 
 -- ## types
-type-in : {t : ℕ} → Is-type t → Derives (nt n-type ∷ []) (sym t ∷ []) (λ i. (i-type t, i) ∷ [])
-type-in is-bit = λ i p k w o d. by here (by here (eat refl (emit d)))
-type-in is-bool = λ i p k w o d. by here (by (there here) (eat refl (emit d)))
-type-in is_byte = λ i p k w o d. by here (by (there (there here)) (eat refl (emit d)))
-type-in is-pid = λ i p k w o d. by here (by (there (there (there here))) (eat refl (emit d)))
-type-in is-short = λ i p k w o d. by here (by (there (there (there (there here)))) (eat refl (emit d)))
-type-in is-int = λ i p k w o d. by here (by (there (there (there (there (there here))))) (eat refl (emit d)))
-type-in is-mtype = λ i p k w o d. by (there here) (eat refl (emit d))
-type-in is-chan = λ i p k w o d. by (there (there here)) (eat refl (emit d))
+type_in : {t : ℕ} → IsType t → Derives (nt n_type ∷ []) (sym t ∷ []) (λ i. (i_type t, i) ∷ [])
+type_in is_bit = λ i p k w o d. by here (by here (eat refl (emit d)))
+type_in is_bool = λ i p k w o d. by here (by (there here) (eat refl (emit d)))
+type_in is_byte = λ i p k w o d. by here (by (there (there here)) (eat refl (emit d)))
+type_in is_pid = λ i p k w o d. by here (by (there (there (there here))) (eat refl (emit d)))
+type_in is_short = λ i p k w o d. by here (by (there (there (there (there here)))) (eat refl (emit d)))
+type_in is_int = λ i p k w o d. by here (by (there (there (there (there (there here))))) (eat refl (emit d)))
+type_in is_mtype = λ i p k w o d. by (there here) (eat refl (emit d))
+type_in is_chan = λ i p k w o d. by (there (there here)) (eat refl (emit d))
 
-field_in : (ts : List Token) (t : ℕ) (x : A-type ts t) → Derives (nt n_field ∷ []) ts (spots-field ts t x)
-field_in ts t (a-type x) = λ i p k w o d. by here (type-in x i _ _ _ _ (emit d))
+field_in : (ts : List Token) (t : ℕ) (x : AType ts t) → Derives (nt n_field ∷ []) ts (spots_field ts t x)
+field_in ts t (a_type x) = λ i p k w o d. by here (type_in x i _ _ _ _ (emit d))
 
 -- ## declarations
-value_in : {ts : List Token} {v : Value} (x : A-value ts v) → Derives (nt n-value ∷ []) ts (spots-value x)
-value_in v-number = λ i p k w o d. by here (put refl (emit d))
-value_in v-minus = λ i p k w o d. by (there here) (eat refl (put refl (emit (fit d (omega arith)))))
-value_in v-true = λ i p k w o d. by (there (there here)) (eat refl (emit (emit d)))
-value_in v-false = λ i p k w o d. by (there (there (there here))) (eat refl (emit (emit d)))
-value_in v-name = λ i p k w o d. by (there (there (there (there here)))) (put refl (emit d))
+value_in : {ts : List Token} {v : Value} (x : AValue ts v) → Derives (nt n_value ∷ []) ts (spots_value x)
+value_in v_number = λ i p k w o d. by here (put refl (emit d))
+value_in v_minus = λ i p k w o d. by (there here) (eat refl (put refl (emit (fit d (omega arith)))))
+value_in v_true = λ i p k w o d. by (there (there here)) (eat refl (emit (emit d)))
+value_in v_false = λ i p k w o d. by (there (there (there here))) (eat refl (emit (emit d)))
+value_in v_name = λ i p k w o d. by (there (there (there (there here)))) (put refl (emit d))
 
-variable-in : {t : ℕ} → (t ≡ 43 → ⊥) → (ts : List Token) (v : Variable) (x : A-variable t ts v) → Derives (nt n-variable ∷ []) ts (spots-variable t ts v x)
-variable-in h ts v x-bare = λ i p k w o d. by here (put refl (emit (by here (by here d))))
-variable-in h ts v (x-set x) = λ i p k w o d. by here (put refl (emit (by here (by (there here) (eat refl (to (i + 2) (omega arith) (value_in x (i + 2) _ _ _ _ (fit d (omega arith)))))))))
-variable-in h ts v x-array = λ i p k w o d. by here (put refl (emit (by (there here) (eat refl (to (i + 2) (omega arith) (put refl (eat refl (emit (by here (fit d (omega arith)))))))))))
-variable-in h ts v (x-array-set x) = λ i p k w o d.
+variable_in : {t : ℕ} → (t ≡ 43 → ⊥) → (ts : List Token) (v : Variable) (x : AVariable t ts v) → Derives (nt n_variable ∷ []) ts (spots_variable t ts v x)
+variable_in h ts v x_bare = λ i p k w o d. by here (put refl (emit (by here (by here d))))
+variable_in h ts v (x_set x) = λ i p k w o d. by here (put refl (emit (by here (by (there here) (eat refl (to (i + 2) (omega arith) (value_in x (i + 2) _ _ _ _ (fit d (omega arith)))))))))
+variable_in h ts v x_array = λ i p k w o d. by here (put refl (emit (by (there here) (eat refl (to (i + 2) (omega arith) (put refl (eat refl (emit (by here (fit d (omega arith)))))))))))
+variable_in h ts v (x_array_set x) = λ i p k w o d.
     by here (put refl (emit (by (there here) (eat refl (to (i + 2) (omega arith) (put refl (eat refl (emit (by (there here) (eat refl (to (i + 5) (omega arith) (value_in x (i + 5) _ _ _ _
     (fit d (omega arith))))))))))))))
-variable-in h ts v (x-channel x) = absurd (h refl)
+variable_in h ts v (x_channel x) = absurd (h refl)
 
-channel-in : {t : ℕ} (ts : List Token) (v : Variable) (x : A-variable t ts v) → Derives (nt n-chan-variable ∷ []) ts (spots-variable t ts v x)
-channel-in ts v x-bare = λ i p k w o d. by here (put refl (emit (by here d)))
-channel-in ts v (x-set x) = λ i p k w o d. by here (put refl (emit (by (there (there here)) (eat refl (by here (to (i + 2) (omega arith) (value_in x (i + 2) _ _ _ _ (fit d (omega arith)))))))))
-channel-in ts v x-array = λ i p k w o d. by here (put refl (emit (by (there here) (eat refl (to (i + 2) (omega arith) (put refl (eat refl (emit (by here (fit d (omega arith)))))))))))
-channel-in ts v (x-array-set x) = λ i p k w o d.
+channel_in : {t : ℕ} (ts : List Token) (v : Variable) (x : AVariable t ts v) → Derives (nt n_chan_variable ∷ []) ts (spots_variable t ts v x)
+channel_in ts v x_bare = λ i p k w o d. by here (put refl (emit (by here d)))
+channel_in ts v (x_set x) = λ i p k w o d. by here (put refl (emit (by (there (there here)) (eat refl (by here (to (i + 2) (omega arith) (value_in x (i + 2) _ _ _ _ (fit d (omega arith)))))))))
+channel_in ts v x_array = λ i p k w o d. by here (put refl (emit (by (there here) (eat refl (to (i + 2) (omega arith) (put refl (eat refl (emit (by here (fit d (omega arith)))))))))))
+channel_in ts v (x_array_set x) = λ i p k w o d.
     by here (put refl (emit (by (there here) (eat refl (to (i + 2) (omega arith) (put refl (eat refl (emit (by (there here) (eat refl (to (i + 5) (omega arith) (value_in x (i + 5) _ _ _ _
     (fit d (omega arith))))))))))))))
-channel-in ts v (x-channel x) = λ i p k w o d.
+channel_in ts v (x_channel x) = λ i p k w o d.
     simp append_assoc (by here (put refl (emit (by (there (there here)) (eat refl (to (i + 2) (omega arith) (by (there here) (eat refl (to (i + 3) (omega arith) (put refl (eat refl (emit (eat refl
     (eat refl (to (i + 7) (omega arith)
-    (list-in n_field n-more-fields A-type spots-field field_in 'comma refl here (there here) x (i + 7) _ _ _ _ (eat refl (fit d (simp length-append (omega arith))))))))))))))))))))
+    (list_in n_field n_more_fields AType spots_field field_in 'comma refl here (there here) x (i + 7) _ _ _ _ (eat refl (fit d (simp length-append (omega arith))))))))))))))))))))
 
-variables-in : (t : ℕ) → (t ≡ 43 → ⊥) → {ts : List Token} {vs : List Variable} (x : Listed 'comma (A-variable t) ts vs) →
-    Derives (nt n-variable ∷ nt n-more-variables ∷ []) ts (spots-listed (A-variable t) (spots-variable t) x)
-variables-in t h x = list-in n-variable n-more-variables (A-variable t) (spots-variable t) (variable-in h) 'comma refl here (there here) x
+variables_in : (t : ℕ) → (t ≡ 43 → ⊥) → {ts : List Token} {vs : List Variable} (x : Listed 'comma (AVariable t) ts vs) →
+    Derives (nt n_variable ∷ nt n_more_variables ∷ []) ts (spots_listed (AVariable t) (spots_variable t) x)
+variables_in t h x = list_in n_variable n_more_variables (AVariable t) (spots_variable t) (variable_in h) 'comma refl here (there here) x
 
-channels-in : {t : ℕ} {ts : List Token} {vs : List Variable} (x : Listed 'comma (A-variable t) ts vs) →
-    Derives (nt n-chan-variable ∷ nt n-more-chan-variables ∷ []) ts (spots-listed (A-variable t) (spots-variable t) x)
-channels-in {t} x = list-in n-chan-variable n-more-chan-variables (A-variable t) (spots-variable t) channel-in 'comma refl here (there here) x
+channels_in : {t : ℕ} {ts : List Token} {vs : List Variable} (x : Listed 'comma (AVariable t) ts vs) →
+    Derives (nt n_chan_variable ∷ nt n_more_chan_variables ∷ []) ts (spots_listed (AVariable t) (spots_variable t) x)
+channels_in {t} x = list_in n_chan_variable n_more_chan_variables (AVariable t) (spots_variable t) channel_in 'comma refl here (there here) x
 
-declaration-in : {ts : List Token} {v : Declaration} (x : A-declaration ts v) → Derives (nt n-declaration ∷ []) ts (spots-declaration i-local x)
-declaration-in (declaration is-bit x) = λ i p k w o d. by here (by here (eat refl (emit (emit (variables-in 38 (λ e. omega arith) x (i + 1) _ k w o (fit d (omega arith)))))))
-declaration-in (declaration is-bool x) = λ i p k w o d. by here (by (there here) (eat refl (emit (emit (variables-in 39 (λ e. omega arith) x (i + 1) _ k w o (fit d (omega arith)))))))
-declaration-in (declaration is_byte x) = λ i p k w o d. by here (by (there (there here)) (eat refl (emit (emit (variables-in 40 (λ e. omega arith) x (i + 1) _ k w o (fit d (omega arith)))))))
-declaration-in (declaration is-pid x) = λ i p k w o d. by here (by (there (there (there here))) (eat refl (emit (emit (variables-in 42 (λ e. omega arith) x (i + 1) _ k w o (fit d (omega arith)))))))
-declaration-in (declaration is-short x) = λ i p k w o d.
-    by here (by (there (there (there (there here)))) (eat refl (emit (emit (variables-in 44 (λ e. omega arith) x (i + 1) _ k w o (fit d (omega arith)))))))
-declaration-in (declaration is-int x) = λ i p k w o d.
-    by here (by (there (there (there (there (there here))))) (eat refl (emit (emit (variables-in 45 (λ e. omega arith) x (i + 1) _ k w o (fit d (omega arith)))))))
-declaration-in (declaration is-mtype x) = λ i p k w o d. by (there here) (eat refl (emit (emit (variables-in 41 (λ e. omega arith) x (i + 1) _ k w o (fit d (omega arith))))))
-declaration-in (declaration is-chan x) = λ i p k w o d. by (there (there here)) (eat refl (emit (emit (channels-in x (i + 1) _ k w o (fit d (omega arith))))))
+declaration_in : {ts : List Token} {v : Declaration} (x : ADeclaration ts v) → Derives (nt n_declaration ∷ []) ts (spots_declaration i_local x)
+declaration_in (declaration is_bit x) = λ i p k w o d. by here (by here (eat refl (emit (emit (variables_in 38 (λ e. omega arith) x (i + 1) _ k w o (fit d (omega arith)))))))
+declaration_in (declaration is_bool x) = λ i p k w o d. by here (by (there here) (eat refl (emit (emit (variables_in 39 (λ e. omega arith) x (i + 1) _ k w o (fit d (omega arith)))))))
+declaration_in (declaration is_byte x) = λ i p k w o d. by here (by (there (there here)) (eat refl (emit (emit (variables_in 40 (λ e. omega arith) x (i + 1) _ k w o (fit d (omega arith)))))))
+declaration_in (declaration is_pid x) = λ i p k w o d. by here (by (there (there (there here))) (eat refl (emit (emit (variables_in 42 (λ e. omega arith) x (i + 1) _ k w o (fit d (omega arith)))))))
+declaration_in (declaration is_short x) = λ i p k w o d.
+    by here (by (there (there (there (there here)))) (eat refl (emit (emit (variables_in 44 (λ e. omega arith) x (i + 1) _ k w o (fit d (omega arith)))))))
+declaration_in (declaration is_int x) = λ i p k w o d.
+    by here (by (there (there (there (there (there here))))) (eat refl (emit (emit (variables_in 45 (λ e. omega arith) x (i + 1) _ k w o (fit d (omega arith)))))))
+declaration_in (declaration is_mtype x) = λ i p k w o d. by (there here) (eat refl (emit (emit (variables_in 41 (λ e. omega arith) x (i + 1) _ k w o (fit d (omega arith))))))
+declaration_in (declaration is_chan x) = λ i p k w o d. by (there (there here)) (eat refl (emit (emit (channels_in x (i + 1) _ k w o (fit d (omega arith))))))
 
-global-in : {ts : List Token} {v : Declaration} (x : A-declaration ts v) → Derives (nt n-unit ∷ []) ts (spots-declaration i-global x)
-global-in (declaration is-bit x) = λ i p k w o d. by here (by here (eat refl (emit (emit (variables-in 38 (λ e. omega arith) x (i + 1) _ k w o (fit d (omega arith)))))))
-global-in (declaration is-bool x) = λ i p k w o d. by here (by (there here) (eat refl (emit (emit (variables-in 39 (λ e. omega arith) x (i + 1) _ k w o (fit d (omega arith)))))))
-global-in (declaration is_byte x) = λ i p k w o d. by here (by (there (there here)) (eat refl (emit (emit (variables-in 40 (λ e. omega arith) x (i + 1) _ k w o (fit d (omega arith)))))))
-global-in (declaration is-pid x) = λ i p k w o d. by here (by (there (there (there here))) (eat refl (emit (emit (variables-in 42 (λ e. omega arith) x (i + 1) _ k w o (fit d (omega arith)))))))
-global-in (declaration is-short x) = λ i p k w o d.
-    by here (by (there (there (there (there here)))) (eat refl (emit (emit (variables-in 44 (λ e. omega arith) x (i + 1) _ k w o (fit d (omega arith)))))))
-global-in (declaration is-int x) = λ i p k w o d.
-    by here (by (there (there (there (there (there here))))) (eat refl (emit (emit (variables-in 45 (λ e. omega arith) x (i + 1) _ k w o (fit d (omega arith)))))))
-global-in (declaration is-mtype x) = λ i p k w o d. by (there here) (eat refl (by (there here) (emit (emit (variables-in 41 (λ e. omega arith) x (i + 1) _ k w o (fit d (omega arith)))))))
-global-in (declaration is-chan x) = λ i p k w o d. by (there (there here)) (eat refl (emit (emit (channels-in x (i + 1) _ k w o (fit d (omega arith))))))
+global_in : {ts : List Token} {v : Declaration} (x : ADeclaration ts v) → Derives (nt n_unit ∷ []) ts (spots_declaration i_global x)
+global_in (declaration is_bit x) = λ i p k w o d. by here (by here (eat refl (emit (emit (variables_in 38 (λ e. omega arith) x (i + 1) _ k w o (fit d (omega arith)))))))
+global_in (declaration is_bool x) = λ i p k w o d. by here (by (there here) (eat refl (emit (emit (variables_in 39 (λ e. omega arith) x (i + 1) _ k w o (fit d (omega arith)))))))
+global_in (declaration is_byte x) = λ i p k w o d. by here (by (there (there here)) (eat refl (emit (emit (variables_in 40 (λ e. omega arith) x (i + 1) _ k w o (fit d (omega arith)))))))
+global_in (declaration is_pid x) = λ i p k w o d. by here (by (there (there (there here))) (eat refl (emit (emit (variables_in 42 (λ e. omega arith) x (i + 1) _ k w o (fit d (omega arith)))))))
+global_in (declaration is_short x) = λ i p k w o d.
+    by here (by (there (there (there (there here)))) (eat refl (emit (emit (variables_in 44 (λ e. omega arith) x (i + 1) _ k w o (fit d (omega arith)))))))
+global_in (declaration is_int x) = λ i p k w o d.
+    by here (by (there (there (there (there (there here))))) (eat refl (emit (emit (variables_in 45 (λ e. omega arith) x (i + 1) _ k w o (fit d (omega arith)))))))
+global_in (declaration is_mtype x) = λ i p k w o d. by (there here) (eat refl (by (there here) (emit (emit (variables_in 41 (λ e. omega arith) x (i + 1) _ k w o (fit d (omega arith)))))))
+global_in (declaration is_chan x) = λ i p k w o d. by (there (there here)) (eat refl (emit (emit (channels_in x (i + 1) _ k w o (fit d (omega arith))))))
 
 -- ## bodies
-separators-in : {us : List Token} → Trailing us → {i p : ℕ} {k : Stack} {w : List Token} {o : List Spot} → ((q : ℕ) → M (nt n-more-parted from q ∷ k) (i + length us) w o) →
-    M (nt n-more-parted from p ∷ k) i (us ++ w) o
-separators-in none-trails {p = p} d = fit (d p) (omega arith)
-separators-in (semi-trails u) d = by here (eat refl (separators-in u (λ q. fit (d q) (omega arith))))
-separators-in (arrow-trails u) d = by (there here) (eat refl (separators-in u (λ q. fit (d q) (omega arith))))
+separators_in : {us : List Token} → Trailing us → {i p : ℕ} {k : Stack} {w : List Token} {o : List Spot} → ((q : ℕ) → M (nt n_more_parted from q ∷ k) (i + length us) w o) →
+    M (nt n_more_parted from p ∷ k) i (us ++ w) o
+separators_in none_trails {p = p} d = fit (d p) (omega arith)
+separators_in (semi_trails u) d = by here (eat refl (separators_in u (λ q. fit (d q) (omega arith))))
+separators_in (arrow_trails u) d = by (there here) (eat refl (separators_in u (λ q. fit (d q) (omega arith))))
 
-between_in : {us : List Token} → Parted us → {i p : ℕ} {k : Stack} {w : List Token} {o : List Spot} → ((q : ℕ) → M (nt n-items from q ∷ k) (i + length us) w o) →
-    M (nt n-parted from p ∷ k) i (us ++ w) o
-between_in (by-semi u) d = by here (eat refl (separators-in u (λ q. by (there (there here)) (fit (d _) (omega arith)))))
-between_in (by-arrow u) d = by (there here) (eat refl (separators-in u (λ q. by (there (there here)) (fit (d _) (omega arith)))))
+between_in : {us : List Token} → Parted us → {i p : ℕ} {k : Stack} {w : List Token} {o : List Spot} → ((q : ℕ) → M (nt n_items from q ∷ k) (i + length us) w o) →
+    M (nt n_parted from p ∷ k) i (us ++ w) o
+between_in (by_semi u) d = by here (eat refl (separators_in u (λ q. by (there (there here)) (fit (d _) (omega arith)))))
+between_in (by_arrow u) d = by (there here) (eat refl (separators_in u (λ q. by (there (there here)) (fit (d _) (omega arith)))))
 
-items-in : {ts : List Token} {b : Body} (x : Items ts b) → Derives (nt n-items ∷ []) ts (spots-items x)
-items-in (statements x) = λ i p k w o d. by (there here) (d-in x i _ k w o d)
-items-in (declared {ts = ts} {us = us} x u y) = λ i p k w o d.
-    simp append_assoc (by here (declaration-in x i _ _ _ _ (between_in u (λ q. items-in y (i + length ts + length us) q _ _ _ (fit d (simp length-append (omega arith)))))))
+items_in : {ts : List Token} {b : Body} (x : Items ts b) → Derives (nt n_items ∷ []) ts (spots_items x)
+items_in (statements x) = λ i p k w o d. by (there here) (d_in x i _ k w o d)
+items_in (declared {ts = ts} {us = us} x u y) = λ i p k w o d.
+    simp append_assoc (by here (declaration_in x i _ _ _ _ (between_in u (λ q. items_in y (i + length ts + length us) q _ _ _ (fit d (simp length-append (omega arith)))))))
 
-body-in : {ts : List Token} {b : Body} (x : A-body ts b) → Derives (nt n-body ∷ []) ts (spots-body x)
-body-in (a_body x) = λ i p k w o d. simp append_assoc (by here (eat refl (emit (items-in x (i + 1) _ _ _ _ (eat refl (emit (fit d (simp length-append (omega arith)))))))))
+body_in : {ts : List Token} {b : Body} (x : ABody ts b) → Derives (nt n_body ∷ []) ts (spots_body x)
+body_in (a_body x) = λ i p k w o d. simp append_assoc (by here (eat refl (emit (items_in x (i + 1) _ _ _ _ (eat refl (emit (fit d (simp length-append (omega arith)))))))))
 
 -- ## parameters
-parameter-in : (ts : List Token) (v : Name) (x : A-name ts v) → Derives (nt n-parameter ∷ []) ts (spots-parameter ts v x)
-parameter-in ts v a-name = λ i p k w o d. by here (put refl (emit d))
+parameter_in : (ts : List Token) (v : Name) (x : AName ts v) → Derives (nt n_parameter ∷ []) ts (spots_parameter ts v x)
+parameter_in ts v a_name = λ i p k w o d. by here (put refl (emit d))
 
-group-in : (ts : List Token) (g : Group) (x : A-group ts g) → Derives (nt n-group ∷ []) ts (spots-group ts g x)
-group-in ts g (a-group x y) = λ i p k w o d.
-    by here (type-in x i _ _ _ _ (emit (list-in n-parameter n-more-parameters A-name spots-parameter parameter-in 'comma refl here (there here) y (i + 1) _ _ _ _ (fit d (omega arith)))))
+group_in : (ts : List Token) (g : Group) (x : AGroup ts g) → Derives (nt n_group ∷ []) ts (spots_group ts g x)
+group_in ts g (a_group x y) = λ i p k w o d.
+    by here (type_in x i _ _ _ _ (emit (list_in n_parameter n_more_parameters AName spots_parameter parameter_in 'comma refl here (there here) y (i + 1) _ _ _ _ (fit d (omega arith)))))
 
-groups-in : {ts : List Token} {gs : List Group} (x : Maybe-listed 'semi A-group ts gs) → Derives (nt n-parameters ∷ []) ts (spots-maybe A-group spots-group x)
-groups-in no-list = λ i p k w o d. by here (fit d (omega arith))
-groups-in (a-list x) = λ i p k w o d. by (there here) (list-in n-group n-more-groups A-group spots-group group-in 'semi refl here (there here) x i _ k w o d)
+groups_in : {ts : List Token} {gs : List Group} (x : MaybeListed 'semi AGroup ts gs) → Derives (nt n_parameters ∷ []) ts (spots_maybe AGroup spots_group x)
+groups_in no_list = λ i p k w o d. by here (fit d (omega arith))
+groups_in (a_list x) = λ i p k w o d. by (there here) (list_in n_group n_more_groups AGroup spots_group group_in 'semi refl here (there here) x i _ k w o d)
 
 -- g and h are the places of the parameters and of the body
-process-in : {ts us : List Token} {gs : List Group} {b : Body} (x : Maybe-listed 'semi A-group ts gs) (y : A-body us b) {i : ℕ} (g h : ℕ) {p : ℕ} (k : Stack) (w : List Token) (o : List Spot) →
+process_in : {ts us : List Token} {gs : List Group} {b : Body} (x : MaybeListed 'semi AGroup ts gs) (y : ABody us b) {i : ℕ} (g h : ℕ) {p : ℕ} (k : Stack) (w : List Token) (o : List Spot) →
     g ≡ i + 1 → h ≡ g + length ts + 1 → M k (h + length us) w o →
-    M (nt n-process from p ∷ k) i ('lpar ∷ (ts ++ ('rpar ∷ (us ++ w)))) (spots-maybe A-group spots-group x g ++ (spots-body y h ++ o))
-process-in x y g h k w o e f d = by here (eat refl (to g e (groups-in x g _ _ _ _ (eat refl (to h f (body-in y h _ _ _ _ d))))))
+    M (nt n_process from p ∷ k) i ('lpar ∷ (ts ++ ('rpar ∷ (us ++ w)))) (spots_maybe AGroup spots_group x g ++ (spots_body y h ++ o))
+process_in x y g h k w o e f d = by here (eat refl (to g e (groups_in x g _ _ _ _ (eat refl (to h f (body_in y h _ _ _ _ d))))))
 
-message-name-in : (ts : List Token) (v : Name) (x : A-name ts v) → Derives (nt n-message ∷ []) ts (spots-message-name ts v x)
-message-name-in ts v a-name = λ i p k w o d. by here (put refl (emit d))
+message_name_in : (ts : List Token) (v : Name) (x : AName ts v) → Derives (nt n_message ∷ []) ts (spots_message_name ts v x)
+message_name_in ts v a_name = λ i p k w o d. by here (put refl (emit d))
 
 -- ## units
-unit-in : {ts : List Token} {u : Part} (x : A-unit ts u) → Derives (nt n-unit ∷ []) ts (spots-unit x)
-unit-in (u-mtypes x) = λ i p k w o d.
+unit_in : {ts : List Token} {u : Part} (x : AUnit ts u) → Derives (nt n_unit ∷ []) ts (spots_unit x)
+unit_in (u_mtypes x) = λ i p k w o d.
     simp append_assoc (by (there here) (eat refl (by here (eat refl (emit (eat refl (to (i + 3) (omega arith)
-    (list-in n-message n-more-messages A-name spots-message-name message-name-in 'comma refl here (there here) x (i + 3) _ _ _ _ (eat refl (fit d (simp length-append (omega arith))))))))))))
-unit-in (u-global x) = global-in x
-unit-in (u-process {ts = ts} not-active x y) = λ i p k w o d.
-    simp append_assoc (by (there (there (there here))) (eat refl (put refl (emit (process-in x y (i + 0 + 3) (i + 0 + length ts + 4) _ _ _ (omega arith) (omega arith)
+    (list_in n_message n_more_messages AName spots_message_name message_name_in 'comma refl here (there here) x (i + 3) _ _ _ _ (eat refl (fit d (simp length-append (omega arith))))))))))))
+unit_in (u_global x) = global_in x
+unit_in (u_process {ts = ts} not_active x y) = λ i p k w o d.
+    simp append_assoc (by (there (there (there here))) (eat refl (put refl (emit (process_in x y (i + 0 + 3) (i + 0 + length ts + 4) _ _ _ (omega arith) (omega arith)
     (fit d (simp length-append (omega arith))))))))
-unit-in (u-process {ts = ts} active x y) = λ i p k w o d.
+unit_in (u_process {ts = ts} active x y) = λ i p k w o d.
     simp append_assoc (by (there (there (there (there here)))) (eat refl (by here (eat refl (to (i + 2) (omega arith) (put refl (emit
-    (process-in x y (i + 1 + 3) (i + 1 + length ts + 4) _ _ _ (omega arith) (omega arith) (fit d (simp length-append (omega arith)))))))))))
-unit-in (u-process {ts = ts} active-times x y) = λ i p k w o d.
+    (process_in x y (i + 1 + 3) (i + 1 + length ts + 4) _ _ _ (omega arith) (omega arith) (fit d (simp length-append (omega arith)))))))))))
+unit_in (u_process {ts = ts} active_times x y) = λ i p k w o d.
     simp append_assoc (by (there (there (there (there here)))) (eat refl (by (there here) (eat refl (to (i + 2) (omega arith) (put refl (eat refl (eat refl (to (i + 5) (omega arith) (put refl (emit
-    (process-in x y (i + 4 + 3) (i + 4 + length ts + 4) _ _ _ (omega arith) (omega arith) (fit d (simp length-append (omega arith)))))))))))))))
-unit-in (u-init x) = λ i p k w o d. by (there (there (there (there (there here))))) (eat refl (emit (body-in x (i + 1) _ _ _ _ (fit d (omega arith)))))
+    (process_in x y (i + 4 + 3) (i + 4 + length ts + 4) _ _ _ (omega arith) (omega arith) (fit d (simp length-append (omega arith)))))))))))))))
+unit_in (u_init x) = λ i p k w o d. by (there (there (there (there (there here))))) (eat refl (emit (body_in x (i + 1) _ _ _ _ (fit d (omega arith)))))
 
-semicolons-in : {us : List Token} → Semicolons us → {i p : ℕ} {k : Stack} {w : List Token} {o : List Spot} → ((q : ℕ) → M (nt n-more-units from q ∷ k) (i + length us) w o) →
-    M (nt n-more-units from p ∷ k) i (us ++ w) o
-semicolons-in no-semi {p = p} d = fit (d p) (omega arith)
-semicolons-in (semi u) d = by (there here) (eat refl (semicolons-in u (λ q. fit (d q) (omega arith))))
+semicolons_in : {us : List Token} → Semicolons us → {i p : ℕ} {k : Stack} {w : List Token} {o : List Spot} → ((q : ℕ) → M (nt n_more_units from q ∷ k) (i + length us) w o) →
+    M (nt n_more_units from p ∷ k) i (us ++ w) o
+semicolons_in no_semi {p = p} d = fit (d p) (omega arith)
+semicolons_in (semi u) d = by (there here) (eat refl (semicolons_in u (λ q. fit (d q) (omega arith))))
 
-gram-in : {ts : List Token} {m : Model} (x : Gram ts m) → Derives (nt n-unit ∷ nt n-more-units ∷ []) ts (spots x)
-gram-in (g-last {ts = ts} x u) = λ i p k w o d. simp append_assoc (unit-in x i p _ _ _ (semicolons-in u (λ q. by here (fit d (simp length-append (omega arith))))))
-gram-in (g-more {ts = ts} {us = us} x u y) = λ i p k w o d.
-    simp append_assoc (unit-in x i p _ _ _ (semicolons-in u (λ q. by (there (there here)) (gram-in y (i + length ts + length us) _ _ _ _ (fit d (simp length-append (omega arith)))))))
+gram_in : {ts : List Token} {m : Model} (x : Gram ts m) → Derives (nt n_unit ∷ nt n_more_units ∷ []) ts (spots x)
+gram_in (g_last {ts = ts} x u) = λ i p k w o d. simp append_assoc (unit_in x i p _ _ _ (semicolons_in u (λ q. by here (fit d (simp length-append (omega arith))))))
+gram_in (g_more {ts = ts} {us = us} x u y) = λ i p k w o d.
+    simp append_assoc (unit_in x i p _ _ _ (semicolons_in u (λ q. by (there (there here)) (gram_in y (i + length ts + length us) _ _ _ _ (fit d (simp length-append (omega arith)))))))
 
 -- WHAT THE GRAMMAR SAYS, A STACK WITH MARKS DERIVES, and it writes each item with the token that `spots` says
-pub spots-derived : {ts : List Token} {m : Model} (x : Gram ts m) (p : ℕ) → M (nt n-model from p ∷ []) 0 ts (spots x 0)
-spots-derived x p = by here (simp append-nil at (gram-in x 0 0 [] [] [] m-done))
+pub spots_derived : {ts : List Token} {m : Model} (x : Gram ts m) (p : ℕ) → M (nt n_model from p ∷ []) 0 ts (spots x 0)
+spots_derived x p = by here (simp append-nil at (gram_in x 0 0 [] [] [] m_done))

@@ -6,7 +6,7 @@ use Rattle.base_bytes.specs.Choice.{either}
 use Rattle.base_kinds.specs.Kinds.{Token}
 use Rattle.base_codes.specs.Items.{Item}
 use Rattle.parse_grammar.specs.Engine.{Sym, nt, tm, act, In}
-use Rattle.parse_grammar.specs.Productions.{NT, n-after-name, n-after-ref, n-after-mtype, n-activity, Ter, Right, eats, prods}
+use Rattle.parse_grammar.specs.Productions.{NT, n_after_name, n_after_ref, n_after_mtype, n_activity, Ter, Right, eats, prods}
 use Rattle.parse_grammar.specs.Numbers.{number_of}
 use Rattle.parse_spots.specs.Spots.{Spot}
 
@@ -25,8 +25,8 @@ marks p (s ∷ r) = s from p ∷ marks p r
 -- the four that go on with what another nonterminal began
 abbrev pub hands : NT → Bool
 hands n =
-    either (eqb (number_of n) (number_of n-after-name))
-    (either (eqb (number_of n) (number_of n-after-ref)) (either (eqb (number_of n) (number_of n-after-mtype)) (eqb (number_of n) (number_of n-activity))))
+    either (eqb (number_of n) (number_of n_after_name))
+    (either (eqb (number_of n) (number_of n_after_ref)) (either (eqb (number_of n) (number_of n_after_mtype)) (eqb (number_of n) (number_of n_activity))))
 
 -- the mark of a right side: n has mark p, and token i is next
 abbrev pub begun : NT → ℕ → ℕ → ℕ
@@ -34,9 +34,9 @@ begun n p i = cond (hands n) p i
 
 -- read `M k i w o`: from token i on, the stack k derives the tokens w, and writes o
 pub data M : Stack → ℕ → List Token → List Spot → Type 0 where
-  m-done : {i : ℕ} → M [] i [] []
-  m-emit : {a : Item} {p : ℕ} {k : Stack} {i : ℕ} {w : List Token} {o : List Spot} → M k i w o → M (act a from p ∷ k) i w ((a, p) ∷ o)
-  m-eat : {t : Ter} {c : Token} {p : ℕ} {k : Stack} {i : ℕ} {w : List Token} {o : List Spot} → eats t c ≡ some [] → M k (i + 1) w o → M (tm t from p ∷ k) i (c ∷ w) o
-  m-put : {t : Ter} {c : Token} {a : Item} {p : ℕ} {k : Stack} {i : ℕ} {w : List Token} {o : List Spot} → eats t c ≡ some (a ∷ []) → M k (i + 1) w o →
+  m_done : {i : ℕ} → M [] i [] []
+  m_emit : {a : Item} {p : ℕ} {k : Stack} {i : ℕ} {w : List Token} {o : List Spot} → M k i w o → M (act a from p ∷ k) i w ((a, p) ∷ o)
+  m_eat : {t : Ter} {c : Token} {p : ℕ} {k : Stack} {i : ℕ} {w : List Token} {o : List Spot} → eats t c ≡ some [] → M k (i + 1) w o → M (tm t from p ∷ k) i (c ∷ w) o
+  m_put : {t : Ter} {c : Token} {a : Item} {p : ℕ} {k : Stack} {i : ℕ} {w : List Token} {o : List Spot} → eats t c ≡ some (a ∷ []) → M k (i + 1) w o →
       M (tm t from p ∷ k) i (c ∷ w) ((a, i) ∷ o)
-  m-by : {n : NT} {r : Right} {p : ℕ} {k : Stack} {i : ℕ} {w : List Token} {o : List Spot} → In r (prods n) → M (marks (begun n p i) r ++ k) i w o → M (nt n from p ∷ k) i w o
+  m_by : {n : NT} {r : Right} {p : ℕ} {k : Stack} {i : ℕ} {w : List Token} {o : List Spot} → In r (prods n) → M (marks (begun n p i) r ++ k) i w o → M (nt n from p ∷ k) i w o

@@ -10,7 +10,7 @@ use mathlib.Core.List.{List, [], ◌∷◌, map}
 use lib.ListN.{length, get_or}
 use lib.Dec.{T, eqb, ltb, eqb→eq}
 use borrow.Author.Tests.{ne_eqb}
-use Rattle.base_codes.specs.Codes.{c-or-else}
+use Rattle.base_codes.specs.Codes.{c_or_else}
 use Rattle.base_codes.specs.Items.{Item}
 use Rattle.parse_grammar.specs.Engine.{In, here, there, is_some, pick, first, choose, finish}
 use Rattle.parse_grammar.specs.Productions.{NT, e1, Right, prods, G}
@@ -18,7 +18,7 @@ use Rattle.parse_grammar.specs.Guide.{U}
 use Rattle.parse_grammar.proofs.Tests.{below, below_out, Fits}
 use Rattle.parse_grammar.proofs.Inst.{good}
 use Rattle.parse_tables.specs.Numbering.{nonterminals, nth, nonterminal, symbol}
-use Rattle.parse_tables.specs.Tables.{choices, bases, rights, numbered, production, productionBy, span, right}
+use Rattle.parse_tables.specs.Tables.{choices, bases, rights, numbered, production, production_by, span, right}
 use Rattle.parse_tables.proofs.Table.{at}
 
 -- ---- which of a list passes a test, counted from j; 0 where none does
@@ -73,24 +73,24 @@ unfolding test choices
 tested i h = at test choices tt i h
 
 -- ---- the rows of right sides
-abbrev rows-from : ℕ → ℕ → List Right
-rows-from b zero = []
-rows-from b (suc k) = map symbol (right (suc b)) ∷ rows-from (suc b) k
+abbrev rows_from : ℕ → ℕ → List Right
+rows_from b zero = []
+rows_from b (suc k) = map symbol (right (suc b)) ∷ rows_from (suc b) k
 
 abbrev Rows : ℕ → List NT → Type 0
 Rows j [] = Unit {0}
-Rows j (n ∷ l) = (prods n ≡ rows-from (get_or bases j 0) (length (prods n))) × Rows (suc j) l
+Rows j (n ∷ l) = (prods n ≡ rows_from (get_or bases j 0) (length (prods n))) × Rows (suc j) l
 
 rows : Rows 0 nonterminals
 unfolding right span rights bases
 rows = (refl, (refl, (refl, (refl, (refl, (refl, (refl, (refl, (refl, (refl, (refl, (refl, (refl, (refl, (refl, (refl, (refl, (refl, (refl, (refl, (refl, (refl, (refl, (refl, (refl, (refl, (refl, (refl, (refl, (refl, (refl, (refl, (refl, (refl, (refl, (refl, (refl, (refl, (refl, (refl, (refl, (refl, (refl, (refl, (refl, (refl, (refl, (refl, (refl, (refl, (refl, (refl, (refl, (refl, (refl, (refl, (refl, (refl, (refl, (refl, (refl, (refl, (refl, (refl, (refl, (refl, (refl, (refl, (refl, (refl, (refl, (refl, (refl, (refl, tt))))))))))))))))))))))))))))))))))))))))))))))))))))))))))))))))))))))))))
 
-row_at : (l : List NT) (i : ℕ) → Rows i l → (j : ℕ) → j < length l → prods (nth l j e1) ≡ rows-from (get_or bases (i + j) 0) (length (prods (nth l j e1)))
+row_at : (l : List NT) (i : ℕ) → Rows i l → (j : ℕ) → j < length l → prods (nth l j e1) ≡ rows_from (get_or bases (i + j) 0) (length (prods (nth l j e1)))
 row_at [] i w j h = absurd (not-suc-le-zero h)
 row_at (n ∷ l) i w zero h = let e : i + 0 ≡ i = omega arith in rw e w.0
 row_at (n ∷ l) i w (suc j) h = let e : i + suc j ≡ suc i + j = omega arith in rw e (row_at l (suc i) w.1 j (le_of_suc-le-suc h))
 
-in_rows : (b k m : ℕ) → m < k → nth (rows-from b k) m [] ≡ map symbol (right (b + suc m))
+in_rows : (b k m : ℕ) → m < k → nth (rows_from b k) m [] ≡ map symbol (right (b + suc m))
 in_rows b zero m h = absurd (not-suc-le-zero h)
 in_rows b (suc k) zero h = let e : b + 1 ≡ suc b = omega arith in rw e
 in_rows b (suc k) (suc m) h = let e : b + suc (suc m) ≡ suc b + suc m = omega arith in rw e (in_rows (suc b) k m (le_of_suc-le-suc h))
@@ -104,9 +104,9 @@ nth_in (a ∷ l) (suc m) d h = there (nth_in l m d (le_of_suc-le-suc h))
 no_kind : ℕ → Bool
 no_kind j = eqb (which (by_kind (nth nonterminals j e1) 0) 1 (prods (nth nonterminals j e1)) + which (by_kind (nth nonterminals j e1) 73) 1 (prods (nth nonterminals j e1))) 0
 
-no-kind-all : (j : ℕ) → j < 74 → T (no_kind j)
+no_kind_all : (j : ℕ) → j < 74 → T (no_kind j)
 unfolding no_kind
-no-kind-all j h = below_out 74 no_kind tt j h
+no_kind_all j h = below_out 74 no_kind tt j h
 
 unless : Bool → Bool → Bool
 unless true b = true
@@ -116,14 +116,14 @@ unless false false = true
 no_end : ℕ → Bool
 no_end j = unless (ltb 0 (which by_end 1 (prods (nth nonterminals j e1)))) (is_some (U.nul (nth nonterminals j e1)))
 
-no-end-all : (j : ℕ) → j < 74 → T (no_end j)
+no_end_all : (j : ℕ) → j < 74 → T (no_end j)
 unfolding no_end unless
-no-end-all j h = below_out 74 no_end tt j h
+no_end_all j h = below_out 74 no_end tt j h
 
-fits-eq : {A : Type 0} (x y : Option (List A)) → Fits x y → T (is_some x) → x ≡ y
-fits-eq none y f t = absurd t
-fits-eq (some a) none f t = absurd f
-fits-eq (some a) (some b) f t = ap some f
+fits_eq : {A : Type 0} (x y : Option (List A)) → Fits x y → T (is_some x) → x ≡ y
+fits_eq none y f t = absurd t
+fits_eq (some a) none f t = absurd f
+fits_eq (some a) (some b) f t = ap some f
 
 numbered-suc : (c b : ℕ) → numbered (suc c) b ≡ b + suc c
 numbered-suc c b = let ne : suc c ≡ 0 → ⊥ = (λ e. omega arith) in simp (ne_eqb (suc c) 0 ne)
@@ -135,7 +135,7 @@ inside : (i : ℕ) → i < 5476 → i < length choices
 unfolding choices
 inside i h = h
 
-module _ (x : ℕ) (lo : 73 ≤ x) (hi : x < c-or-else) where
+module _ (x : ℕ) (lo : 73 ≤ x) (hi : x < c_or_else) where
   entry : (k : ℕ) → k < 74 → get_or choices ((x - 73) * 74 + k) 0 - 48 ≡ chosen (nonterminal x) k
   unfolding test
   entry k hk =
@@ -145,12 +145,12 @@ module _ (x : ℕ) (lo : 73 ≤ x) (hi : x < c-or-else) where
       let t : T (eqb (get_or choices i 0 - 48) (chosen (nth nonterminals (i / 74) e1) (i % 74))) = tested i (inside i (omega arith)) in
       eqb→eq _ _ (rw (q, r) at t)
 
-  is-numbered : (k : ℕ) → k < 74 → production x k ≡ numbered (chosen (nonterminal x) k) (get_or bases (x - 73) 0)
-  unfolding production productionBy
-  is-numbered k hk = rw (entry k hk)
+  is_numbered : (k : ℕ) → k < 74 → production x k ≡ numbered (chosen (nonterminal x) k) (get_or bases (x - 73) 0)
+  unfolding production production_by
+  is_numbered k hk = rw (entry k hk)
 
   nothing : (k : ℕ) → k < 74 → production x k ≡ 0 → chosen (nonterminal x) k ≡ 0
-  nothing k hk e = go (chosen (nonterminal x) k) (sym (is-numbered k hk) ∙ e)
+  nothing k hk e = go (chosen (nonterminal x) k) (sym (is_numbered k hk) ∙ e)
     where
       go : (c : ℕ) → numbered c (get_or bases (x - 73) 0) ≡ 0 → c ≡ 0
       go zero h = refl
@@ -161,7 +161,7 @@ module _ (x : ℕ) (lo : 73 ≤ x) (hi : x < c-or-else) where
     is : production x k ≡ get_or bases (x - 73) 0 + chosen (nonterminal x) k
 
   something : (k : ℕ) → k < 74 → (production x k ≡ 0 → ⊥) → Something k
-  something k hk ne = go (chosen (nonterminal x) k) refl (is-numbered k hk)
+  something k hk ne = go (chosen (nonterminal x) k) refl (is_numbered k hk)
     where
       go : (c : ℕ) → chosen (nonterminal x) k ≡ c → production x k ≡ numbered c (get_or bases (x - 73) 0) → Something k
       go zero e h = absurd (ne h)
@@ -193,21 +193,21 @@ module _ (x : ℕ) (lo : 73 ≤ x) (hi : x < c-or-else) where
   uses (suc i) l hk ne = (found (by_kind (nonterminal x) (suc i)) (suc i) hk ne refl).3
 
   -- at what is no kind:
-  pub no-kind-table : production x 73 ≡ 0
+  pub no_kind_table : production x 73 ≡ 0
   unfolding no_kind
-  no-kind-table =
-      is-numbered 73 (omega arith)
-      ∙ ap (λ (c : ℕ). numbered c (get_or bases (x - 73) 0)) (none-twice (which (by_kind (nonterminal x) 0) 1 (prods (nonterminal x))) (which (by_kind (nonterminal x) 73) 1 (prods (nonterminal x))) (no-kind-all (x - 73) (omega arith))).1
+  no_kind_table =
+      is_numbered 73 (omega arith)
+      ∙ ap (λ (c : ℕ). numbered c (get_or bases (x - 73) 0)) (none-twice (which (by_kind (nonterminal x) 0) 1 (prods (nonterminal x))) (which (by_kind (nonterminal x) 73) 1 (prods (nonterminal x))) (no_kind_all (x - 73) (omega arith))).1
 
-  pub no-kind-guide : choose G U (nonterminal x) 0 ≡ none
+  pub no_kind_guide : choose G U (nonterminal x) 0 ≡ none
   unfolding no_kind
-  no-kind-guide = which-none (by_kind (nonterminal x) 0) (prods (nonterminal x)) 0
-      (none-twice (which (by_kind (nonterminal x) 0) 1 (prods (nonterminal x))) (which (by_kind (nonterminal x) 73) 1 (prods (nonterminal x))) (no-kind-all (x - 73) (omega arith))).0
+  no_kind_guide = which-none (by_kind (nonterminal x) 0) (prods (nonterminal x)) 0
+      (none-twice (which (by_kind (nonterminal x) 0) 1 (prods (nonterminal x))) (which (by_kind (nonterminal x) 73) 1 (prods (nonterminal x))) (no_kind_all (x - 73) (omega arith))).0
 
   -- at the end:
   pub not-empty : production x 0 ≡ 0 → U.nul (nonterminal x) ≡ none
   unfolding no_end unless
-  not-empty e = go (U.nul (nonterminal x)) (rw (nothing 0 (omega arith) e) at (no-end-all (x - 73) (omega arith)))
+  not-empty e = go (U.nul (nonterminal x)) (rw (nothing 0 (omega arith) e) at (no_end_all (x - 73) (omega arith)))
     where
       go : (o : Option (List Item)) → T (unless (ltb 0 0) (is_some o)) → o ≡ none
       go none t = refl
@@ -216,17 +216,17 @@ module _ (x : ℕ) (lo : 73 ≤ x) (hi : x < c-or-else) where
   pub empty : (production x 0 ≡ 0 → ⊥) → finish G U (map symbol (right (production x 0))) ≡ U.nul (nonterminal x)
   empty ne =
       let w = found by_end 0 (omega arith) ne refl in
-      fits-eq _ _ (good.nul-ok (nonterminal x) _ (subst (λ (r : Right). In r (prods (nonterminal x))) w.5 (nth_in (prods (nonterminal x)) w.0 [] w.1))) w.4
+      fits_eq _ _ (good.nul_ok (nonterminal x) _ (subst (λ (r : Right). In r (prods (nonterminal x))) w.5 (nth_in (prods (nonterminal x)) w.0 [] w.1))) w.4
 
   -- the right side that the table has for the end is the first that may be empty
-  pub uses-at-end : (production x 0 ≡ 0 → ⊥) → pick (λ r. is_some (finish G U r)) (prods (nonterminal x)) ≡ some (map symbol (right (production x 0)))
-  uses-at-end ne = (found by_end 0 (omega arith) ne refl).3
+  pub uses_at_end : (production x 0 ≡ 0 → ⊥) → pick (λ r. is_some (finish G U r)) (prods (nonterminal x)) ≡ some (map symbol (right (production x 0)))
+  uses_at_end ne = (found by_end 0 (omega arith) ne refl).3
 
 -- ---- a test of each production, by the number of its nonterminal and its own
 abbrev pub each_right : (ℕ → ℕ → Bool) → Bool
 each_right f = below 74 (λ j. below (length (prods (nth nonterminals j e1))) (λ m. f (73 + j) (get_or bases j 0 + suc m)))
 
-pub at_right : (f : ℕ → ℕ → Bool) → T (each_right f) → (x k : ℕ) → 73 ≤ x → x < c-or-else → k < 74 → (production x k ≡ 0 → ⊥) → T (f x (production x k))
+pub at_right : (f : ℕ → ℕ → Bool) → T (each_right f) → (x k : ℕ) → 73 ≤ x → x < c_or_else → k < 74 → (production x k ≡ 0 → ⊥) → T (f x (production x k))
 at_right f t x k lo hi hk ne =
     let (m, h, p) = numbers k hk ne in
     let e : 73 + (x - 73) ≡ x = omega arith in

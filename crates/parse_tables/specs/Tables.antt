@@ -278,12 +278,12 @@ rights =
 abbrev pub numbered : ℕ → ℕ → ℕ
 numbered c b = pick (eqb c 0) 0 (b + c)
 
-unfoldable pub productionBy : List ℕ → ℕ → ℕ → ℕ
-productionBy rows x k = numbered (get_or rows ((x - 73) * 74 + k) 0 - 48) (get_or bases (x - 73) 0)
+unfoldable pub production_by : List ℕ → ℕ → ℕ → ℕ
+production_by rows x k = numbered (get_or rows ((x - 73) * 74 + k) 0 - 48) (get_or bases (x - 73) 0)
 
 -- by the rows above
 unfoldable pub production : ℕ → ℕ → ℕ
-production x k = productionBy choices x k
+production x k = production_by choices x k
 
 -- the numbers from place i of the rows on, n of them
 unfoldable pub span : ℕ → ℕ → List ℕ
@@ -296,5 +296,5 @@ right p = span (p * 13 + 1) (get_or rights (p * 13) 0)
 
 -- what the code's answer is, and that it is small
 pub record Numbered (rows : List ℕ) (x k r : ℕ) : Type 0 where
-  pub is : r ≡ productionBy rows x k
+  pub is : r ≡ production_by rows x k
   pub small : r < 512

@@ -2,8 +2,8 @@
 use Prim.Native.Nat.{ℕ}
 use mathlib.Core.Path.{◌≡◌, refl}
 use Rattle.base_kinds.specs.Kinds.{level}
-use Rattle.base_values.specs.Operators.{levelOf}
+use Rattle.base_values.specs.Operators.{level_of}
 
-pub levels-same : (o : ℕ) → level o ≡ levelOf o
-unfolding levelOf
-levels-same o = refl
+pub levels_same : (o : ℕ) → level o ≡ level_of o
+unfolding level_of
+levels_same o = refl

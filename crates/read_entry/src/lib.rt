@@ -1,7 +1,7 @@
 // The entries of the reader: is this a model, and what are its tables; and the part of the text that a refusal names.
 ghost use Rattle.std.specs.Prelude.{◌≡◌, length};
-ghost use Rattle.read_passes.specs.Judging.{judgeOf};
-ghost use Rattle.read_entry.specs.Entries.{read_of, left_of, partStart, part, behind, Bounded};
+ghost use Rattle.read_passes.specs.Judging.{judge_of};
+ghost use Rattle.read_entry.specs.Entries.{read_of, left_of, part_start, part, behind, Bounded};
 
 use read_passes::Judged;
 
@@ -46,8 +46,8 @@ fn named(j: Judged, n: usize) -> Bounds
 
 // The part of the text that a refusal names: empty, at the start, for a text that is accepted or refused by no part.
 pub fn refused_part(text: &[u8]) -> &[u8]
-    ensures result_value { result.now ≡ part text.now (judgeOf text.now) }
-    ensures ref_ptr_value { result.ref_ptr ≡ behind text.entry.ref_ptr (partStart (length text.now) (judgeOf text.now)) }
+    ensures result_value { result.now ≡ part text.now (judge_of text.now) }
+    ensures ref_ptr_value { result.ref_ptr ≡ behind text.entry.ref_ptr (part_start (length text.now) (judge_of text.now)) }
 {
     let mut tables = [0u32; base_ceilings::TABLES_ROOM];
     let b = named(read(text, &mut tables), text.len());

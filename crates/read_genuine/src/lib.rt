@@ -1,7 +1,7 @@
 // Are these the tables of an accepted text? They are written as a text, which is read again.
 ghost use Rattle.std.specs.Prelude.{◌≡◌, length};
 ghost use Rattle.base_bytes.specs.Lists.{same};
-ghost use Rattle.read_passes.specs.Judging.{judgeOf, tablesText};
+ghost use Rattle.read_passes.specs.Judging.{judge_of, tables_text};
 ghost use Rattle.read_genuine.specs.Genuine as spec;
 
 use read_passes::Judged;
@@ -33,7 +33,7 @@ fn same_words(x: &[u32], y: &[u32]) -> bool
 
 // Does a text give these numbers as its tables?
 fn gives(text: &[u8], w: &[u32]) -> bool
-    ensures { result ≡ spec.agrees (judgeOf text.now) w.now (tablesText text.now) }
+    ensures { result ≡ spec.agrees (judge_of text.now) w.now (tables_text text.now) }
 {
     let mut back = [0u32; base_ceilings::TABLES_ROOM];
     let j = read_entry::read(text, &mut back);

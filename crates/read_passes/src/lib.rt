@@ -1,10 +1,10 @@
 // Every pass of the reader in its order, and the tables of a text that all of them let through.
 ghost use Rattle.std.specs.Prelude.{◌≡◌, length, replicate};
-ghost use Rattle.base_ceilings.specs.Ceilings.{itemsMost};
-ghost use Rattle.link_items.specs.Links.{linksOf};
-ghost use Rattle.table_entries.specs.Sources.{entriesOf};
+ghost use Rattle.base_ceilings.specs.Ceilings.{items_most};
+ghost use Rattle.link_items.specs.Links.{links_of};
+ghost use Rattle.table_entries.specs.Sources.{entries_of};
 ghost use Rattle.table_layout.specs.Tables.{tables_of};
-ghost use Rattle.read_passes.specs.Judging.{atToken, byRules, byGrammar, passOf, is_wide, wideText, judgeOf, laid, left, tablesFrom, tablesAt, tablesText};
+ghost use Rattle.read_passes.specs.Judging.{at_token, by_rules, by_grammar, pass_of, is_wide, wide_text, judge_of, laid, left, tables_from, tables_at, tables_text};
 
 use parse_items::Parsed;
 use rule_least::Fault;
@@ -22,7 +22,7 @@ const WIDE_ROOM: usize = 2 * base_ceilings::TABLES_ROOM;
 
 // A refusal at a token, or at the end of a text of n bytes.
 fn at_token(n: usize, starts: &[u32], ends: &[u32], x: u8, k: usize) -> Judged
-    ensures { result ≡ atToken n starts.now ends.now x k }
+    ensures { result ≡ at_token n starts.now ends.now x k }
 {
     if k < starts.len() {
         let from = base_bytes::word_at(starts, k);
@@ -42,7 +42,7 @@ fn lay(
     args: &[u32],
     out: &mut [u32],
 )
-    ensures { out.new ≡ laid (tables_of (entriesOf text.now starts.now ends.now codes.now toks.now) (linksOf codes.now args.now (replicate itemsMost 0))) out.old }
+    ensures { out.new ≡ laid (tables_of (entries_of text.now starts.now ends.now codes.now toks.now) (links_of codes.now args.now (replicate items_most 0))) out.old }
 {
     let mut links = [0u32; base_ceilings::ITEMS_MOST];
     link_items::fill_links(codes, args, &mut links);
@@ -58,8 +58,8 @@ fn by_rules(
     toks: &[u32],
     out: &mut [u32],
 ) -> Judged
-    ensures value { result ≡ byRules text.now starts.now ends.now codes.now toks.now }
-    ensures out_after { out.new ≡ left result (tablesFrom text.now starts.now ends.now codes.now toks.now) out.old }
+    ensures value { result ≡ by_rules text.now starts.now ends.now codes.now toks.now }
+    ensures out_after { out.new ≡ left result (tables_from text.now starts.now ends.now codes.now toks.now) out.old }
 {
     let mut args = [0u32; base_ceilings::ITEMS_MOST];
     rule_sheets::fill_args(text, starts, ends, codes, toks, &mut args);
@@ -78,8 +78,8 @@ fn by_rules(
 
 // Grammar, and then the rest.
 fn by_grammar(text: &[u8], kinds: &[u8], starts: &[u32], ends: &[u32], out: &mut [u32]) -> Judged
-    ensures value { result ≡ byGrammar text.now kinds.now starts.now ends.now }
-    ensures out_after { out.new ≡ left result (tablesAt text.now kinds.now starts.now ends.now) out.old }
+    ensures value { result ≡ by_grammar text.now kinds.now starts.now ends.now }
+    ensures out_after { out.new ≡ left result (tables_at text.now kinds.now starts.now ends.now) out.old }
 {
     let mut codes = [0u8; base_ceilings::ITEMS_MOST];
     let mut toks = [0u32; base_ceilings::ITEMS_MOST];
@@ -96,8 +96,8 @@ fn by_grammar(text: &[u8], kinds: &[u8], starts: &[u32], ends: &[u32], out: &mut
 
 // Every pass in its order; the tables of a text that all let through at the front of out, as far as it reaches.
 fn through(text: &[u8], out: &mut [u32]) -> Judged
-    ensures value { result ≡ passOf text.now }
-    ensures out_after { out.new ≡ left result (tablesText text.now) out.old }
+    ensures value { result ≡ pass_of text.now }
+    ensures out_after { out.new ≡ left result (tables_text text.now) out.old }
 {
     let mut kinds = [0u8; base_ceilings::TOKENS_MOST];
     let mut starts = [0u32; base_ceilings::TOKENS_MOST];
@@ -114,7 +114,7 @@ fn through(text: &[u8], out: &mut [u32]) -> Judged
 
 // Is the normal text of a text that all passes let through too long?
 fn writes_wide(text: &[u8]) -> bool
-    ensures { result ≡ is_wide (passOf text.now) (tablesText text.now) }
+    ensures { result ≡ is_wide (pass_of text.now) (tables_text text.now) }
 {
     let mut tables = [0u32; WIDE_ROOM];
     let j = through(text, &mut tables);
@@ -129,7 +129,7 @@ fn writes_wide(text: &[u8]) -> bool
 
 // The same; no text is shorter than its normal text, so only a longer one is read to find out.
 fn is_wide(text: &[u8]) -> bool
-    ensures { result ≡ wideText text.now }
+    ensures { result ≡ wide_text text.now }
 {
     if text.len() <= base_ceilings::NORMAL_MOST {
         return false;
@@ -139,8 +139,8 @@ fn is_wide(text: &[u8]) -> bool
 
 // Is this a model? Every pass in its order, and then the length of its normal text; the tables of an accepted text at the front of out, as far as it reaches.
 pub fn pass(text: &[u8], out: &mut [u32]) -> Judged
-    ensures value { result ≡ judgeOf text.now }
-    ensures out_after { out.new ≡ left result (tablesText text.now) out.old }
+    ensures value { result ≡ judge_of text.now }
+    ensures out_after { out.new ≡ left result (tables_text text.now) out.old }
 {
     if is_wide(text) {
         return Judged::Refused(6, 0, 0);

@@ -1,6 +1,6 @@
 // The ceilings that are judged last (document 01, row 6): is one passed by a model that has no fault, or does no process start?
 ghost use Rattle.std.specs.Prelude.{◌≡◌, ◌+◌, ◌≤◌, ◌<◌, length};
-ghost use Rattle.base_ceilings.specs.Ceilings.{itemsMost};
+ghost use Rattle.base_ceilings.specs.Ceilings.{items_most};
 ghost use Rattle.rule_ceilings.specs.Ceilings as tops;
 
 use base_bytes::{either, minus, word_at};
@@ -9,7 +9,7 @@ use rule_sheets::choose_size;
 
 // How many numbers item j declares for the body h.
 pub fn numbers_at(codes: &[u8], args: &[u32], homes: &[u32], h: usize, j: usize) -> usize
-    ensures value { result ≡ tops.numbersAt codes.now args.now homes.now h j }
+    ensures value { result ≡ tops.numbers_at codes.now args.now homes.now h j }
     ensures upper_bound { result < 4294967296 }
 {
     if among(14, base_bytes::byte_at(codes, j)) {
@@ -25,7 +25,7 @@ pub fn numbers_at(codes: &[u8], args: &[u32], homes: &[u32], h: usize, j: usize)
 
 // The numbers of a body, or with 0 the global ones.
 fn numbers(codes: &[u8], args: &[u32], homes: &[u32], h: usize) -> usize
-    requires { length codes.now ≤ itemsMost }
+    requires { length codes.now ≤ items_most }
     ensures { result ≡ tops.numbers codes.now args.now homes.now h }
 {
     let mut n: usize = 0;
@@ -39,7 +39,7 @@ fn numbers(codes: &[u8], args: &[u32], homes: &[u32], h: usize) -> usize
 
 // How many processes the unit that item j begins starts.
 fn starts_at(codes: &[u8], args: &[u32], j: usize) -> usize
-    ensures value { result ≡ tops.startsAt codes.now args.now j }
+    ensures value { result ≡ tops.starts_at codes.now args.now j }
     ensures upper_bound { result < 4294967296 }
 {
     match base_bytes::byte_at(codes, j) {
@@ -67,7 +67,7 @@ fn makes_at(codes: &[u8], args: &[u32], homes: &[u32], j: usize) -> usize
 
 // 1 where a printf with more than 4 arguments ends.
 fn wide_at(codes: &[u8], homes: &[u32], j: usize) -> usize
-    ensures value { result ≡ tops.wideAt codes.now homes.now j }
+    ensures value { result ≡ tops.wide_at codes.now homes.now j }
     ensures upper_bound { result < 4294967296 }
 {
     if base_bytes::byte_at(codes, j) == base_codes::END {
@@ -85,8 +85,8 @@ fn wide_at(codes: &[u8], homes: &[u32], j: usize) -> usize
 
 // 1 where a unit begins whose processes have more than 32 numbers.
 fn heavy_at(codes: &[u8], args: &[u32], homes: &[u32], j: usize) -> usize
-    requires { (length codes.now ≤ itemsMost) × (j < itemsMost) }
-    ensures value { result ≡ tops.heavyAt codes.now args.now homes.now j }
+    requires { (length codes.now ≤ items_most) × (j < items_most) }
+    ensures value { result ≡ tops.heavy_at codes.now args.now homes.now j }
     ensures upper_bound { result < 4294967296 }
 {
     if among(15, base_bytes::byte_at(codes, j)) {
@@ -106,7 +106,7 @@ fn one(set: u8, c: u8) -> usize
 
 // What item j adds to a sum.
 fn weight(codes: &[u8], args: &[u32], homes: &[u32], which: u8, j: usize) -> usize
-    requires { (length codes.now ≤ itemsMost) × (j < itemsMost) }
+    requires { (length codes.now ≤ items_most) × (j < items_most) }
     ensures value { result ≡ tops.weight codes.now args.now homes.now which j }
     ensures upper_bound { result < 4294967296 }
 {
@@ -123,7 +123,7 @@ fn weight(codes: &[u8], args: &[u32], homes: &[u32], which: u8, j: usize) -> usi
 }
 
 fn total(codes: &[u8], args: &[u32], homes: &[u32], which: u8) -> usize
-    requires { length codes.now ≤ itemsMost }
+    requires { length codes.now ≤ items_most }
     ensures { result ≡ tops.total codes.now args.now homes.now which }
 {
     let mut n: usize = 0;
@@ -136,8 +136,8 @@ fn total(codes: &[u8], args: &[u32], homes: &[u32], which: u8) -> usize
 }
 
 fn any_passed(codes: &[u8], args: &[u32], homes: &[u32]) -> bool
-    requires { length codes.now ≤ itemsMost }
-    ensures { result ≡ tops.anyPassed codes.now args.now homes.now }
+    requires { length codes.now ≤ items_most }
+    ensures { result ≡ tops.any_passed codes.now args.now homes.now }
 {
     let processes = total(codes, args, homes, 4);
     either(
@@ -178,7 +178,7 @@ pub fn passed(codes: &[u8], args: &[u32]) -> bool
 
 // What is held against a ceiling, by a number: the global numbers (0), or one of the sums of `weight`; 0 of more than 8,192 items.
 pub fn amount(codes: &[u8], args: &[u32], which: u8) -> usize
-    ensures { result ≡ tops.amountOf codes.now args.now which }
+    ensures { result ≡ tops.amount_of codes.now args.now which }
 {
     if base_ceilings::ITEMS_MOST < codes.len() {
         return 0;

@@ -16,5 +16,5 @@ tabled-from f i zero j h = absurd (omega arith)
 tabled-from f i (suc k) zero h = ap f (sym (add-zero i))
 tabled-from f i (suc k) (suc j) h = tabled-from f (suc i) k j (omega arith) ∙ ap f (omega arith)
 
-pub tabled-at : (f : ℕ → ℕ) (k j : ℕ) → j < k → get_or (tabled f 0 k) j 0 ≡ f j
-tabled-at f k j h = tabled-from f 0 k j h ∙ ap f (zero-add j)
+pub tabled_at : (f : ℕ → ℕ) (k j : ℕ) → j < k → get_or (tabled f 0 k) j 0 ≡ f j
+tabled_at f k j h = tabled-from f 0 k j h ∙ ap f (zero-add j)

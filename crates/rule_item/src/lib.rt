@@ -14,7 +14,7 @@ const TOO_MANY_FIELDS: usize = 2 * base_ceilings::FIELDS_MOST + 1;
 
 // Is this variable an array?
 pub fn is_array(codes: &[u8], d: usize) -> bool
-    ensures { result ≡ rules.isArray codes.now d }
+    ensures { result ≡ rules.is_array codes.now d }
 {
     both(
         byte_on(codes, d, 1) == base_codes::NUMBER,
@@ -23,14 +23,14 @@ pub fn is_array(codes: &[u8], d: usize) -> bool
 }
 
 fn is_chan(codes: &[u8], d: usize) -> bool
-    ensures { result ≡ rules.isChan codes.now d }
+    ensures { result ≡ rules.is_chan codes.now d }
 {
     base_bytes::byte_at(codes, minus(after(codes, 3, d), 2)) == base_codes::CHAN
 }
 
 // What a reference is for, by the item behind it.
 fn role_of(c: u8) -> u8
-    ensures { result ≡ rules.roleOf c }
+    ensures { result ≡ rules.role_of c }
 {
     choose(
         either(
@@ -51,13 +51,13 @@ fn role_of(c: u8) -> u8
 
 // A name that has no index, where it may stand at all.
 fn bad_plain(may: bool, indexed: bool) -> u8
-    ensures { result ≡ rules.badPlain may indexed }
+    ensures { result ≡ rules.bad_plain may indexed }
 {
     choose(may, choose(indexed, 5, 0), 4)
 }
 
 fn bad_variable(codes: &[u8], d: usize, role: u8, indexed: bool) -> u8
-    ensures { result ≡ rules.badVariable codes.now d role indexed }
+    ensures { result ≡ rules.bad_variable codes.now d role indexed }
 {
     let a = is_array(codes, d);
     let x = choose(indexed, choose(a, 0, 5), choose(a, 5, 0));
@@ -75,7 +75,7 @@ fn bad_use(
     role: u8,
     indexed: bool,
 ) -> u8
-    ensures { Chained codes.now args.now chain.now → result ≡ rules.badUse codes.now args.now homes.now m h role indexed }
+    ensures { Chained codes.now args.now chain.now → result ≡ rules.bad_use codes.now args.now homes.now m h role indexed }
 {
     let w = word_at(args, m);
     if w == 0 {
@@ -93,7 +93,7 @@ fn bad_use(
 }
 
 fn bad_ref(codes: &[u8], args: &[u32], homes: &[u32], chain: &[u32], starts: &[u32], j: usize) -> u8
-    ensures { Chained codes.now args.now chain.now → result ≡ rules.badRef codes.now args.now homes.now starts.now j }
+    ensures { Chained codes.now args.now chain.now → result ≡ rules.bad_ref codes.now args.now homes.now starts.now j }
 {
     bad_use(
         codes,
@@ -108,7 +108,7 @@ fn bad_ref(codes: &[u8], args: &[u32], homes: &[u32], chain: &[u32], starts: &[u
 }
 
 fn bad_twice(codes: &[u8], args: &[u32], homes: &[u32], chain: &[u32], set: u8, j: usize) -> u8
-    ensures { Chained codes.now args.now chain.now → set < 3 → result ≡ rules.badTwice codes.now args.now homes.now set j }
+    ensures { Chained codes.now args.now chain.now → set < 3 → result ≡ rules.bad_twice codes.now args.now homes.now set j }
 {
     let w = word_at(args, minus(j, 1));
     let d = find(codes, args, homes, chain, set, w, word_at(homes, j), j);
@@ -116,7 +116,7 @@ fn bad_twice(codes: &[u8], args: &[u32], homes: &[u32], chain: &[u32], set: u8, 
 }
 
 fn bad_named(codes: &[u8], args: &[u32], homes: &[u32], chain: &[u32], j: usize) -> u8
-    ensures { Chained codes.now args.now chain.now → result ≡ rules.badNamed codes.now args.now homes.now j }
+    ensures { Chained codes.now args.now chain.now → result ≡ rules.bad_named codes.now args.now homes.now j }
 {
     let m = minus(j, 1);
     let d = lookup(
@@ -132,7 +132,7 @@ fn bad_named(codes: &[u8], args: &[u32], homes: &[u32], chain: &[u32], j: usize)
 }
 
 fn bad_goto(codes: &[u8], args: &[u32], homes: &[u32], chain: &[u32], j: usize) -> u8
-    ensures { Chained codes.now args.now chain.now → result ≡ rules.badGoto codes.now args.now homes.now j }
+    ensures { Chained codes.now args.now chain.now → result ≡ rules.bad_goto codes.now args.now homes.now j }
 {
     let w = word_at(args, minus(j, 1));
     let n = codes.len();
@@ -160,7 +160,7 @@ pub fn global(codes: &[u8], args: &[u32], homes: &[u32], chain: &[u32], m: usize
 }
 
 fn bad_run(codes: &[u8], args: &[u32], homes: &[u32], chain: &[u32], j: usize) -> u8
-    ensures { Chained codes.now args.now chain.now → result ≡ rules.badRun codes.now args.now homes.now j }
+    ensures { Chained codes.now args.now chain.now → result ≡ rules.bad_run codes.now args.now homes.now j }
 {
     let m = minus(j, 1);
     let l = find(
@@ -189,7 +189,7 @@ fn body_of(codes: &[u8], g: usize) -> usize
 }
 
 fn bad_passing(codes: &[u8], args: &[u32], homes: &[u32], chain: &[u32], o: usize, k: usize) -> u8
-    ensures { Chained codes.now args.now chain.now → result ≡ rules.badPassing codes.now args.now homes.now o k }
+    ensures { Chained codes.now args.now chain.now → result ≡ rules.bad_passing codes.now args.now homes.now o k }
 {
     let g = global(codes, args, homes, chain, minus(o, 1));
     let p = count(codes, homes, 6, body_of(codes, g), 0, codes.len());
@@ -202,7 +202,7 @@ fn bad_passing(codes: &[u8], args: &[u32], homes: &[u32], chain: &[u32], o: usiz
 
 // k arguments for what item o began.
 fn bad_count(codes: &[u8], args: &[u32], homes: &[u32], chain: &[u32], o: usize, k: usize) -> u8
-    ensures { Chained codes.now args.now chain.now → result ≡ rules.badCount codes.now args.now homes.now o k }
+    ensures { Chained codes.now args.now chain.now → result ≡ rules.bad_count codes.now args.now homes.now o k }
 {
     match base_bytes::byte_at(codes, o) {
         base_codes::TEXT => choose(k == word_at(args, o) / 2, 0, 5),
@@ -215,7 +215,7 @@ fn bad_count(codes: &[u8], args: &[u32], homes: &[u32], chain: &[u32], o: usize,
 }
 
 fn bad_end(codes: &[u8], args: &[u32], homes: &[u32], chain: &[u32], j: usize) -> u8
-    ensures { Chained codes.now args.now chain.now → result ≡ rules.badEnd codes.now args.now homes.now j }
+    ensures { Chained codes.now args.now chain.now → result ≡ rules.bad_end codes.now args.now homes.now j }
 {
     let o = opener(codes, j);
     let k = count(codes, homes, 5, word_at(homes, j), o, j);
@@ -223,7 +223,7 @@ fn bad_end(codes: &[u8], args: &[u32], homes: &[u32], chain: &[u32], j: usize) -
 }
 
 fn bad_break(codes: &[u8], homes: &[u32], j: usize) -> u8
-    ensures { result ≡ rules.badBreak codes.now homes.now j }
+    ensures { result ≡ rules.bad_break codes.now homes.now j }
 {
     let h = word_at(homes, j);
     choose(
@@ -236,7 +236,7 @@ fn bad_break(codes: &[u8], homes: &[u32], j: usize) -> u8
 // How deep item k is for one that stands behind it: 1 in the same selection, 0 outside it.
 fn depth_on(codes: &[u8], k: usize, d: usize) -> usize
     requires { d < 18446744073709551615 }
-    ensures value { result ≡ rules.depthOn codes.now k d }
+    ensures value { result ≡ rules.depth_on codes.now k d }
     ensures upper_bound { result ≤ d + 1 }
 {
     let c = base_bytes::byte_at(codes, k);
@@ -253,7 +253,7 @@ fn depth_on(codes: &[u8], k: usize, d: usize) -> usize
 }
 
 fn twin_at(codes: &[u8], k: usize, d: usize) -> bool
-    ensures { result ≡ rules.twinAt codes.now k d }
+    ensures { result ≡ rules.twin_at codes.now k d }
 {
     both(
         d == 1,
@@ -282,7 +282,7 @@ fn twin(codes: &[u8], j: usize) -> bool
 }
 
 fn bad_else(codes: &[u8], j: usize) -> u8
-    ensures { result ≡ rules.badElse codes.now j }
+    ensures { result ≡ rules.bad_else codes.now j }
 {
     let i = minus(j, 1);
     choose(
@@ -293,32 +293,32 @@ fn bad_else(codes: &[u8], j: usize) -> u8
 }
 
 fn bad_second(codes: &[u8], homes: &[u32], set: u8, j: usize) -> u8
-    ensures { result ≡ rules.badSecond codes.now homes.now set j }
+    ensures { result ≡ rules.bad_second codes.now homes.now set j }
 {
     choose(0 < count(codes, homes, set, 0, 0, j), 5, 0)
 }
 
 fn bad_size(args: &[u32], most: usize, j: usize) -> u8
-    ensures { result ≡ rules.badSize args.now most j }
+    ensures { result ≡ rules.bad_size args.now most j }
 {
     let v = word_at(args, minus(j, 1));
     choose(both(0 < v, v <= most), 0, 5)
 }
 
 fn bad_field(codes: &[u8], j: usize) -> u8
-    ensures { result ≡ rules.badField codes.now j }
+    ensures { result ≡ rules.bad_field codes.now j }
 {
     choose(minus(j, after(codes, 16, j)) == TOO_MANY_FIELDS, 5, 0)
 }
 
 fn bad_format(args: &[u32], j: usize) -> u8
-    ensures { result ≡ rules.badFormat args.now j }
+    ensures { result ≡ rules.bad_format args.now j }
 {
     choose(word_at(args, j) % 2 == 1, 5, 0)
 }
 
 fn bad_height(heights: &[u32], j: usize) -> u8
-    ensures { result ≡ rules.badHeight heights.now j }
+    ensures { result ≡ rules.bad_height heights.now j }
 {
     choose(
         base_ceilings::HEIGHT_MOST < word_at(heights, minus(j, 1)),
@@ -329,7 +329,7 @@ fn bad_height(heights: &[u32], j: usize) -> u8
 
 // Which rule an item has; 0 where it has none. Sixteen items to a line.
 pub fn rule_of(c: u8) -> u8
-    ensures { result ≡ sets.ruleOf c }
+    ensures { result ≡ sets.rule_of c }
 {
     base_bytes::byte_at(
         b"\
@@ -364,7 +364,7 @@ pub fn bad_by(
     rule: u8,
     j: usize,
 ) -> u8
-    ensures { Chained codes.now args.now chain.now → result ≡ rules.badBy codes.now args.now homes.now starts.now heights.now rule j }
+    ensures { Chained codes.now args.now chain.now → result ≡ rules.bad_by codes.now args.now homes.now starts.now heights.now rule j }
 {
     match rule {
         1 => bad_format(args, j),

@@ -11,9 +11,9 @@ use mathlib.Core.Logic.{◌⊎◌, inl, inr}
 use native.Mathlib.Decide.{ℕ_discrete}
 use Rattle.base_bytes.specs.Choice.{pick}
 use Rattle.rule_sheets.specs.Homes.{homes_of}
-use Rattle.rule_sheets.specs.Spans.{startsOf, heightsOf}
+use Rattle.rule_sheets.specs.Spans.{starts_of, heights_of}
 use Rattle.rule_item.specs.Rules.{bad}
-use Rattle.rule_least.specs.Faults.{place, sooner, joined, leastFrom, leastOf, blank, checked}
+use Rattle.rule_least.specs.Faults.{place, sooner, joined, least_from, least_of, blank, checked}
 use Rattle.rule_least.specs.Least.{Free, done, more}
 use Rattle.rule_least.specs.declared.Fault.{Fault}
 use Rattle.rule_least.specs.declared.Fault.TheVariants.{None, At}
@@ -31,26 +31,26 @@ sooner-some p m (At m2 p2) e = by (ltb p p2) (ltb p2 p) (ltb m2 m) e
 
 module _ (cs vs hs ss ts : List ℕ) where
   module _ (toks : List ℕ) where
-    none_free : (j k : ℕ) → leastFrom cs vs hs ss ts toks j k ≡ None → Free cs vs hs ss ts j k
-    unfolding leastFrom joined
+    none_free : (j k : ℕ) → least_from cs vs hs ss ts toks j k ≡ None → Free cs vs hs ss ts j k
+    unfolding least_from joined
     none_free j zero e = done
     none_free j (suc k) e = by (eqb (bad cs vs hs ss ts j) 0) refl (none_free (j + 1) k) e
       where
         by : (b : Bool) → eqb (bad cs vs hs ss ts j) 0 ≡ b
-            → (leastFrom cs vs hs ss ts toks (j + 1) k ≡ None → Free cs vs hs ss ts (j + 1) k)
-            → pick b (leastFrom cs vs hs ss ts toks (j + 1) k) (sooner (place cs vs hs ss ts toks j) (bad cs vs hs ss ts j) (leastFrom cs vs hs ss ts toks (j + 1) k)) ≡ None
+            → (least_from cs vs hs ss ts toks (j + 1) k ≡ None → Free cs vs hs ss ts (j + 1) k)
+            → pick b (least_from cs vs hs ss ts toks (j + 1) k) (sooner (place cs vs hs ss ts toks j) (bad cs vs hs ss ts j) (least_from cs vs hs ss ts toks (j + 1) k)) ≡ None
             → Free cs vs hs ss ts j (suc k)
         by true q go e = more (eqb-true (bad cs vs hs ss ts j) 0 q) (go e)
-        by false q go e = absurd (sooner-some (place cs vs hs ss ts toks j) (bad cs vs hs ss ts j) (leastFrom cs vs hs ss ts toks (j + 1) k) e)
+        by false q go e = absurd (sooner-some (place cs vs hs ss ts toks j) (bad cs vs hs ss ts j) (least_from cs vs hs ss ts toks (j + 1) k) e)
 
-    free-none : (j k : ℕ) → Free cs vs hs ss ts j k → leastFrom cs vs hs ss ts toks j k ≡ None
-    unfolding leastFrom joined
-    free-none j zero f = refl
-    free-none j (suc k) (more e f) = rw e (free-none (j + 1) k f)
+    free_none : (j k : ℕ) → Free cs vs hs ss ts j k → least_from cs vs hs ss ts toks j k ≡ None
+    unfolding least_from joined
+    free_none j zero f = refl
+    free_none j (suc k) (more e f) = rw e (free_none (j + 1) k f)
 
 -- whether a model has a fault is a function of its items and what their tokens say: with other tokens at other places it has one just as well
-pub places-free : (cs vs toks toks2 : List ℕ) → checked cs vs toks ≡ None → checked cs vs toks2 ≡ None
-unfolding checked leastOf
-places-free cs vs toks toks2 e =
-    free-none cs vs (homes_of cs blank) (startsOf cs blank) (heightsOf cs (startsOf cs blank) blank) toks2 0 (length cs)
-    (none_free cs vs (homes_of cs blank) (startsOf cs blank) (heightsOf cs (startsOf cs blank) blank) toks 0 (length cs) e)
+pub places_free : (cs vs toks toks2 : List ℕ) → checked cs vs toks ≡ None → checked cs vs toks2 ≡ None
+unfolding checked least_of
+places_free cs vs toks toks2 e =
+    free_none cs vs (homes_of cs blank) (starts_of cs blank) (heights_of cs (starts_of cs blank) blank) toks2 0 (length cs)
+    (none_free cs vs (homes_of cs blank) (starts_of cs blank) (heights_of cs (starts_of cs blank) blank) toks 0 (length cs) e)

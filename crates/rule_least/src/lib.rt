@@ -14,7 +14,7 @@ pub enum Fault {
 
 // The token at which item j is at fault by a rule.
 pub fn place_by(codes: &[u8], starts: &[u32], toks: &[u32], rule: u8, j: usize) -> usize
-    ensures { result ≡ faults.placeBy codes.now starts.now toks.now rule j }
+    ensures { result ≡ faults.place_by codes.now starts.now toks.now rule j }
 {
     if rule < 7 {
         return word_at(toks, j);
@@ -88,7 +88,7 @@ fn least_fault(
     toks: &[u32],
 ) -> Fault
     requires { Chained codes.now args.now chain.now }
-    ensures { result ≡ faults.leastOf codes.now args.now homes.now starts.now heights.now toks.now }
+    ensures { result ≡ faults.least_of codes.now args.now homes.now starts.now heights.now toks.now }
 {
     let mut best = Fault::None;
     let mut j = codes.len();

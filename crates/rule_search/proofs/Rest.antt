@@ -8,7 +8,7 @@ use lib.Dec.{ltb}
 use borrow.Author.Tests.{ltb-true, ltb-false, lt-ltb, le-ltb}
 use Rattle.base_bytes.specs.Choice.{pick}
 use Rattle.rule_sheets.specs.Walks.{first}
-use Rattle.rule_sheets.proofs.Walks.{first-stop, first-end, first-start}
+use Rattle.rule_sheets.proofs.Walks.{first_stop, first_end, first-start}
 
 -- the first that passes p from d on, below `to`; none: `to`
 unfoldable pub rest : (ℕ → Bool) → ℕ → ℕ → ℕ
@@ -40,14 +40,14 @@ module _ (p : ℕ → Bool) (d to : ℕ) where
   unfolding rest
   ended h = simp (le-ltb d to h)
 
-  pub rest-stop : {b : Bool} → d < to → b ≡ p d → b ≡ true → d ≡ rest p d to
-  rest-stop h eb e = first-stop p d (to - d) (omega arith) eb e ∙ sym (within h)
+  pub rest_stop : {b : Bool} → d < to → b ≡ p d → b ≡ true → d ≡ rest p d to
+  rest_stop h eb e = first_stop p d (to - d) (omega arith) eb e ∙ sym (within h)
 
   pub rest_end : to ≤ d → to ≡ rest p d to
   rest_end h = sym (ended h)
 
 pub rest-whole : (p : ℕ → Bool) (to : ℕ) → rest p 0 to ≡ first p 0 to
-rest-whole p zero = ended p 0 0 (omega arith) ∙ first-end p 0 0 refl
+rest-whole p zero = ended p 0 0 (omega arith) ∙ first_end p 0 0 refl
 rest-whole p (suc k) = within p 0 (suc k) (omega arith) ∙ first-start p (suc k)
 
 -- ---- places that fail the test

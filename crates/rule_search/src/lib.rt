@@ -1,9 +1,9 @@
 // Searches over the items of a model: sets of items, declarations by name and body, counts.
 // Declarations are found along a chain, which a caller has filled (`fill_chain`) and lends: what a search finds is said for a chain that passes no declaration over.
 ghost use Rattle.std.specs.Prelude.{◌≡◌, ◌≤◌, ◌<◌, set};
-ghost use Rattle.base_ceilings.specs.Ceilings.{itemsMost};
+ghost use Rattle.base_ceilings.specs.Ceilings.{items_most};
 ghost use Rattle.rule_sheets.specs.Walks.{filled};
-ghost use Rattle.rule_search.specs.Chain.{isNamed, Chained, linked, chainOf, head_of, next_of};
+ghost use Rattle.rule_search.specs.Chain.{is_named, Chained, linked, chain_of, head_of, next_of};
 ghost use Rattle.rule_search.specs.Sets as sets;
 ghost use Rattle.rule_search.specs.Search as finding;
 
@@ -68,7 +68,7 @@ fn declares(
 
 // Does an item declare a name or a label?
 fn is_named(c: u8) -> bool
-    ensures { result ≡ isNamed c }
+    ensures { result ≡ is_named c }
 {
     either(among(1, c), among(2, c))
 }
@@ -85,7 +85,7 @@ fn put(s: &mut [u32], i: usize, v: usize)
 
 // No name has a declaration below n.
 fn clear(n: usize, chain: &mut [u32])
-    requires { n ≤ itemsMost }
+    requires { n ≤ items_most }
     ensures { chain.new ≡ filled (λ l w. n) 0 n chain.old }
 {
     let mut w: usize = 0;
@@ -97,7 +97,7 @@ fn clear(n: usize, chain: &mut [u32])
 
 // Item j goes before the declarations of its name, which stand behind it.
 fn link(codes: &[u8], args: &[u32], chain: &mut [u32], j: usize)
-    requires { j < itemsMost }
+    requires { j < items_most }
     ensures { chain.new ≡ linked codes.now args.now chain.old j }
 {
     let w = word_at(args, minus(j, 1));
@@ -113,7 +113,7 @@ fn link(codes: &[u8], args: &[u32], chain: &mut [u32], j: usize)
 
 // For each name its first declaration, and for each declaration the next of the same name, into an array that stays as it is where there are too many items.
 pub fn fill_chain(codes: &[u8], args: &[u32], chain: &mut [u32])
-    ensures { chain.new ≡ chainOf codes.now args.now chain.old }
+    ensures { chain.new ≡ chain_of codes.now args.now chain.old }
 {
     if base_ceilings::ITEMS_MOST < codes.len() {
         return;

@@ -1,13 +1,13 @@
 // What the rules and ceilings work on: beside the items of a model, for each item what its token says (args), the body that it is in (homes), and for an
 // expression where it starts and how high it is. After this no pass looks at the text.
 ghost use Rattle.std.specs.Prelude.{◌≡◌, ◌+◌, ◌-◌, ◌≤◌, ◌<◌, min, length, get_or, set, leb};
-ghost use Rattle.base_ceilings.specs.Ceilings.{heightMost, itemsMost, textMost};
+ghost use Rattle.base_ceilings.specs.Ceilings.{height_most, items_most, text_most};
 ghost use Rattle.base_bytes.specs.Choice.{pick};
 ghost use Rattle.base_codes.specs.Sets.{is_unit};
-ghost use Rattle.rule_sheets.specs.Payload.{spelled, firstSame, nameArg, argOf, args_of};
+ghost use Rattle.rule_sheets.specs.Payload.{spelled, first_same, name_arg, arg_of, args_of};
 ghost use Rattle.spec_text.specs.Formats.{format_of};
 ghost use Rattle.rule_sheets.specs.Homes.{homes_of};
-ghost use Rattle.rule_sheets.specs.Spans.{shape_of, start_of, heightOf, startsOf, heightsOf};
+ghost use Rattle.rule_sheets.specs.Spans.{shape_of, start_of, height_of, starts_of, heights_of};
 ghost use Rattle.base_bytes.specs.Choice as choice;
 ghost use Rattle.base_bytes.specs.Lists as lists;
 
@@ -85,7 +85,7 @@ fn same_name(
     j: usize,
     i: usize,
 ) -> bool
-    ensures { result ≡ Rattle.rule_sheets.specs.Payload.sameName text.now starts.now ends.now codes.now toks.now j i }
+    ensures { result ≡ Rattle.rule_sheets.specs.Payload.same_name text.now starts.now ends.now codes.now toks.now j i }
 {
     if base_bytes::byte_at(codes, i) == base_codes::NAME {
         alike(
@@ -109,7 +109,7 @@ fn first_same(
     toks: &[u32],
     j: usize,
 ) -> usize
-    ensures value { result ≡ firstSame text.now starts.now ends.now codes.now toks.now j }
+    ensures value { result ≡ first_same text.now starts.now ends.now codes.now toks.now j }
     ensures upper_bound { result ≤ j }
 {
     let mut i: usize = 0;
@@ -130,8 +130,8 @@ fn name_arg(
     toks: &[u32],
     j: usize,
 ) -> usize
-    requires { j < itemsMost }
-    ensures value { result ≡ nameArg text.now starts.now ends.now codes.now toks.now j }
+    requires { j < items_most }
+    ensures value { result ≡ name_arg text.now starts.now ends.now codes.now toks.now j }
     ensures upper_bound { result < 4294967296 }
 {
     let t = base_bytes::word_at(toks, j);
@@ -161,7 +161,7 @@ fn move_of(opened: bool, b: u8) -> u8
 
 // What a format says: twice the number of its `%d`, and one more if some `%` is bad.
 fn format_arg(s: &[u8]) -> usize
-    requires { length s.now ≤ textMost }
+    requires { length s.now ≤ text_most }
     ensures value { result ≡ format_of s.now }
     ensures upper_bound { result < 4294967296 }
 {
@@ -180,8 +180,8 @@ fn format_arg(s: &[u8]) -> usize
 }
 
 fn arg_of(text: &[u8], starts: &[u32], ends: &[u32], codes: &[u8], toks: &[u32], j: usize) -> usize
-    requires { (j < itemsMost) × (length text.now ≤ textMost) }
-    ensures value { result ≡ argOf text.now starts.now ends.now codes.now toks.now j }
+    requires { (j < items_most) × (length text.now ≤ text_most) }
+    ensures value { result ≡ arg_of text.now starts.now ends.now codes.now toks.now j }
     ensures upper_bound { result < 4294967296 }
 {
     let t = base_bytes::word_at(toks, j);
@@ -234,9 +234,9 @@ fn is_head(c: u8) -> bool
 
 // The body that the items behind item j are in, where item j is in h.
 fn inside(c: u8, j: usize, h: usize) -> usize
-    requires { (j < itemsMost) × (h < itemsMost + 1) }
+    requires { (j < items_most) × (h < items_most + 1) }
     ensures value { result ≡ Rattle.rule_sheets.specs.Homes.inside c j h }
-    ensures upper_bound { result < itemsMost + 1 }
+    ensures upper_bound { result < items_most + 1 }
 {
     if is_head(c) {
         return j + 1;
@@ -287,7 +287,7 @@ fn shape_of(c: u8) -> u8
 }
 
 fn start_of(codes: &[u8], starts: &[u32], j: usize) -> usize
-    requires { j < itemsMost }
+    requires { j < items_most }
     ensures value { result ≡ start_of codes.now starts.now j }
     ensures upper_bound { result < 4294967296 }
 {
@@ -307,7 +307,7 @@ fn start_of(codes: &[u8], starts: &[u32], j: usize) -> usize
 
 // For each item where the expression that ends with it starts.
 pub fn fill_starts(codes: &[u8], starts: &mut [u32])
-    ensures { starts.new ≡ startsOf codes.now starts.old }
+    ensures { starts.new ≡ starts_of codes.now starts.old }
 {
     if base_ceilings::ITEMS_MOST < codes.len() {
         return;
@@ -322,7 +322,7 @@ pub fn fill_starts(codes: &[u8], starts: &mut [u32])
 
 // One above h; 33 stands for all that is higher.
 fn above(h: usize) -> usize
-    ensures value { result ≡ min (heightMost + 1) (h + 1) }
+    ensures value { result ≡ min (height_most + 1) (h + 1) }
     ensures upper_bound { result < 4294967296 }
 {
     if h < base_ceilings::HEIGHT_MOST {
@@ -333,7 +333,7 @@ fn above(h: usize) -> usize
 }
 
 fn height_of(codes: &[u8], starts: &[u32], heights: &[u32], j: usize) -> usize
-    ensures value { result ≡ heightOf codes.now starts.now heights.now j }
+    ensures value { result ≡ height_of codes.now starts.now heights.now j }
     ensures upper_bound { result < 4294967296 }
 {
     let i = base_bytes::minus(j, 1);
@@ -359,7 +359,7 @@ fn height_of(codes: &[u8], starts: &[u32], heights: &[u32], j: usize) -> usize
 
 // For each item the height of the expression that ends with it.
 pub fn fill_heights(codes: &[u8], starts: &[u32], heights: &mut [u32])
-    ensures { heights.new ≡ heightsOf codes.now starts.now heights.old }
+    ensures { heights.new ≡ heights_of codes.now starts.now heights.old }
 {
     if base_ceilings::ITEMS_MOST < codes.len() {
         return;

@@ -3,10 +3,10 @@
 use Rattle.std.specs.Prelude.{ℕ, List, ℤ, eqb}
 use Rattle.base_bytes.specs.Choice.{pick}
 use Rattle.read_genuine.specs.Genuine.{written}
-use Rattle.step_entry.specs.Entries.{refusalOf}
-use Rattle.run_entry.specs.Runs.{shown, runIn}
+use Rattle.step_entry.specs.Entries.{refusal_of}
+use Rattle.run_entry.specs.Runs.{shown, run_in}
 use Rattle.run_entry.specs.declared.Ran.{Ran}
 use Rattle.run_entry.specs.declared.Ran.TheVariants.{Refused}
 
-unfoldable pub ranOf : List ℕ → List ℤ → ℕ → Ran × List ℤ
-ranOf ts s limit = pick (eqb (refusalOf ts s) 0) (shown (runIn (written ts) limit s)) (Refused (refusalOf ts s), s)
+unfoldable pub ran_of : List ℕ → List ℤ → ℕ → Ran × List ℤ
+ran_of ts s limit = pick (eqb (refusal_of ts s) 0) (shown (run_in (written ts) limit s)) (Refused (refusal_of ts s), s)

@@ -26,7 +26,7 @@ pub enum Ran {
 
 // The first offered step is taken; idle where none is offered.
 pub fn turn(t: &[u32], s: &mut [i32]) -> Taken
-    ensures { (result, s.new) ≡ runs.turnIn t.now s.old }
+    ensures { (result, s.new) ≡ runs.turn_in t.now s.old }
 {
     let o = step_all::nth(t, s, 0);
     match o {
@@ -37,7 +37,7 @@ pub fn turn(t: &[u32], s: &mut [i32]) -> Taken
 
 // How a run ends that goes no further in a state that stands so.
 pub fn ending_of(v: Verdict) -> Ending
-    ensures { result ≡ runs.endingOf v }
+    ensures { result ≡ runs.ending_of v }
 {
     match v {
         Verdict::Finished => Ending::Finished,
@@ -48,7 +48,7 @@ pub fn ending_of(v: Verdict) -> Ending
 
 // The run from a state of the model on.
 pub fn run_on(t: &[u32], s: &mut [i32], limit: u32) -> Ran
-    ensures { (result, s.new) ≡ runs.shown (runs.runIn t.now limit s.old) }
+    ensures { (result, s.new) ≡ runs.shown (runs.run_in t.now limit s.old) }
 {
     let mut n: u32 = 0;
     while n < limit {
@@ -73,7 +73,7 @@ pub fn run_on(t: &[u32], s: &mut [i32], limit: u32) -> Ran
 
 // The automatic run from the lent state on, which it leaves as the run does.
 pub fn run(tables: &[u32], state: &mut [i32], limit: u32) -> Ran
-    ensures { (result, state.new) ≡ entries.ranOf tables.now state.old limit }
+    ensures { (result, state.new) ≡ entries.ran_of tables.now state.old limit }
 {
     let x = step_entry::refusal(tables, state);
     if x != 0 {

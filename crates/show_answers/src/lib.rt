@@ -3,7 +3,7 @@ ghost use Rattle.std.specs.Prelude.{◌≤◌, ◌-◌, min, ◌≡◌, [], ◌�
 ghost use Rattle.base_bytes.specs.Choice.{pick};
 ghost use Rattle.base_pens.specs.Pen.{pen, puts};
 ghost use Rattle.rule_sheets.specs.Walks.{first};
-ghost use Rattle.spec_text.specs.Formats.{digitsOf};
+ghost use Rattle.spec_text.specs.Formats.{digits_of};
 ghost use Rattle.spec_trails.specs.Trails.{verdicts};
 ghost use Rattle.spec_account.specs.Refused as shown;
 ghost use Rattle.spec_account.specs.Answers as answers;
@@ -107,7 +107,7 @@ pub fn seek(line: &[u8], from: usize, b: u8) -> usize
 
 // Where the bytes before the first line end end.
 fn line_stop(s: &[u8]) -> usize
-    ensures { (result ≤ length s.now) × (result ≡ length (shown.firstLine s.now)) }
+    ensures { (result ≤ length s.now) × (result ≡ length (shown.first_line s.now)) }
 {
     let mut k: usize = 0;
     while k < s.len() {
@@ -121,7 +121,7 @@ fn line_stop(s: &[u8]) -> usize
 
 // The bytes before the first line end.
 fn first_line(s: &[u8]) -> &[u8]
-    ensures { result.now ≡ shown.firstLine s.now }
+    ensures { result.now ≡ shown.first_line s.now }
 {
     part(s, 0, line_stop(s))
 }
@@ -149,7 +149,7 @@ fn line_start(s: &[u8]) -> usize
 
 // The bytes behind the last line end.
 fn last_line(s: &[u8]) -> &[u8]
-    ensures { result.now ≡ shown.lastLine [] s.now }
+    ensures { result.now ≡ shown.last_line [] s.now }
 {
     part(s, line_start(s), s.len())
 }
@@ -179,7 +179,7 @@ fn put_marks(s: &[u8], out: &mut [u8], p: usize) -> usize
 
 // Writes the line and the column of the place behind `before`.
 fn put_where(before: &[u8], out: &mut [u8], p: usize) -> usize
-    ensures { pen out.new result ≡ puts (parts.whereText before.now) (pen out.old p) }
+    ensures { pen out.new result ≡ puts (parts.where_text before.now) (pen out.old p) }
 {
     let at = text_tokens::located(before, before.len());
     let line = at.line;
@@ -192,7 +192,7 @@ fn put_where(before: &[u8], out: &mut [u8], p: usize) -> usize
 
 // Writes a line of a text, two blanks in.
 fn put_line(before: &[u8], from: &[u8], out: &mut [u8], p: usize) -> usize
-    ensures { pen out.new result ≡ puts (parts.lineText before.now from.now) (pen out.old p) }
+    ensures { pen out.new result ≡ puts (parts.line_text before.now from.now) (pen out.old p) }
 {
     let a = put_all(b"\n  ", out, p);
     let b = show_printed::put_visible(before, out, a);
@@ -202,7 +202,7 @@ fn put_line(before: &[u8], from: &[u8], out: &mut [u8], p: usize) -> usize
 
 // Writes where the refused part of a text stands, its line, and marks under it.
 pub fn put_refused(text: &[u8], place: usize, len: usize, out: &mut [u8], p: usize) -> usize
-    ensures { pen out.new result ≡ puts (shown.refusedAt text.now place len) (pen out.old p) }
+    ensures { pen out.new result ≡ puts (shown.refused_at text.now place len) (pen out.old p) }
 {
     let front = part(text, 0, place);
     let before = last_line(front);
@@ -216,7 +216,7 @@ pub fn put_refused(text: &[u8], place: usize, len: usize, out: &mut [u8], p: usi
 
 // Writes a word and a count, and ends the line.
 pub fn put_counted(word: &[u8], n: usize, out: &mut [u8], p: usize) -> usize
-    ensures { pen out.new result ≡ puts (word.now ++ 32 ∷ (digitsOf n ++ 10 ∷ [])) (pen out.old p) }
+    ensures { pen out.new result ≡ puts (word.now ++ 32 ∷ (digits_of n ++ 10 ∷ [])) (pen out.old p) }
 {
     let a = put_all(word, out, p);
     let b = text_pens::put(out, a, b' ');

@@ -14,23 +14,23 @@ use Rattle.trail_replay.specs.declared.Replayed.{Replayed}
 use Rattle.trail_replay.specs.declared.Replayed.TheVariants as replayed
 
 -- a state in which n steps are offered
-abbrev pub verdictText : Verdict → ℕ → List ℕ
-verdictText verdict.Finished n = verdictLine finished n
-verdictText verdict.Blocked n = verdictLine blocked n
-verdictText verdict.Open n = verdictLine «open» n
+abbrev pub verdict_text : Verdict → ℕ → List ℕ
+verdict_text verdict.Finished n = verdictLine finished n
+verdict_text verdict.Blocked n = verdictLine blocked n
+verdict_text verdict.Open n = verdictLine «open» n
 
 -- a run of n steps
-abbrev pub endingText : Ending → ℕ → List ℕ
-endingText ending.Finished n = ranLine (runs.stood finished) n
-endingText ending.Blocked n = ranLine (runs.stood blocked) n
-endingText ending.Open n = ranLine (runs.stood «open») n
-endingText ending.Assert n = ranLine runs.refuted n
-endingText (ending.Fault f) n = ranLine (runs.faulted f) n
+abbrev pub ending_text : Ending → ℕ → List ℕ
+ending_text ending.Finished n = ranLine (runs.stood finished) n
+ending_text ending.Blocked n = ranLine (runs.stood blocked) n
+ending_text ending.Open n = ranLine (runs.stood «open») n
+ending_text ending.Assert n = ranLine runs.refuted n
+ending_text (ending.Fault f) n = ranLine (runs.faulted f) n
 
-abbrev pub ranText : Ran → List ℕ
-ranText (ran.Ended e n) = endingText e n
-ranText (ran.Refused x) = bytes "error: the run was refused\n"
+abbrev pub ran_text : Ran → List ℕ
+ran_text (ran.Ended e n) = ending_text e n
+ran_text (ran.Refused x) = bytes "error: the run was refused\n"
 
-abbrev pub replayedText : Replayed → List ℕ
-replayedText (replayed.Accepted v) = acceptedLine v
-replayedText (replayed.Refused x line) = stoppedLine x line
+abbrev pub replayed_text : Replayed → List ℕ
+replayed_text (replayed.Accepted v) = acceptedLine v
+replayed_text (replayed.Refused x line) = stoppedLine x line

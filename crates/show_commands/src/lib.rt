@@ -40,7 +40,7 @@ fn list_offers(t: &[u32], s: &[i32]) -> usize {
 
 // Writes the answer for a state in which n steps are offered.
 fn put_verdict(v: Verdict, n: usize, out: &mut [u8], p: usize) -> usize
-    ensures { pen out.new result ≡ puts (lines.verdictText v n) (pen out.old p) }
+    ensures { pen out.new result ≡ puts (lines.verdict_text v n) (pen out.old p) }
 {
     match v {
         Verdict::Finished => put_all(b"finished\n", out, p),
@@ -51,7 +51,7 @@ fn put_verdict(v: Verdict, n: usize, out: &mut [u8], p: usize) -> usize
 
 // Answers for a state in which n steps are offered.
 fn answer_verdict(v: Verdict, n: usize) -> u8
-    ensures { result ≡ statuses.verdictStatus v }
+    ensures { result ≡ statuses.verdict_status v }
 {
     let mut line = [0u8; ANSWER_ROOM];
     let k = put_verdict(v, n, &mut line, 0);
@@ -65,7 +65,7 @@ fn answer_verdict(v: Verdict, n: usize) -> u8
 
 // `start MODEL`
 pub fn start(tables: &[u32]) -> u8
-    ensures { result ≡ statuses.startStatus tables.now }
+    ensures { result ≡ statuses.start_status tables.now }
 {
     let t = read_genuine::written(tables);
     let mut s = [0i32; base_ceilings::STATE_ROOM];
@@ -76,7 +76,7 @@ pub fn start(tables: &[u32]) -> u8
 
 // Writes the answer for a run of n steps.
 fn put_ending(e: Ending, n: usize, out: &mut [u8], p: usize) -> usize
-    ensures { pen out.new result ≡ puts (lines.endingText e n) (pen out.old p) }
+    ensures { pen out.new result ≡ puts (lines.ending_text e n) (pen out.old p) }
 {
     match e {
         Ending::Finished => put_counted(b"finished", n, out, p),
@@ -88,7 +88,7 @@ fn put_ending(e: Ending, n: usize, out: &mut [u8], p: usize) -> usize
 }
 
 fn ending_status(e: Ending) -> u8
-    ensures { result ≡ statuses.endingStatus e }
+    ensures { result ≡ statuses.ending_status e }
 {
     match e {
         Ending::Finished => status(Answer::Finished),
@@ -101,7 +101,7 @@ fn ending_status(e: Ending) -> u8
 
 // Writes the answer of a run.
 fn put_ran(r: Ran, out: &mut [u8], p: usize) -> usize
-    ensures { pen out.new result ≡ puts (lines.ranText r) (pen out.old p) }
+    ensures { pen out.new result ≡ puts (lines.ran_text r) (pen out.old p) }
 {
     match r {
         Ran::Ended(e, n) => put_ending(e, n as usize, out, p),
@@ -110,7 +110,7 @@ fn put_ran(r: Ran, out: &mut [u8], p: usize) -> usize
 }
 
 fn answer_run(r: Ran) -> u8
-    ensures { result ≡ statuses.ranStatus r }
+    ensures { result ≡ statuses.ran_status r }
 {
     let mut line = [0u8; ANSWER_ROOM];
     let k = put_ran(r, &mut line, 0);
@@ -147,7 +147,7 @@ fn tell_stuck(t: &[u32], s: &[i32], r: Ran) {
 
 // `run MODEL LIMIT`
 pub fn run(tables: &[u32], limit: u32) -> u8
-    ensures { result ≡ statuses.runStatus tables.now limit }
+    ensures { result ≡ statuses.run_status tables.now limit }
 {
     let t = read_genuine::written(tables);
     let mut s = [0i32; base_ceilings::STATE_ROOM];
@@ -163,7 +163,7 @@ pub fn run(tables: &[u32], limit: u32) -> u8
 
 // Writes the answer of a replay.
 fn put_replayed(r: Replayed, out: &mut [u8], p: usize) -> usize
-    ensures { pen out.new result ≡ puts (lines.replayedText r) (pen out.old p) }
+    ensures { pen out.new result ≡ puts (lines.replayed_text r) (pen out.old p) }
 {
     match r {
         Replayed::Accepted(v) => show_answers::put_accepted(v, out, p),
@@ -172,7 +172,7 @@ fn put_replayed(r: Replayed, out: &mut [u8], p: usize) -> usize
 }
 
 pub fn answer_replay(r: Replayed) -> u8
-    ensures { result ≡ statuses.replayedStatus r }
+    ensures { result ≡ statuses.replayed_status r }
 {
     let mut line = [0u8; ANSWER_ROOM];
     let k = put_replayed(r, &mut line, 0);
@@ -185,7 +185,7 @@ pub fn answer_replay(r: Replayed) -> u8
 
 // `replay MODEL TRAIL`
 pub fn replay(tables: &[u32], trail: &[u8]) -> u8
-    ensures { result ≡ statuses.replayStatus tables.now trail.now }
+    ensures { result ≡ statuses.replay_status tables.now trail.now }
 {
     let mut s = [0i32; base_ceilings::STATE_ROOM];
     answer_replay(trail_replay::replay(tables, trail, &mut s))

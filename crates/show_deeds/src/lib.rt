@@ -8,7 +8,7 @@ use text_pens::{put, put_all};
 
 // Writes the index n in brackets, if item r ends a reference that has one.
 fn put_index(t: &[u32], r: usize, n: usize, out: &mut [u8], pos: usize) -> usize
-    ensures { pen out.new result ≡ puts (deeds.indexIn t.now r n) (pen out.old pos) }
+    ensures { pen out.new result ≡ puts (deeds.index_in t.now r n) (pen out.old pos) }
 {
     if table_layout::code(t, r) == base_codes::INDEX {
         let a = put(out, pos, b'[');
@@ -29,7 +29,7 @@ fn put_store(
     out: &mut [u8],
     pos: usize,
 ) -> usize
-    ensures { pen out.new result ≡ puts (deeds.storeIn t.now after.now p from m i) (pen out.old pos) }
+    ensures { pen out.new result ≡ puts (deeds.store_in t.now after.now p from m i) (pen out.old pos) }
 {
     let e = step_eval::minus_one(m as usize);
     let k = base_bytes::minus(i, step_eval::slot(step_eval::variable(t, e), p, 0));
@@ -52,7 +52,7 @@ fn put_stored(
     out: &mut [u8],
     pos: usize,
 ) -> usize
-    ensures { pen out.new result ≡ puts (deeds.storedIn t.now before.now after.now p from m) (pen out.old pos) }
+    ensures { pen out.new result ≡ puts (deeds.stored_in t.now before.now after.now p from m) (pen out.old pos) }
 {
     let x = step_eval::locate(t, before, p, from, m as usize);
     match x {
@@ -72,7 +72,7 @@ fn put_target(
     out: &mut [u8],
     pos: usize,
 ) -> usize
-    ensures { pen out.new result ≡ puts (deeds.targetIn t.now before.now after.now p a m) (pen out.old pos) }
+    ensures { pen out.new result ≡ puts (deeds.target_in t.now before.now after.now p a m) (pen out.old pos) }
 {
     if step_ready::is_compared(t, m as usize) {
         return pos;
@@ -91,7 +91,7 @@ fn put_targets(
     out: &mut [u8],
     pos: usize,
 ) -> usize
-    ensures { pen out.new result ≡ puts (deeds.targetsIn t.now before.now after.now p n a) (pen out.old pos) }
+    ensures { pen out.new result ≡ puts (deeds.targets_in t.now before.now after.now p n a) (pen out.old pos) }
 {
     if n == 0 {
         return pos;
@@ -106,7 +106,7 @@ fn put_targets(
 
 // Writes the number of channel c and its message k, both from 0.
 fn put_passed(t: &[u32], s: &[i32], c: u32, k: u32, out: &mut [u8], pos: usize) -> usize
-    ensures { pen out.new result ≡ puts (deeds.passedIn t.now s.now c k) (pen out.old pos) }
+    ensures { pen out.new result ≡ puts (deeds.passed_in t.now s.now c k) (pen out.old pos) }
 {
     let n = step_ready::fields(t, state_layout::declared_of(s, c));
     let a = show_words::put_count(c as usize + 1, out, pos);
@@ -125,7 +125,7 @@ fn put_sent(
     out: &mut [u8],
     pos: usize,
 ) -> usize
-    ensures { pen out.new result ≡ puts (deeds.sentIn t.now before.now after.now p q m) (pen out.old pos) }
+    ensures { pen out.new result ≡ puts (deeds.sent_in t.now before.now after.now p q m) (pen out.old pos) }
 {
     let x = step_ready::message(t, before, p, q, m);
     match x {
@@ -148,7 +148,7 @@ fn put_received(
     out: &mut [u8],
     pos: usize,
 ) -> usize
-    ensures { pen out.new result ≡ puts (deeds.receivedIn t.now before.now after.now p q m) (pen out.old pos) }
+    ensures { pen out.new result ≡ puts (deeds.received_in t.now before.now after.now p q m) (pen out.old pos) }
 {
     let x = step_ready::message(t, before, p, q, m);
     match x {
@@ -172,7 +172,7 @@ fn put_received(
 
 // Writes the process that the run with the mark m started, if there was room for it; the name before the mark is that of its proctype.
 fn put_started(t: &[u32], before: &[i32], m: usize, out: &mut [u8], pos: usize) -> usize
-    ensures { pen out.new result ≡ puts (deeds.startedIn t.now before.now m) (pen out.old pos) }
+    ensures { pen out.new result ≡ puts (deeds.started_in t.now before.now m) (pen out.old pos) }
 {
     if step_ready::has_room(t, before, table_layout::link(t, m) as u32) {
         let a = put_all(b"\tstarted ", out, pos);
@@ -195,7 +195,7 @@ fn put_assigned(
     out: &mut [u8],
     pos: usize,
 ) -> usize
-    ensures { pen out.new result ≡ puts (deeds.assignedIn t.now before.now after.now p q m) (pen out.old pos) }
+    ensures { pen out.new result ≡ puts (deeds.assigned_in t.now before.now after.now p q m) (pen out.old pos) }
 {
     let a = put_stored(t, before, after, p, q, m, out, pos);
     let e = table_layout::link(t, m as usize);
@@ -215,7 +215,7 @@ pub fn put_deeds(
     out: &mut [u8],
     pos: usize,
 ) -> usize
-    ensures { pen out.new result ≡ puts (deeds.deedsIn t.now before.now after.now p q) (pen out.old pos) }
+    ensures { pen out.new result ≡ puts (deeds.deeds_in t.now before.now after.now p q) (pen out.old pos) }
 {
     let m = step_ready::mark(t, q);
     match table_layout::code(t, m) {

@@ -1,6 +1,6 @@
 // A list of commands, worked off line by line from its file.
 ghost use Rattle.std.specs.Prelude.{◌≡◌, ◌≤◌};
-ghost use Rattle.show_lists.specs.Tally.{batchStatus};
+ghost use Rattle.show_lists.specs.Tally.{batch_status};
 
 use base_bytes::part;
 use show_answers::{put, seek};
@@ -237,7 +237,7 @@ fn work_off(fd: i32, x: Expected, wrong: &mut [u32], errors: &mut [u32]) -> Work
 
 // Tells what was counted, and answers.
 fn close_list(x: Expected, t: Tally, wrong: &[u32], errors: &[u32]) -> u8
-    ensures { result ≡ batchStatus x t.commands t.wrong t.errors }
+    ensures { result ≡ batch_status x t.commands t.wrong t.errors }
 {
     let mut out = [0u8; tally::TOLD_ROOM];
     let a = tally::put_numbers(b"wrong:", wrong, t.wrong, &mut out, 0);

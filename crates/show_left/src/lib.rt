@@ -44,7 +44,7 @@ fn leaves_state(r: Replayed) -> bool {
 
 // `state MODEL TRAIL`
 pub fn state(tables: &[u32], trail: &[u8]) -> u8
-    ensures { result ≡ statuses.replayStatus tables.now trail.now }
+    ensures { result ≡ statuses.replay_status tables.now trail.now }
 {
     let mut s = [0i32; base_ceilings::STATE_ROOM];
     let r = trail_replay::replay(tables, trail, &mut s);

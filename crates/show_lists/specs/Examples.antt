@@ -2,11 +2,11 @@
 -- of the three that are wrong; lines that are no commands, and line ends; the status of a list, and what is told behind it.
 use Rattle.std.specs.Prelude.{suc, ◌≡◌, refl, true, false, [], ◌∷◌}
 use Rattle.base_kinds.specs.Kinds.{bytes}
-use Rattle.spec_text.specs.Formats.{digitsBy}
+use Rattle.spec_text.specs.Formats.{digits_by}
 use Rattle.show_lists.specs.declared.words.Place.TheVariants.{Apart}
 use Rattle.show_lists.specs.declared.tally.Expected.TheVariants.{Any, Exactly}
-use Rattle.show_lists.specs.Words.{words, unended, stray, crowded, split, wordsFrom, isPassed, withoutReturn}
-use Rattle.show_lists.specs.Tally.{batchStatus, eachOf, numbersText, expectedText, tallyText}
+use Rattle.show_lists.specs.Words.{words, unended, stray, crowded, split, words_from, is_passed, without_return}
+use Rattle.show_lists.specs.Tally.{batch_status, each_of, numbers_text, expected_text, tally_text}
 
 parted : (split Apart (bytes "read x.pml") ≡ words (bytes "read" ∷ bytes "x.pml" ∷ [])) × (split Apart (bytes "  run \t x  9 ") ≡ words (bytes "run" ∷ bytes "x" ∷ bytes "9" ∷ [])) × (split Apart [] ≡ words [])
 unfolding split
@@ -21,24 +21,24 @@ unfolding split
 wrong = (refl, refl, refl, refl, refl)
 
 -- as the code writes them
-written : (wordsFrom Apart (bytes " read  \"a b\"\t") ≡ bytes "read\na b\n") × (wordsFrom Apart (bytes "read \"\" x") ≡ bytes "read\n\nx\n")
-unfolding wordsFrom
+written : (words_from Apart (bytes " read  \"a b\"\t") ≡ bytes "read\na b\n") × (words_from Apart (bytes "read \"\" x") ≡ bytes "read\n\nx\n")
+unfolding words_from
 written = (refl, refl)
 
-passed : (isPassed [] ≡ true) × (isPassed (bytes " \t ") ≡ true) × (isPassed (bytes "# read x") ≡ true) × (isPassed (bytes "  #") ≡ true) × (isPassed (bytes "read # x") ≡ false) × (isPassed (bytes "\"#\"") ≡ false)
-unfolding isPassed
+passed : (is_passed [] ≡ true) × (is_passed (bytes " \t ") ≡ true) × (is_passed (bytes "# read x") ≡ true) × (is_passed (bytes "  #") ≡ true) × (is_passed (bytes "read # x") ≡ false) × (is_passed (bytes "\"#\"") ≡ false)
+unfolding is_passed
 passed = (refl, refl, refl, refl, refl, refl)
 
-returns : (withoutReturn (bytes "read x\r") ≡ bytes "read x") × (withoutReturn (bytes "\r") ≡ []) × (withoutReturn (bytes "a\r\r") ≡ bytes "a\r") × (withoutReturn (bytes "a\rb") ≡ bytes "a\rb") × (withoutReturn [] ≡ [])
+returns : (without_return (bytes "read x\r") ≡ bytes "read x") × (without_return (bytes "\r") ≡ []) × (without_return (bytes "a\r\r") ≡ bytes "a\r") × (without_return (bytes "a\rb") ≡ bytes "a\rb") × (without_return [] ≡ [])
 returns = (refl, refl, refl, refl, refl)
 
 -- no command, whatever is expected; one too many, one too few; an error, something wrong, both, neither
-statuses : (batchStatus Any 0 0 0 ≡ 2) × (batchStatus (Exactly 0) 0 0 0 ≡ 2) × (batchStatus (Exactly 4) 5 0 0 ≡ 2) × (batchStatus (Exactly 6) 5 0 0 ≡ 2) × (batchStatus (Exactly 5) 5 0 0 ≡ 0) × (batchStatus (Exactly 5) 5 1 0 ≡ 1) × (batchStatus Any 5 0 1 ≡ 2)
-    × (batchStatus Any 5 1 1 ≡ 2) × (batchStatus Any 5 5 0 ≡ 1) × (batchStatus Any 5 0 0 ≡ 0)
-unfolding batchStatus
+statuses : (batch_status Any 0 0 0 ≡ 2) × (batch_status (Exactly 0) 0 0 0 ≡ 2) × (batch_status (Exactly 4) 5 0 0 ≡ 2) × (batch_status (Exactly 6) 5 0 0 ≡ 2) × (batch_status (Exactly 5) 5 0 0 ≡ 0) × (batch_status (Exactly 5) 5 1 0 ≡ 1) × (batch_status Any 5 0 1 ≡ 2)
+    × (batch_status Any 5 1 1 ≡ 2) × (batch_status Any 5 5 0 ≡ 1) × (batch_status Any 5 0 0 ≡ 0)
+unfolding batch_status
 statuses = (refl, refl, refl, refl, refl, refl, refl, refl, refl, refl)
 
-told : (numbersText (bytes "wrong:") (3 ∷ 17 ∷ 204 ∷ 0 ∷ []) 3 ≡ bytes "wrong: 3 17 204\n") × (numbersText (bytes "wrong:") (3 ∷ []) 0 ≡ []) × (expectedText Any 0 ≡ bytes "  the list holds no command\n") × (expectedText (Exactly 3) 0 ≡ bytes "  the list holds no command\n")
-    × (expectedText (Exactly 3) 2 ≡ bytes "  2 commands were worked off, and 3 were expected\n") × (expectedText (Exactly 2) 2 ≡ []) × (expectedText Any 2 ≡ []) × (tallyText 5 1 2 ≡ bytes "5 commands, 1 wrong, 2 errors\n")
-unfolding numbersText eachOf expectedText tallyText digitsBy
+told : (numbers_text (bytes "wrong:") (3 ∷ 17 ∷ 204 ∷ 0 ∷ []) 3 ≡ bytes "wrong: 3 17 204\n") × (numbers_text (bytes "wrong:") (3 ∷ []) 0 ≡ []) × (expected_text Any 0 ≡ bytes "  the list holds no command\n") × (expected_text (Exactly 3) 0 ≡ bytes "  the list holds no command\n")
+    × (expected_text (Exactly 3) 2 ≡ bytes "  2 commands were worked off, and 3 were expected\n") × (expected_text (Exactly 2) 2 ≡ []) × (expected_text Any 2 ≡ []) × (tally_text 5 1 2 ≡ bytes "5 commands, 1 wrong, 2 errors\n")
+unfolding numbers_text each_of expected_text tally_text digits_by
 told = (refl, refl, refl, refl, refl, refl, refl, refl)

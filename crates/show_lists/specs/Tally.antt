@@ -4,12 +4,12 @@
 use Rattle.std.specs.Prelude.{ℕ, zero, suc, ◌+◌, ◌-◌, min, Bool, true, List, [], ◌∷◌, ◌++◌, get_or, set, eqb, ltb}
 use Rattle.base_bytes.specs.Choice.{pick}
 use Rattle.base_kinds.specs.Kinds.{bytes}
-use Rattle.spec_text.specs.Formats.{digitsOf}
+use Rattle.spec_text.specs.Formats.{digits_of}
 use Rattle.show_lists.specs.declared.tally.Expected.{Expected}
 use Rattle.show_lists.specs.declared.tally.Expected.TheVariants.{Any, Exactly}
 
 abbrev pub digits : ℕ → List ℕ
-digits n = digitsOf n
+digits n = digits_of n
 
 -- ## counting
 -- one more, unless there are as many as can be counted
@@ -17,48 +17,48 @@ unfoldable pub more : ℕ → ℕ
 more n = pick (ltb n 4294967295) (n + 1) n
 
 -- one more of those that end with status x
-unfoldable pub moreIf : ℕ → ℕ → ℕ → ℕ
-moreIf x status n = pick (eqb status x) (more n) n
+unfoldable pub more_if : ℕ → ℕ → ℕ → ℕ
+more_if x status n = pick (eqb status x) (more n) n
 
 -- the number of a command is kept behind n others
-abbrev pub keptIf : ℕ → ℕ → ℕ → List ℕ → ℕ → List ℕ
-keptIf x status number kept n = pick (eqb status x) (set kept n number) kept
+abbrev pub kept_if : ℕ → ℕ → ℕ → List ℕ → ℕ → List ℕ
+kept_if x status number kept n = pick (eqb status x) (set kept n number) kept
 
 -- ## the status
-abbrev pub isExpected : Expected → ℕ → Bool
-isExpected Any n = true
-isExpected (Exactly k) n = eqb n k
+abbrev pub is_expected : Expected → ℕ → Bool
+is_expected Any n = true
+is_expected (Exactly k) n = eqb n k
 
-unfoldable pub batchStatus : Expected → ℕ → ℕ → ℕ → ℕ
-batchStatus x commands wrong errors = pick (eqb commands 0) 2 (pick (isExpected x commands) (pick (ltb 0 errors) 2 (pick (ltb 0 wrong) 1 0)) 2)
+unfoldable pub batch_status : Expected → ℕ → ℕ → ℕ → ℕ
+batch_status x commands wrong errors = pick (eqb commands 0) 2 (pick (is_expected x commands) (pick (ltb 0 errors) 2 (pick (ltb 0 wrong) 1 0)) 2)
 
 -- ## what is told
 -- so many numbers are told
-abbrev pub keptMost : ℕ
-keptMost = 16384
+abbrev pub kept_most : ℕ
+kept_most = 16384
 
 -- n of them from number k on, each behind a blank
-unfoldable pub eachOf : List ℕ → ℕ → ℕ → List ℕ
-eachOf kept k zero = []
-eachOf kept k (suc n) = 32 ∷ (digitsOf (get_or kept k 0) ++ eachOf kept (k + 1) n)
+unfoldable pub each_of : List ℕ → ℕ → ℕ → List ℕ
+each_of kept k zero = []
+each_of kept k (suc n) = 32 ∷ (digits_of (get_or kept k 0) ++ each_of kept (k + 1) n)
 
-abbrev pub furtherText : ℕ → List ℕ
-furtherText n = pick (eqb n 0) [] (bytes " and " ++ (digitsOf n ++ bytes " more"))
+abbrev pub further_text : ℕ → List ℕ
+further_text n = pick (eqb n 0) [] (bytes " and " ++ (digits_of n ++ bytes " more"))
 
 -- the numbers of the commands of one kind, of which there are n
-unfoldable pub numbersText : List ℕ → List ℕ → ℕ → List ℕ
-numbersText word kept n = pick (eqb n 0) [] (word ++ (eachOf kept 0 (min n keptMost) ++ (furtherText (n - min n keptMost) ++ 10 ∷ [])))
+unfoldable pub numbers_text : List ℕ → List ℕ → ℕ → List ℕ
+numbers_text word kept n = pick (eqb n 0) [] (word ++ (each_of kept 0 (min n kept_most) ++ (further_text (n - min n kept_most) ++ 10 ∷ [])))
 
-abbrev pub otherText : ℕ → ℕ → List ℕ
-otherText n k = pick (eqb n k) [] (bytes "  " ++ (digitsOf n ++ (bytes " commands were worked off, and " ++ (digitsOf k ++ bytes " were expected\n"))))
+abbrev pub other_text : ℕ → ℕ → List ℕ
+other_text n k = pick (eqb n k) [] (bytes "  " ++ (digits_of n ++ (bytes " commands were worked off, and " ++ (digits_of k ++ bytes " were expected\n"))))
 
-abbrev pub expectedBy : Expected → ℕ → List ℕ
-expectedBy Any n = []
-expectedBy (Exactly k) n = otherText n k
+abbrev pub expected_by : Expected → ℕ → List ℕ
+expected_by Any n = []
+expected_by (Exactly k) n = other_text n k
 
 -- what is wrong with the number of commands
-unfoldable pub expectedText : Expected → ℕ → List ℕ
-expectedText x n = pick (eqb n 0) (bytes "  the list holds no command\n") (expectedBy x n)
+unfoldable pub expected_text : Expected → ℕ → List ℕ
+expected_text x n = pick (eqb n 0) (bytes "  the list holds no command\n") (expected_by x n)
 
-unfoldable pub tallyText : ℕ → ℕ → ℕ → List ℕ
-tallyText commands wrong errors = digitsOf commands ++ (bytes " commands, " ++ (digitsOf wrong ++ (bytes " wrong, " ++ (digitsOf errors ++ bytes " errors\n"))))
+unfoldable pub tally_text : ℕ → ℕ → ℕ → List ℕ
+tally_text commands wrong errors = digits_of commands ++ (bytes " commands, " ++ (digits_of wrong ++ (bytes " wrong, " ++ (digits_of errors ++ bytes " errors\n"))))

@@ -35,14 +35,14 @@ pub fn one_more(n: u32) -> u32
 
 // One more of those that end with status x.
 fn more_if(x: u8, status: u8, n: u32) -> u32
-    ensures { result ≡ spec.moreIf x status n }
+    ensures { result ≡ spec.more_if x status n }
 {
     if status == x { one_more(n) } else { n }
 }
 
 // One more command, with its status.
 pub fn tallied(t: Tally, status: u8) -> Tally
-    ensures { (result.commands ≡ spec.more t.commands) × (result.wrong ≡ spec.moreIf 1 status t.wrong) × (result.errors ≡ spec.moreIf 2 status t.errors) }
+    ensures { (result.commands ≡ spec.more t.commands) × (result.wrong ≡ spec.more_if 1 status t.wrong) × (result.errors ≡ spec.more_if 2 status t.errors) }
 {
     Tally {
         commands: one_more(t.commands),
@@ -53,7 +53,7 @@ pub fn tallied(t: Tally, status: u8) -> Tally
 
 // Keeps the number of a command that ends with status x, as one more behind n of them, as far as there is room.
 pub fn keep(x: u8, status: u8, number: u32, kept: &mut [u32], n: u32)
-    ensures { kept.new ≡ spec.keptIf x status number kept.old n }
+    ensures { kept.new ≡ spec.kept_if x status number kept.old n }
 {
     if status == x {
         let i = n as usize;
@@ -65,7 +65,7 @@ pub fn keep(x: u8, status: u8, number: u32, kept: &mut [u32], n: u32)
 
 // Is the number of commands as it should be?
 fn is_expected(x: Expected, n: u32) -> bool
-    ensures { result ≡ spec.isExpected x n }
+    ensures { result ≡ spec.is_expected x n }
 {
     match x {
         Expected::Any => true,
@@ -75,7 +75,7 @@ fn is_expected(x: Expected, n: u32) -> bool
 
 // The status of a list that was read to its end.
 pub fn batch_status(x: Expected, t: Tally) -> u8
-    ensures { result ≡ spec.batchStatus x t.commands t.wrong t.errors }
+    ensures { result ≡ spec.batch_status x t.commands t.wrong t.errors }
 {
     let commands = t.commands;
     if commands == 0 {
@@ -92,7 +92,7 @@ pub fn batch_status(x: Expected, t: Tally) -> u8
 
 // Writes the first m of the kept numbers, each behind a blank.
 fn put_each(kept: &[u32], m: usize, out: &mut [u8], p: usize) -> usize
-    ensures { pen out.new result ≡ puts (spec.eachOf kept.now 0 m) (pen out.old p) }
+    ensures { pen out.new result ≡ puts (spec.each_of kept.now 0 m) (pen out.old p) }
 {
     let mut q = p;
     let mut k: usize = 0;
@@ -112,7 +112,7 @@ fn put_number(n: u32, out: &mut [u8], p: usize) -> usize
 
 // Writes how many more there are than are told.
 fn put_further(n: u32, out: &mut [u8], p: usize) -> usize
-    ensures { pen out.new result ≡ puts (spec.furtherText n) (pen out.old p) }
+    ensures { pen out.new result ≡ puts (spec.further_text n) (pen out.old p) }
 {
     if n == 0 {
         return p;
@@ -124,7 +124,7 @@ fn put_further(n: u32, out: &mut [u8], p: usize) -> usize
 
 // Writes the numbers of the commands of one kind, of which there are n; nothing where there is none.
 pub fn put_numbers(word: &[u8], kept: &[u32], n: u32, out: &mut [u8], p: usize) -> usize
-    ensures { pen out.new result ≡ puts (spec.numbersText word.now kept.now n) (pen out.old p) }
+    ensures { pen out.new result ≡ puts (spec.numbers_text word.now kept.now n) (pen out.old p) }
 {
     if n == 0 {
         return p;
@@ -138,7 +138,7 @@ pub fn put_numbers(word: &[u8], kept: &[u32], n: u32, out: &mut [u8], p: usize) 
 
 // Writes what is wrong with the number of commands.
 pub fn put_expected(x: Expected, n: u32, out: &mut [u8], p: usize) -> usize
-    ensures { pen out.new result ≡ puts (spec.expectedText x n) (pen out.old p) }
+    ensures { pen out.new result ≡ puts (spec.expected_text x n) (pen out.old p) }
 {
     if n == 0 {
         return put_all(b"  the list holds no command\n", out, p);
@@ -151,7 +151,7 @@ pub fn put_expected(x: Expected, n: u32, out: &mut [u8], p: usize) -> usize
 
 // Writes that there are n commands and not k, where they are not.
 fn put_other(n: u32, k: u32, out: &mut [u8], p: usize) -> usize
-    ensures { pen out.new result ≡ puts (spec.otherText n k) (pen out.old p) }
+    ensures { pen out.new result ≡ puts (spec.other_text n k) (pen out.old p) }
 {
     if n == k {
         return p;
@@ -165,7 +165,7 @@ fn put_other(n: u32, k: u32, out: &mut [u8], p: usize) -> usize
 
 // Writes the last line of a list.
 pub fn put_tally(t: Tally, out: &mut [u8], p: usize) -> usize
-    ensures { pen out.new result ≡ puts (spec.tallyText t.commands t.wrong t.errors) (pen out.old p) }
+    ensures { pen out.new result ≡ puts (spec.tally_text t.commands t.wrong t.errors) (pen out.old p) }
 {
     let commands = t.commands;
     let wrong = t.wrong;

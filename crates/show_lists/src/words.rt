@@ -21,14 +21,14 @@ pub enum Place {
 
 // A blank or a tab.
 fn is_blank(b: u8) -> bool
-    ensures { result ≡ spec.isBlank b }
+    ensures { result ≡ spec.is_blank b }
 {
     either(b == b' ', b == b'\t')
 }
 
 // What a backslash in quotes stands before.
 fn is_slashed(b: u8) -> bool
-    ensures { result ≡ spec.isSlashed b }
+    ensures { result ≡ spec.is_slashed b }
 {
     either(b == b'"', b == b'\\')
 }
@@ -101,7 +101,7 @@ fn behind(x: Place, b: u8) -> Place
 
 // Does a word end where byte b stands?
 fn ends_word(x: Place, b: u8) -> bool
-    ensures { result ≡ spec.endsWord x b }
+    ensures { result ≡ spec.ends_word x b }
 {
     match x {
         Place::Apart => false,
@@ -116,7 +116,7 @@ fn ends_word(x: Place, b: u8) -> bool
 
 // Is byte b one of a word?
 fn is_kept(x: Place, b: u8) -> bool
-    ensures { result ≡ spec.isKept x b }
+    ensures { result ≡ spec.is_kept x b }
 {
     match x {
         Place::Apart => !either(is_blank(b), b == b'"'),
@@ -144,7 +144,7 @@ fn put_byte(x: Place, b: u8, out: &mut [u8], p: usize) -> usize
 
 // Does a word end where the line does?
 fn ends_last(x: Place) -> bool
-    ensures { result ≡ spec.endsLast x }
+    ensures { result ≡ spec.ends_last x }
 {
     match x {
         Place::Apart => false,
@@ -159,7 +159,7 @@ fn ends_last(x: Place) -> bool
 
 // Writes the end of a word, if one ends where the line does.
 fn put_last(x: Place, out: &mut [u8], p: usize) -> usize
-    ensures { pen out.new result ≡ puts (spec.addedLast x) (pen out.old p) }
+    ensures { pen out.new result ≡ puts (spec.added_last x) (pen out.old p) }
 {
     if ends_last(x) {
         return put(out, p, b'\n');
@@ -169,7 +169,7 @@ fn put_last(x: Place, out: &mut [u8], p: usize) -> usize
 
 // Writes the words of a line, as far as it has some before what is wrong.
 pub fn put_words(line: &[u8], out: &mut [u8], p: usize) -> usize
-    ensures { pen out.new result ≡ puts (spec.wordsFrom Place.Apart line.now) (pen out.old p) }
+    ensures { pen out.new result ≡ puts (spec.words_from Place.Apart line.now) (pen out.old p) }
 {
     let mut x = Place::Apart;
     let mut q = p;
@@ -185,7 +185,7 @@ pub fn put_words(line: &[u8], out: &mut [u8], p: usize) -> usize
 
 // Where one stands behind the whole line.
 pub fn end_of(line: &[u8]) -> Place
-    ensures { result ≡ spec.endFrom Place.Apart line.now }
+    ensures { result ≡ spec.end_from Place.Apart line.now }
 {
     let mut x = Place::Apart;
     let mut k: usize = 0;
@@ -198,7 +198,7 @@ pub fn end_of(line: &[u8]) -> Place
 
 // Is it no command? It is empty but for blanks, or begins with `#`.
 pub fn is_passed(line: &[u8]) -> bool
-    ensures { result ≡ spec.isPassed line.now }
+    ensures { result ≡ spec.is_passed line.now }
 {
     let mut k: usize = 0;
     while k < line.len() {
@@ -212,7 +212,7 @@ pub fn is_passed(line: &[u8]) -> bool
 
 // A line without the carriage return of its line end.
 pub fn without_return(line: &[u8]) -> &[u8]
-    ensures { result.now ≡ spec.withoutReturn line.now }
+    ensures { result.now ≡ spec.without_return line.now }
 {
     let last = base_bytes::minus(line.len(), 1);
     if base_bytes::byte_at(line, last) == b'\r' {

@@ -20,7 +20,7 @@ fn is_plain(b: u8) -> bool
 
 // A digit of a number to the base 16.
 fn hex_digit(n: u8) -> u8
-    ensures { result ≡ shown.hexDigit n }
+    ensures { result ≡ shown.hex_digit n }
 {
     if n < 10 { 48 + n } else { 87 + n % 16 }
 }
@@ -46,7 +46,7 @@ fn put_escaped(b: u8, out: &mut [u8], p: usize) -> usize
 }
 
 fn is_visible(b: u8) -> bool
-    ensures { result ≡ shown.isVisible b }
+    ensures { result ≡ shown.is_visible b }
 {
     match b {
         32..=126 => true,
@@ -73,7 +73,7 @@ pub fn width(b: u8) -> usize
 
 // Writes bytes of a text or a trail.
 pub fn put_visible(text: &[u8], out: &mut [u8], p: usize) -> usize
-    ensures { pen out.new result ≡ puts (shown.eachVisible text.now) (pen out.old p) }
+    ensures { pen out.new result ≡ puts (shown.each_visible text.now) (pen out.old p) }
 {
     let mut q = p;
     let mut k: usize = 0;
@@ -86,7 +86,7 @@ pub fn put_visible(text: &[u8], out: &mut [u8], p: usize) -> usize
 
 // Writes bytes of a name or a line; a backslash by its number too.
 pub fn put_escapes(text: &[u8], out: &mut [u8], p: usize) -> usize
-    ensures { pen out.new result ≡ puts (shown.eachEscaped text.now) (pen out.old p) }
+    ensures { pen out.new result ≡ puts (shown.each_escaped text.now) (pen out.old p) }
 {
     let mut q = p;
     let mut k: usize = 0;
@@ -110,7 +110,7 @@ fn put_margin(fresh: bool, out: &mut [u8], p: usize) -> usize
 
 // Writes one byte of the text; `fresh` says that it begins a line.
 fn put_byte(b: u8, fresh: bool, out: &mut [u8], p: usize) -> usize
-    ensures { pen out.new result ≡ puts (shown.shownByte fresh b) (pen out.old p) }
+    ensures { pen out.new result ≡ puts (shown.shown_byte fresh b) (pen out.old p) }
 {
     let q = put_margin(fresh, out, p);
     if b == 10 {
@@ -137,7 +137,7 @@ pub fn put_text(text: &[u8], fresh: bool, out: &mut [u8], p: usize) -> usize
 
 // Does an answer or a heading begin with this byte?
 fn is_front(b: u8) -> bool
-    ensures { result ≡ quiet.isFront b }
+    ensures { result ≡ quiet.is_front b }
 {
     match b {
         61 => true,
@@ -153,7 +153,7 @@ fn is_front(b: u8) -> bool
 
 // Writes one byte of what stands before an answer; `fresh` says that it begins a line.
 fn put_guard(b: u8, fresh: bool, out: &mut [u8], p: usize) -> usize
-    ensures { pen out.new result ≡ puts (pick (both fresh (quiet.isFront b)) (32 ∷ 32 ∷ []) [] ++ b ∷ []) (pen out.old p) }
+    ensures { pen out.new result ≡ puts (pick (both fresh (quiet.is_front b)) (32 ∷ 32 ∷ []) [] ++ b ∷ []) (pen out.old p) }
 {
     let q = put_margin(base_bytes::both(fresh, is_front(b)), out, p);
     put(out, q, b)

@@ -1,6 +1,6 @@
 // The automatic run, which shows what its steps print as it goes: the same run as that of `run_entry`.
 ghost use Rattle.std.specs.Prelude.{◌≡◌};
-ghost use Rattle.run_entry.specs.Runs.{turnIn, runIn, shown};
+ghost use Rattle.run_entry.specs.Runs.{turn_in, run_in, shown};
 
 use base_bytes::part;
 use base_outcome::Taken;
@@ -30,7 +30,7 @@ fn put_printed(printed: &[u8], n: usize, line: &mut [u8]) {
 
 // The first offered step is taken, and what it prints is written; idle where none is offered.
 fn turn(t: &[u32], s: &mut [i32], line: &mut [u8]) -> Taken
-    ensures { (result, s.new) ≡ turnIn t.now s.old }
+    ensures { (result, s.new) ≡ turn_in t.now s.old }
 {
     let o = step_all::nth(t, s, 0);
     match o {
@@ -54,7 +54,7 @@ fn show_progress(n: u32) {
 
 // The run from a state on; line[0] is 10 where a line begins.
 pub fn run(t: &[u32], s: &mut [i32], limit: u32, line: &mut [u8]) -> Ran
-    ensures { (result, s.new) ≡ shown (runIn t.now limit s.old) }
+    ensures { (result, s.new) ≡ shown (run_in t.now limit s.old) }
 {
     let mut n: u32 = 0;
     while n < limit {

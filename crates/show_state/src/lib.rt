@@ -1,7 +1,7 @@
 // How a state is shown: the variables by name with their numbers, the channels with their messages, written one after the other to a lent slice that may end too soon.
 ghost use Rattle.std.specs.Prelude.{◌≡◌};
 ghost use Rattle.base_pens.specs.Pen.{pen, puts};
-ghost use Rattle.spec_account.specs.States.{valuesText};
+ghost use Rattle.spec_account.specs.States.{values_text};
 ghost use Rattle.show_state.specs.Listing as listing;
 
 use show_words::{put_count, put_message, put_value};
@@ -10,7 +10,7 @@ use write_letters::put_name;
 
 // Writes the numbers of the variable l of process x, each behind a blank.
 fn put_numbers(s: &[i32], l: u32, x: u8, out: &mut [u8], p: usize) -> usize
-    ensures { pen out.new result ≡ puts (valuesText (listing.numbersIn s.now l x)) (pen out.old p) }
+    ensures { pen out.new result ≡ puts (values_text (listing.numbers_in s.now l x)) (pen out.old p) }
 {
     let n = step_eval::size_of(l);
     let mut q = p;
@@ -37,7 +37,7 @@ fn put_variable(
     out: &mut [u8],
     p: usize,
 ) -> usize
-    ensures { pen out.new result ≡ puts (listing.variableIn t.now s.now word.now x j) (pen out.old p) }
+    ensures { pen out.new result ≡ puts (listing.variable_in t.now s.now word.now x j) (pen out.old p) }
 {
     let a = put_all(word, out, p);
     let b = put_name(t, step_eval::minus_one(j), out, a);
@@ -47,7 +47,7 @@ fn put_variable(
 
 // Writes the global variable that item j declares, if it declares one.
 fn put_global(t: &[u32], s: &[i32], j: usize, out: &mut [u8], p: usize) -> usize
-    ensures { pen out.new result ≡ puts (listing.globalIn t.now s.now j) (pen out.old p) }
+    ensures { pen out.new result ≡ puts (listing.global_in t.now s.now j) (pen out.old p) }
 {
     if state_types::is_global(t, j) {
         put_variable(t, s, b"global ", 0, j, out, p)
@@ -58,7 +58,7 @@ fn put_global(t: &[u32], s: &[i32], j: usize, out: &mut [u8], p: usize) -> usize
 
 // Writes the global variables.
 pub fn put_globals(t: &[u32], s: &[i32], out: &mut [u8], p: usize) -> usize
-    ensures { pen out.new result ≡ puts (listing.globalsIn t.now s.now) (pen out.old p) }
+    ensures { pen out.new result ≡ puts (listing.globals_in t.now s.now) (pen out.old p) }
 {
     let n = table_layout::items(t);
     let mut q = p;
@@ -72,7 +72,7 @@ pub fn put_globals(t: &[u32], s: &[i32], out: &mut [u8], p: usize) -> usize
 
 // Writes the variable of process x that item j of its unit declares, if it declares one.
 fn put_local(t: &[u32], s: &[i32], x: u8, j: usize, out: &mut [u8], p: usize) -> usize
-    ensures { pen out.new result ≡ puts (listing.localIn t.now s.now x j) (pen out.old p) }
+    ensures { pen out.new result ≡ puts (listing.local_in t.now s.now x j) (pen out.old p) }
 {
     if state_types::is_local(t, j) {
         put_variable(t, s, b"local ", x, j, out, p)
@@ -98,7 +98,7 @@ pub fn put_locals(t: &[u32], s: &[i32], x: u8, out: &mut [u8], p: usize) -> usiz
 
 // Writes the messages of channel c, each of n fields, the oldest first.
 fn put_messages(s: &[i32], c: u32, n: u32, out: &mut [u8], p: usize) -> usize
-    ensures { pen out.new result ≡ puts (listing.messagesIn s.now c n) (pen out.old p) }
+    ensures { pen out.new result ≡ puts (listing.messages_in s.now c n) (pen out.old p) }
 {
     let w = state_layout::waiting_of(s, c);
     let mut q = p;
@@ -112,7 +112,7 @@ fn put_messages(s: &[i32], c: u32, n: u32, out: &mut [u8], p: usize) -> usize
 
 // Writes channel c, which has the number c + 1, with its capacity and its messages.
 fn put_channel(t: &[u32], s: &[i32], c: u32, out: &mut [u8], p: usize) -> usize
-    ensures { pen out.new result ≡ puts (listing.channelIn t.now s.now c) (pen out.old p) }
+    ensures { pen out.new result ≡ puts (listing.channel_in t.now s.now c) (pen out.old p) }
 {
     let d = state_layout::declared_of(s, c);
     let a = put_all(b"channel ", out, p);
@@ -125,7 +125,7 @@ fn put_channel(t: &[u32], s: &[i32], c: u32, out: &mut [u8], p: usize) -> usize
 
 // Writes the channels.
 pub fn put_channels(t: &[u32], s: &[i32], out: &mut [u8], p: usize) -> usize
-    ensures { pen out.new result ≡ puts (listing.channelsIn t.now s.now) (pen out.old p) }
+    ensures { pen out.new result ≡ puts (listing.channels_in t.now s.now) (pen out.old p) }
 {
     let n = state_layout::channels(s);
     let mut q = p;

@@ -4,18 +4,18 @@ use Rattle.std.specs.Prelude.{ℕ, Bool, true, false}
 use Rattle.show_statuses.specs.declared.Answer.{Answer}
 use Rattle.show_statuses.specs.declared.Answer.TheVariants as answer
 
-abbrev pub statusOf : Answer → ℕ
-statusOf answer.Accepted = 0
-statusOf answer.Finished = 0
-statusOf answer.Open = 0
-statusOf answer.Text = 0
-statusOf answer.Refused = 1
-statusOf answer.Assert = 1
-statusOf answer.Fault = 1
-statusOf answer.Blocked = 1
-statusOf answer.Error = 2
+abbrev pub status_of : Answer → ℕ
+status_of answer.Accepted = 0
+status_of answer.Finished = 0
+status_of answer.Open = 0
+status_of answer.Text = 0
+status_of answer.Refused = 1
+status_of answer.Assert = 1
+status_of answer.Fault = 1
+status_of answer.Blocked = 1
+status_of answer.Error = 2
 
 -- of a command on a model: `x` where the model is accepted; where it is not, that of a refusal, whatever the command
-abbrev pub modelStatus : Bool → ℕ → ℕ
-modelStatus true x = x
-modelStatus false x = statusOf answer.Refused
+abbrev pub model_status : Bool → ℕ → ℕ
+model_status true x = x
+model_status false x = status_of answer.Refused

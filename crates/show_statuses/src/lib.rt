@@ -18,7 +18,7 @@ pub enum Answer {
 
 // 0 where nothing is wrong, 1 for a refusal, a failed assertion, a fault or a blocked state, 2 for an error.
 pub fn status(a: Answer) -> u8
-    ensures { result ≡ statuses.statusOf a }
+    ensures { result ≡ statuses.status_of a }
 {
     match a {
         Answer::Accepted => 0,
@@ -35,7 +35,7 @@ pub fn status(a: Answer) -> u8
 
 // Of a command on a model: `x` where the model is accepted; where it is not, that of a refusal, whatever the command.
 pub fn on_model(accepted: bool, x: u8) -> u8
-    ensures { result ≡ statuses.modelStatus accepted x }
+    ensures { result ≡ statuses.model_status accepted x }
 {
     if accepted { x } else { status(Answer::Refused) }
 }

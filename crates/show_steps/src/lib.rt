@@ -2,11 +2,11 @@
 ghost use Rattle.std.specs.Prelude.{◌≡◌, [], ◌∷◌, ◌++◌, ◌+◌, length};
 ghost use Rattle.base_pens.specs.Pen.{pen, puts};
 ghost use Rattle.base_kinds.specs.Kinds.{bytes};
-ghost use Rattle.spec_text.specs.Formats.{digitsOf};
-ghost use Rattle.spec_account.specs.Steps.{printedText, faultText};
-ghost use Rattle.show_statement.specs.Statements.{seenIn};
+ghost use Rattle.spec_text.specs.Formats.{digits_of};
+ghost use Rattle.spec_account.specs.Steps.{printed_text, fault_text};
+ghost use Rattle.show_statement.specs.Statements.{seen_in};
 ghost use Rattle.spec_machine.specs.Machine as machine;
-ghost use Rattle.step_all.specs.Moving.{machineIn, processes};
+ghost use Rattle.step_all.specs.Moving.{machine_in, processes};
 ghost use Rattle.show_steps.specs.Steps as steps;
 
 use base_outcome::{Step, Taken};
@@ -21,7 +21,7 @@ pub const LISTED_MOST: u32 = base_ceilings::PROCESSES_MOST as u32
 
 // Writes a number behind which a tab stands.
 fn put_field(n: usize, out: &mut [u8], p: usize) -> usize
-    ensures { pen out.new result ≡ puts (digitsOf n ++ 9 ∷ []) (pen out.old p) }
+    ensures { pen out.new result ≡ puts (digits_of n ++ 9 ∷ []) (pen out.old p) }
 {
     let a = put_count(n, out, p);
     put(out, a, b'\t')
@@ -29,7 +29,7 @@ fn put_field(n: usize, out: &mut [u8], p: usize) -> usize
 
 // Writes the statement at place q behind a tab, and ends the line.
 fn put_last(t: &[u32], q: u32, out: &mut [u8], p: usize) -> usize
-    ensures { pen out.new result ≡ puts (9 ∷ (seenIn t.now q ++ 10 ∷ [])) (pen out.old p) }
+    ensures { pen out.new result ≡ puts (9 ∷ (seen_in t.now q ++ 10 ∷ [])) (pen out.old p) }
 {
     let a = put(out, p, b'\t');
     let b = show_statement::put_seen(t, q as usize, out, a);
@@ -38,14 +38,14 @@ fn put_last(t: &[u32], q: u32, out: &mut [u8], p: usize) -> usize
 
 // Writes the proctype of a process.
 fn put_owner(t: &[u32], s: &[i32], process: u8, out: &mut [u8], p: usize) -> usize
-    ensures { pen out.new result ≡ puts (steps.titleAt t.now s.now process) (pen out.old p) }
+    ensures { pen out.new result ≡ puts (steps.title_at t.now s.now process) (pen out.old p) }
 {
     show_words::put_title(t, state_layout::unit_of(s, process) as usize, out, p)
 }
 
 // Writes an offered step: its process, its number, its proctype and its statement.
 pub fn put_offer(t: &[u32], s: &[i32], x: Step, out: &mut [u8], p: usize) -> usize
-    ensures { pen out.new result ≡ puts (steps.offerIn t.now s.now x) (pen out.old p) }
+    ensures { pen out.new result ≡ puts (steps.offer_in t.now s.now x) (pen out.old p) }
 {
     let process = x.process;
     let number = x.number;
@@ -75,7 +75,7 @@ pub fn put_step(
     out: &mut [u8],
     p: usize,
 ) -> usize
-    ensures { pen out.new result ≡ puts (steps.stepIn t.now s.now whole i x) (pen out.old p) }
+    ensures { pen out.new result ≡ puts (steps.step_in t.now s.now whole i x) (pen out.old p) }
 {
     let process = x.process;
     let number = x.number;
@@ -90,7 +90,7 @@ pub fn put_step(
 
 // Writes what a step printed, if anything.
 fn put_printed(text: &[u8], out: &mut [u8], p: usize) -> usize
-    ensures { pen out.new result ≡ puts (printedText text.now) (pen out.old p) }
+    ensures { pen out.new result ≡ puts (printed_text text.now) (pen out.old p) }
 {
     if text.len() == 0 {
         return p;
@@ -102,7 +102,7 @@ fn put_printed(text: &[u8], out: &mut [u8], p: usize) -> usize
 
 // Writes why a step failed.
 fn put_fault(f: Fault, out: &mut [u8], p: usize) -> usize
-    ensures { pen out.new result ≡ puts (faultText f) (pen out.old p) }
+    ensures { pen out.new result ≡ puts (fault_text f) (pen out.old p) }
 {
     match f {
         Fault::Divide => put_all(b"\tfault: a divisor is 0\n", out, p),
@@ -128,7 +128,7 @@ pub fn put_outcome(
     out: &mut [u8],
     p: usize,
 ) -> usize
-    ensures { pen out.new result ≡ puts (steps.outcomeIn t.now before.now after.now x printed.now r) (pen out.old p) }
+    ensures { pen out.new result ≡ puts (steps.outcome_in t.now before.now after.now x printed.now r) (pen out.old p) }
 {
     match r {
         Taken::Done => {
@@ -169,8 +169,8 @@ pub fn put_taken(
     out: &mut [u8],
     p: usize,
 ) -> Told
-    ensures s_after { (result.taken, s.new) ≡ machine.advance (machineIn t.now) s.old x }
-    ensures end_after { pen out.new result.end ≡ puts (steps.takenIn t.now s.old s.new whole i x result.taken) (pen out.old p) }
+    ensures s_after { (result.taken, s.new) ≡ machine.advance (machine_in t.now) s.old x }
+    ensures end_after { pen out.new result.end ≡ puts (steps.taken_in t.now s.old s.new whole i x result.taken) (pen out.old p) }
 {
     let a = put_step(t, s, whole, i, x, out, p);
     let mut before = [0i32; base_ceilings::STATE_ROOM];
@@ -201,7 +201,7 @@ pub fn put_not_offered(i: usize, process: u32, k: u32, out: &mut [u8], p: usize)
 
 // Writes a step, if it is one of the process.
 fn put_other(t: &[u32], process: u32, x: Step, out: &mut [u8], p: usize) -> usize
-    ensures { pen out.new result ≡ puts (steps.otherIn t.now process x) (pen out.old p) }
+    ensures { pen out.new result ≡ puts (steps.other_in t.now process x) (pen out.old p) }
 {
     if x.process as u32 != process {
         return p;
@@ -215,7 +215,7 @@ fn put_other(t: &[u32], process: u32, x: Step, out: &mut [u8], p: usize) -> usiz
 
 // Writes the steps that a process is offered.
 fn put_others(t: &[u32], s: &[i32], process: u32, out: &mut [u8], p: usize) -> usize
-    ensures { pen out.new result ≡ puts (steps.othersIn t.now process (steps.listedIn t.now s.now)) (pen out.old p) }
+    ensures { pen out.new result ≡ puts (steps.others_in t.now process (steps.listed_in t.now s.now)) (pen out.old p) }
 {
     let mut q = p;
     let mut n: u32 = 0;
@@ -236,7 +236,7 @@ fn put_others(t: &[u32], s: &[i32], process: u32, out: &mut [u8], p: usize) -> u
 
 // Is a step of the process among them?
 fn is_any(t: &[u32], s: &[i32], process: u32) -> bool
-    ensures { result ≡ steps.any_of process (steps.listedIn t.now s.now) }
+    ensures { result ≡ steps.any_of process (steps.listed_in t.now s.now) }
 {
     let mut n: u32 = 0;
     while n < LISTED_MOST {
@@ -268,7 +268,7 @@ fn count(s: &[i32]) -> u32
 
 // Writes that there is nothing, where there is not.
 fn put_none(any: bool, out: &mut [u8], p: usize) -> usize
-    ensures { pen out.new result ≡ puts (steps.noneBy any) (pen out.old p) }
+    ensures { pen out.new result ≡ puts (steps.none_by any) (pen out.old p) }
 {
     if any {
         return p;
@@ -278,7 +278,7 @@ fn put_none(any: bool, out: &mut [u8], p: usize) -> usize
 
 // Writes that there is no such process.
 fn put_nobody(process: u32, out: &mut [u8], p: usize) -> usize
-    ensures { pen out.new result ≡ puts (bytes "  there is no process " ++ (digitsOf process ++ 10 ∷ [])) (pen out.old p) }
+    ensures { pen out.new result ≡ puts (bytes "  there is no process " ++ (digits_of process ++ 10 ∷ [])) (pen out.old p) }
 {
     let a = put_all(b"  there is no process ", out, p);
     let b = put_count(process as usize, out, a);
@@ -287,7 +287,7 @@ fn put_nobody(process: u32, out: &mut [u8], p: usize) -> usize
 
 // Writes what a process was offered.
 pub fn put_instead(t: &[u32], s: &[i32], process: u32, out: &mut [u8], p: usize) -> usize
-    ensures { pen out.new result ≡ puts (steps.insteadIn t.now s.now process) (pen out.old p) }
+    ensures { pen out.new result ≡ puts (steps.instead_in t.now s.now process) (pen out.old p) }
 {
     if count(s) <= process {
         return put_nobody(process, out, p);
@@ -301,7 +301,7 @@ pub fn put_instead(t: &[u32], s: &[i32], process: u32, out: &mut [u8], p: usize)
 
 // Writes where a process stands, at place q.
 fn put_standing(t: &[u32], q: u32, out: &mut [u8], p: usize) -> usize
-    ensures { pen out.new result ≡ puts (steps.standingIn t.now q) (pen out.old p) }
+    ensures { pen out.new result ≡ puts (steps.standing_in t.now q) (pen out.old p) }
 {
     if table_layout::code(t, q as usize) == base_codes::END_BODY {
         return put_all(b" ended", out, p);
@@ -312,7 +312,7 @@ fn put_standing(t: &[u32], q: u32, out: &mut [u8], p: usize) -> usize
 
 // Writes a process: its number, its proctype, where it stands, and its variables.
 pub fn put_process(t: &[u32], s: &[i32], process: u8, out: &mut [u8], p: usize) -> usize
-    ensures { pen out.new result ≡ puts (steps.processIn t.now s.now process) (pen out.old p) }
+    ensures { pen out.new result ≡ puts (steps.process_in t.now s.now process) (pen out.old p) }
 {
     let a = put_all(b"process ", out, p);
     let b = put_count(process as usize, out, a);

@@ -2,7 +2,7 @@
 -- THE STATUS OF A COMMAND on the text of a model, with its trail or its limit: that of its answer (`show_statuses`). A model that is refused is refused whatever the command. The program's
 -- buffers are lent as zeros.
 use Rattle.std.specs.Prelude.{ℕ, true, false, List, [], ◌∷◌, replicate}
-use Rattle.base_ceilings.specs.Ceilings.{normalMost, tablesRoom, textMost}
+use Rattle.base_ceilings.specs.Ceilings.{normal_most, tables_room, text_most}
 use Rattle.base_bytes.specs.Choice.{pick}
 use Rattle.base_bytes.specs.Lists.{same}
 use Rattle.read_passes.specs.declared.Judged.{Judged}
@@ -13,61 +13,61 @@ use Rattle.layout_entry.specs.Entries as laying
 use Rattle.normal_entry.specs.declared.Written.{Written}
 use Rattle.normal_entry.specs.declared.Written.TheVariants as written
 use Rattle.show_statuses.specs.declared.Answer.TheVariants as answer
-use Rattle.show_statuses.specs.Statuses.{statusOf, modelStatus}
-use Rattle.show_commands.specs.Statuses.{startStatus, runStatus, replayStatus}
+use Rattle.show_statuses.specs.Statuses.{status_of, model_status}
+use Rattle.show_commands.specs.Statuses.{start_status, run_status, replay_status}
 
-abbrev pub writtenStatus : Written → ℕ
-writtenStatus (written.Text n) = statusOf answer.Text
-writtenStatus (written.Refused x i n) = statusOf answer.Refused
+abbrev pub written_status : Written → ℕ
+written_status (written.Text n) = status_of answer.Text
+written_status (written.Refused x i n) = status_of answer.Refused
 
-unfoldable pub normalStatus : List ℕ → ℕ
-normalStatus text = writtenStatus (answer_of text (replicate normalMost 0))
+unfoldable pub normal_status : List ℕ → ℕ
+normal_status text = written_status (answer_of text (replicate normal_most 0))
 
-unfoldable pub layoutStatus : List ℕ → ℕ
-layoutStatus text = writtenStatus (laying.answer_of text (replicate textMost 0))
+unfoldable pub layout_status : List ℕ → ℕ
+layout_status text = written_status (laying.answer_of text (replicate text_most 0))
 
 -- the commands' words
-abbrev pub w-read : List ℕ
-w-read = 114 ∷ 101 ∷ 97 ∷ 100 ∷ []
+abbrev pub w_read : List ℕ
+w_read = 114 ∷ 101 ∷ 97 ∷ 100 ∷ []
 
-abbrev pub w-normal : List ℕ
-w-normal = 110 ∷ 111 ∷ 114 ∷ 109 ∷ 97 ∷ 108 ∷ []
+abbrev pub w_normal : List ℕ
+w_normal = 110 ∷ 111 ∷ 114 ∷ 109 ∷ 97 ∷ 108 ∷ []
 
-abbrev pub w-layout : List ℕ
-w-layout = 108 ∷ 97 ∷ 121 ∷ 111 ∷ 117 ∷ 116 ∷ []
+abbrev pub w_layout : List ℕ
+w_layout = 108 ∷ 97 ∷ 121 ∷ 111 ∷ 117 ∷ 116 ∷ []
 
-abbrev pub w-start : List ℕ
-w-start = 115 ∷ 116 ∷ 97 ∷ 114 ∷ 116 ∷ []
+abbrev pub w_start : List ℕ
+w_start = 115 ∷ 116 ∷ 97 ∷ 114 ∷ 116 ∷ []
 
-abbrev pub w-run : List ℕ
-w-run = 114 ∷ 117 ∷ 110 ∷ []
+abbrev pub w_run : List ℕ
+w_run = 114 ∷ 117 ∷ 110 ∷ []
 
-abbrev pub w-replay : List ℕ
-w-replay = 114 ∷ 101 ∷ 112 ∷ 108 ∷ 97 ∷ 121 ∷ []
+abbrev pub w_replay : List ℕ
+w_replay = 114 ∷ 101 ∷ 112 ∷ 108 ∷ 97 ∷ 121 ∷ []
 
-abbrev pub w-steps : List ℕ
-w-steps = 115 ∷ 116 ∷ 101 ∷ 112 ∷ 115 ∷ []
+abbrev pub w_steps : List ℕ
+w_steps = 115 ∷ 116 ∷ 101 ∷ 112 ∷ 115 ∷ []
 
-abbrev pub w-state : List ℕ
-w-state = 115 ∷ 116 ∷ 97 ∷ 116 ∷ 101 ∷ []
+abbrev pub w_state : List ℕ
+w_state = 115 ∷ 116 ∷ 97 ∷ 116 ∷ 101 ∷ []
 
 -- on the tables of an accepted model
-unfoldable pub commandStatus : List ℕ → List ℕ → List ℕ → ℕ → ℕ
-commandStatus command ts trail limit =
-    pick (same command w-read) (statusOf answer.Accepted)
-    (pick (same command w-start) (startStatus ts)
-    (pick (same command w-run) (runStatus ts limit)
-    (pick (same command w-replay) (replayStatus ts trail)
-    (pick (same command w-steps) (replayStatus ts trail)
-    (pick (same command w-state) (replayStatus ts trail)
-    (statusOf answer.Error))))))
+unfoldable pub command_status : List ℕ → List ℕ → List ℕ → ℕ → ℕ
+command_status command ts trail limit =
+    pick (same command w_read) (status_of answer.Accepted)
+    (pick (same command w_start) (start_status ts)
+    (pick (same command w_run) (run_status ts limit)
+    (pick (same command w_replay) (replay_status ts trail)
+    (pick (same command w_steps) (replay_status ts trail)
+    (pick (same command w_state) (replay_status ts trail)
+    (status_of answer.Error))))))
 
-abbrev pub judgedStatus : Judged → ℕ → ℕ
-judgedStatus judged.Accepted y = modelStatus true y
-judgedStatus (judged.Refused x i n) y = modelStatus false y
+abbrev pub judged_status : Judged → ℕ → ℕ
+judged_status judged.Accepted y = model_status true y
+judged_status (judged.Refused x i n) y = model_status false y
 
-unfoldable pub textStatus : List ℕ → List ℕ → List ℕ → ℕ → ℕ
-textStatus command text trail limit =
-    pick (same command w-normal) (normalStatus text)
-    (pick (same command w-layout) (layoutStatus text)
-    (judgedStatus (read_of text (replicate tablesRoom 0)) (commandStatus command (left_of text (replicate tablesRoom 0)) trail limit)))
+unfoldable pub text_status : List ℕ → List ℕ → List ℕ → ℕ → ℕ
+text_status command text trail limit =
+    pick (same command w_normal) (normal_status text)
+    (pick (same command w_layout) (layout_status text)
+    (judged_status (read_of text (replicate tables_room 0)) (command_status command (left_of text (replicate tables_room 0)) trail limit)))

@@ -51,7 +51,7 @@ pub fn unknown(command: &[u8]) -> u8
 
 // `normal MODEL`
 fn show_normal(text: &[u8]) -> u8
-    ensures { result ≡ statuses.normalStatus text.now }
+    ensures { result ≡ statuses.normal_status text.now }
 {
     let mut out = [0u8; base_ceilings::NORMAL_MOST];
     let w = normal_entry::normal(text, &mut out);
@@ -70,7 +70,7 @@ fn show_normal(text: &[u8]) -> u8
 
 // `layout MODEL`: its bytes and no others, since each of its lines has its end
 fn show_layout(text: &[u8]) -> u8
-    ensures { result ≡ statuses.layoutStatus text.now }
+    ensures { result ≡ statuses.layout_status text.now }
 {
     let mut out = [0u8; base_ceilings::TEXT_MOST];
     let w = layout_entry::layout(text, &mut out);
@@ -88,7 +88,7 @@ fn show_layout(text: &[u8]) -> u8
 
 // A command on the tables of an accepted model, with its trail or its limit.
 fn perform_on(command: &[u8], tables: &[u32], trail: &[u8], limit: u32) -> u8
-    ensures { result ≡ statuses.commandStatus command.now tables.now trail.now limit }
+    ensures { result ≡ statuses.command_status command.now tables.now trail.now limit }
 {
     if base_bytes::same(command, b"read") {
         put(b"accepted\n");
@@ -114,7 +114,7 @@ fn perform_on(command: &[u8], tables: &[u32], trail: &[u8], limit: u32) -> u8
 
 // A command with the text of its model.
 pub fn perform_text(command: &[u8], text: &[u8], trail: &[u8], limit: u32) -> u8
-    ensures { result ≡ statuses.textStatus command.now text.now trail.now limit }
+    ensures { result ≡ statuses.text_status command.now text.now trail.now limit }
 {
     if base_bytes::same(command, b"normal") {
         return show_normal(text);

@@ -1,7 +1,7 @@
 // The command that shows the steps of a trail one by one, and what each did. Its last line is the replay's answer, and it returns the status of that.
 ghost use Rattle.std.specs.Prelude.{◌≡◌};
 ghost use Rattle.spec_machine.specs.Machine as machine;
-ghost use Rattle.step_all.specs.Moving.{machineIn};
+ghost use Rattle.step_all.specs.Moving.{machine_in};
 ghost use Rattle.show_commands.specs.Statuses as statuses;
 
 use base_bytes::part;
@@ -26,7 +26,7 @@ enum Next {
 
 // Takes a step that line i of a trail asks for, and shows it and what it did; the normal text has `whole` bytes.
 fn tell_step(t: &[u32], s: &mut [i32], whole: usize, i: usize, x: Step) -> Taken
-    ensures { (result, s.new) ≡ machine.advance (machineIn t.now) s.old x }
+    ensures { (result, s.new) ≡ machine.advance (machine_in t.now) s.old x }
 {
     let mut out = [0u8; STEP_ROOM];
     let told = show_steps::put_taken(t, s, whole, i, x, &mut out, 0);
@@ -127,7 +127,7 @@ fn tell_steps(t: &[u32], s: &mut [i32], trail: &[u8], n: usize) {
 
 // `steps MODEL TRAIL`
 pub fn steps(tables: &[u32], trail: &[u8]) -> u8
-    ensures { result ≡ statuses.replayStatus tables.now trail.now }
+    ensures { result ≡ statuses.replay_status tables.now trail.now }
 {
     let mut s = [0i32; base_ceilings::STATE_ROOM];
     let r = trail_replay::replay(tables, trail, &mut s);

@@ -1,8 +1,8 @@
 // What keeps a `run` from starting: the first process that stands at one for which there is no room, in a line behind a tab, written to lent bytes.
 ghost use Rattle.std.specs.Prelude.{◌≡◌, [], ◌∷◌, ◌+◌, ◌<◌, ◌≤◌};
-ghost use Rattle.base_ceilings.specs.Ceilings.{itemsMost};
+ghost use Rattle.base_ceilings.specs.Ceilings.{items_most};
 ghost use Rattle.base_pens.specs.Pen.{pen, puts};
-ghost use Rattle.state_layout.specs.Layout.{keptMost};
+ghost use Rattle.state_layout.specs.Layout.{kept_most};
 ghost use Rattle.step_offers.specs.Offers as offers;
 ghost use Rattle.show_waits.specs.Waits as waits;
 
@@ -19,7 +19,7 @@ const ITEMS_MOST: u32 = base_ceilings::ITEMS_MOST as u32;
 
 // Is the statement at place q a `run` for which there is no room?
 fn is_stuck(t: &[u32], s: &[i32], q: u32) -> bool
-    ensures { result ≡ waits.isStuck t.now s.now q }
+    ensures { result ≡ waits.is_stuck t.now s.now q }
 {
     let m = step_ready::mark(t, q);
     if table_layout::code(t, m) == base_codes::RUN {
@@ -40,7 +40,7 @@ fn pick_one(k: u32, q: u32) -> Walk
 }
 
 fn is_selection(t: &[u32], q: u32) -> bool
-    ensures { result ≡ offers.isSelection t.now q }
+    ensures { result ≡ offers.is_selection t.now q }
 {
     let c = table_layout::code(t, q as usize);
     if c == base_codes::IF {
@@ -52,7 +52,7 @@ fn is_selection(t: &[u32], q: u32) -> bool
 
 // Is there an option at item m, before `stop`?
 fn is_option(t: &[u32], m: u32, stop: u32) -> bool
-    ensures { result ≡ offers.isOption t.now m stop }
+    ensures { result ≡ offers.is_option t.now m stop }
 {
     if m < stop {
         table_layout::code(t, m as usize) == base_codes::OPTION
@@ -63,7 +63,7 @@ fn is_option(t: &[u32], m: u32, stop: u32) -> bool
 
 // Where the option at item m ends.
 fn end_of(t: &[u32], m: u32, stop: u32) -> u32
-    requires { (m < stop) × (stop ≤ itemsMost) }
+    requires { (m < stop) × (stop ≤ items_most) }
     ensures value { result ≡ offers.end_of t.now m stop }
     ensures lower_bound { (m < result) × (result ≤ stop) }
 {
@@ -73,7 +73,7 @@ fn end_of(t: &[u32], m: u32, stop: u32) -> u32
 
 // The place of its first statement.
 fn first_of(t: &[u32], m: u32) -> u32
-    requires { m < itemsMost }
+    requires { m < items_most }
     ensures value { result ≡ offers.first_of t.now m }
     ensures upper_bound { result < 8196 }
 {
@@ -87,8 +87,8 @@ fn first_of(t: &[u32], m: u32) -> u32
 // The k-th of those that wait at place q.
 #[cycle(walk_item_walk_options)]
 fn walk_item(t: &[u32], s: &[i32], d: u32, q: u32, stop: u32, k: u32) -> Walk
-    requires { (q < keptMost + 1) × (stop ≤ itemsMost) }
-    ensures { result ≡ offers.pick_at k (waits.stuckFrom t.now s.now d q stop) }
+    requires { (q < kept_most + 1) × (stop ≤ items_most) }
+    ensures { result ≡ offers.pick_at k (waits.stuck_from t.now s.now d q stop) }
 {
     if d == 0 {
         return Walk::Left(k);
@@ -106,8 +106,8 @@ fn walk_item(t: &[u32], s: &[i32], d: u32, q: u32, stop: u32, k: u32) -> Walk
 // The k-th of those that wait at the options from item m on.
 #[cycle(walk_item_walk_options)]
 fn walk_options(t: &[u32], s: &[i32], d: u32, n: u32, m: u32, stop: u32, k: u32) -> Walk
-    requires { stop ≤ itemsMost }
-    ensures { result ≡ offers.pick_at k (offers.eachOption t.now (λ f e. waits.stuckFrom t.now s.now d f e) n m stop) }
+    requires { stop ≤ items_most }
+    ensures { result ≡ offers.pick_at k (offers.each_option t.now (λ f e. waits.stuck_from t.now s.now d f e) n m stop) }
 {
     if n == 0 {
         return Walk::Left(k);
@@ -125,7 +125,7 @@ fn walk_options(t: &[u32], s: &[i32], d: u32, n: u32, m: u32, stop: u32, k: u32)
 
 // The first of those at which process p stands.
 fn stuck_of(t: &[u32], s: &[i32], p: u8) -> Walk
-    ensures { result ≡ offers.pick_at 0 (waits.stuckOf t.now s.now p) }
+    ensures { result ≡ offers.pick_at 0 (waits.stuck_of t.now s.now p) }
 {
     walk_item(
         t,
@@ -139,7 +139,7 @@ fn stuck_of(t: &[u32], s: &[i32], p: u8) -> Walk
 
 // Writes which ceiling is met.
 fn put_ceiling(s: &[i32], out: &mut [u8], p: usize) -> usize
-    ensures { pen out.new result ≡ puts (waits.ceilingIn s.now) (pen out.old p) }
+    ensures { pen out.new result ≡ puts (waits.ceiling_in s.now) (pen out.old p) }
 {
     if (state_layout::processes(s) as usize) < base_ceilings::PROCESSES_MOST {
         let a = put_count(base_ceilings::CHANNELS_MOST, out, p);
@@ -152,7 +152,7 @@ fn put_ceiling(s: &[i32], out: &mut [u8], p: usize) -> usize
 
 // Writes that process p waits at the statement at place q.
 fn put_wait(t: &[u32], s: &[i32], process: u8, q: u32, out: &mut [u8], p: usize) -> usize
-    ensures { pen out.new result ≡ puts (waits.lineIn t.now s.now process q) (pen out.old p) }
+    ensures { pen out.new result ≡ puts (waits.line_in t.now s.now process q) (pen out.old p) }
 {
     let a = put_all(b"\tprocess ", out, p);
     let b = put_count(process as usize, out, a);
@@ -164,7 +164,7 @@ fn put_wait(t: &[u32], s: &[i32], process: u8, q: u32, out: &mut [u8], p: usize)
 
 // Writes that the first process waits that does, if one does.
 pub fn put_waits(t: &[u32], s: &[i32], out: &mut [u8], p: usize) -> usize
-    ensures { pen out.new result ≡ puts (waits.waitsIn t.now s.now) (pen out.old p) }
+    ensures { pen out.new result ≡ puts (waits.waits_in t.now s.now) (pen out.old p) }
 {
     let n = base_bytes::least(
         state_layout::processes(s) as usize,

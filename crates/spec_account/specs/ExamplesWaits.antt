@@ -5,17 +5,17 @@ use Rattle.std.proofs.Math.Option.{none}
 use Rattle.base_bytes.specs.Lists.{same}
 use Rattle.base_kinds.specs.Kinds.{bytes}
 use Rattle.spec_text.specs.Find.{find}
-use Rattle.spec_text.specs.Formats.{digitsBy}
-use Rattle.spec_text.specs.Writing.{writeBehind}
-use Rattle.spec_grammar.specs.Tree.{Name, action, Tree, plain, num, leaf, skip, timeout, run, set-run, select, loop, bare, labelled, end, then, over, option, unset, set-channel, variable, declare, group, body, idle, process, init, Model}
+use Rattle.spec_text.specs.Formats.{digits_by}
+use Rattle.spec_text.specs.Writing.{write_behind}
+use Rattle.spec_grammar.specs.Tree.{Name, action, Tree, plain, num, leaf, skip, timeout, run, set_run, select, loop, bare, labelled, end, then, over, option, unset, set_channel, variable, declare, group, body, idle, process, init, Model}
 use Rattle.spec_machine.specs.State.{State}
 use Rattle.spec_machine.specs.Places.{start_of}
 use Rattle.spec_machine.specs.Examples.{machine}
-use Rattle.spec_account.specs.Bytes.{eachVisible, visible, isVisible}
-use Rattle.spec_account.specs.Waits.{stuckIn, waitsFrom, waitsText}
+use Rattle.spec_account.specs.Bytes.{each_visible, visible, is_visible}
+use Rattle.spec_account.specs.Waits.{stuck_in, waits_from, waits_text}
 
 unfoldable shows : Unit {0}
-unfolding same find writeBehind digitsBy eachVisible visible isVisible stuckIn waitsFrom
+unfolding same find write_behind digits_by each_visible visible is_visible stuck_in waits_from
 shows = tt
 
 abbrev runs : Tree action
@@ -36,7 +36,7 @@ crowd s k =
     }
 
 -- with 15 others there is no room, with 14 there is
-alone : (waitsText (model runs) (crowd runs 15) ≡ bytes "\tprocess 0 waits at run P(1): 16 processes are the most\n") × (waitsText (model runs) (crowd runs 14) ≡ [])
+alone : (waits_text (model runs) (crowd runs 15) ≡ bytes "\tprocess 0 waits at run P(1): 16 processes are the most\n") × (waits_text (model runs) (crowd runs 14) ≡ [])
 unfolding machine shows
 alone = (refl, refl)
 
@@ -49,16 +49,16 @@ abbrev later : Tree action
 later = select (option (then (bare (leaf timeout)) (then (bare runs) end)) over)
 
 abbrev sets : Tree action
-sets = leaf (set-run (plain (bytes "y")) (bytes "P") (num 1 ∷ []))
+sets = leaf (set_run (plain (bytes "y")) (bytes "P") (num 1 ∷ []))
 
-others : (waitsText (model nested) (crowd nested 15) ≡ bytes "\tprocess 0 waits at run P(1): 16 processes are the most\n") × (waitsText (model nested) (crowd nested 14) ≡ []) × (waitsText (model later) (crowd later 15) ≡ []) × (waitsText (model sets) (crowd sets 15) ≡ [])
+others : (waits_text (model nested) (crowd nested 15) ≡ bytes "\tprocess 0 waits at run P(1): 16 processes are the most\n") × (waits_text (model nested) (crowd nested 14) ≡ []) × (waits_text (model later) (crowd later 15) ≡ []) × (waits_text (model sets) (crowd sets 15) ≡ [])
 unfolding machine shows
 others = (refl, refl, refl, refl)
 
 -- ## channels
 abbrev maker : Model
 maker =
-    process idle (bytes "Q") [] (body (declare 43 (variable (bytes "c") none (set-channel 1 (40 ∷ [])) ∷ []) ∷ []) (then (bare (leaf skip)) end)) ∷ init (body [] (then (bare (leaf (run (bytes "Q") []))) end)) ∷ []
+    process idle (bytes "Q") [] (body (declare 43 (variable (bytes "c") none (set_channel 1 (40 ∷ [])) ∷ []) ∷ []) (then (bare (leaf skip)) end)) ∷ init (body [] (then (bare (leaf (run (bytes "Q") []))) end)) ∷ []
 
 -- an ended process, then one at the start of unit 1, and k channels
 abbrev made : ℕ → State
@@ -69,6 +69,6 @@ made k =
       channels = replicate k (record { unit = 0; variable = 0; held = [] });
     }
 
-channels : (waitsText maker (made 16) ≡ bytes "\tprocess 1 waits at run Q(): 16 channels are the most\n") × (waitsText maker (made 15) ≡ [])
+channels : (waits_text maker (made 16) ≡ bytes "\tprocess 1 waits at run Q(): 16 channels are the most\n") × (waits_text maker (made 15) ≡ [])
 unfolding machine shows
 channels = (refl, refl)

@@ -8,19 +8,19 @@ use Rattle.base_bytes.specs.Choice.{pick, both, either}
 abbrev pub fronts : List (List ℕ)
 fronts = bytes "accepted" ∷ bytes "refused" ∷ bytes "open" ∷ bytes "blocked" ∷ bytes "finished" ∷ bytes "assert" ∷ bytes "fault" ∷ bytes "error" ∷ bytes "== " ∷ []
 
-abbrev pub anyBegins : List (List ℕ) → ℕ → Bool
-anyBegins [] b = false
-anyBegins (w ∷ ws) b = either (eqb b (get_or w 0 0)) (anyBegins ws b)
+abbrev pub any_begins : List (List ℕ) → ℕ → Bool
+any_begins [] b = false
+any_begins (w ∷ ws) b = either (eqb b (get_or w 0 0)) (any_begins ws b)
 
 -- one of them begins with this byte
-unfoldable pub isFront : ℕ → Bool
-isFront b = anyBegins fronts b
+unfoldable pub is_front : ℕ → Bool
+is_front b = any_begins fronts b
 
 -- no line that begins in the list begins so; `fresh` says that one begins where the list does
 unfoldable pub quiet : Bool → List ℕ → Bool
 quiet fresh [] = true
-quiet fresh (b ∷ l) = pick (both fresh (isFront b)) false (quiet (eqb b 10) l)
+quiet fresh (b ∷ l) = pick (both fresh (is_front b)) false (quiet (eqb b 10) l)
 
 unfoldable pub guarded : Bool → List ℕ → List ℕ
 guarded fresh [] = []
-guarded fresh (b ∷ l) = pick (both fresh (isFront b)) (32 ∷ 32 ∷ []) [] ++ b ∷ guarded (eqb b 10) l
+guarded fresh (b ∷ l) = pick (both fresh (is_front b)) (32 ∷ 32 ∷ []) [] ++ b ∷ guarded (eqb b 10) l

@@ -2,63 +2,63 @@
 -- process and its channels still fit", "`v = run` stores 0 where nothing fits", so that one never waits. The line stands behind a tab, above the answer of a run that ends blocked.
 use Rattle.std.specs.Prelude.{ℕ, ◌+◌, Bool, List, [], ◌∷◌, ◌++◌, length, ltb}
 use Rattle.base_bytes.specs.Choice.{pick}
-use Rattle.base_ceilings.specs.Ceilings.{processesMost, channelsMost}
+use Rattle.base_ceilings.specs.Ceilings.{processes_most, channels_most}
 use Rattle.base_kinds.specs.Kinds.{bytes}
-use Rattle.spec_text.specs.Formats.{digitsOf}
-use Rattle.spec_grammar.specs.Tree.{Name, action, Sort, Tree, Leaf, leaf, express, assign, increment, decrement, send, receive, assert, print, skip, goto, break, timeout, else, run, set-run, select, loop, bare, labelled, end, then, over, option, Model}
+use Rattle.spec_text.specs.Formats.{digits_of}
+use Rattle.spec_grammar.specs.Tree.{Name, action, Sort, Tree, Leaf, leaf, express, assign, increment, decrement, send, receive, assert, print, skip, goto, break, timeout, else, run, set_run, select, loop, bare, labelled, end, then, over, option, Model}
 use Rattle.spec_machine.specs.State.{Process, State}
-use Rattle.spec_machine.specs.Steps.{Found, nothing, found, standing, stageOf}
-use Rattle.spec_account.specs.Bytes.{eachVisible}
-use Rattle.spec_account.specs.Statements.{statementText}
+use Rattle.spec_machine.specs.Steps.{Found, nothing, found, standing, stage_of}
+use Rattle.spec_account.specs.Bytes.{each_visible}
+use Rattle.spec_account.specs.Statements.{statement_text}
 
 module _ (room : Name → Bool) where
-  abbrev pub stuckLeaf : Leaf → List (Tree action)
-  stuckLeaf (express e) = []
-  stuckLeaf (assign r e) = []
-  stuckLeaf (increment r) = []
-  stuckLeaf (decrement r) = []
-  stuckLeaf (send o r es) = []
-  stuckLeaf (receive o r xs) = []
-  stuckLeaf (assert e) = []
-  stuckLeaf (print w es) = []
-  stuckLeaf skip = []
-  stuckLeaf (goto w) = []
-  stuckLeaf break = []
-  stuckLeaf timeout = []
-  stuckLeaf else = []
-  stuckLeaf (run w es) = pick (room w) [] (leaf (run w es) ∷ [])
-  stuckLeaf (set-run r w es) = []
+  abbrev pub stuck_leaf : Leaf → List (Tree action)
+  stuck_leaf (express e) = []
+  stuck_leaf (assign r e) = []
+  stuck_leaf (increment r) = []
+  stuck_leaf (decrement r) = []
+  stuck_leaf (send o r es) = []
+  stuck_leaf (receive o r xs) = []
+  stuck_leaf (assert e) = []
+  stuck_leaf (print w es) = []
+  stuck_leaf skip = []
+  stuck_leaf (goto w) = []
+  stuck_leaf break = []
+  stuck_leaf timeout = []
+  stuck_leaf else = []
+  stuck_leaf (run w es) = pick (room w) [] (leaf (run w es) ∷ [])
+  stuck_leaf (set_run r w es) = []
 
   -- those for which there is no room, among the first statements of a tree, in text order
-  unfoldable pub stuckIn : {k : Sort} → Tree k → List (Tree action)
-  stuckIn (leaf l) = stuckLeaf l
-  stuckIn (select os) = stuckIn os
-  stuckIn (loop os) = stuckIn os
-  stuckIn (bare a) = stuckIn a
-  stuckIn (labelled w a) = stuckIn a
-  stuckIn end = []
-  stuckIn (then s q) = stuckIn s
-  stuckIn over = []
-  stuckIn (option q os) = stuckIn q ++ stuckIn os
+  unfoldable pub stuck_in : {k : Sort} → Tree k → List (Tree action)
+  stuck_in (leaf l) = stuck_leaf l
+  stuck_in (select os) = stuck_in os
+  stuck_in (loop os) = stuck_in os
+  stuck_in (bare a) = stuck_in a
+  stuck_in (labelled w a) = stuck_in a
+  stuck_in end = []
+  stuck_in (then s q) = stuck_in s
+  stuck_in over = []
+  stuck_in (option q os) = stuck_in q ++ stuck_in os
 
 module _ (m : Model) (σ : State) where
-  abbrev pub stuckAt : ℕ → Found → List (Tree action)
-  stuckAt p nothing = []
-  stuckAt p (found a n o) = stuckIn (stageOf m σ p).room a
+  abbrev pub stuck_at : ℕ → Found → List (Tree action)
+  stuck_at p nothing = []
+  stuck_at p (found a n o) = stuck_in (stage_of m σ p).room a
 
   -- which ceiling is met: that of processes, or else that of channels
-  abbrev pub ceilingText : List ℕ
-  ceilingText = pick (ltb (length σ.processes) processesMost) (digitsOf channelsMost ++ bytes " channels are the most\n") (digitsOf processesMost ++ bytes " processes are the most\n")
+  abbrev pub ceiling_text : List ℕ
+  ceiling_text = pick (ltb (length σ.processes) processes_most) (digits_of channels_most ++ bytes " channels are the most\n") (digits_of processes_most ++ bytes " processes are the most\n")
 
   -- process p, where it stands at some; else `rest`
-  abbrev pub waitText : ℕ → List (Tree action) → List ℕ → List ℕ
-  waitText p [] rest = rest
-  waitText p (a ∷ others) rest = bytes "\tprocess " ++ (digitsOf p ++ (bytes " waits at " ++ (eachVisible (statementText a) ++ (bytes ": " ++ ceilingText))))
+  abbrev pub wait_text : ℕ → List (Tree action) → List ℕ → List ℕ
+  wait_text p [] rest = rest
+  wait_text p (a ∷ others) rest = bytes "\tprocess " ++ (digits_of p ++ (bytes " waits at " ++ (each_visible (statement_text a) ++ (bytes ": " ++ ceiling_text))))
 
   -- the processes from p on, of which the list has as many
-  unfoldable pub waitsFrom : ℕ → List Process → List ℕ
-  waitsFrom p [] = []
-  waitsFrom p (x ∷ xs) = waitText p (stuckAt p (standing m σ p x.place)) (waitsFrom (p + 1) xs)
+  unfoldable pub waits_from : ℕ → List Process → List ℕ
+  waits_from p [] = []
+  waits_from p (x ∷ xs) = wait_text p (stuck_at p (standing m σ p x.place)) (waits_from (p + 1) xs)
 
-  abbrev pub waitsText : List ℕ
-  waitsText = waitsFrom 0 σ.processes
+  abbrev pub waits_text : List ℕ
+  waits_text = waits_from 0 σ.processes

@@ -11,9 +11,9 @@ use borrow.Author.Tests.{leb-true}
 use Rattle.base_kinds.specs.Kinds.{Token, name, number}
 use Rattle.spec_grammar.specs.Marks.{'[, '], 'comma, 'semi}
 use Rattle.spec_grammar.specs.Tree.{Name, Expr, Ref, Received, Leaf, Sort, sequence, Tree, Value, Variable, variable, Declaration, Group, Body, body, Activity, Part, Model}
-use Rattle.spec_grammar.specs.Grammar.{Listed, one, more, Maybe-listed, no-list, a-list, Message, commas, call, no-semi, none-trails, by-semi, A-name, a-name, A-type, a-type, E, e-plain, e-index, e-number, e-true, e-false, e-query, e-group, e-choice, e-unary, e-binary, e_up, An-expression, A-reference, A-received, r-into, r-eval, r-number, r-true, r-false, A-leaf, s-express, s-assign, s-increment, s-decrement, s-send, s-receive, s-assert, s-print-alone, s-print, s-skip, s-goto, s-break, s-timeout, s-else, s-run, s-set-run, D, s-leaf, s_if, s-do, s-bare, s-label, q-last, q-then, o-last, o-also, A-value, v-number, v-minus, v-true, v-false, v-name, A-variable, x-bare, x-set, x-array, x-array-set, x-channel, A-declaration, declaration, A-group, a-group, Items, statements, declared, A-body, a_body, An-activity, not-active, active, active-times, A-unit, u-mtypes, u-global, u-process, u-init, Gram, g-last, g-more}
-use Rattle.spec_grammar.specs.Print.{wrap, print-exp, print-ref, print-whole, further, join, print-received, before, print-leaf, print-tree, print-type, print-value, print-variable, print-declaration, print-name, print-group, print-items, print-body, print-activity, print-part, print-model}
-use Rattle.spec_grammar.proofs.Levels.{level-top}
+use Rattle.spec_grammar.specs.Grammar.{Listed, one, more, MaybeListed, no_list, a_list, Message, commas, call, no_semi, none_trails, by_semi, AName, a_name, AType, a_type, E, e_plain, e_index, e_number, e_true, e_false, e_query, e_group, e_choice, e_unary, e_binary, e_up, AnExpression, AReference, AReceived, r_into, r_eval, r_number, r_true, r_false, ALeaf, s_express, s_assign, s_increment, s_decrement, s_send, s_receive, s_assert, s_print_alone, s_print, s_skip, s_goto, s_break, s_timeout, s_else, s_run, s_set_run, D, s_leaf, s_if, s_do, s_bare, s_label, q_last, q_then, o_last, o_also, AValue, v_number, v_minus, v_true, v_false, v_name, AVariable, x_bare, x_set, x_array, x_array_set, x_channel, ADeclaration, declaration, AGroup, a_group, Items, statements, declared, ABody, a_body, AnActivity, not_active, active, active_times, AUnit, u_mtypes, u_global, u_process, u_init, Gram, g_last, g_more}
+use Rattle.spec_grammar.specs.Print.{wrap, print_exp, print_ref, print_whole, further, join, print_received, before, print_leaf, print_tree, print_type, print_value, print_variable, print_declaration, print_name, print_group, print_items, print_body, print_activity, print_part, print_model}
+use Rattle.spec_grammar.proofs.Levels.{level_top}
 
 -- what stands where a tighter expression is asked for stands where a looser one is
 loosen : (l : ℕ) {m : ℕ} {ts : List Token} {e : Expr} → m ≤ l → E l ts e → E m ts e
@@ -26,31 +26,31 @@ loosen (suc l) {m} {ts} {e} h x = go (dec_le m l) (λ h'. loosen l h' (e_up x))
 
 wrapped : (l k : ℕ) {ts : List Token} {e : Expr} → l ≤ 11 → 1 ≤ k → E k ts e → (b : Bool) → leb l k ≡ b → E l (wrap b ts) e
 wrapped l k h i x true e = loosen k (leb-true l k e) x
-wrapped l k h i x false e = loosen 11 h (e-group (loosen k i x))
+wrapped l k h i x false e = loosen 11 h (e_group (loosen k i x))
 
 -- an expression at any level; and a reference as such
 abbrev Printed : ℕ → Expr → Type 0
-Printed k e = ((l : ℕ) → l ≤ 11 → E l (print-exp e l) e) × (12 ≤ k → E 12 (print-exp e 12) e)
+Printed k e = ((l : ℕ) → l ≤ 11 → E l (print_exp e l) e) × (12 ≤ k → E 12 (print_exp e 12) e)
 
-exp-printed : {k : ℕ} {ts : List Token} {e : Expr} → E k ts e → Printed k e
-exp-printed e-plain = (λ l h. loosen 12 (omega arith) e-plain, λ h. e-plain)
-exp-printed (e-index x) = (λ l h. loosen 12 (omega arith) (e-index ((exp-printed x).0 1 (omega arith))), λ h. e-index ((exp-printed x).0 1 (omega arith)))
-exp-printed e-number = (λ l h. loosen 11 h e-number, λ h. absurd (omega arith))
-exp-printed e-true = (λ l h. loosen 11 h e-true, λ h. absurd (omega arith))
-exp-printed e-false = (λ l h. loosen 11 h e-false, λ h. absurd (omega arith))
-exp-printed (e-query kind x) = (λ l h. loosen 11 h (e-query kind ((exp-printed x).1 (omega arith))), λ h. absurd (omega arith))
-exp-printed (e-group x) = ((exp-printed x).0, λ h. absurd (omega arith))
-exp-printed (e-choice x y z) = (λ l h. loosen 11 h (e-choice ((exp-printed x).0 1 (omega arith)) ((exp-printed y).0 1 (omega arith)) ((exp-printed z).0 1 (omega arith))), λ h. absurd (omega arith))
-exp-printed (e-unary u x) = (λ l h. loosen 11 h (e-unary u ((exp-printed x).0 11 (omega arith))), λ h. absurd (omega arith))
-exp-printed (e-binary {l = k} {o = o} i x y) =
-    (λ l h. rw i (wrapped l (suc k) h (omega arith) (e-binary i ((exp-printed x).0 (suc k) (omega (arith, level-top o k i))) ((exp-printed y).0 (suc (suc k)) (omega (arith, level-top o k i)))) (leb l (suc k)) refl), λ h. absurd (omega (arith, level-top o k i)))
-exp-printed (e_up x) = ((exp-printed x).0, λ h. (exp-printed x).1 (omega arith))
+exp_printed : {k : ℕ} {ts : List Token} {e : Expr} → E k ts e → Printed k e
+exp_printed e_plain = (λ l h. loosen 12 (omega arith) e_plain, λ h. e_plain)
+exp_printed (e_index x) = (λ l h. loosen 12 (omega arith) (e_index ((exp_printed x).0 1 (omega arith))), λ h. e_index ((exp_printed x).0 1 (omega arith)))
+exp_printed e_number = (λ l h. loosen 11 h e_number, λ h. absurd (omega arith))
+exp_printed e_true = (λ l h. loosen 11 h e_true, λ h. absurd (omega arith))
+exp_printed e_false = (λ l h. loosen 11 h e_false, λ h. absurd (omega arith))
+exp_printed (e_query kind x) = (λ l h. loosen 11 h (e_query kind ((exp_printed x).1 (omega arith))), λ h. absurd (omega arith))
+exp_printed (e_group x) = ((exp_printed x).0, λ h. absurd (omega arith))
+exp_printed (e_choice x y z) = (λ l h. loosen 11 h (e_choice ((exp_printed x).0 1 (omega arith)) ((exp_printed y).0 1 (omega arith)) ((exp_printed z).0 1 (omega arith))), λ h. absurd (omega arith))
+exp_printed (e_unary u x) = (λ l h. loosen 11 h (e_unary u ((exp_printed x).0 11 (omega arith))), λ h. absurd (omega arith))
+exp_printed (e_binary {l = k} {o = o} i x y) =
+    (λ l h. rw i (wrapped l (suc k) h (omega arith) (e_binary i ((exp_printed x).0 (suc k) (omega (arith, level_top o k i))) ((exp_printed y).0 (suc (suc k)) (omega (arith, level_top o k i)))) (leb l (suc k)) refl), λ h. absurd (omega (arith, level_top o k i)))
+exp_printed (e_up x) = ((exp_printed x).0, λ h. (exp_printed x).1 (omega arith))
 
-whole-printed : (ts : List Token) (e : Expr) → An-expression ts e → An-expression (print-whole e) e
-whole-printed ts e x = (exp-printed x).0 1 (omega arith)
+whole-printed : (ts : List Token) (e : Expr) → AnExpression ts e → AnExpression (print_whole e) e
+whole-printed ts e x = (exp_printed x).0 1 (omega arith)
 
-ref-printed : {ts : List Token} {r : Ref} → A-reference ts r → A-reference (print-ref r) r
-ref-printed x = (exp-printed x).1 (omega arith)
+ref-printed : {ts : List Token} {r : Ref} → AReference ts r → AReference (print_ref r) r
+ref-printed x = (exp_printed x).1 (omega arith)
 
 -- lists
 pub join_more : (s : Token) {A : Type 0} (X : List Token → A → Type 0) (f : A → List Token) (a : A) {ts : List Token} {l : List A} → Listed s X ts l → join s f (a ∷ l) ≡ f a ++ s ∷ join s f l
@@ -65,115 +65,115 @@ list-printed : (s : Token) {A : Type 0} (X : List Token → A → Type 0) (f : A
 list-printed s X f g (one {ts = ts} {a = a} x) = rw append-nil (one (g ts a x))
 list-printed s X f g (more {ts = ts} {a = a} x y) = rw (join_more s X f a y) (more (g ts a x) (list-printed s X f g y))
 
-maybe-printed : (s : Token) {A : Type 0} (X : List Token → A → Type 0) (f : A → List Token) → ((ts : List Token) (a : A) → X ts a → X (f a) a) → {ts : List Token} {l : List A} → Maybe-listed s X ts l → Maybe-listed s X (join s f l) l
-maybe-printed s X f g no-list = no-list
-maybe-printed s X f g (a-list x) = a-list (list-printed s X f g x)
+maybe_printed : (s : Token) {A : Type 0} (X : List Token → A → Type 0) (f : A → List Token) → ((ts : List Token) (a : A) → X ts a → X (f a) a) → {ts : List Token} {l : List A} → MaybeListed s X ts l → MaybeListed s X (join s f l) l
+maybe_printed s X f g no_list = no_list
+maybe_printed s X f g (a_list x) = a_list (list-printed s X f g x)
 
 message-printed : {A : Type 0} (X : List Token → A → Type 0) (f : A → List Token) → ((ts : List Token) (a : A) → X ts a → X (f a) a) → {ts : List Token} {l : List A} → Message X ts l → Message X (join 'comma f l) l
 message-printed X f g (commas x) = commas (list-printed 'comma X f g x)
 message-printed X f g (call {ts = ts} {a = a} x y) = rw (join_more 'comma X f a y) (commas (more (g ts a x) (list-printed 'comma X f g y)))
 
-received-printed : (ts : List Token) (x : Received) → A-received ts x → A-received (print-received x) x
-received-printed ts x (r-into y) = r-into (ref-printed y)
-received-printed ts x (r-eval {ts = us} {e = e} y) = r-eval (whole-printed us e y)
-received-printed ts x r-number = r-number
-received-printed ts x r-true = r-true
-received-printed ts x r-false = r-false
+received-printed : (ts : List Token) (x : Received) → AReceived ts x → AReceived (print_received x) x
+received-printed ts x (r_into y) = r_into (ref-printed y)
+received-printed ts x (r_eval {ts = us} {e = e} y) = r_eval (whole-printed us e y)
+received-printed ts x r_number = r_number
+received-printed ts x r_true = r_true
+received-printed ts x r_false = r_false
 
-arguments-printed : {ts : List Token} {es : List Expr} → Listed 'comma An-expression ts es → Listed 'comma An-expression (join 'comma print-whole es) es
-arguments-printed x = list-printed 'comma An-expression print-whole whole-printed x
+arguments-printed : {ts : List Token} {es : List Expr} → Listed 'comma AnExpression ts es → Listed 'comma AnExpression (join 'comma print_whole es) es
+arguments-printed x = list-printed 'comma AnExpression print_whole whole-printed x
 
 -- statements
-pub sequence-before : {ts : List Token} {q : Tree sequence} → D sequence ts q → before q (print-tree q) ≡ 'semi ∷ print-tree q
-sequence-before (q-last x u) = refl
-sequence-before (q-then x u y) = refl
+pub sequence_before : {ts : List Token} {q : Tree sequence} → D sequence ts q → before q (print_tree q) ≡ 'semi ∷ print_tree q
+sequence_before (q_last x u) = refl
+sequence_before (q_then x u y) = refl
 
-leaf-printed : {ts : List Token} {l : Leaf} → A-leaf ts l → A-leaf (print-leaf l) l
-leaf-printed (s-express {ts = ts} {e = e} x) = s-express (whole-printed ts e x)
-leaf-printed (s-assign {us = us} {e = e} x y) = s-assign (ref-printed x) (whole-printed us e y)
-leaf-printed (s-increment x) = s-increment (ref-printed x)
-leaf-printed (s-decrement x) = s-decrement (ref-printed x)
-leaf-printed (s-send kind x y) = s-send kind (ref-printed x) (message-printed An-expression print-whole whole-printed y)
-leaf-printed (s-receive kind x y) = s-receive kind (ref-printed x) (message-printed A-received print-received received-printed y)
-leaf-printed (s-assert {ts = ts} {e = e} x) = s-assert (whole-printed ts e x)
-leaf-printed s-print-alone = s-print-alone
-leaf-printed (s-print x) = rw (further-more 'comma An-expression print-whole x) (s-print (arguments-printed x))
-leaf-printed s-skip = s-skip
-leaf-printed s-goto = s-goto
-leaf-printed s-break = s-break
-leaf-printed s-timeout = s-timeout
-leaf-printed s-else = s-else
-leaf-printed (s-run x) = s-run (maybe-printed 'comma An-expression print-whole whole-printed x)
-leaf-printed (s-set-run x y) = s-set-run (ref-printed x) (maybe-printed 'comma An-expression print-whole whole-printed y)
+leaf-printed : {ts : List Token} {l : Leaf} → ALeaf ts l → ALeaf (print_leaf l) l
+leaf-printed (s_express {ts = ts} {e = e} x) = s_express (whole-printed ts e x)
+leaf-printed (s_assign {us = us} {e = e} x y) = s_assign (ref-printed x) (whole-printed us e y)
+leaf-printed (s_increment x) = s_increment (ref-printed x)
+leaf-printed (s_decrement x) = s_decrement (ref-printed x)
+leaf-printed (s_send kind x y) = s_send kind (ref-printed x) (message-printed AnExpression print_whole whole-printed y)
+leaf-printed (s_receive kind x y) = s_receive kind (ref-printed x) (message-printed AReceived print_received received-printed y)
+leaf-printed (s_assert {ts = ts} {e = e} x) = s_assert (whole-printed ts e x)
+leaf-printed s_print_alone = s_print_alone
+leaf-printed (s_print x) = rw (further-more 'comma AnExpression print_whole x) (s_print (arguments-printed x))
+leaf-printed s_skip = s_skip
+leaf-printed s_goto = s_goto
+leaf-printed s_break = s_break
+leaf-printed s_timeout = s_timeout
+leaf-printed s_else = s_else
+leaf-printed (s_run x) = s_run (maybe_printed 'comma AnExpression print_whole whole-printed x)
+leaf-printed (s_set_run x y) = s_set_run (ref-printed x) (maybe_printed 'comma AnExpression print_whole whole-printed y)
 
-tree-printed : {k : Sort} {ts : List Token} {t : Tree k} → D k ts t → D k (print-tree t) t
-tree-printed (s-leaf x) = s-leaf (leaf-printed x)
-tree-printed (s_if x) = s_if (tree-printed x)
-tree-printed (s-do x) = s-do (tree-printed x)
-tree-printed (s-bare x) = s-bare (tree-printed x)
-tree-printed (s-label x) = s-label (tree-printed x)
-tree-printed (q-last x u) = q-last (tree-printed x) none-trails
-tree-printed (q-then x u y) = rw (sequence-before y) (simp append_assoc at (q-then (tree-printed x) (by-semi none-trails) (tree-printed y)))
-tree-printed (o-last x) = rw append-nil (o-last (tree-printed x))
-tree-printed (o-also x y) = o-also (tree-printed x) (tree-printed y)
+tree_printed : {k : Sort} {ts : List Token} {t : Tree k} → D k ts t → D k (print_tree t) t
+tree_printed (s_leaf x) = s_leaf (leaf-printed x)
+tree_printed (s_if x) = s_if (tree_printed x)
+tree_printed (s_do x) = s_do (tree_printed x)
+tree_printed (s_bare x) = s_bare (tree_printed x)
+tree_printed (s_label x) = s_label (tree_printed x)
+tree_printed (q_last x u) = q_last (tree_printed x) none_trails
+tree_printed (q_then x u y) = rw (sequence_before y) (simp append_assoc at (q_then (tree_printed x) (by_semi none_trails) (tree_printed y)))
+tree_printed (o_last x) = rw append-nil (o_last (tree_printed x))
+tree_printed (o_also x y) = o_also (tree_printed x) (tree_printed y)
 
 -- declarations
-type-printed : (ts : List Token) (k : ℕ) → A-type ts k → A-type (print-type k) k
-type-printed ts k (a-type x) = a-type x
+type_printed : (ts : List Token) (k : ℕ) → AType ts k → AType (print_type k) k
+type_printed ts k (a_type x) = a_type x
 
-name-printed : (ts : List Token) (w : Name) → A-name ts w → A-name (print-name w) w
-name-printed ts w a-name = a-name
+name-printed : (ts : List Token) (w : Name) → AName ts w → AName (print_name w) w
+name-printed ts w a_name = a_name
 
-set-printed : {k : ℕ} {w : Name} {ts : List Token} {v : Value} → A-value ts v → A-variable k (name w ∷ print-value v) (variable w none v)
-set-printed v-number = x-set v-number
-set-printed v-minus = x-set v-minus
-set-printed v-true = x-set v-true
-set-printed v-false = x-set v-false
-set-printed v-name = x-set v-name
+set-printed : {k : ℕ} {w : Name} {ts : List Token} {v : Value} → AValue ts v → AVariable k (name w ∷ print_value v) (variable w none v)
+set-printed v_number = x_set v_number
+set-printed v_minus = x_set v_minus
+set-printed v_true = x_set v_true
+set-printed v_false = x_set v_false
+set-printed v_name = x_set v_name
 
-array-set-printed : {k : ℕ} {w : Name} {n : ℕ} {ts : List Token} {v : Value} → A-value ts v → A-variable k (name w ∷ '[ ∷ number n ∷ '] ∷ print-value v) (variable w (some n) v)
-array-set-printed v-number = x-array-set v-number
-array-set-printed v-minus = x-array-set v-minus
-array-set-printed v-true = x-array-set v-true
-array-set-printed v-false = x-array-set v-false
-array-set-printed v-name = x-array-set v-name
+array_set_printed : {k : ℕ} {w : Name} {n : ℕ} {ts : List Token} {v : Value} → AValue ts v → AVariable k (name w ∷ '[ ∷ number n ∷ '] ∷ print_value v) (variable w (some n) v)
+array_set_printed v_number = x_array_set v_number
+array_set_printed v_minus = x_array_set v_minus
+array_set_printed v_true = x_array_set v_true
+array_set_printed v_false = x_array_set v_false
+array_set_printed v_name = x_array_set v_name
 
-variable-printed : (k : ℕ) (ts : List Token) (x : Variable) → A-variable k ts x → A-variable k (print-variable x) x
-variable-printed k ts x x-bare = x-bare
-variable-printed k ts x (x-set v) = set-printed v
-variable-printed k ts x x-array = x-array
-variable-printed k ts x (x-array-set v) = array-set-printed v
-variable-printed k ts x (x-channel y) = x-channel (list-printed 'comma A-type print-type type-printed y)
+variable_printed : (k : ℕ) (ts : List Token) (x : Variable) → AVariable k ts x → AVariable k (print_variable x) x
+variable_printed k ts x x_bare = x_bare
+variable_printed k ts x (x_set v) = set-printed v
+variable_printed k ts x x_array = x_array
+variable_printed k ts x (x_array_set v) = array_set_printed v
+variable_printed k ts x (x_channel y) = x_channel (list-printed 'comma AType print_type type_printed y)
 
-declaration-printed : {ts : List Token} {d : Declaration} → A-declaration ts d → A-declaration (print-declaration d) d
-declaration-printed (declaration {k = k} h x) = declaration h (list-printed 'comma (A-variable k) print-variable (variable-printed k) x)
+declaration_printed : {ts : List Token} {d : Declaration} → ADeclaration ts d → ADeclaration (print_declaration d) d
+declaration_printed (declaration {k = k} h x) = declaration h (list-printed 'comma (AVariable k) print_variable (variable_printed k) x)
 
-group-printed : (ts : List Token) (g : Group) → A-group ts g → A-group (print-group g) g
-group-printed ts g (a-group h x) = a-group h (list-printed 'comma A-name print-name name-printed x)
+group-printed : (ts : List Token) (g : Group) → AGroup ts g → AGroup (print_group g) g
+group-printed ts g (a_group h x) = a_group h (list-printed 'comma AName print_name name-printed x)
 
 -- bodies, units, models
-items-printed : {ts : List Token} {ds : List Declaration} {q : Tree sequence} → Items ts (body ds q) → Items (print-items ds q) (body ds q)
-items-printed (statements x) = statements (tree-printed x)
-items-printed (declared x u y) = simp append_assoc at (declared (declaration-printed x) (by-semi none-trails) (items-printed y))
+items-printed : {ts : List Token} {ds : List Declaration} {q : Tree sequence} → Items ts (body ds q) → Items (print_items ds q) (body ds q)
+items-printed (statements x) = statements (tree_printed x)
+items-printed (declared x u y) = simp append_assoc at (declared (declaration_printed x) (by_semi none_trails) (items-printed y))
 
-body-printed : {ts : List Token} {b : Body} → A-body ts b → A-body (print-body b) b
-body-printed (a_body {b = b} x) = go b x
+body_printed : {ts : List Token} {b : Body} → ABody ts b → ABody (print_body b) b
+body_printed (a_body {b = b} x) = go b x
   where
-    go : {ts : List Token} (b : Body) → Items ts b → A-body (print-body b) b
+    go : {ts : List Token} (b : Body) → Items ts b → ABody (print_body b) b
     go (body ds q) x = a_body (items-printed x)
 
-activity-printed : {ts : List Token} {a : Activity} → An-activity ts a → An-activity (print-activity a) a
-activity-printed not-active = not-active
-activity-printed active = active
-activity-printed active-times = active-times
+activity_printed : {ts : List Token} {a : Activity} → AnActivity ts a → AnActivity (print_activity a) a
+activity_printed not_active = not_active
+activity_printed active = active
+activity_printed active_times = active_times
 
-unit-printed : {ts : List Token} {u : Part} → A-unit ts u → A-unit (print-part u) u
-unit-printed (u-mtypes x) = u-mtypes (list-printed 'comma A-name print-name name-printed x)
-unit-printed (u-global x) = u-global (declaration-printed x)
-unit-printed (u-process x y z) = u-process (activity-printed x) (maybe-printed 'semi A-group print-group group-printed y) (body-printed z)
-unit-printed (u-init x) = u-init (body-printed x)
+unit-printed : {ts : List Token} {u : Part} → AUnit ts u → AUnit (print_part u) u
+unit-printed (u_mtypes x) = u_mtypes (list-printed 'comma AName print_name name-printed x)
+unit-printed (u_global x) = u_global (declaration_printed x)
+unit-printed (u_process x y z) = u_process (activity_printed x) (maybe_printed 'semi AGroup print_group group-printed y) (body_printed z)
+unit-printed (u_init x) = u_init (body_printed x)
 
 -- THE PRINTED TOKENS OF A TEXT'S TREE ARE A TEXT OF THAT TREE
-pub print-in : {ts : List Token} {m : Model} → Gram ts m → Gram (print-model m) m
-print-in (g-last x u) = g-last (unit-printed x) no-semi
-print-in (g-more x u y) = simp append-nil at (g-more (unit-printed x) no-semi (print-in y))
+pub print_in : {ts : List Token} {m : Model} → Gram ts m → Gram (print_model m) m
+print_in (g_last x u) = g_last (unit-printed x) no_semi
+print_in (g_more x u y) = simp append-nil at (g_more (unit-printed x) no_semi (print_in y))

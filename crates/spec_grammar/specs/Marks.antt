@@ -4,14 +4,14 @@ use Rattle.std.specs.Prelude.{ℕ}
 use Rattle.base_kinds.specs.Kinds.{Token, sym}
 
 -- the kinds that trees hold of `!`, `?` and `len`
-abbrev pub k-bang : ℕ
-k-bang = 19
+abbrev pub k_bang : ℕ
+k_bang = 19
 
-abbrev pub k-ask : ℕ
-k-ask = 35
+abbrev pub k_ask : ℕ
+k_ask = 35
 
-abbrev pub k-len : ℕ
-k-len = 57
+abbrev pub k_len : ℕ
+k_len = 57
 
 abbrev pub '- : Token
 '- = sym 15

@@ -35,7 +35,7 @@ pub data Received : Type 0 where
   into : Ref → Received
   equal : Expr → Received
   exactly : ℕ → Received
-  exactly-true exactly-false : Received
+  exactly_true exactly_false : Received
 
 -- a statement that holds no other; a send and a receive have the kind of their mark
 pub data Leaf : Type 0 where
@@ -53,24 +53,24 @@ pub data Leaf : Type 0 where
   timeout : Leaf
   else : Leaf
   run : Name → List Expr → Leaf
-  set-run : Ref → Name → List Expr → Leaf
+  set_run : Ref → Name → List Expr → Leaf
 
-abbrev pub is-else : Leaf → Bool
-is-else (express e) = false
-is-else (assign r e) = false
-is-else (increment r) = false
-is-else (decrement r) = false
-is-else (send o r es) = false
-is-else (receive o r xs) = false
-is-else (assert e) = false
-is-else (print w es) = false
-is-else skip = false
-is-else (goto w) = false
-is-else break = false
-is-else timeout = false
-is-else else = true
-is-else (run w es) = false
-is-else (set-run r w es) = false
+abbrev pub is_else : Leaf → Bool
+is_else (express e) = false
+is_else (assign r e) = false
+is_else (increment r) = false
+is_else (decrement r) = false
+is_else (send o r es) = false
+is_else (receive o r xs) = false
+is_else (assert e) = false
+is_else (print w es) = false
+is_else skip = false
+is_else (goto w) = false
+is_else break = false
+is_else timeout = false
+is_else else = true
+is_else (run w es) = false
+is_else (set_run r w es) = false
 
 pub data Sort : Type 0 where
   action statement sequence options : Sort
@@ -90,11 +90,11 @@ pub data Tree : Sort → Type 0 where
 -- the value that a declaration gives
 pub data Value : Type 0 where
   unset : Value
-  set-number : ℕ → Value
-  set-minus : ℕ → Value
-  set-true set-false : Value
-  set-name : Name → Value
-  set-channel : ℕ → List ℕ → Value
+  set_number : ℕ → Value
+  set_minus : ℕ → Value
+  set_true set_false : Value
+  set_name : Name → Value
+  set_channel : ℕ → List ℕ → Value
 
 -- a declared name: its size, if it is an array, and its value
 pub data Variable : Type 0 where

@@ -4,10 +4,10 @@ use Rattle.std.proofs.Math.Option.{none, some}
 use Rattle.base_kinds.specs.Kinds.{bytes}
 use Rattle.base_bytes.specs.Lists.{same}
 use Rattle.spec_text.specs.Find.{find}
-use Rattle.spec_text.specs.Formats.{digitsBy}
-use Rattle.spec_text.specs.Writing.{writeBehind}
+use Rattle.spec_text.specs.Formats.{digits_by}
+use Rattle.spec_text.specs.Writing.{write_behind}
 use Rattle.spec_grammar.specs.Tree.{Name, num, get, plain, unary, binary, leaf, express, assign, skip, else, break, run, select, loop, bare, labelled, end, then, over, option}
-use Rattle.spec_grammar.specs.Tree.{unset, set-number, set-channel, variable, declare, group, body, idle, once, times, mtypes, global, process, init, Model}
+use Rattle.spec_grammar.specs.Tree.{unset, set_number, set_channel, variable, declare, group, body, idle, once, times, mtypes, global, process, init, Model}
 use Rattle.spec_layout.specs.Layout.{layout}
 
 -- a line of its own, and its end
@@ -26,8 +26,8 @@ c = bytes "c"
 -- `mtype`, `byte`, `chan`, `int`; `-`, `>`
 units : Model
 units =
-    mtypes (a ∷ b ∷ []) ∷ global (declare 45 (variable (bytes "x") none (set-number 3) ∷ variable (bytes "y") (some 2) unset ∷ []))
-    ∷ process (times 2) (bytes "P") [] (body (declare 43 (variable c none (set-channel 2 (45 ∷ 40 ∷ [])) ∷ []) ∷ []) (then (bare (leaf skip)) end))
+    mtypes (a ∷ b ∷ []) ∷ global (declare 45 (variable (bytes "x") none (set_number 3) ∷ variable (bytes "y") (some 2) unset ∷ []))
+    ∷ process (times 2) (bytes "P") [] (body (declare 43 (variable c none (set_channel 2 (45 ∷ 40 ∷ [])) ∷ []) ∷ []) (then (bare (leaf skip)) end))
     ∷ process idle (bytes "Q") (group 45 (a ∷ b ∷ []) ∷ group 40 (c ∷ []) ∷ []) (body [] (then (bare (leaf skip)) end)) ∷ init (body [] (then (bare (leaf (run (bytes "Q") (num 1 ∷ num 2 ∷ num 3 ∷ [])))) end)) ∷ []
 
 every-unit :
@@ -36,7 +36,7 @@ every-unit :
     ++ ln (bytes "active[2]proctype P()") ++ ln (bytes "{") ++ ln (bytes "  chan c=[2]of{int,byte};") ++ ln (bytes "  skip") ++ ln (bytes "}")
     ++ ln (bytes "proctype Q(int a,b;byte c)") ++ ln (bytes "{") ++ ln (bytes "  skip") ++ ln (bytes "}")
     ++ ln (bytes "init") ++ ln (bytes "{") ++ ln (bytes "  run Q(1,2,3)") ++ ln (bytes "}")
-unfolding units writeBehind digitsBy find same
+unfolding units write_behind digits_by find same
 every-unit = refl
 
 statements : Model
@@ -48,10 +48,10 @@ statements =
     (then (bare (leaf skip)) end)))
     ∷ []
 
-every-statement :
+every_statement :
     layout statements
     ≡ ln (bytes "active proctype P()") ++ ln (bytes "{") ++ ln (bytes "  int a;") ++ ln (bytes "  L:if")
     ++ ln (bytes "    ::") ++ ln (bytes "    a>0;") ++ ln (bytes "    do") ++ ln (bytes "      ::") ++ ln (bytes "      break") ++ ln (bytes "    od")
     ++ ln (bytes "    ::") ++ ln (bytes "    else;") ++ ln (bytes "    M:a=a- -a") ++ ln (bytes "  fi;") ++ ln (bytes "  skip") ++ ln (bytes "}")
-unfolding statements writeBehind digitsBy find same
-every-statement = refl
+unfolding statements write_behind digits_by find same
+every_statement = refl

@@ -9,31 +9,31 @@ use mathlib.Core.List.{List, [], ◌∷◌, ◌++◌}
 use lib.ListN.{length, get_or, take, drop, length-append, length-take, length-drop, take-append-drop, get_or-append}
 use lib.Seq.{length-take-le, drop-append-add, take-length, drop-length, drop-cons, take_at, drop_at, get_or_at, get_or-append-add, get_or-take, get_or-drop}
 use Rattle.base_bytes.specs.Choice.{pick}
-use Rattle.base_values.specs.Operators.{isTrue}
+use Rattle.base_values.specs.Operators.{is_true}
 use Rattle.base_values.specs.declared.Answer.{Answer}
 use Rattle.base_values.specs.declared.Answer.TheVariants.{Value, Fails}
-use Rattle.spec_machine.specs.Messages.{put_at, takeAt, Finding, found, none, spoilt, findBy, findFrom}
+use Rattle.spec_machine.specs.Messages.{put_at, take_at_lem, Finding, found, none, spoilt, find_by, find_from}
 
 module _ {A : Type 0} where
   -- ---- how many there are
   pub put-length : (k : ℕ) (x : A) (l : List A) → length (put_at k x l) ≡ suc (length l)
   put-length k x l = let a = length-append (take k l) (x ∷ drop k l) in let b = length-take k l in let c = length-drop k l in omega arith
 
-  pub take-length-less : (k : ℕ) (l : List A) → k < length l → suc (length (takeAt k l)) ≡ length l
-  take-length-less k l h = let a = length-append (take k l) (drop (k + 1) l) in let b = length-take k l in let c = length-drop (k + 1) l in omega arith
+  pub take_length_less : (k : ℕ) (l : List A) → k < length l → suc (length (take_at_lem k l)) ≡ length l
+  take_length_less k l h = let a = length-append (take k l) (drop (k + 1) l) in let b = length-take k l in let c = length-drop (k + 1) l in omega arith
 
   -- ---- at the ends
   pub put_last : (x : A) (l : List A) → put_at (length l) x l ≡ l ++ x ∷ []
   put_last x l = ap₂ (λ (a b : List A). a ++ x ∷ b) (take-length l) (drop-length l)
 
-  pub take-first : (l : List A) → takeAt 0 l ≡ drop 1 l
+  pub take-first : (l : List A) → take_at_lem 0 l ≡ drop 1 l
   take-first l = refl
 
   -- ---- one after the other
   front : (k : ℕ) (l : List A) → k ≤ length l → length (take k l) ≡ k
   front k l h = length-take-le k l h
 
-  pub take_put : (k : ℕ) (x : A) (l : List A) → k ≤ length l → takeAt k (put_at k x l) ≡ l
+  pub take_put : (k : ℕ) (x : A) (l : List A) → k ≤ length l → take_at_lem k (put_at k x l) ≡ l
   take_put k x l h =
       ap₂ ◌++◌ (take_at (take k l) (x ∷ drop k l) k (front k l h)) behind ∙ take-append-drop k l
     where
@@ -42,7 +42,7 @@ module _ {A : Type 0} where
           let n : k + 1 ≡ length (take k l) + 1 = omega (arith, front k l h) in
           ap (λ i. drop i (take k l ++ x ∷ drop k l)) n ∙ drop-append-add (take k l) (x ∷ drop k l) 1
 
-  pub put-take : (k : ℕ) (l : List A) (d : A) → k < length l → put_at k (get_or l k d) (takeAt k l) ≡ l
+  pub put-take : (k : ℕ) (l : List A) (d : A) → k < length l → put_at k (get_or l k d) (take_at_lem k l) ≡ l
   put-take k l d h =
       ap₂ (λ (a b : List A). a ++ get_or l k d ∷ b) (take_at (take k l) (drop (k + 1) l) k (front k l (omega arith))) (drop_at (take k l) (drop (k + 1) l) k (front k l (omega arith)))
       ∙ ap (λ (b : List A). take k l ++ b) (ap (λ i. get_or l k d ∷ drop i l) (let n : k + 1 ≡ suc k = omega arith in n) ∙ sym (drop-cons l k d h)) ∙ take-append-drop k l
@@ -65,10 +65,10 @@ module _ {A : Type 0} where
   put-behind k i x l d h g =
       behind k (suc (i - k)) (i + 1) l (x ∷ drop k l) d h (omega arith) ∙ get_or-drop k l (i - k) d ∙ ap (λ n. get_or l n d) (let n : k + (i - k) ≡ i = omega arith in n)
 
-  pub take-before : (k i : ℕ) (l : List A) (d : A) → k ≤ length l → i < k → get_or (takeAt k l) i d ≡ get_or l i d
+  pub take-before : (k i : ℕ) (l : List A) (d : A) → k ≤ length l → i < k → get_or (take_at_lem k l) i d ≡ get_or l i d
   take-before k i l d h g = before k i l (drop (k + 1) l) d h g
 
-  pub take_behind : (k i : ℕ) (l : List A) (d : A) → k ≤ length l → k ≤ i → get_or (takeAt k l) i d ≡ get_or l (i + 1) d
+  pub take_behind : (k i : ℕ) (l : List A) (d : A) → k ≤ length l → k ≤ i → get_or (take_at_lem k l) i d ≡ get_or l (i + 1) d
   take_behind k i l d h g =
       behind k (i - k) i l (drop (k + 1) l) d h (omega arith) ∙ get_or-drop (k + 1) l (i - k) d ∙ ap (λ n. get_or l n d) (let n : k + 1 + (i - k) ≡ i + 1 = omega arith in n)
 
@@ -84,12 +84,12 @@ module _ {A : Type 0} where
             let e = put-length k x l in
             subst Q (sym (ap (λ n. get_or (put_at k x l) n d) (let n : i ≡ i - 1 + 1 = omega arith in n) ∙ put-behind k (i - 1) x l d h (omega arith))) (all (i - 1) (omega arith))
 
-    pub take-each : k < length l → (i : ℕ) → i < length (takeAt k l) → Q (get_or (takeAt k l) i d)
+    pub take-each : k < length l → (i : ℕ) → i < length (take_at_lem k l) → Q (get_or (take_at_lem k l) i d)
     take-each h i g = go (dec_lt i k)
       where
-        go : Dec (i < k) → Q (get_or (takeAt k l) i d)
+        go : Dec (i < k) → Q (get_or (take_at_lem k l) i d)
         go (yes a) = subst Q (sym (take-before k i l d (omega arith) a)) (all i (omega arith))
-        go (no a) = let e = take-length-less k l h in subst Q (sym (take_behind k i l d (omega arith) (omega arith))) (all (i + 1) (omega arith))
+        go (no a) = let e = take_length_less k l h in subst Q (sym (take_behind k i l d (omega arith) (omega arith))) (all (i + 1) (omega arith))
 
 -- ---- what is found
 abbrev number_in : Finding → ℕ
@@ -97,46 +97,46 @@ number_in (found k) = k
 number_in none = 0
 number_in (spoilt f) = 0
 
-abbrev Is-found : Finding → Type 0
-Is-found (found k) = Unit {0}
-Is-found none = ⊥
-Is-found (spoilt f) = ⊥
+abbrev IsFound : Finding → Type 0
+IsFound (found k) = Unit {0}
+IsFound none = ⊥
+IsFound (spoilt f) = ⊥
 
 -- number j is the first of the n from number k on that passes
 pub record First (test : ℕ → Answer) (k n j : ℕ) : Type 0 where
   pub from : k ≤ j
   pub below : j < k + n
-  pub passes : findBy j (test j) none ≡ found j
-  pub others : (i : ℕ) → k ≤ i → i < j → findBy i (test i) none ≡ none
+  pub passes : find_by j (test j) none ≡ found j
+  pub others : (i : ℕ) → k ≤ i → i < j → find_by i (test i) none ≡ none
 
-pub found_first : (test : ℕ → Answer) (n k j : ℕ) → findFrom test k n ≡ found j → First test k n j
-unfolding findFrom
-found_first test zero k j e = absurd (subst Is-found (sym e) tt)
+pub found_first : (test : ℕ → Answer) (n k j : ℕ) → find_from test k n ≡ found j → First test k n j
+unfolding find_from
+found_first test zero k j e = absurd (subst IsFound (sym e) tt)
 found_first test (suc n) k j e = go (λ q. found_first test n (k + 1) j q) (test k) refl e
   where
-    here : findBy k (test k) none ≡ found k → k ≡ j → First test k (suc n) j
-    here p q = record { from = omega arith; below = omega arith; passes = subst (λ i. findBy i (test i) none ≡ found i) q p; others = λ i a b. absurd (omega arith) }
+    here : find_by k (test k) none ≡ found k → k ≡ j → First test k (suc n) j
+    here p q = record { from = omega arith; below = omega arith; passes = subst (λ i. find_by i (test i) none ≡ found i) q p; others = λ i a b. absurd (omega arith) }
 
-    later : findBy k (test k) none ≡ none → First test (k + 1) n j → First test k (suc n) j
+    later : find_by k (test k) none ≡ none → First test (k + 1) n j → First test k (suc n) j
     later p r =
         let a = r.from in
         let b = r.below in
         record { from = omega arith; below = omega arith; passes = r.passes; others = λ i c d. between i c d (ℕ_discrete i k) }
       where
-        between : (i : ℕ) → k ≤ i → i < j → Dec (i ≡ k) → findBy i (test i) none ≡ none
-        between i c d (yes e) = subst (λ i. findBy i (test i) none ≡ none) (sym e) p
+        between : (i : ℕ) → k ≤ i → i < j → Dec (i ≡ k) → find_by i (test i) none ≡ none
+        between i c d (yes e) = subst (λ i. find_by i (test i) none ≡ none) (sym e) p
         between i c d (no e) = r.others i (omega arith) d
 
-    go : (findFrom test (k + 1) n ≡ found j → First test (k + 1) n j) → (x : Answer) → test k ≡ x → findBy k x (findFrom test (k + 1) n) ≡ found j → First test k (suc n) j
-    go rest (Value v) t q = on (isTrue v) refl q
+    go : (find_from test (k + 1) n ≡ found j → First test (k + 1) n j) → (x : Answer) → test k ≡ x → find_by k x (find_from test (k + 1) n) ≡ found j → First test k (suc n) j
+    go rest (Value v) t q = on (is_true v) refl q
       where
-        on : (b : Bool) → isTrue v ≡ b → pick b (found k) (findFrom test (k + 1) n) ≡ found j → First test k (suc n) j
+        on : (b : Bool) → is_true v ≡ b → pick b (found k) (find_from test (k + 1) n) ≡ found j → First test k (suc n) j
         on true e q = here (rw (t, e)) (ap number_in q)
         on false e q = later (rw (t, e)) (rest q)
-    go rest (Fails f) t q = absurd (subst Is-found (sym q) tt)
+    go rest (Fails f) t q = absurd (subst IsFound (sym q) tt)
 
 -- the same tests find the same
-pub find-same : (test like : ℕ → Answer) (n k : ℕ) → ((i : ℕ) → k ≤ i → i < k + n → test i ≡ like i) → findFrom test k n ≡ findFrom like k n
-unfolding findFrom
+pub find-same : (test like : ℕ → Answer) (n k : ℕ) → ((i : ℕ) → k ≤ i → i < k + n → test i ≡ like i) → find_from test k n ≡ find_from like k n
+unfolding find_from
 find-same test like zero k h = refl
-find-same test like (suc n) k h = ap₂ (findBy k) (h k (omega arith) (omega arith)) (find-same test like n (k + 1) (λ i a b. h i (omega arith) (omega arith)))
+find-same test like (suc n) k h = ap₂ (find_by k) (h k (omega arith) (omega arith)) (find-same test like n (k + 1) (λ i a b. h i (omega arith) (omega arith)))

@@ -4,14 +4,14 @@
 use Rattle.std.specs.Prelude.{ℕ, ◌+◌, List, [], ◌∷◌, ◌++◌, length, ℤ, pos, negsuc, ◌+ℤ◌}
 use Rattle.base_bytes.specs.Choice.{pick}
 use Rattle.base_values.specs.Bits.{wrap32}
-use Rattle.base_values.specs.Operators.{isTrue}
+use Rattle.base_values.specs.Operators.{is_true}
 use Rattle.base_values.specs.declared.Answer.{Answer}
 use Rattle.base_values.specs.declared.Answer.TheVariants.{Value, Fails}
 use Rattle.base_outcome.specs.declared.Taken.{Taken}
 use Rattle.base_outcome.specs.declared.Taken.TheVariants.{Done, Refuted, Faulted, Idle}
 use Rattle.base_values.specs.declared.Fault.{Fault}
 use Rattle.spec_text.specs.Formats.{formatted, opened, counted}
-use Rattle.spec_grammar.specs.Tree.{Name, Received, into, equal, exactly, exactly-true, exactly-false, action, Tree, leaf, express, assign, increment, decrement, send, receive, assert, print, skip, goto, break, timeout, else, run, set-run, select, loop, Leaf}
+use Rattle.spec_grammar.specs.Tree.{Name, Received, into, equal, exactly, exactly_true, exactly_false, action, Tree, leaf, express, assign, increment, decrement, send, receive, assert, print, skip, goto, break, timeout, else, run, set_run, select, loop, Leaf}
 use Rattle.spec_machine.specs.Eval.{eval}
 use Rattle.spec_machine.specs.Stage.{Message, Stage, Ways, Change}
 use Rattle.spec_machine.specs.Arguments.{name_of, Aim, hit, miss, aim, Reach, channel, astray, reach, WorkedOut, all, stopped, values, finding, Aims, hits, missed, targets}
@@ -30,8 +30,8 @@ module _ {S : Type 0} (c : Stage S) where
   delivery x f (into r) k s = pick (c.constant (name_of r)) s (c.store (name_of r) k (x f) s)
   delivery x f (equal e) k s = s
   delivery x f (exactly n) k s = s
-  delivery x f exactly-true k s = s
-  delivery x f exactly-false k s = s
+  delivery x f exactly_true k s = s
+  delivery x f exactly_false k s = s
 
   unfoldable pub deliveries : Message → ℕ → List Received → List ℕ → Change S
   deliveries x f [] ks s = s
@@ -39,94 +39,94 @@ module _ {S : Type 0} (c : Stage S) where
   deliveries x f (r ∷ rs) (k ∷ ks) s = deliveries x (f + 1) rs ks (delivery x f r k s)
 
   -- ## by what was worked out, n being the place that follows
-  abbrev pub goOn : ℕ → S → Outcome S
-  goOn n s = (Done, c.go n s)
+  abbrev pub go_on : ℕ → S → Outcome S
+  go_on n s = (Done, c.go n s)
 
-  abbrev pub expressedBy : ℕ → S → Answer → Outcome S
-  expressedBy n s (Value v) = goOn n s
-  expressedBy n s (Fails f) = fault s f
+  abbrev pub expressed_by : ℕ → S → Answer → Outcome S
+  expressed_by n s (Value v) = go_on n s
+  expressed_by n s (Fails f) = fault s f
 
-  abbrev pub assertedBy : ℕ → S → Answer → Outcome S
-  assertedBy n s (Value v) = pick (isTrue v) (goOn n s) (Refuted, s)
-  assertedBy n s (Fails f) = fault s f
+  abbrev pub asserted_by : ℕ → S → Answer → Outcome S
+  asserted_by n s (Value v) = pick (is_true v) (go_on n s) (Refuted, s)
+  asserted_by n s (Fails f) = fault s f
 
-  abbrev pub storedBy : ℕ → S → Name → ℕ → Answer → Outcome S
-  storedBy n s w k (Value v) = goOn n (c.store w k v s)
-  storedBy n s w k (Fails f) = fault s f
+  abbrev pub stored_by : ℕ → S → Name → ℕ → Answer → Outcome S
+  stored_by n s w k (Value v) = go_on n (c.store w k v s)
+  stored_by n s w k (Fails f) = fault s f
 
   -- the target's index comes first, then the right side
-  abbrev pub assignedBy : ℕ → S → Name → Answer → Aim → Outcome S
-  assignedBy n s w x (hit k) = storedBy n s w k x
-  assignedBy n s w x (miss f) = fault s f
+  abbrev pub assigned_by : ℕ → S → Name → Answer → Aim → Outcome S
+  assigned_by n s w x (hit k) = stored_by n s w k x
+  assigned_by n s w x (miss f) = fault s f
 
   -- `++` and `--`, by d
-  abbrev pub steppedBy : ℕ → S → Name → ℤ → Aim → Outcome S
-  steppedBy n s w d (hit k) = goOn n (c.store w k (wrap32 (c.scene.element w k +ℤ d)) s)
-  steppedBy n s w d (miss f) = fault s f
+  abbrev pub stepped_by : ℕ → S → Name → ℤ → Aim → Outcome S
+  stepped_by n s w d (hit k) = go_on n (c.store w k (wrap32 (c.scene.element w k +ℤ d)) s)
+  stepped_by n s w d (miss f) = fault s f
 
   -- behind those that wait
-  abbrev pub sentTo : ℕ → S → ℤ → WorkedOut → Outcome S
-  sentTo n s v (all vs) = goOn n (c.put v (c.scene.waiting v) vs s)
-  sentTo n s v (stopped f) = fault s f
+  abbrev pub sent_to : ℕ → S → ℤ → WorkedOut → Outcome S
+  sent_to n s v (all vs) = go_on n (c.put v (c.scene.waiting v) vs s)
+  sent_to n s v (stopped f) = fault s f
 
-  abbrev pub sentBy : ℕ → S → WorkedOut → Reach → Outcome S
-  sentBy n s vs (channel v) = sentTo n s v vs
-  sentBy n s vs (astray f) = fault s f
+  abbrev pub sent_by : ℕ → S → WorkedOut → Reach → Outcome S
+  sent_by n s vs (channel v) = sent_to n s v vs
+  sent_by n s vs (astray f) = fault s f
 
   -- message k goes out, then the stores
-  abbrev pub receivedAt : ℕ → S → ℤ → ℕ → List Received → Aims → Outcome S
-  receivedAt n s v k xs (hits ks) = goOn n (deliveries (c.message v k) 0 xs ks (c.take v k s))
-  receivedAt n s v k xs (missed f) = fault s f
+  abbrev pub received_at : ℕ → S → ℤ → ℕ → List Received → Aims → Outcome S
+  received_at n s v k xs (hits ks) = go_on n (deliveries (c.message v k) 0 xs ks (c.take v k s))
+  received_at n s v k xs (missed f) = fault s f
 
   -- "a receive's tests come before its targets"; one that finds no message is no step
-  abbrev pub receivedIf : ℕ → S → ℤ → List Received → Finding → Outcome S
-  receivedIf n s v xs (found k) = receivedAt n s v k xs (targets c xs)
-  receivedIf n s v xs none = (Idle, s)
-  receivedIf n s v xs (spoilt f) = fault s f
+  abbrev pub received_if : ℕ → S → ℤ → List Received → Finding → Outcome S
+  received_if n s v xs (found k) = received_at n s v k xs (targets c xs)
+  received_if n s v xs none = (Idle, s)
+  received_if n s v xs (spoilt f) = fault s f
 
-  abbrev pub receivedBy : ℕ → S → List Received → Reach → Outcome S
-  receivedBy n s xs (channel v) = receivedIf n s v xs (finding c v xs)
-  receivedBy n s xs (astray f) = fault s f
+  abbrev pub received_by : ℕ → S → List Received → Reach → Outcome S
+  received_by n s xs (channel v) = received_if n s v xs (finding c v xs)
+  received_by n s xs (astray f) = fault s f
 
-  abbrev pub printedBy : ℕ → S → WorkedOut → Outcome S
-  printedBy n s (all vs) = goOn n s
-  printedBy n s (stopped f) = fault s f
+  abbrev pub printed_by : ℕ → S → WorkedOut → Outcome S
+  printed_by n s (all vs) = go_on n s
+  printed_by n s (stopped f) = fault s f
 
-  abbrev pub ranBy : ℕ → S → Name → WorkedOut → Outcome S
-  ranBy n s w (all vs) = goOn n (c.begin w vs s)
-  ranBy n s w (stopped f) = fault s f
+  abbrev pub ran_by : ℕ → S → Name → WorkedOut → Outcome S
+  ran_by n s w (all vs) = go_on n (c.begin w vs s)
+  ran_by n s w (stopped f) = fault s f
 
   -- `v = run`: the number of the new process, stored in number k of variable x
-  abbrev pub setBy : ℕ → S → Name → ℕ → Name → WorkedOut → Outcome S
-  setBy n s x k w (all vs) = goOn n (c.store x k c.newest (c.begin w vs s))
-  setBy n s x k w (stopped f) = fault s f
+  abbrev pub set_by : ℕ → S → Name → ℕ → Name → WorkedOut → Outcome S
+  set_by n s x k w (all vs) = go_on n (c.store x k c.newest (c.begin w vs s))
+  set_by n s x k w (stopped f) = fault s f
 
-  abbrev pub setRunBy : ℕ → S → Name → Name → WorkedOut → Aim → Outcome S
-  setRunBy n s x w vs (hit k) = pick (c.room w) (setBy n s x k w vs) (goOn n (c.store x k (pos 0) s))
-  setRunBy n s x w vs (miss f) = fault s f
+  abbrev pub set_run_by : ℕ → S → Name → Name → WorkedOut → Aim → Outcome S
+  set_run_by n s x w vs (hit k) = pick (c.room w) (set_by n s x k w vs) (go_on n (c.store x k (pos 0) s))
+  set_run_by n s x w vs (miss f) = fault s f
 
   -- ## statements that hold no other; a `run` that finds no room or a receive that finds no message is no step
-  abbrev pub leafEffect : Ways → S → Leaf → Outcome S
-  leafEffect h s (express e) = expressedBy h.next s (eval c.scene e)
-  leafEffect h s (assign r e) = assignedBy h.next s (name_of r) (eval c.scene e) (aim c.scene r)
-  leafEffect h s (increment r) = steppedBy h.next s (name_of r) (pos 1) (aim c.scene r)
-  leafEffect h s (decrement r) = steppedBy h.next s (name_of r) (negsuc 0) (aim c.scene r)
-  leafEffect h s (send o r es) = sentBy h.next s (values c.scene es) (reach c r (length es))
-  leafEffect h s (receive o r xs) = receivedBy h.next s xs (reach c r (length xs))
-  leafEffect h s (assert e) = assertedBy h.next s (eval c.scene e)
-  leafEffect h s (print w es) = printedBy h.next s (values c.scene es)
-  leafEffect h s skip = goOn h.next s
-  leafEffect h s (goto w) = goOn (h.label w) s
-  leafEffect h s break = goOn h.out s
-  leafEffect h s timeout = goOn h.next s
-  leafEffect h s else = goOn h.next s
-  leafEffect h s (run w es) = pick (c.room w) (ranBy h.next s w (values c.scene es)) (Idle, s)
-  leafEffect h s (set-run r w es) = setRunBy h.next s (name_of r) w (values c.scene es) (aim c.scene r)
+  abbrev pub leaf_effect : Ways → S → Leaf → Outcome S
+  leaf_effect h s (express e) = expressed_by h.next s (eval c.scene e)
+  leaf_effect h s (assign r e) = assigned_by h.next s (name_of r) (eval c.scene e) (aim c.scene r)
+  leaf_effect h s (increment r) = stepped_by h.next s (name_of r) (pos 1) (aim c.scene r)
+  leaf_effect h s (decrement r) = stepped_by h.next s (name_of r) (negsuc 0) (aim c.scene r)
+  leaf_effect h s (send o r es) = sent_by h.next s (values c.scene es) (reach c r (length es))
+  leaf_effect h s (receive o r xs) = received_by h.next s xs (reach c r (length xs))
+  leaf_effect h s (assert e) = asserted_by h.next s (eval c.scene e)
+  leaf_effect h s (print w es) = printed_by h.next s (values c.scene es)
+  leaf_effect h s skip = go_on h.next s
+  leaf_effect h s (goto w) = go_on (h.label w) s
+  leaf_effect h s break = go_on h.out s
+  leaf_effect h s timeout = go_on h.next s
+  leaf_effect h s else = go_on h.next s
+  leaf_effect h s (run w es) = pick (c.room w) (ran_by h.next s w (values c.scene es)) (Idle, s)
+  leaf_effect h s (set_run r w es) = set_run_by h.next s (name_of r) w (values c.scene es) (aim c.scene r)
 
   -- ## statements; `if` and `do` are "themselves no steps"
   -- It is asked of offered steps alone (specs/Machine.antt); of a statement that is not executable it says what the statement would do, which nothing depends on.
   unfoldable pub effect : Ways → S → Tree action → Outcome S
-  effect h s (leaf l) = leafEffect h s l
+  effect h s (leaf l) = leaf_effect h s l
   effect h s (select os) = (Idle, s)
   effect h s (loop os) = (Idle, s)
 
@@ -136,29 +136,29 @@ unfoldable pub format : List ℤ → ℕ → ℕ → List ℕ → List ℕ
 format vs was k [] = []
 format vs was k (b ∷ bs) = formatted vs was b k ++ format vs (opened was b) (counted was b k) bs
 
-abbrev pub textBy : List ℕ → WorkedOut → List ℕ
-textBy w (all vs) = format vs 0 0 w
-textBy w (stopped f) = []
+abbrev pub text_by : List ℕ → WorkedOut → List ℕ
+text_by w (all vs) = format vs 0 0 w
+text_by w (stopped f) = []
 
 -- a printf its text, any other statement nothing
-abbrev pub leafPrints : {S : Type 0} → Stage S → Leaf → List ℕ
-leafPrints c (express e) = []
-leafPrints c (assign r e) = []
-leafPrints c (increment r) = []
-leafPrints c (decrement r) = []
-leafPrints c (send o r es) = []
-leafPrints c (receive o r xs) = []
-leafPrints c (assert e) = []
-leafPrints c (print w es) = textBy w (values c.scene es)
-leafPrints c skip = []
-leafPrints c (goto w) = []
-leafPrints c break = []
-leafPrints c timeout = []
-leafPrints c else = []
-leafPrints c (run w es) = []
-leafPrints c (set-run r w es) = []
+abbrev pub leaf_prints : {S : Type 0} → Stage S → Leaf → List ℕ
+leaf_prints c (express e) = []
+leaf_prints c (assign r e) = []
+leaf_prints c (increment r) = []
+leaf_prints c (decrement r) = []
+leaf_prints c (send o r es) = []
+leaf_prints c (receive o r xs) = []
+leaf_prints c (assert e) = []
+leaf_prints c (print w es) = text_by w (values c.scene es)
+leaf_prints c skip = []
+leaf_prints c (goto w) = []
+leaf_prints c break = []
+leaf_prints c timeout = []
+leaf_prints c else = []
+leaf_prints c (run w es) = []
+leaf_prints c (set_run r w es) = []
 
 abbrev pub prints : {S : Type 0} → Stage S → Tree action → List ℕ
-prints c (leaf l) = leafPrints c l
+prints c (leaf l) = leaf_prints c l
 prints c (select os) = []
 prints c (loop os) = []

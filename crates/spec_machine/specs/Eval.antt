@@ -3,7 +3,7 @@
 -- divisor or the shift count. What expressions mean, where a scene says what names stand for.
 use Rattle.std.specs.Prelude.{ℕ, Bool, ℤ, pos, negsuc, eqb, ltb}
 use Rattle.base_bytes.specs.Choice.{pick}
-use Rattle.base_values.specs.Operators.{isTrue, applyOf, unaryOf, truth}
+use Rattle.base_values.specs.Operators.{is_true, apply_of, unary_of, truth}
 use Rattle.base_values.specs.declared.Fault.TheVariants.{Index, Channel}
 use Rattle.base_values.specs.declared.Answer.{Answer}
 use Rattle.base_values.specs.declared.Answer.TheVariants.{Value, Fails}
@@ -22,57 +22,57 @@ pub record Scene : Type 0 where
 
 -- ## by what was worked out
 -- "index out of range"
-abbrev pub elementBy : Scene → Name → Answer → Answer
-elementBy c w (Value (pos i)) = pick (ltb i (c.size w)) (Value (c.element w i)) (Fails Index)
-elementBy c w (Value (negsuc i)) = Fails Index
-elementBy c w (Fails f) = Fails f
+abbrev pub element_by : Scene → Name → Answer → Answer
+element_by c w (Value (pos i)) = pick (ltb i (c.size w)) (Value (c.element w i)) (Fails Index)
+element_by c w (Value (negsuc i)) = Fails Index
+element_by c w (Fails f) = Fails f
 
 -- "a channel number that was never made .. (H: `len` of an unmade channel too.)"
-abbrev pub lengthBy : Scene → Answer → Answer
-lengthBy c (Value v) = pick (c.made v) (Value (pos (c.waiting v))) (Fails Channel)
-lengthBy c (Fails f) = Fails f
+abbrev pub length_by : Scene → Answer → Answer
+length_by c (Value v) = pick (c.made v) (Value (pos (c.waiting v))) (Fails Channel)
+length_by c (Fails f) = Fails f
 
-abbrev pub signBy : ℕ → Answer → Answer
-signBy o (Value v) = Value (unaryOf o v)
-signBy o (Fails f) = Fails f
+abbrev pub sign_by : ℕ → Answer → Answer
+sign_by o (Value v) = Value (unary_of o v)
+sign_by o (Fails f) = Fails f
 
 -- `||`: a left operand that is not 0 decides
-abbrev pub orBy : Answer → Answer → Answer
-orBy (Value v) y = pick (isTrue v) (Value (pos 1)) (truth y)
-orBy (Fails f) y = Fails f
+abbrev pub or_by : Answer → Answer → Answer
+or_by (Value v) y = pick (is_true v) (Value (pos 1)) (truth y)
+or_by (Fails f) y = Fails f
 
 -- `&&`: a left operand that is 0 decides
-abbrev pub andBy : Answer → Answer → Answer
-andBy (Value v) y = pick (isTrue v) (truth y) (Value (pos 0))
-andBy (Fails f) y = Fails f
+abbrev pub and_by : Answer → Answer → Answer
+and_by (Value v) y = pick (is_true v) (truth y) (Value (pos 0))
+and_by (Fails f) y = Fails f
 
 -- any other operator: the left operand's fault comes first, then the right one's, then its own
-abbrev pub withBy : ℕ → ℤ → Answer → Answer
-withBy o a (Value b) = applyOf o a b
-withBy o a (Fails f) = Fails f
+abbrev pub with_by : ℕ → ℤ → Answer → Answer
+with_by o a (Value b) = apply_of o a b
+with_by o a (Fails f) = Fails f
 
-abbrev pub joinBy : ℕ → Answer → Answer → Answer
-joinBy o (Value a) y = withBy o a y
-joinBy o (Fails f) y = Fails f
+abbrev pub join_by : ℕ → Answer → Answer → Answer
+join_by o (Value a) y = with_by o a y
+join_by o (Fails f) y = Fails f
 
 -- `||` is operator 1, `&&` operator 2
-abbrev pub operateBy : ℕ → Answer → Answer → Answer
-operateBy o x y = pick (eqb o 1) (orBy x y) (pick (eqb o 2) (andBy x y) (joinBy o x y))
+abbrev pub operate_by : ℕ → Answer → Answer → Answer
+operate_by o x y = pick (eqb o 1) (or_by x y) (pick (eqb o 2) (and_by x y) (join_by o x y))
 
 -- `(a -> b : c)`
-abbrev pub chooseBy : Answer → Answer → Answer → Answer
-chooseBy (Value v) y z = pick (isTrue v) y z
-chooseBy (Fails f) y z = Fails f
+abbrev pub choose_by : Answer → Answer → Answer → Answer
+choose_by (Value v) y z = pick (is_true v) y z
+choose_by (Fails f) y z = Fails f
 
 -- ## expressions
 unfoldable pub eval : Scene → {k : Shape} → Exp k → Answer
 eval c (plain w) = Value (c.number w)
-eval c (indexed w e) = elementBy c w (eval c e)
+eval c (indexed w e) = element_by c w (eval c e)
 eval c (num n) = Value (pos n)
 eval c tru = Value (pos 1)
 eval c fls = Value (pos 0)
 eval c (get r) = eval c r
-eval c (query o r) = lengthBy c (eval c r)
-eval c (unary o e) = signBy o (eval c e)
-eval c (binary o a b) = operateBy o (eval c a) (eval c b)
-eval c (choice a b d) = chooseBy (eval c a) (eval c b) (eval c d)
+eval c (query o r) = length_by c (eval c r)
+eval c (unary o e) = sign_by o (eval c e)
+eval c (binary o a b) = operate_by o (eval c a) (eval c b)
+eval c (choice a b d) = choose_by (eval c a) (eval c b) (eval c d)

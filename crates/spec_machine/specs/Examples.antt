@@ -4,28 +4,28 @@ use Rattle.std.specs.Prelude.{ℕ, ◌≡◌, refl, List, [], ◌∷◌, ℤ, po
 use Rattle.std.proofs.Math.Option.{none}
 use Rattle.base_bytes.specs.Lists.{same}
 use Rattle.base_kinds.specs.Kinds.{bytes}
-use Rattle.base_values.specs.Types.{width_of, castOf}
+use Rattle.base_values.specs.Types.{width_of, cast_of}
 use Rattle.base_outcome.specs.declared.Taken.TheVariants.{Done}
-use Rattle.spec_grammar.specs.Marks.{k-bang, k-ask}
-use Rattle.spec_grammar.specs.Tree.{Name, num, plain, into, leaf, express, send, receive, bare, end, then, unset, set-channel, variable, declare, body, once, global, process, init, Model}
+use Rattle.spec_grammar.specs.Marks.{k_bang, k_ask}
+use Rattle.spec_grammar.specs.Tree.{Name, num, plain, into, leaf, express, send, receive, bare, end, then, unset, set_channel, variable, declare, body, once, global, process, init, Model}
 use Rattle.base_outcome.specs.declared.Partner.TheVariants.{Nobody}
 use Rattle.spec_machine.specs.Eval.{eval}
-use Rattle.spec_machine.specs.Messages.{findFrom}
+use Rattle.spec_machine.specs.Messages.{find_from}
 use Rattle.spec_machine.specs.Arguments.{values, agrees, targets}
 use Rattle.spec_machine.specs.Ready.{ready}
 use Rattle.spec_machine.specs.Effect.{deliveries, effect}
 use Rattle.spec_machine.specs.Offers.{offers}
 use Rattle.spec_machine.specs.State.{State}
-use Rattle.spec_machine.specs.Names.{proctypeFrom, variableFrom, messageFrom, meant}
-use Rattle.spec_machine.specs.Begins.{itemsBefore, makesAll, given, begins, beginsTimes, globalsFrom, startsFrom, initial}
-use Rattle.spec_machine.specs.Machine.{Step, blocked, any_from, late, list_from, offered, advance, endedFrom, verdict}
-use Rattle.spec_machine.specs.Steps.{statementAt, machine_of, steps_of, ended_of, take_of, printOf}
+use Rattle.spec_machine.specs.Names.{proctype_from, variable_from, message_from, meant}
+use Rattle.spec_machine.specs.Begins.{items_before, makes_all, given, begins, begins_times, globals_from, starts_from, initial}
+use Rattle.spec_machine.specs.Machine.{Step, blocked, any_from, late, list_from, offered, advance, ended_from, verdict}
+use Rattle.spec_machine.specs.Steps.{statement_at, machine_of, steps_of, ended_of, take_of, print_of}
 
 -- to unfold this is to unfold all that the examples compute with
 unfoldable pub machine : Unit {0}
 unfolding
-    same width_of castOf eval values agrees findFrom targets ready deliveries effect offers proctypeFrom variableFrom messageFrom meant itemsBefore makesAll given begins beginsTimes globalsFrom
-    startsFrom initial statementAt steps_of ended_of take_of printOf any_from late list_from offered advance endedFrom verdict
+    same width_of cast_of eval values agrees find_from targets ready deliveries effect offers proctype_from variable_from message_from meant items_before makes_all given begins begins_times globals_from
+    starts_from initial statement_at steps_of ended_of take_of print_of any_from late list_from offered advance ended_from verdict
 machine = tt
 
 -- ## P8
@@ -36,9 +36,9 @@ zero-starts : initial zero ≡ record { globals = []; processes = record { unit 
 unfolding machine
 zero-starts = refl
 
-zero-blocked : (offered (machine_of zero) (initial zero) ≡ []) × (verdict (machine_of zero) (initial zero) ≡ blocked)
+zero_blocked : (offered (machine_of zero) (initial zero) ≡ []) × (verdict (machine_of zero) (initial zero) ≡ blocked)
 unfolding machine
-zero-blocked = (refl, refl)
+zero_blocked = (refl, refl)
 
 -- ## two processes
 abbrev c : Name
@@ -49,9 +49,9 @@ x = bytes "x"
 
 abbrev pub two : Model
 two =
-    global (declare 43 (variable c none (set-channel 1 (40 ∷ [])) ∷ [])) ∷
-    process once (bytes "A") [] (body [] (then (bare (leaf (send k-bang (plain c) (num 300 ∷ [])))) end)) ∷
-    process once (bytes "B") [] (body (declare 45 (variable x none unset ∷ []) ∷ []) (then (bare (leaf (receive k-ask (plain c) (into (plain x) ∷ [])))) end)) ∷ []
+    global (declare 43 (variable c none (set_channel 1 (40 ∷ [])) ∷ [])) ∷
+    process once (bytes "A") [] (body [] (then (bare (leaf (send k_bang (plain c) (num 300 ∷ [])))) end)) ∷
+    process once (bytes "B") [] (body (declare 45 (variable x none unset ∷ []) ∷ []) (then (bare (leaf (receive k_ask (plain c) (into (plain x) ∷ [])))) end)) ∷ []
 
 -- A stands at j, B at k with this x, and these messages are held
 abbrev pub state : ℕ → ℕ → ℤ → List (List ℤ) → State

@@ -2,13 +2,13 @@
 -- the capacity and fields of some declaration": worked examples on both sides, of the two processes with a channel of specs/Examples.antt (`chan c=[1]of{byte};..A(){c!300}..B(){int x;c?x}`).
 use Rattle.std.specs.Prelude.{ℕ, zero, suc, ◌+◌, ◌<◌, ◌≡◌, refl, ◌⊎◌, List, [], ◌∷◌, replicate, ℤ, pos, negsuc}
 use Rattle.std.proofs.Common.{arith, inl, inr}
-use Rattle.base_values.specs.Types.{width_of, castOf}
+use Rattle.base_values.specs.Types.{width_of, cast_of}
 use Rattle.spec_grammar.specs.Tree.{Sort, action, Tree, leaf, select, loop, bare, labelled, end, then, over, option}
-use Rattle.spec_machine.specs.Sizes.{sizeIn}
+use Rattle.spec_machine.specs.Sizes.{size_in}
 use Rattle.spec_machine.specs.State.{Channel, Process}
-use Rattle.spec_machine.specs.Names.{variablesOf, unit_at}
-use Rattle.spec_machine.specs.Program.{Within, itself, in-if, in-do, unlabelled, behind-label, in-first, in_rest, in-option, in-others}
-use Rattle.spec_machine.specs.Begins.{itemsBefore}
+use Rattle.spec_machine.specs.Names.{variables_of, unit_at}
+use Rattle.spec_machine.specs.Program.{Within, itself, in_if, in_do, unlabelled, behind_label, in_first, in_rest, in_option, in_others}
+use Rattle.spec_machine.specs.Begins.{items_before}
 use Rattle.spec_machine.specs.Places.{Belongs, ends, stands}
 use Rattle.spec_machine.specs.Fits.{Typed, Filled, Fielded, ChannelFits, ProcessFits, Fits}
 use Rattle.spec_machine.specs.Examples.{two, state}
@@ -18,46 +18,46 @@ one : (P : ℕ → Type 0) → P 0 → (i : ℕ) → i < 1 → P i
 one P p zero h = p
 one P p (suc i) h = absurd (omega arith)
 
-two-of : (P : ℕ → Type 0) → P 0 → P 1 → (i : ℕ) → i < 2 → P i
-two-of P p q zero h = p
-two-of P p q (suc zero) h = q
-two-of P p q (suc (suc i)) h = absurd (omega arith)
+two_of : (P : ℕ → Type 0) → P 0 → P 1 → (i : ℕ) → i < 2 → P i
+two_of P p q zero h = p
+two_of P p q (suc zero) h = q
+two_of P p q (suc (suc i)) h = absurd (omega arith)
 
 -- two numbers that are not one
 other : (m n : ℕ) → (m ≡ n → ⊥) → pos m ≡ pos n → ⊥
 other m n f e = f cc
 
 -- ## "values in their types": 0 and 255 in a byte, 256 not
-byte-255 : Typed 40 (pos 0 ∷ pos 255 ∷ [])
-unfolding castOf width_of
-byte-255 = two-of _ refl refl
+byte_255 : Typed 40 (pos 0 ∷ pos 255 ∷ [])
+unfolding cast_of width_of
+byte_255 = two_of _ refl refl
 
-not-byte-256 : Typed 40 (pos 0 ∷ pos 256 ∷ []) → ⊥
-unfolding castOf width_of
-not-byte-256 t = other 0 256 (λ z. omega arith) (t 1 (omega arith))
+not_byte_256 : Typed 40 (pos 0 ∷ pos 256 ∷ []) → ⊥
+unfolding cast_of width_of
+not_byte_256 t = other 0 256 (λ z. omega arith) (t 1 (omega arith))
 
 -- the one number of `int x`: -1; none, two, and 2147483648 are not
-x-filled : Filled (variablesOf (unit_at two 2)) ((negsuc 0 ∷ []) ∷ [])
-unfolding castOf width_of
-x-filled = record { all = refl; sized = one _ refl; typed = one _ (one _ refl) }
+x_filled : Filled (variables_of (unit_at two 2)) ((negsuc 0 ∷ []) ∷ [])
+unfolding cast_of width_of
+x_filled = record { all = refl; sized = one _ refl; typed = one _ (one _ refl) }
 
-no-variable : Filled (variablesOf (unit_at two 2)) [] → ⊥
-no-variable f = omega (arith, f.all)
+no_variable : Filled (variables_of (unit_at two 2)) [] → ⊥
+no_variable f = omega (arith, f.all)
 
-two-numbers : Filled (variablesOf (unit_at two 2)) ((pos 0 ∷ pos 0 ∷ []) ∷ []) → ⊥
+two-numbers : Filled (variables_of (unit_at two 2)) ((pos 0 ∷ pos 0 ∷ []) ∷ []) → ⊥
 two-numbers f = omega (arith, f.sized 0 (omega arith))
 
-x-2147483648 : Filled (variablesOf (unit_at two 2)) ((pos 2147483648 ∷ []) ∷ []) → ⊥
-unfolding castOf width_of
-x-2147483648 f = let e = f.typed 0 (omega arith) 0 (omega arith) in let z : ◌≡◌ {A = ℕ} 0 1 = cc in omega arith
+x_2147483648 : Filled (variables_of (unit_at two 2)) ((pos 2147483648 ∷ []) ∷ []) → ⊥
+unfolding cast_of width_of
+x_2147483648 f = let e = f.typed 0 (omega arith) 0 (omega arith) in let z : ◌≡◌ {A = ℕ} 0 1 = cc in omega arith
 
 -- ## "messages in their field types": of a byte and an int; -1 in a byte and a message that is too short are not
 message : Fielded (40 ∷ 45 ∷ []) (pos 44 ∷ negsuc 0 ∷ [])
-unfolding castOf width_of
-message = record { long = refl; typed = two-of _ refl refl }
+unfolding cast_of width_of
+message = record { long = refl; typed = two_of _ refl refl }
 
 no_byte : Fielded (40 ∷ 45 ∷ []) (negsuc 0 ∷ negsuc 0 ∷ []) → ⊥
-unfolding castOf width_of
+unfolding cast_of width_of
 no_byte f = let e = f.typed 0 (omega arith) in let z : ◌≡◌ {A = ℕ} 0 1 = cc in omega arith
 
 short-message : Fielded (40 ∷ 45 ∷ []) (pos 44 ∷ []) → ⊥
@@ -68,7 +68,7 @@ abbrev channel : ℕ → List (List ℤ) → Channel
 channel u held = record { unit = u; variable = 0; held = held }
 
 holds-one : ChannelFits two (channel 0 ((pos 44 ∷ []) ∷ []))
-unfolding castOf width_of
+unfolding cast_of width_of
 holds-one = record { capacity = 1; types = 40 ∷ []; declared = refl; room = omega arith; messages = one _ record { long = refl; typed = one _ refl } }
 
 holds-two : ChannelFits two (channel 0 ((pos 1 ∷ []) ∷ (pos 2 ∷ []) ∷ [])) → ⊥
@@ -79,11 +79,11 @@ not-declared f = let e = f.declared in let z : ◌≡◌ {A = ℕ} 0 1 = cc in o
 
 -- ## "places that belong to the process's proctype or its end": 11 is that of `c!300` and 17 the end; 12 is within the statement, 25 of the other proctype
 sends : Belongs two 1 11
-unfolding itemsBefore
-sends = stands tt (in-first (unlabelled itself))
+unfolding items_before
+sends = stands tt (in_first (unlabelled itself))
 
 ended : Belongs two 1 17
-unfolding itemsBefore
+unfolding items_before
 ended = ends tt refl
 
 -- j is the place of a statement in a tree whose numbers begin with i
@@ -94,40 +94,40 @@ Placed (loop os) i j = (j ≡ i) ⊎ Placed os (i + 1) j
 Placed (bare a) i j = Placed a i j
 Placed (labelled w a) i j = Placed a (i + 2) j
 Placed end i j = ⊥
-Placed (then s q) i j = Placed s i j ⊎ Placed q (i + sizeIn s) j
+Placed (then s q) i j = Placed s i j ⊎ Placed q (i + size_in s) j
 Placed over i j = ⊥
-Placed (option q os) i j = Placed q (i + 1) j ⊎ Placed os (i + 2 + sizeIn q) j
+Placed (option q os) i j = Placed q (i + 1) j ⊎ Placed os (i + 2 + size_in q) j
 
-at-itself : (a : Tree action) (i : ℕ) → Placed a i i
-at-itself (leaf l) i = refl
-at-itself (select os) i = inl refl
-at-itself (loop os) i = inl refl
+at_itself : (a : Tree action) (i : ℕ) → Placed a i i
+at_itself (leaf l) i = refl
+at_itself (select os) i = inl refl
+at_itself (loop os) i = inl refl
 
-is-placed : {k : Sort} {t : Tree k} {i n o j m u : ℕ} {a : Tree action} → Within k t i n o a j m u → Placed t i j
-is-placed (itself {a = a} {i = i}) = at-itself a i
-is-placed (in-if w) = inr (is-placed w)
-is-placed (in-do w) = inr (is-placed w)
-is-placed (unlabelled w) = is-placed w
-is-placed (behind-label w) = is-placed w
-is-placed (in-first w) = inl (is-placed w)
-is-placed (in_rest w) = inr (is-placed w)
-is-placed (in-option w) = inl (is-placed w)
-is-placed (in-others w) = inr (is-placed w)
+is_placed : {k : Sort} {t : Tree k} {i n o j m u : ℕ} {a : Tree action} → Within k t i n o a j m u → Placed t i j
+is_placed (itself {a = a} {i = i}) = at_itself a i
+is_placed (in_if w) = inr (is_placed w)
+is_placed (in_do w) = inr (is_placed w)
+is_placed (unlabelled w) = is_placed w
+is_placed (behind_label w) = is_placed w
+is_placed (in_first w) = inl (is_placed w)
+is_placed (in_rest w) = inr (is_placed w)
+is_placed (in_option w) = inl (is_placed w)
+is_placed (in_others w) = inr (is_placed w)
 
 -- the one place of A
-of-the-send : {j : ℕ} → (j ≡ 11) ⊎ ⊥ → j ≡ 11
-of-the-send (inl e) = e
-of-the-send (inr e) = absurd e
+of_the_send : {j : ℕ} → (j ≡ 11) ⊎ ⊥ → j ≡ 11
+of_the_send (inl e) = e
+of_the_send (inr e) = absurd e
 
 not_within : Belongs two 1 12 → ⊥
-unfolding itemsBefore
+unfolding items_before
 not_within (ends b e) = omega arith
-not_within (stands b w) = omega (arith, of-the-send (is-placed w))
+not_within (stands b w) = omega (arith, of_the_send (is_placed w))
 
-not-of-the-other : Belongs two 1 25 → ⊥
-unfolding itemsBefore
-not-of-the-other (ends b e) = omega arith
-not-of-the-other (stands b w) = omega (arith, of-the-send (is-placed w))
+not_of_the_other : Belongs two 1 25 → ⊥
+unfolding items_before
+not_of_the_other (ends b e) = omega arith
+not_of_the_other (stands b w) = omega (arith, of_the_send (is_placed w))
 
 no_body : Belongs two 0 0 → ⊥
 no_body (ends b e) = b
@@ -140,25 +140,25 @@ process j vs = record { unit = 1; place = j; variables = vs }
 fits : ProcessFits (Belongs two) two (process 11 [])
 fits = record { place = sends; values = record { all = refl; sized = λ i h. absurd (omega arith); typed = λ i h. absurd (omega arith) } }
 
-at-another-place : ProcessFits (Belongs two) two (process 25 []) → ⊥
-at-another-place f = not-of-the-other f.place
+at_another_place : ProcessFits (Belongs two) two (process 25 []) → ⊥
+at_another_place f = not_of_the_other f.place
 
-with-a-variable : ProcessFits (Belongs two) two (process 11 ((pos 0 ∷ []) ∷ [])) → ⊥
-with-a-variable f = omega (arith, f.values.all)
+with_a_variable : ProcessFits (Belongs two) two (process 11 ((pos 0 ∷ []) ∷ [])) → ⊥
+with_a_variable f = omega (arith, f.values.all)
 
 -- ## the whole: the initial state; with A at no place of its own, with a message too many, with 17 processes it is none
 receives : Belongs two 2 25
-unfolding itemsBefore
-receives = stands tt (in-first (unlabelled itself))
+unfolding items_before
+receives = stands tt (in_first (unlabelled itself))
 
 starts : Fits (Belongs two) two (state 11 25 (pos 0) [])
-unfolding castOf width_of
+unfolding cast_of width_of
 starts =
     record {
       globals = record { all = refl; sized = one _ refl; typed = one _ (one _ refl) };
       processes = omega arith;
       channels = omega arith;
-      each = two-of _ fits record { place = receives; values = record { all = refl; sized = one _ refl; typed = one _ (one _ refl) } };
+      each = two_of _ fits record { place = receives; values = record { all = refl; sized = one _ refl; typed = one _ (one _ refl) } };
       queues = one _ record { capacity = 1; types = 40 ∷ []; declared = refl; room = omega arith; messages = λ i h. absurd (omega arith) };
     }
 
@@ -168,5 +168,5 @@ misplaced f = not_within (f.each 0 (omega arith)).place
 overfull : Fits (Belongs two) two (state 11 25 (pos 0) ((pos 1 ∷ []) ∷ (pos 2 ∷ []) ∷ [])) → ⊥
 overfull f = holds-two (f.queues 0 (omega arith))
 
-processes-17 : Fits (Belongs two) two record { globals = (pos 1 ∷ []) ∷ []; processes = replicate 17 (process 11 []); channels = [] } → ⊥
-processes-17 f = omega (arith, f.processes)
+processes_17 : Fits (Belongs two) two record { globals = (pos 1 ∷ []) ∷ []; processes = replicate 17 (process 11 []); channels = [] } → ⊥
+processes_17 f = omega (arith, f.processes)

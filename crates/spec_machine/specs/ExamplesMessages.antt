@@ -4,7 +4,7 @@ use Rattle.std.specs.Prelude.{ℕ, ◌≡◌, refl, List, [], ◌∷◌, get_or,
 use Rattle.base_values.specs.declared.Fault.TheVariants.{Divide}
 use Rattle.base_values.specs.declared.Answer.{Answer}
 use Rattle.base_values.specs.declared.Answer.TheVariants.{Value, Fails}
-use Rattle.spec_machine.specs.Messages.{put_at, takeAt, found, none, spoilt, findFrom}
+use Rattle.spec_machine.specs.Messages.{put_at, take_at_lem, found, none, spoilt, find_from}
 
 abbrev three : List ℕ
 three = 5 ∷ 6 ∷ 7 ∷ []
@@ -14,11 +14,11 @@ put : (put_at 0 9 three ≡ 9 ∷ 5 ∷ 6 ∷ 7 ∷ []) × (put_at 1 9 three ≡
 put = (refl, refl, refl, refl)
 
 -- ## taken out: the oldest, the one in the middle, the last; behind the last there is none
-taken : (takeAt 0 three ≡ 6 ∷ 7 ∷ []) × (takeAt 1 three ≡ 5 ∷ 7 ∷ []) × (takeAt 2 three ≡ 5 ∷ 6 ∷ []) × (takeAt 3 three ≡ three)
+taken : (take_at_lem 0 three ≡ 6 ∷ 7 ∷ []) × (take_at_lem 1 three ≡ 5 ∷ 7 ∷ []) × (take_at_lem 2 three ≡ 5 ∷ 6 ∷ []) × (take_at_lem 3 three ≡ three)
 taken = (refl, refl, refl, refl)
 
 -- what was put is taken out again, and only there
-again : (takeAt 1 (put_at 1 9 three) ≡ three) × (takeAt 2 (put_at 1 9 three) ≡ 5 ∷ 9 ∷ 7 ∷ [])
+again : (take_at_lem 1 (put_at 1 9 three) ≡ three) × (take_at_lem 2 (put_at 1 9 three) ≡ 5 ∷ 9 ∷ 7 ∷ [])
 again = (refl, refl)
 
 -- ## found: the tests of four messages say no, no, yes, yes
@@ -29,11 +29,11 @@ abbrev four : ℕ → Answer
 four = says (Value (pos 0) ∷ Value (pos 0) ∷ Value (pos 1) ∷ Value (pos 1) ∷ [])
 
 -- the first that passes, if so many are tried; from the one behind it on, the next
-first_found : (findFrom four 0 4 ≡ found 2) × (findFrom four 0 3 ≡ found 2) × (findFrom four 0 2 ≡ none) × (findFrom four 0 0 ≡ none) × (findFrom four 3 1 ≡ found 3)
-unfolding findFrom
+first_found : (find_from four 0 4 ≡ found 2) × (find_from four 0 3 ≡ found 2) × (find_from four 0 2 ≡ none) × (find_from four 0 0 ≡ none) × (find_from four 3 1 ≡ found 3)
+unfolding find_from
 first_found = (refl, refl, refl, refl, refl)
 
 -- a test at fault ends the search, before one that would pass and not behind it
-first-spoilt : (findFrom (says (Value (pos 0) ∷ Fails Divide ∷ Value (pos 1) ∷ [])) 0 3 ≡ spoilt Divide) × (findFrom (says (Value (pos 0) ∷ Value (pos 1) ∷ Fails Divide ∷ [])) 0 3 ≡ found 1)
-unfolding findFrom
-first-spoilt = (refl, refl)
+first_spoilt : (find_from (says (Value (pos 0) ∷ Fails Divide ∷ Value (pos 1) ∷ [])) 0 3 ≡ spoilt Divide) × (find_from (says (Value (pos 0) ∷ Value (pos 1) ∷ Fails Divide ∷ [])) 0 3 ≡ found 1)
+unfolding find_from
+first_spoilt = (refl, refl)

@@ -3,7 +3,7 @@
 use Rattle.std.specs.Prelude.{ℕ, ◌≡◌, refl, List, [], ◌∷◌}
 use Rattle.base_kinds.specs.Kinds.{bytes}
 use Rattle.base_values.specs.declared.Fault.TheVariants.{Divide}
-use Rattle.spec_grammar.specs.Tree.{Expr, action, Tree, num, leaf, assert, print, skip, set-minus, Declaration}
+use Rattle.spec_grammar.specs.Tree.{Expr, action, Tree, num, leaf, assert, print, skip, set_minus, Declaration}
 use Rattle.spec_machine.specs.Begins.{initial}
 use Rattle.spec_machine.specs.Steps.{machine_of}
 use Rattle.spec_machine.specs.Places.{start_of}
@@ -17,9 +17,9 @@ abbrev says : List ℕ → List Expr → List ℕ
 says w es = printed [] (leaf (print w es))
 
 -- ## `%d` and `%%`
-plain-text : (says (bytes "O'Neill") [] ≡ bytes "O'Neill") × (says [] [] ≡ [])
+plain_text : (says (bytes "O'Neill") [] ≡ bytes "O'Neill") × (says [] [] ≡ [])
 unfolding working
-plain-text = (refl, refl)
+plain_text = (refl, refl)
 
 values : (says (bytes "%d") (num 0 ∷ []) ≡ bytes "0") × (says (bytes "<%d>") (num 479001600 ∷ []) ≡ bytes "<479001600>") × (says (bytes "%d%d") (num 1 ∷ num 23 ∷ []) ≡ bytes "123")
     × (says (bytes "%d,%d") (num 2 ∷ num 1 ∷ []) ≡ bytes "2,1")
@@ -37,7 +37,7 @@ unfolding working
 signed = (refl, refl, refl)
 
 -- the value, whatever its type: a byte that got -1, an int
-typed : (printed (scalar byte x (set-minus 1) ∷ []) (leaf (print (bytes "%d") (of x ∷ []))) ≡ bytes "255") × (printed (scalar int x (set-minus 1) ∷ []) (leaf (print (bytes "%d") (of x ∷ []))) ≡ bytes "-1")
+typed : (printed (scalar byte x (set_minus 1) ∷ []) (leaf (print (bytes "%d") (of x ∷ []))) ≡ bytes "255") × (printed (scalar int x (set_minus 1) ∷ []) (leaf (print (bytes "%d") (of x ∷ []))) ≡ bytes "-1")
 unfolding working
 typed = (refl, refl)
 

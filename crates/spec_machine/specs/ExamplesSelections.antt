@@ -3,12 +3,12 @@
 -- `else` pass beside a faulting guard". Computed. A step is its process, its number there, and its place: that of the statement.
 use Rattle.std.specs.Prelude.{ℕ, ◌≡◌, refl, List, [], ◌∷◌, pos}
 use Rattle.base_outcome.specs.declared.Taken.TheVariants.{Done}
-use Rattle.spec_grammar.specs.Tree.{Expr, action, Tree, plain, num, leaf, express, decrement, skip, break, timeout, else, set-number, Model}
+use Rattle.spec_grammar.specs.Tree.{Expr, action, Tree, plain, num, leaf, express, decrement, skip, break, timeout, else, set_number, Model}
 use Rattle.spec_machine.specs.State.{State}
 use Rattle.spec_machine.specs.Begins.{initial}
 use Rattle.spec_machine.specs.Machine.{Step, offered}
 use Rattle.spec_machine.specs.Steps.{machine_of}
-use Rattle.spec_machine.specs.ExamplesWords.{working, P, Q, x, byte, greater, faulty, of, either, again, scalar, main, active, state, process-at, one, offer, taken}
+use Rattle.spec_machine.specs.ExamplesWords.{working, P, Q, x, byte, greater, faulty, of, either, again, scalar, main, active, state, process_at, one, offer, taken}
 
 -- what is offered at the start
 abbrev starts : Model → List Step
@@ -21,20 +21,20 @@ abbrev guard : Expr → List (Tree action)
 guard e = leaf (express e) ∷ []
 
 -- ## `init{if::E::else fi}`: E has place 4; 8 is the place of `else` behind `0` and `1`, and 10 behind `1/0`
-else-or-not : (alone (either (guard (num 0) ∷ (leaf else ∷ []) ∷ [])) ≡ offer 0 1 8 ∷ []) × (alone (either (guard (num 1) ∷ (leaf else ∷ []) ∷ [])) ≡ offer 0 1 4 ∷ [])
+else_or_not : (alone (either (guard (num 0) ∷ (leaf else ∷ []) ∷ [])) ≡ offer 0 1 8 ∷ []) × (alone (either (guard (num 1) ∷ (leaf else ∷ []) ∷ [])) ≡ offer 0 1 4 ∷ [])
     × (alone (either (guard faulty ∷ (leaf else ∷ []) ∷ [])) ≡ offer 0 1 4 ∷ [])
 unfolding working
-else-or-not = (refl, refl, refl)
+else_or_not = (refl, refl, refl)
 
 -- `else` first, `if::else::0 fi` and `if::else::1 fi`: `else` has place 4, the guard 7
-else-first : (alone (either ((leaf else ∷ []) ∷ guard (num 0) ∷ [])) ≡ offer 0 1 4 ∷ []) × (alone (either ((leaf else ∷ []) ∷ guard (num 1) ∷ [])) ≡ offer 0 1 7 ∷ [])
+else_first : (alone (either ((leaf else ∷ []) ∷ guard (num 0) ∷ [])) ≡ offer 0 1 4 ∷ []) × (alone (either ((leaf else ∷ []) ∷ guard (num 1) ∷ [])) ≡ offer 0 1 7 ∷ [])
 unfolding working
-else-first = (refl, refl)
+else_first = (refl, refl)
 
 -- no option, no step: `if::0::0 fi`; two, in text order: `if::1::0::1 fi`
-text-order : (alone (either (guard (num 0) ∷ guard (num 0) ∷ [])) ≡ []) × (alone (either (guard (num 1) ∷ guard (num 0) ∷ guard (num 1) ∷ [])) ≡ offer 0 1 4 ∷ offer 0 2 12 ∷ [])
+text_order : (alone (either (guard (num 0) ∷ guard (num 0) ∷ [])) ≡ []) × (alone (either (guard (num 1) ∷ guard (num 0) ∷ guard (num 1) ∷ [])) ≡ offer 0 1 4 ∷ offer 0 2 12 ∷ [])
 unfolding working
-text-order = (refl, refl)
+text_order = (refl, refl)
 
 -- ## a selection as an option's first statement
 -- `if::if::1::1 fi::1 fi`: flat, in text order
@@ -43,16 +43,16 @@ unfolding working
 flat = refl
 
 -- `if::if::0::else fi::else fi`: the inner `else` is judged in the inner selection, and the outer one beside it is not executable; `if::if::0 fi::else fi`: it is
-inner-else : (alone (either ((either (guard (num 0) ∷ (leaf else ∷ []) ∷ []) ∷ []) ∷ (leaf else ∷ []) ∷ [])) ≡ offer 0 1 10 ∷ [])
+inner_else : (alone (either ((either (guard (num 0) ∷ (leaf else ∷ []) ∷ []) ∷ []) ∷ (leaf else ∷ []) ∷ [])) ≡ offer 0 1 10 ∷ [])
     × (alone (either ((either (guard (num 0) ∷ []) ∷ []) ∷ (leaf else ∷ []) ∷ [])) ≡ offer 0 1 12 ∷ [])
     × (alone (either ((either (guard faulty ∷ (leaf else ∷ []) ∷ []) ∷ []) ∷ (leaf else ∷ []) ∷ [])) ≡ offer 0 1 6 ∷ [])
 unfolding working
-inner-else = (refl, refl, refl)
+inner_else = (refl, refl, refl)
 
 -- `if::if::0::else fi::1 fi`: the inner `else` and the outer guard
-both-else : alone (either ((either (guard (num 0) ∷ (leaf else ∷ []) ∷ []) ∷ []) ∷ guard (num 1) ∷ [])) ≡ offer 0 1 10 ∷ offer 0 2 15 ∷ []
+both_else : alone (either ((either (guard (num 0) ∷ (leaf else ∷ []) ∷ []) ∷ []) ∷ guard (num 1) ∷ [])) ≡ offer 0 1 10 ∷ offer 0 2 15 ∷ []
 unfolding working
-both-else = refl
+both_else = refl
 
 -- `if::0;1::1;0 fi`: the first statement of an option alone is tried
 first-only : alone (either ((leaf (express (num 0)) ∷ leaf (express (num 1)) ∷ []) ∷ (leaf (express (num 1)) ∷ leaf (express (num 0)) ∷ []) ∷ [])) ≡ offer 0 1 10 ∷ []
@@ -61,10 +61,10 @@ first-only = refl
 
 -- ## `init{byte x=1;do::x>0;x--::else;break od}`: the `do` 8, the guard 10, `x--` 15, `else` 20, `break` 21, the end 24
 abbrev counting : Model
-counting = main (scalar byte x (set-number 1) ∷ []) (again ((leaf (express (greater (of x) (num 0))) ∷ leaf (decrement (plain x)) ∷ []) ∷ (leaf else ∷ leaf break ∷ []) ∷ []) ∷ []) ∷ []
+counting = main (scalar byte x (set_number 1) ∷ []) (again ((leaf (express (greater (of x) (num 0))) ∷ leaf (decrement (plain x)) ∷ []) ∷ (leaf else ∷ leaf break ∷ []) ∷ []) ∷ []) ∷ []
 
 abbrev counted : ℕ → ℕ → State
-counted j v = state [] (process-at 0 j (one (pos v) ∷ []) ∷ []) []
+counted j v = state [] (process_at 0 j (one (pos v) ∷ []) ∷ []) []
 
 rounds : (initial counting ≡ counted 8 1) × (taken counting 0 1 (counted 8 1) ≡ (Done, counted 15 1)) × (taken counting 0 1 (counted 15 1) ≡ (Done, counted 8 0))
     × (offered (machine_of counting) (counted 8 0) ≡ offer 0 1 20 ∷ []) × (taken counting 0 1 (counted 8 0) ≡ (Done, counted 21 0)) × (taken counting 0 1 (counted 21 0) ≡ (Done, counted 24 0))
@@ -82,9 +82,9 @@ unfolding working
 timeouts = (refl, refl, refl, refl)
 
 -- Q is ended, at 9: nothing else is executable
-after-end : offered (machine_of (beside (leaf skip))) (state [] (process-at 0 3 [] ∷ process-at 1 9 [] ∷ []) []) ≡ offer 0 1 3 ∷ []
+after_end : offered (machine_of (beside (leaf skip))) (state [] (process_at 0 3 [] ∷ process_at 1 9 [] ∷ []) []) ≡ offer 0 1 3 ∷ []
 unfolding working
-after-end = refl
+after_end = refl
 
 -- "in any process": P has a `timeout`, Q waits, and a third, the last, can move or waits; its statement is at 13
 abbrev third : Expr → Model
@@ -95,15 +95,15 @@ unfolding working
 any-process = (refl, refl)
 
 -- in a selection: `if::0::timeout fi` is executable, `if::1::timeout fi` by its guard alone; `if::timeout::else fi` by its `else`, which is judged with `timeout` not executable
-timeout-options : (alone (either (guard (num 0) ∷ (leaf timeout ∷ []) ∷ [])) ≡ offer 0 1 8 ∷ []) × (alone (either (guard (num 1) ∷ (leaf timeout ∷ []) ∷ [])) ≡ offer 0 1 4 ∷ [])
+timeout_options : (alone (either (guard (num 0) ∷ (leaf timeout ∷ []) ∷ [])) ≡ offer 0 1 8 ∷ []) × (alone (either (guard (num 1) ∷ (leaf timeout ∷ []) ∷ [])) ≡ offer 0 1 4 ∷ [])
     × (alone (either ((leaf timeout ∷ []) ∷ (leaf else ∷ []) ∷ [])) ≡ offer 0 1 7 ∷ [])
 unfolding working
-timeout-options = (refl, refl, refl)
+timeout_options = (refl, refl, refl)
 
 -- that `else` of Q keeps P's `timeout` back: `if::timeout::else fi` begins at 8, its `else` is at 13
-else-before-timeout : starts (beside (either ((leaf timeout ∷ []) ∷ (leaf else ∷ []) ∷ []))) ≡ offer 1 1 13 ∷ []
+else_before_timeout : starts (beside (either ((leaf timeout ∷ []) ∷ (leaf else ∷ []) ∷ []))) ≡ offer 1 1 13 ∷ []
 unfolding working
-else-before-timeout = refl
+else_before_timeout = refl
 
 -- ## "listed by process number, then text order": `active proctype P(){if::1::1 fi}active proctype Q(){if::1::1 fi}`
 abbrev pairs : Tree action

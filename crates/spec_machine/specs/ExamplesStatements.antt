@@ -5,12 +5,12 @@ use Rattle.std.specs.Prelude.{ℕ, ◌≡◌, refl, [], ◌∷◌, pos}
 use Rattle.base_kinds.specs.Kinds.{bytes}
 use Rattle.base_values.specs.declared.Fault.TheVariants.{Divide}
 use Rattle.base_outcome.specs.declared.Taken.TheVariants.{Done, Idle}
-use Rattle.spec_grammar.specs.Tree.{Name, plain, num, tru, fls, leaf, express, assign, increment, decrement, assert, print, skip, goto, break, timeout, select, loop, bare, labelled, end, then, over, option, unset, set-number, body, init, Model}
+use Rattle.spec_grammar.specs.Tree.{Name, plain, num, tru, fls, leaf, express, assign, increment, decrement, assert, print, skip, goto, break, timeout, select, loop, bare, labelled, end, then, over, option, unset, set_number, body, init, Model}
 use Rattle.spec_machine.specs.State.{State}
 use Rattle.spec_machine.specs.Begins.{initial}
 use Rattle.spec_machine.specs.Machine.{offered, advance}
 use Rattle.spec_machine.specs.Steps.{machine_of}
-use Rattle.spec_machine.specs.ExamplesWords.{working, x, minus, bit, bool, byte, short, int, neg, faulty, line, either, again, scalar, main, state, process-at, one, offer, taken, Leaves, Faults, Refutes, Waits}
+use Rattle.spec_machine.specs.ExamplesWords.{working, x, minus, bit, bool, byte, short, int, neg, faulty, line, either, again, scalar, main, state, process_at, one, offer, taken, Leaves, Faults, Refutes, Waits}
 
 -- ## an expression "when not 0"
 expressions : Leaves [] (leaf (express (num 1))) [] × Leaves [] (leaf (express (neg (num 1)))) [] × Waits [] (leaf (express (num 0))) × Leaves [] (leaf (express tru)) [] × Waits [] (leaf (express fls))
@@ -28,11 +28,11 @@ unfolding working
 stores = (refl, refl, refl, refl, refl, refl)
 
 -- ## `x++`, `x--`, also past the ends of a type
-counts : Leaves (scalar byte x (set-number 254) ∷ []) (leaf (increment (plain x))) (one (pos 255) ∷ [])
-    × Leaves (scalar byte x (set-number 255) ∷ []) (leaf (increment (plain x))) (one (pos 0) ∷ [])
-    × Leaves (scalar byte x (set-number 1) ∷ []) (leaf (decrement (plain x))) (one (pos 0) ∷ [])
-    × Leaves (scalar byte x (set-number 0) ∷ []) (leaf (decrement (plain x))) (one (pos 255) ∷ [])
-    × Leaves (scalar int x (set-number 2147483647) ∷ []) (leaf (increment (plain x))) (one (minus 2147483648) ∷ [])
+counts : Leaves (scalar byte x (set_number 254) ∷ []) (leaf (increment (plain x))) (one (pos 255) ∷ [])
+    × Leaves (scalar byte x (set_number 255) ∷ []) (leaf (increment (plain x))) (one (pos 0) ∷ [])
+    × Leaves (scalar byte x (set_number 1) ∷ []) (leaf (decrement (plain x))) (one (pos 0) ∷ [])
+    × Leaves (scalar byte x (set_number 0) ∷ []) (leaf (decrement (plain x))) (one (pos 255) ∷ [])
+    × Leaves (scalar int x (set_number 2147483647) ∷ []) (leaf (increment (plain x))) (one (minus 2147483648) ∷ [])
 unfolding working
 counts = (refl, refl, refl, refl, refl)
 
@@ -48,7 +48,7 @@ always = (refl, refl, refl)
 
 -- ## where control goes; the items of `init{` end before place 2, and no variable is declared
 abbrev at : ℕ → State
-at j = state [] (process-at 0 j [] ∷ []) []
+at j = state [] (process_at 0 j [] ∷ []) []
 
 abbrev L : Name
 L = bytes "L"
@@ -57,9 +57,9 @@ L = bytes "L"
 abbrev twice : Model
 twice = main [] (leaf skip ∷ leaf skip ∷ []) ∷ []
 
-in-turn : (taken twice 0 1 (at 2) ≡ (Done, at 3)) × (taken twice 0 1 (at 3) ≡ (Done, at 4)) × (offered (machine_of twice) (at 4) ≡ [])
+in_turn : (taken twice 0 1 (at 2) ≡ (Done, at 3)) × (taken twice 0 1 (at 3) ≡ (Done, at 4)) × (offered (machine_of twice) (at 4) ≡ [])
 unfolding working
-in-turn = (refl, refl, refl)
+in_turn = (refl, refl, refl)
 
 -- `init{goto L;skip;L:skip}`: 2, 4, 7; the step leads behind the label
 abbrev forward : Model
@@ -98,24 +98,24 @@ abbrev branches : Model
 branches = main [] (either ((leaf skip ∷ leaf skip ∷ []) ∷ (leaf skip ∷ []) ∷ []) ∷ leaf skip ∷ []) ∷ []
 
 -- the `if` is no step; "an ended option leads past `fi`"
-past-fi : (offered (machine_of branches) (at 2) ≡ offer 0 1 4 ∷ offer 0 2 8 ∷ []) × (taken branches 0 1 (at 2) ≡ (Done, at 5)) × (taken branches 0 1 (at 5) ≡ (Done, at 11))
+past_fi : (offered (machine_of branches) (at 2) ≡ offer 0 1 4 ∷ offer 0 2 8 ∷ []) × (taken branches 0 1 (at 2) ≡ (Done, at 5)) × (taken branches 0 1 (at 5) ≡ (Done, at 11))
     × (taken branches 0 2 (at 2) ≡ (Done, at 11)) × (taken branches 0 3 (at 2) ≡ (Idle, at 2)) × (advance (machine_of branches) (at 2) (offer 0 1 2) ≡ (Idle, at 2))
 unfolding working
-past-fi = (refl, refl, refl, refl, refl, refl)
+past_fi = (refl, refl, refl, refl, refl, refl)
 
 -- `init{do::skip::break od;skip}`: the `do` 2, 4, 7, behind `od` 10
 abbrev loops : Model
 loops = main [] (again ((leaf skip ∷ []) ∷ (leaf break ∷ []) ∷ []) ∷ leaf skip ∷ []) ∷ []
 
 -- an ended option leads "back to `do`", `break` past `od`
-back-to-do : (taken loops 0 1 (at 2) ≡ (Done, at 2)) × (taken loops 0 2 (at 2) ≡ (Done, at 10)) × (advance (machine_of loops) (at 2) (offer 0 1 2) ≡ (Idle, at 2))
+back_to_do : (taken loops 0 1 (at 2) ≡ (Done, at 2)) × (taken loops 0 2 (at 2) ≡ (Done, at 10)) × (advance (machine_of loops) (at 2) (offer 0 1 2) ≡ (Idle, at 2))
 unfolding working
-back-to-do = (refl, refl, refl)
+back_to_do = (refl, refl, refl)
 
 -- `init{do::do::break od;if::break fi od;skip}`: the outer `do` 2, the inner 4, its `break` 6, the `if` 9, its `break` 11, behind the outer `od` 16. Each `break` leaves its own loop, and no `if`
 abbrev inner : Model
 inner = main [] (again ((again ((leaf break ∷ []) ∷ []) ∷ either ((leaf break ∷ []) ∷ []) ∷ []) ∷ []) ∷ leaf skip ∷ []) ∷ []
 
-own-loop : (taken inner 0 1 (at 2) ≡ (Done, at 9)) × (taken inner 0 1 (at 9) ≡ (Done, at 16))
+own_loop : (taken inner 0 1 (at 2) ≡ (Done, at 9)) × (taken inner 0 1 (at 9) ≡ (Done, at 16))
 unfolding working
-own-loop = (refl, refl)
+own_loop = (refl, refl)

@@ -2,11 +2,11 @@
 use Rattle.std.specs.Prelude.{ℕ, ◌≡◌, List, [], ◌∷◌, ℤ, pos, neg_ℤ}
 use Rattle.std.proofs.Math.Option.{Option, none, some}
 use Rattle.base_kinds.specs.Kinds.{bytes}
-use Rattle.base_values.specs.Operators.{applyOf, unaryOf, divideOf, remainderOf, shiftLeftOf, shiftRightOf}
+use Rattle.base_values.specs.Operators.{apply_of, unary_of, divide_of, remainder_of, shift_left_of, shift_right_of}
 use Rattle.base_values.specs.declared.Fault.{Fault}
 use Rattle.base_outcome.specs.declared.Taken.TheVariants.{Done, Refuted, Faulted, Idle}
-use Rattle.spec_text.specs.Formats.{digitsBy, escaped, formatted, opened, counted}
-use Rattle.spec_grammar.specs.Tree.{Name, Expr, plain, num, get, unary, binary, action, sequence, options, Tree, select, loop, bare, end, then, over, option, Value, set-channel, variable, Declaration, declare, Group, body, idle, once, Part, process, init, Model}
+use Rattle.spec_text.specs.Formats.{digits_by, escaped, formatted, opened, counted}
+use Rattle.spec_grammar.specs.Tree.{Name, Expr, plain, num, get, unary, binary, action, sequence, options, Tree, select, loop, bare, end, then, over, option, Value, set_channel, variable, Declaration, declare, Group, body, idle, once, Part, process, init, Model}
 use Rattle.spec_machine.specs.Effect.{Outcome, format}
 use Rattle.spec_machine.specs.State.{Channel, Process, State}
 use Rattle.spec_machine.specs.Begins.{initial}
@@ -18,7 +18,7 @@ pub use Rattle.spec_machine.specs.Examples.{offer}
 
 -- to unfold this is to unfold all that the examples compute with
 unfoldable pub working : Unit {0}
-unfolding machine asked format formatted opened counted escaped digitsBy applyOf unaryOf divideOf remainderOf shiftLeftOf shiftRightOf
+unfolding machine asked format formatted opened counted escaped digits_by apply_of unary_of divide_of remainder_of shift_left_of shift_right_of
 working = tt
 
 -- ## names and numbers
@@ -109,16 +109,16 @@ abbrev pub line : List (Tree action) → Tree sequence
 line [] = end
 line (s ∷ l) = then (bare s) (line l)
 
-abbrev pub options-of : List (List (Tree action)) → Tree options
-options-of [] = over
-options-of (q ∷ l) = option (line q) (options-of l)
+abbrev pub options_of : List (List (Tree action)) → Tree options
+options_of [] = over
+options_of (q ∷ l) = option (line q) (options_of l)
 
 -- `if .. fi` and `do .. od` of these options
 abbrev pub either : List (List (Tree action)) → Tree action
-either l = select (options-of l)
+either l = select (options_of l)
 
 abbrev pub again : List (List (Tree action)) → Tree action
-again l = loop (options-of l)
+again l = loop (options_of l)
 
 -- `TYPE x=VALUE`, `TYPE a[size]=VALUE`, `chan c=[most]of{TYPES}`
 abbrev pub scalar : ℕ → Name → Value → Declaration
@@ -128,7 +128,7 @@ abbrev pub array : ℕ → Name → ℕ → Value → Declaration
 array k w size v = declare k (variable w (some size) v ∷ [])
 
 abbrev pub channel : Name → ℕ → List ℕ → Declaration
-channel w most ks = declare chan (variable w none (set-channel most ks) ∷ [])
+channel w most ks = declare chan (variable w none (set_channel most ks) ∷ [])
 
 -- `init{..}`, `active proctype w(){..}`, `proctype w(..){..}`
 abbrev pub main : List Declaration → List (Tree action) → Part
@@ -145,24 +145,24 @@ abbrev pub state : List (List ℤ) → List Process → List Channel → State
 state gs ps cs = record { globals = gs; processes = ps; channels = cs }
 
 -- a process of unit u at place j with these variables; a channel made by variable v of unit u
-abbrev pub process-at : ℕ → ℕ → List (List ℤ) → Process
-process-at u j vs = record { unit = u; place = j; variables = vs }
+abbrev pub process_at : ℕ → ℕ → List (List ℤ) → Process
+process_at u j vs = record { unit = u; place = j; variables = vs }
 
-abbrev pub channel-of : ℕ → ℕ → List (List ℤ) → Channel
-channel-of u v held = record { unit = u; variable = v; held = held }
+abbrev pub channel_of : ℕ → ℕ → List (List ℤ) → Channel
+channel_of u v held = record { unit = u; variable = v; held = held }
 
 -- one number, and one message of one field
 abbrev pub one : ℤ → List ℤ
 one v = v ∷ []
 
 -- ## steps
-abbrev pub takenBy : Model → State → Option Step → Outcome State
-takenBy t σ none = (Idle, σ)
-takenBy t σ (some s) = advance (machine_of t) σ s
+abbrev pub taken_by : Model → State → Option Step → Outcome State
+taken_by t σ none = (Idle, σ)
+taken_by t σ (some s) = advance (machine_of t) σ s
 
 -- what comes of the k-th offered step of process p; Idle, where there is none
 abbrev pub taken : Model → ℕ → ℕ → State → Outcome State
-taken t p k σ = takenBy t σ (asked (machine_of t) p k (offered (machine_of t) σ))
+taken t p k σ = taken_by t σ (asked (machine_of t) p k (offered (machine_of t) σ))
 
 -- ## one statement: `init{DS;S}`
 abbrev pub only : List Declaration → Tree action → Model
@@ -170,10 +170,10 @@ only ds s = main ds (s ∷ []) ∷ []
 
 -- it stands at S, or at its end, with these variables and channels
 abbrev pub before : List Declaration → Tree action → List (List ℤ) → List Channel → State
-before ds s vs cs = state [] (process-at 0 (start_of (only ds s) 0) vs ∷ []) cs
+before ds s vs cs = state [] (process_at 0 (start_of (only ds s) 0) vs ∷ []) cs
 
 abbrev pub behind : List Declaration → Tree action → List (List ℤ) → List Channel → State
-behind ds s vs cs = state [] (process-at 0 (end_of (only ds s) 0) vs ∷ []) cs
+behind ds s vs cs = state [] (process_at 0 (end_of (only ds s) 0) vs ∷ []) cs
 
 -- in the initial state S is executable, and leaves these variables and channels
 abbrev pub Gives : List Declaration → Tree action → List (List ℤ) → List Channel → Type 0

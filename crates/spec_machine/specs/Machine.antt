@@ -75,14 +75,14 @@ module _ {S : Type 0} (M : Machine S) where
   unfoldable pub advance : S → Step → Outcome S
   advance s x = M.take s x
 
-  unfoldable pub endedFrom : S → ℕ → ℕ → Bool
-  endedFrom s p zero = true
-  endedFrom s p (suc n) = pick (M.ended s p) (endedFrom s (p + 1) n) false
+  unfoldable pub ended_from : S → ℕ → ℕ → Bool
+  ended_from s p zero = true
+  ended_from s p (suc n) = pick (M.ended s p) (ended_from s (p + 1) n) false
 
-  abbrev pub verdictBy : Bool → List Step → Verdict
-  verdictBy true l = finished
-  verdictBy false [] = blocked
-  verdictBy false (x ∷ l) = «open»
+  abbrev pub verdict_by : Bool → List Step → Verdict
+  verdict_by true l = finished
+  verdict_by false [] = blocked
+  verdict_by false (x ∷ l) = «open»
 
   unfoldable pub verdict : S → Verdict
-  verdict s = verdictBy (endedFrom s 0 (M.processes s)) (offered s)
+  verdict s = verdict_by (ended_from s 0 (M.processes s)) (offered s)

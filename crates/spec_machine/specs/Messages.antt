@@ -2,7 +2,7 @@
 -- messages of a channel, at any position, from 0, the oldest first: one is put there, one is found, and the one that lies there is taken out. Their laws are in proofs/Messages.antt.
 use Rattle.std.specs.Prelude.{ℕ, zero, suc, ◌+◌, List, ◌∷◌, ◌++◌, take, drop}
 use Rattle.base_bytes.specs.Choice.{pick}
-use Rattle.base_values.specs.Operators.{isTrue}
+use Rattle.base_values.specs.Operators.{is_true}
 use Rattle.base_values.specs.declared.Fault.{Fault}
 use Rattle.base_values.specs.declared.Answer.{Answer}
 use Rattle.base_values.specs.declared.Answer.TheVariants.{Value, Fails}
@@ -13,8 +13,8 @@ module _ {A : Type 0} where
   put_at k x l = take k l ++ x ∷ drop k l
 
   -- number k goes out: those behind it move up
-  abbrev pub takeAt : ℕ → List A → List A
-  takeAt k l = take k l ++ drop (k + 1) l
+  abbrev pub take_at_lem : ℕ → List A → List A
+  take_at_lem k l = take k l ++ drop (k + 1) l
 
 -- the number of a message that passes a test, or none, or a fault of the test
 pub data Finding : Type 0 where
@@ -23,11 +23,11 @@ pub data Finding : Type 0 where
   spoilt : Fault → Finding
 
 -- by the test of message k, where `rest` is what is found behind it
-abbrev pub findBy : ℕ → Answer → Finding → Finding
-findBy k (Value v) rest = pick (isTrue v) (found k) rest
-findBy k (Fails f) rest = spoilt f
+abbrev pub find_by : ℕ → Answer → Finding → Finding
+find_by k (Value v) rest = pick (is_true v) (found k) rest
+find_by k (Fails f) rest = spoilt f
 
 -- the first of n messages, from number k on, that passes; a fault ends the search
-unfoldable pub findFrom : (ℕ → Answer) → ℕ → ℕ → Finding
-findFrom test k zero = none
-findFrom test k (suc n) = findBy k (test k) (findFrom test (k + 1) n)
+unfoldable pub find_from : (ℕ → Answer) → ℕ → ℕ → Finding
+find_from test k zero = none
+find_from test k (suc n) = find_by k (test k) (find_from test (k + 1) n)

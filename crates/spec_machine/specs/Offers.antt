@@ -2,13 +2,13 @@
 -- each by its place, in text order; a selection that is an option's first statement gives its steps as the option's. No ceiling stands here.
 use Rattle.std.specs.Prelude.{ℕ, ◌+◌, Bool, List, [], ◌∷◌, ◌++◌}
 use Rattle.base_bytes.specs.Choice.{pick}
-use Rattle.spec_grammar.specs.Tree.{Sort, action, Tree, leaf, select, loop, bare, labelled, end, then, over, option, is-else}
+use Rattle.spec_grammar.specs.Tree.{Sort, action, Tree, leaf, select, loop, bare, labelled, end, then, over, option, is_else}
 use Rattle.base_bytes.specs.Lists.{or_else}
-use Rattle.spec_machine.specs.Sizes.{sizeIn}
+use Rattle.spec_machine.specs.Sizes.{size_in}
 
 -- the place of a statement, if it is `else`
 abbrev pub else_of : {k : Sort} → Tree k → ℕ → List ℕ
-else_of (leaf l) i = pick (is-else l) (i ∷ []) []
+else_of (leaf l) i = pick (is_else l) (i ∷ []) []
 else_of (select os) i = []
 else_of (loop os) i = []
 else_of (bare a) i = else_of a i
@@ -17,7 +17,7 @@ else_of (labelled w a) i = else_of a (i + 2)
 else_of end i = []
 else_of (then s q) i = else_of s i
 else_of over i = []
-else_of (option q os) i = else_of q (i + 1) ++ else_of os (i + 2 + sizeIn q)
+else_of (option q os) i = else_of q (i + 1) ++ else_of os (i + 2 + size_in q)
 
 -- `can a j` says whether the statement a, which is no selection, is executable at place j; the numbers of the tree begin with i
 module _ (can : Tree action → ℕ → Bool) where
@@ -34,4 +34,4 @@ module _ (can : Tree action → ℕ → Bool) where
   offers end i = []
   offers (then s q) i = offers s i
   offers over i = []
-  offers (option q os) i = offers q (i + 1) ++ offers os (i + 2 + sizeIn q)
+  offers (option q os) i = offers q (i + 1) ++ offers os (i + 2 + size_in q)

@@ -2,17 +2,17 @@
 -- `run` when a process and its channels still fit; .. all others always. .. A statement whose test faults counts as executable (H)". `else`, `if` and `do` are judged where steps are
 -- offered (specs/Offers.antt).
 use Rattle.std.specs.Prelude.{Bool, true, false, List, length, ltb}
-use Rattle.base_values.specs.Operators.{isTrue}
+use Rattle.base_values.specs.Operators.{is_true}
 use Rattle.base_values.specs.declared.Answer.{Answer}
 use Rattle.base_values.specs.declared.Answer.TheVariants.{Value, Fails}
-use Rattle.spec_grammar.specs.Tree.{Received, action, Tree, leaf, express, assign, increment, decrement, send, receive, assert, print, skip, goto, break, timeout, else, run, set-run, select, loop, Leaf}
+use Rattle.spec_grammar.specs.Tree.{Received, action, Tree, leaf, express, assign, increment, decrement, send, receive, assert, print, skip, goto, break, timeout, else, run, set_run, select, loop, Leaf}
 use Rattle.spec_machine.specs.Eval.{eval}
 use Rattle.spec_machine.specs.Stage.{Stage}
 use Rattle.spec_machine.specs.Arguments.{Reach, channel, astray, reach, finding}
 use Rattle.spec_machine.specs.Messages.{Finding, found, none, spoilt}
 
 abbrev pub passes : Answer → Bool
-passes (Value v) = isTrue v
+passes (Value v) = is_true v
 passes (Fails f) = true
 
 -- "a send when the channel is not full"
@@ -31,24 +31,24 @@ receivable c xs (channel v) = finds (finding c v xs)
 receivable c xs (astray f) = true
 
 -- of a statement that holds no other; `late` says whether `timeout` is executable
-abbrev pub leafReady : {S : Type 0} → Stage S → Bool → Leaf → Bool
-leafReady c late (express e) = passes (eval c.scene e)
-leafReady c late (assign r e) = true
-leafReady c late (increment r) = true
-leafReady c late (decrement r) = true
-leafReady c late (send o r es) = sendable c (reach c r (length es))
-leafReady c late (receive o r xs) = receivable c xs (reach c r (length xs))
-leafReady c late (assert e) = true
-leafReady c late (print w es) = true
-leafReady c late skip = true
-leafReady c late (goto w) = true
-leafReady c late break = true
-leafReady c late timeout = late
-leafReady c late else = false
-leafReady c late (run w es) = c.room w
-leafReady c late (set-run r w es) = true
+abbrev pub leaf_ready : {S : Type 0} → Stage S → Bool → Leaf → Bool
+leaf_ready c late (express e) = passes (eval c.scene e)
+leaf_ready c late (assign r e) = true
+leaf_ready c late (increment r) = true
+leaf_ready c late (decrement r) = true
+leaf_ready c late (send o r es) = sendable c (reach c r (length es))
+leaf_ready c late (receive o r xs) = receivable c xs (reach c r (length xs))
+leaf_ready c late (assert e) = true
+leaf_ready c late (print w es) = true
+leaf_ready c late skip = true
+leaf_ready c late (goto w) = true
+leaf_ready c late break = true
+leaf_ready c late timeout = late
+leaf_ready c late else = false
+leaf_ready c late (run w es) = c.room w
+leaf_ready c late (set_run r w es) = true
 
 unfoldable pub ready : {S : Type 0} → Stage S → Bool → Tree action → Bool
-ready c late (leaf l) = leafReady c late l
+ready c late (leaf l) = leaf_ready c late l
 ready c late (select os) = false
 ready c late (loop os) = false

@@ -20,8 +20,8 @@ pub record State : Type 0 where
   pub processes : List Process
   pub channels : List Channel
 
-abbrev pub noChannel : Channel
-noChannel = record { unit = 0; variable = 0; held = [] }
+abbrev pub no_channel : Channel
+no_channel = record { unit = 0; variable = 0; held = [] }
 
-abbrev pub noProcess : Process
-noProcess = record { unit = 0; place = 0; variables = [] }
+abbrev pub no_process : Process
+no_process = record { unit = 0; place = 0; variables = [] }

@@ -4,20 +4,20 @@ use Rattle.std.specs.Prelude.{ℕ, ◌+◌, ◌≡◌, refl, true, false, List, 
 use Rattle.base_bytes.specs.Choice.{pick}
 use Rattle.base_bytes.specs.Lists.{same}
 use Rattle.base_bytes.specs.Numbers.{nat}
-use Rattle.base_values.specs.Operators.{applyOf, divideOf}
+use Rattle.base_values.specs.Operators.{apply_of, divide_of}
 use Rattle.base_values.specs.declared.Fault.TheVariants.{Divide, Index, Fields}
 use Rattle.base_values.specs.declared.Answer.{Answer}
 use Rattle.base_values.specs.declared.Answer.TheVariants.{Value, Fails}
 use Rattle.base_outcome.specs.declared.Taken.TheVariants.{Done, Faulted}
-use Rattle.spec_grammar.specs.Marks.{k-bang, k-ask}
+use Rattle.spec_grammar.specs.Marks.{k_bang, k_ask}
 use Rattle.spec_grammar.specs.Tree.{Name, Expr, Tree, action, plain, indexed, num, get, binary, choice, into, leaf, express, send, receive, skip, else, select, bare, labelled, end, then, over, option}
 use Rattle.spec_machine.specs.Eval.{eval}
 use Rattle.spec_machine.specs.Stage.{Stage, Ways}
-use Rattle.spec_machine.specs.Messages.{findFrom}
+use Rattle.spec_machine.specs.Messages.{find_from}
 use Rattle.spec_machine.specs.Arguments.{values, agrees, targets}
 use Rattle.spec_machine.specs.Ready.{ready}
 use Rattle.spec_machine.specs.Effect.{deliveries, effect}
-use Rattle.spec_machine.specs.Program.{labelIn}
+use Rattle.spec_machine.specs.Program.{label_in}
 use Rattle.spec_machine.specs.Offers.{offers}
 
 abbrev i : Name
@@ -82,31 +82,31 @@ one-guard = refl
 
 -- `1/0`: `else` does not pass beside a guard that faults
 faulty-guard : offered (binary 17 (num 1) (num 0)) ≡ 12 ∷ []
-unfolding offers ready eval applyOf divideOf
+unfolding offers ready eval apply_of divide_of
 faulty-guard = refl
 
 -- ## `c!1,2` where one message waits
-full : ready (small 1 before) false (leaf (send k-bang (plain c) (num 1 ∷ num 2 ∷ []))) ≡ false
+full : ready (small 1 before) false (leaf (send k_bang (plain c) (num 1 ∷ num 2 ∷ []))) ≡ false
 unfolding ready same
 full = refl
 
-free : ready (small 2 before) false (leaf (send k-bang (plain c) (num 1 ∷ num 2 ∷ []))) ≡ true
+free : ready (small 2 before) false (leaf (send k_bang (plain c) (num 1 ∷ num 2 ∷ []))) ≡ true
 unfolding ready same
 free = refl
 
 -- one argument for two fields: a fault, so executable, and with it taken the state stays
-short : (ready (small 1 before) false (leaf (send k-bang (plain c) (num 1 ∷ []))) ≡ true) × (effect (small 1 before) ways before (leaf (send k-bang (plain c) (num 1 ∷ []))) ≡ (Faulted Fields, before))
+short : (ready (small 1 before) false (leaf (send k_bang (plain c) (num 1 ∷ []))) ≡ true) × (effect (small 1 before) ways before (leaf (send k_bang (plain c) (num 1 ∷ []))) ≡ (Faulted Fields, before))
 unfolding ready effect values eval same
 short = (refl, refl)
 
 -- ## `c?i,a[i]`: the index is the old i, so a[0] gets 7 and i gets 1
-old-index : effect (small 1 before) ways before (leaf (receive k-ask (plain c) (into (plain i) ∷ into (indexed a (get (plain i))) ∷ []))) ≡ (Done, pos 1 ∷ pos 7 ∷ pos 0 ∷ pos 1 ∷ [])
-unfolding effect agrees findFrom targets deliveries eval same
-old-index = refl
+old_index : effect (small 1 before) ways before (leaf (receive k_ask (plain c) (into (plain i) ∷ into (indexed a (get (plain i))) ∷ []))) ≡ (Done, pos 1 ∷ pos 7 ∷ pos 0 ∷ pos 1 ∷ [])
+unfolding effect agrees find_from targets deliveries eval same
+old_index = refl
 
 -- `c?i,a[2]`: an index out of range changes nothing, i neither
-past_end : effect (small 1 before) ways before (leaf (receive k-ask (plain c) (into (plain i) ∷ into (indexed a (num 2)) ∷ []))) ≡ (Faulted Index, before)
-unfolding effect agrees findFrom targets deliveries eval same
+past_end : effect (small 1 before) ways before (leaf (receive k_ask (plain c) (into (plain i) ∷ into (indexed a (num 2)) ∷ []))) ≡ (Faulted Index, before)
+unfolding effect agrees find_from targets deliveries eval same
 past_end = refl
 
 -- ## "`&&`, `||` and the conditional evaluate only what they need", and give 0 or 1
@@ -124,10 +124,10 @@ lazily = (refl, refl, refl, refl)
 -- the left operand's fault comes first
 left-first : (worth (binary 2 faulty (num 0)) ≡ Fails Divide) × (worth (binary 14 faulty (get (indexed a (num 2)))) ≡ Fails Divide)
     × (worth (binary 14 (get (indexed a (num 2))) faulty) ≡ Fails Index)
-unfolding eval applyOf divideOf same
+unfolding eval apply_of divide_of same
 left-first = (refl, refl, refl)
 
 -- ## `skip;i:skip`, whose items begin at item 10: a `goto i` leads to the second `skip`, behind its label
-labelled-place : labelIn i (then (bare (leaf skip)) (then (labelled i (leaf skip)) end)) 10 0 ≡ 13
+labelled_place : label_in i (then (bare (leaf skip)) (then (labelled i (leaf skip)) end)) 10 0 ≡ 13
 unfolding same
-labelled-place = refl
+labelled_place = refl

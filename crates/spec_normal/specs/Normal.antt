@@ -2,8 +2,8 @@
 -- side by side would read otherwise".
 use Rattle.std.specs.Prelude.{List, ℕ}
 use Rattle.spec_grammar.specs.Tree.{Model}
-use Rattle.spec_grammar.specs.Print.{print-model}
+use Rattle.spec_grammar.specs.Print.{print_model}
 use Rattle.spec_text.specs.Writing.{write}
 
 abbrev pub normal : Model → List ℕ
-normal m = write (print-model m)
+normal m = write (print_model m)

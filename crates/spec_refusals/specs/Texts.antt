@@ -1,6 +1,6 @@
 -- A text as tokens within the ceilings, and where they stand: request One, "texts up to 65,536 bytes", document 01, "tokens 2,048" and the column "Place" of "What is answered".
 use Rattle.std.specs.Prelude.{ℕ, ◌-◌, ◌≤◌, List, map, ltb, length, get_or}
-use Rattle.base_ceilings.specs.Ceilings.{textMost, tokensMost}
+use Rattle.base_ceilings.specs.Ceilings.{text_most, tokens_most}
 use Rattle.base_bytes.specs.Choice.{pick}
 use Rattle.spec_text.specs.Placed.{Placed}
 use Rattle.spec_text.specs.Layout.{Laid}
@@ -8,8 +8,8 @@ use Rattle.spec_text.specs.Layout.{Laid}
 -- the text t is laid out in the tokens ps
 pub record Tokens (t : List ℕ) (ps : List Placed) : Type 0 where
   pub laid : Laid 0 t ps
-  pub short : length t ≤ textMost
-  pub few : length ps ≤ tokensMost
+  pub short : length t ≤ text_most
+  pub few : length ps ≤ tokens_most
 
 -- where token k begins, and how long it is; behind the last token "empty part at the end"
 abbrev pub start_at : List ℕ → List Placed → ℕ → ℕ

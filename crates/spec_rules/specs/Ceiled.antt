@@ -4,7 +4,7 @@ use Rattle.std.specs.Prelude.{ℕ, zero, suc, ◌≡◌, refl, true, false, [], 
 use Rattle.std.proofs.Math.Option.{none, some}
 use Rattle.base_kinds.specs.Kinds.{bytes}
 use Rattle.spec_grammar.specs.Tree.{Name, num, action, sequence, Tree, leaf, print, skip, else, select, loop, bare, labelled, end, then, over, option}
-use Rattle.spec_grammar.specs.Tree.{unset, set-number, set-channel, Declaration, declare, group, body, Activity, idle, once, times, Part, mtypes, global, process, init, Model}
+use Rattle.spec_grammar.specs.Tree.{unset, set_number, set_channel, Declaration, declare, group, body, Activity, idle, once, times, Part, mtypes, global, process, init, Model}
 use Rattle.spec_grammar.specs.Tree as tree
 use Rattle.spec_rules.specs.Ceilings.{modest}
 
@@ -43,98 +43,98 @@ abbrev array : ℕ → Declaration
 array n = declare int (tree.variable x (some n) unset ∷ [])
 
 abbrev channels : ℕ → Declaration
-channels n = declare chan (replicate n (tree.variable x none (set-channel 1 (int ∷ []))))
+channels n = declare chan (replicate n (tree.variable x none (set_channel 1 (int ∷ []))))
 
 -- ## "Statements 512": every statement of the text, over all its bodies, `if`, `do` and `else` included; options and labels are none
-statements-512 : (modest (only (skips 512 end)) ≡ true) × (modest (only (skips 513 end)) ≡ false)
+statements_512 : (modest (only (skips 512 end)) ≡ true) × (modest (only (skips 513 end)) ≡ false)
 unfolding modest
-statements-512 = (refl, refl)
+statements_512 = (refl, refl)
 
-statements-of-two-bodies : (modest (process idle x [] (body [] (skips 256 end)) ∷ only (skips 256 end)) ≡ true)
+statements_of_two_bodies : (modest (process idle x [] (body [] (skips 256 end)) ∷ only (skips 256 end)) ≡ true)
     × (modest (process idle x [] (body [] (skips 256 end)) ∷ only (skips 257 end)) ≡ false)
 unfolding modest
-statements-of-two-bodies = (refl, refl)
+statements_of_two_bodies = (refl, refl)
 
 -- `if::skip::else fi` has three statements, `do::x:skip od` two
-selection-counts : (modest (only (skips 509 (one (select (option (one (leaf skip)) (option (one (leaf else)) over)))))) ≡ true)
+selection_counts : (modest (only (skips 509 (one (select (option (one (leaf skip)) (option (one (leaf else)) over)))))) ≡ true)
     × (modest (only (skips 510 (one (select (option (one (leaf skip)) (option (one (leaf else)) over)))))) ≡ false)
 unfolding modest
-selection-counts = (refl, refl)
+selection_counts = (refl, refl)
 
-label-does-not-count : (modest (only (skips 510 (one (loop (option (then (labelled x (leaf skip)) end) over))))) ≡ true)
+label_does_not_count : (modest (only (skips 510 (one (loop (option (then (labelled x (leaf skip)) end) over))))) ≡ true)
     × (modest (only (skips 511 (one (loop (option (then (labelled x (leaf skip)) end) over))))) ≡ false)
 unfolding modest
-label-does-not-count = (refl, refl)
+label_does_not_count = (refl, refl)
 
 -- ## "mtype names 64; proctypes 16": `init` is no proctype
-mtype-names-64 : (modest (mtypes (replicate 64 x) ∷ rest ∷ []) ≡ true) × (modest (mtypes (replicate 65 x) ∷ rest ∷ []) ≡ false)
+mtype_names_64 : (modest (mtypes (replicate 64 x) ∷ rest ∷ []) ≡ true) × (modest (mtypes (replicate 65 x) ∷ rest ∷ []) ≡ false)
 unfolding modest
-mtype-names-64 = (refl, refl)
+mtype_names_64 = (refl, refl)
 
-proctypes-16 : (modest (rest ∷ replicate 16 (proctype idle)) ≡ true) × (modest (rest ∷ replicate 17 (proctype idle)) ≡ false)
+proctypes_16 : (modest (rest ∷ replicate 16 (proctype idle)) ≡ true) × (modest (rest ∷ replicate 17 (proctype idle)) ≡ false)
 unfolding modest
-proctypes-16 = (refl, refl)
+proctypes_16 = (refl, refl)
 
 -- ## "global numbers 64; numbers per process 32": one for a scalar, for an array its size, a chan is one whatever its channel holds; parameters are of the process, started or not
-global-numbers-64 : (modest (global (scalars 64) ∷ rest ∷ []) ≡ true) × (modest (global (array 32) ∷ global (scalars 32) ∷ rest ∷ []) ≡ true)
+global_numbers_64 : (modest (global (scalars 64) ∷ rest ∷ []) ≡ true) × (modest (global (array 32) ∷ global (scalars 32) ∷ rest ∷ []) ≡ true)
     × (modest (global (scalars 65) ∷ rest ∷ []) ≡ false) × (modest (global (array 32) ∷ global (scalars 33) ∷ rest ∷ []) ≡ false)
 unfolding modest
-global-numbers-64 = (refl, refl, refl, refl)
+global_numbers_64 = (refl, refl, refl, refl)
 
-process-numbers-32 : (modest (init (body (scalars 32 ∷ []) (one (leaf skip))) ∷ []) ≡ true) × (modest (init (body (array 31 ∷ scalars 1 ∷ []) (one (leaf skip))) ∷ []) ≡ true)
+process_numbers_32 : (modest (init (body (scalars 32 ∷ []) (one (leaf skip))) ∷ []) ≡ true) × (modest (init (body (array 31 ∷ scalars 1 ∷ []) (one (leaf skip))) ∷ []) ≡ true)
     × (modest (init (body (scalars 33 ∷ []) (one (leaf skip))) ∷ []) ≡ false) × (modest (init (body (array 32 ∷ scalars 1 ∷ []) (one (leaf skip))) ∷ []) ≡ false)
 unfolding modest
-process-numbers-32 = (refl, refl, refl, refl)
+process_numbers_32 = (refl, refl, refl, refl)
 
-parameters-count : (modest (rest ∷ process idle x (group int (replicate 2 x) ∷ group chan (x ∷ []) ∷ []) (body (scalars 29 ∷ []) (one (leaf skip))) ∷ []) ≡ true)
+parameters_count : (modest (rest ∷ process idle x (group int (replicate 2 x) ∷ group chan (x ∷ []) ∷ []) (body (scalars 29 ∷ []) (one (leaf skip))) ∷ []) ≡ true)
     × (modest (rest ∷ process idle x (group int (replicate 2 x) ∷ group chan (x ∷ []) ∷ []) (body (scalars 30 ∷ []) (one (leaf skip))) ∷ []) ≡ false)
 unfolding modest
-parameters-count = (refl, refl)
+parameters_count = (refl, refl)
 
 -- each body for itself, and none of the global ones
-numbers-per-process : modest (global (scalars 64) ∷ init (body (scalars 32 ∷ []) (one (leaf skip))) ∷ process once x [] (body (scalars 32 ∷ []) (one (leaf skip))) ∷ []) ≡ true
+numbers_per_process : modest (global (scalars 64) ∷ init (body (scalars 32 ∷ []) (one (leaf skip))) ∷ process once x [] (body (scalars 32 ∷ []) (one (leaf skip))) ∷ []) ≡ true
 unfolding modest
-numbers-per-process = refl
+numbers_per_process = refl
 
 -- ## "printf arguments 4", wherever it stands
-printf-arguments-4 : (modest (only (one (leaf (print [] (replicate 4 (num 1)))))) ≡ true) × (modest (only (one (leaf (print [] (replicate 5 (num 1)))))) ≡ false)
+printf_arguments_4 : (modest (only (one (leaf (print [] (replicate 4 (num 1)))))) ≡ true) × (modest (only (one (leaf (print [] (replicate 5 (num 1)))))) ≡ false)
 unfolding modest
-printf-arguments-4 = (refl, refl)
+printf_arguments_4 = (refl, refl)
 
-printf-in-a-selection : (modest (only (one (loop (option (skips 1 (one (leaf (print [] (replicate 4 (num 1)))))) over)))) ≡ true)
+printf_in_a_selection : (modest (only (one (loop (option (skips 1 (one (leaf (print [] (replicate 4 (num 1)))))) over)))) ≡ true)
     × (modest (only (one (loop (option (skips 1 (one (leaf (print [] (replicate 5 (num 1)))))) over)))) ≡ false)
     × (modest (rest ∷ process idle x [] (body [] (one (leaf (print [] (replicate 5 (num 1)))))) ∷ []) ≡ false)
 unfolding modest
-printf-in-a-selection = (refl, refl, refl)
+printf_in_a_selection = (refl, refl, refl)
 
 -- ## "processes 16", "or no process starts", "`active [0]` starts none"
-processes-16 : (modest (proctype (times 16) ∷ []) ≡ true) × (modest (proctype (times 14) ∷ proctype once ∷ rest ∷ []) ≡ true) × (modest (proctype (times 17) ∷ []) ≡ false)
+processes_16 : (modest (proctype (times 16) ∷ []) ≡ true) × (modest (proctype (times 14) ∷ proctype once ∷ rest ∷ []) ≡ true) × (modest (proctype (times 17) ∷ []) ≡ false)
     × (modest (proctype (times 15) ∷ proctype once ∷ rest ∷ []) ≡ false) × (modest (proctype (times 2147483647) ∷ []) ≡ false)
 unfolding modest
-processes-16 = (refl, refl, refl, refl, refl)
+processes_16 = (refl, refl, refl, refl, refl)
 
-no-process-starts : (modest (proctype once ∷ []) ≡ true) × (modest (proctype idle ∷ rest ∷ []) ≡ true) × (modest (proctype (times 1) ∷ []) ≡ true)
+no_process_starts : (modest (proctype once ∷ []) ≡ true) × (modest (proctype idle ∷ rest ∷ []) ≡ true) × (modest (proctype (times 1) ∷ []) ≡ true)
     × (modest (proctype idle ∷ []) ≡ false) × (modest (proctype (times 0) ∷ []) ≡ false) × (modest (global (scalars 1) ∷ []) ≡ false) × (modest [] ≡ false)
 unfolding modest
-no-process-starts = (refl, refl, refl, refl, refl, refl, refl)
+no_process_starts = (refl, refl, refl, refl, refl, refl, refl)
 
 -- ## "channels made 16": the global ones, and those of each process that starts
-channels-16 : (modest (global (channels 16) ∷ rest ∷ []) ≡ true) × (modest (global (channels 17) ∷ rest ∷ []) ≡ false)
+channels_16 : (modest (global (channels 16) ∷ rest ∷ []) ≡ true) × (modest (global (channels 17) ∷ rest ∷ []) ≡ false)
 unfolding modest
-channels-16 = (refl, refl)
+channels_16 = (refl, refl)
 
-channels-of-processes : (modest (global (channels 4) ∷ process (times 4) x [] (body (channels 3 ∷ []) (one (leaf skip))) ∷ []) ≡ true)
+channels_of_processes : (modest (global (channels 4) ∷ process (times 4) x [] (body (channels 3 ∷ []) (one (leaf skip))) ∷ []) ≡ true)
     × (modest (global (channels 5) ∷ process (times 4) x [] (body (channels 3 ∷ []) (one (leaf skip))) ∷ []) ≡ false)
     × (modest (global (channels 16) ∷ init (body (channels 1 ∷ []) (one (leaf skip))) ∷ []) ≡ false)
 unfolding modest
-channels-of-processes = (refl, refl, refl)
+channels_of_processes = (refl, refl, refl)
 
-channels-of-none : (modest (process idle x [] (body (channels 17 ∷ []) (one (leaf skip))) ∷ rest ∷ []) ≡ true)
+channels_of_none : (modest (process idle x [] (body (channels 17 ∷ []) (one (leaf skip))) ∷ rest ∷ []) ≡ true)
     × (modest (process (times 0) x [] (body (channels 17 ∷ []) (one (leaf skip))) ∷ rest ∷ []) ≡ true)
 unfolding modest
-channels-of-none = (refl, refl)
+channels_of_none = (refl, refl)
 
 -- a chan that is an array, or has a number for its value, makes no channel
-chan-without-a-channel : modest (global (channels 16) ∷ global (declare chan (tree.variable x (some 2) unset ∷ tree.variable x none (set-number 1) ∷ [])) ∷ rest ∷ []) ≡ true
+chan_without_a_channel : modest (global (channels 16) ∷ global (declare chan (tree.variable x (some 2) unset ∷ tree.variable x none (set_number 1) ∷ [])) ∷ rest ∷ []) ≡ true
 unfolding modest
-chan-without-a-channel = refl
+chan_without_a_channel = refl

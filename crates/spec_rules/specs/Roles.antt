@@ -6,24 +6,24 @@ pub data Role : Type 0 where
   operand channel target received : Role
 
 -- an mtype name may be an operand, or stand in a receive; `_pid` may be an operand
-abbrev pub forConstant : Role → Bool
-forConstant operand = true
-forConstant channel = false
-forConstant target = false
-forConstant received = true
+abbrev pub for_constant : Role → Bool
+for_constant operand = true
+for_constant channel = false
+for_constant target = false
+for_constant received = true
 
-abbrev pub forPid : Role → Bool
-forPid operand = true
-forPid channel = false
-forPid target = false
-forPid received = false
+abbrev pub for_pid : Role → Bool
+for_pid operand = true
+for_pid channel = false
+for_pid target = false
+for_pid received = false
 
 -- a channel operand is a chan variable
-abbrev pub forChan : Role → Bool → Bool
-forChan operand chan = true
-forChan channel chan = chan
-forChan target chan = true
-forChan received chan = true
+abbrev pub for_chan : Role → Bool → Bool
+for_chan operand chan = true
+for_chan channel chan = chan
+for_chan target chan = true
+for_chan received chan = true
 
 -- an array is used with an index, all else without one
 abbrev pub alike : Bool → Bool → Bool

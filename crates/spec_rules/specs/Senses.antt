@@ -27,25 +27,25 @@ abbrev pub Scope : Type 0
 Scope = List Declared
 
 -- the first declaration of a name counts
-unfoldable pub senseIn : Scope → Name → Sense
-senseIn [] w = unknown
-senseIn (d ∷ l) w = pick (same d.name w) d.sense (senseIn l w)
+unfoldable pub sense_in : Scope → Name → Sense
+sense_in [] w = unknown
+sense_in (d ∷ l) w = pick (same d.name w) d.sense (sense_in l w)
 
-abbrev pub isUnknown : Sense → Bool
-isUnknown (variable c a) = false
-isUnknown constant = false
-isUnknown (procedure n) = false
-isUnknown unknown = true
+abbrev pub is_unknown : Sense → Bool
+is_unknown (variable c a) = false
+is_unknown constant = false
+is_unknown (procedure n) = false
+is_unknown unknown = true
 
-abbrev pub isConstant : Sense → Bool
-isConstant (variable c a) = false
-isConstant constant = true
-isConstant (procedure n) = false
-isConstant unknown = false
+abbrev pub is_constant : Sense → Bool
+is_constant (variable c a) = false
+is_constant constant = true
+is_constant (procedure n) = false
+is_constant unknown = false
 
 -- "each declared once", and `_pid` not at all
 unfoldable pub fresh : Scope → Name → Bool
-fresh l w = both (not (same w pid)) (isUnknown (senseIn l w))
+fresh l w = both (not (same w pid)) (is_unknown (sense_in l w))
 
 -- what a name stands for in a body: "a local hides any of them"
 abbrev pub hides : Sense → Sense → Sense
@@ -54,5 +54,5 @@ hides constant g = constant
 hides (procedure n) g = procedure n
 hides unknown g = g
 
-unfoldable pub senseOf : Scope → Scope → Name → Sense
-senseOf locals globals w = hides (senseIn locals w) (senseIn globals w)
+unfoldable pub sense_of : Scope → Scope → Name → Sense
+sense_of locals globals w = hides (sense_in locals w) (sense_in globals w)

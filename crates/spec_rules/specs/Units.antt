@@ -7,39 +7,39 @@ use Rattle.spec_rules.specs.Senses.{variable, constant, procedure, Declared, dec
 
 -- ## what is declared
 -- type 43 is chan
-abbrev pub isArray : Option ℕ → Bool
-isArray none = false
-isArray (some n) = true
+abbrev pub is_array : Option ℕ → Bool
+is_array none = false
+is_array (some n) = true
 
-abbrev pub senseOfVariable : ℕ → tree.Variable → Declared
-senseOfVariable k (tree.variable w s v) = declared w (variable (eqb k 43) (isArray s))
+abbrev pub sense_of_variable : ℕ → tree.Variable → Declared
+sense_of_variable k (tree.variable w s v) = declared w (variable (eqb k 43) (is_array s))
 
-abbrev pub scopeOfDeclaration : Declaration → Scope
-scopeOfDeclaration (declare k xs) = map (senseOfVariable k) xs
+abbrev pub scope_of_declaration : Declaration → Scope
+scope_of_declaration (declare k xs) = map (sense_of_variable k) xs
 
-abbrev pub senseOfParameter : ℕ → Name → Declared
-senseOfParameter k w = declared w (variable (eqb k 43) false)
+abbrev pub sense_of_parameter : ℕ → Name → Declared
+sense_of_parameter k w = declared w (variable (eqb k 43) false)
 
-abbrev pub scopeOfGroup : Group → Scope
-scopeOfGroup (group k ws) = map (senseOfParameter k) ws
+abbrev pub scope_of_group : Group → Scope
+scope_of_group (group k ws) = map (sense_of_parameter k) ws
 
-abbrev pub scopeOfGroups : List Group → Scope
-scopeOfGroups [] = []
-scopeOfGroups (g ∷ gs) = scopeOfGroup g ++ scopeOfGroups gs
+abbrev pub scope_of_groups : List Group → Scope
+scope_of_groups [] = []
+scope_of_groups (g ∷ gs) = scope_of_group g ++ scope_of_groups gs
 
-abbrev pub ofMessage : Name → Declared
-ofMessage w = declared w constant
+abbrev pub of_message : Name → Declared
+of_message w = declared w constant
 
 -- the globals of a unit
-abbrev pub ofPart : Part → Scope
-ofPart (mtypes ws) = map ofMessage ws
-ofPart (global d) = scopeOfDeclaration d
-ofPart (process a w gs b) = declared w (procedure (length (scopeOfGroups gs))) ∷ []
-ofPart (init b) = []
+abbrev pub of_part : Part → Scope
+of_part (mtypes ws) = map of_message ws
+of_part (global d) = scope_of_declaration d
+of_part (process a w gs b) = declared w (procedure (length (scope_of_groups gs))) ∷ []
+of_part (init b) = []
 
 abbrev pub of_model : Model → Scope
 of_model [] = []
-of_model (u ∷ m) = ofPart u ++ of_model m
+of_model (u ∷ m) = of_part u ++ of_model m
 
 abbrev pub tally : {A : Type 0} → (A → ℕ) → List A → ℕ
 tally f [] = 0

@@ -2,9 +2,9 @@
 use Rattle.std.specs.Prelude.{List, [], ◌∷◌, ℕ, ◌+◌, ◌-◌, ◌*◌}
 
 -- after v
-unfoldable pub decimalFrom : ℕ → List ℕ → ℕ
-decimalFrom v [] = v
-decimalFrom v (b ∷ s) = decimalFrom (v * 10 + (b - 48)) s
+unfoldable pub decimal_from : ℕ → List ℕ → ℕ
+decimal_from v [] = v
+decimal_from v (b ∷ s) = decimal_from (v * 10 + (b - 48)) s
 
 abbrev pub decimal : List ℕ → ℕ
-decimal s = decimalFrom 0 s
+decimal s = decimal_from 0 s

@@ -11,27 +11,27 @@ move_of opened b = pick opened (pick (eqb b 100) 2 (pick (eqb b 37) 4 3)) (pick 
 
 -- a format with n `%d` so far, and 1 for `bad` if some `%` was followed by neither `d` nor `%`; one at the end is bad too.
 -- A bad `%` is passed over by one byte and counting goes on. The quotes around it count as any other byte.
-unfoldable pub formatFrom : Bool → ℕ → ℕ → List ℕ → ℕ
-formatFrom opened n bad [] = 2 * n + pick opened 1 bad
-formatFrom opened n bad (b ∷ s) = formatFrom (eqb (move_of opened b) 1) (n + pick (eqb (move_of opened b) 2) 1 0) (pick (eqb (move_of opened b) 3) 1 bad) s
+unfoldable pub format_from : Bool → ℕ → ℕ → List ℕ → ℕ
+format_from opened n bad [] = 2 * n + pick opened 1 bad
+format_from opened n bad (b ∷ s) = format_from (eqb (move_of opened b) 1) (n + pick (eqb (move_of opened b) 2) 1 0) (pick (eqb (move_of opened b) 3) 1 bad) s
 
 -- twice the number of `%d`, and one more if some `%` is bad
 abbrev pub format_of : List ℕ → ℕ
-format_of s = formatFrom false 0 0 s
+format_of s = format_from false 0 0 s
 
 -- ## numbers
 -- the decimal digits of a number, no zero in front; at most f of them, and ten are enough for every number that a text can hold
-unfoldable pub digitsBy : ℕ → ℕ → List ℕ
-digitsBy zero n = []
-digitsBy (suc f) n = pick (ltb n 10) ((48 + n) ∷ []) (digitsBy f (n / 10) ++ (48 + n % 10) ∷ [])
+unfoldable pub digits_by : ℕ → ℕ → List ℕ
+digits_by zero n = []
+digits_by (suc f) n = pick (ltb n 10) ((48 + n) ∷ []) (digits_by f (n / 10) ++ (48 + n % 10) ∷ [])
 
-abbrev pub digitsOf : ℕ → List ℕ
-digitsOf n = digitsBy 10 n
+abbrev pub digits_of : ℕ → List ℕ
+digits_of n = digits_by 10 n
 
 -- in signed decimal
-abbrev pub decimalOf : ℤ → List ℕ
-decimalOf (pos n) = digitsOf n
-decimalOf (negsuc n) = 45 ∷ digitsOf (n + 1)
+abbrev pub decimal_of : ℤ → List ℕ
+decimal_of (pos n) = digits_of n
+decimal_of (negsuc n) = 45 ∷ digits_of (n + 1)
 
 -- ## what a format writes; `l` holds the values that it asks for
 -- the byte that a backslash and b mean
@@ -42,7 +42,7 @@ escaped b = pick (eqb b 110) 10 (pick (eqb b 116) 9 b)
 unfoldable pub formatted : List ℤ → ℕ → ℕ → ℕ → List ℕ
 formatted l was b k =
     pick (eqb was 92) (escaped b ∷ [])
-    (pick (eqb was 37) (pick (eqb b 100) (decimalOf (get_or l k (pos 0))) (b ∷ []))
+    (pick (eqb was 37) (pick (eqb b 100) (decimal_of (get_or l k (pos 0))) (b ∷ []))
     (pick (eqb b 92) [] (pick (eqb b 37) [] (b ∷ []))))
 
 -- what is open behind it

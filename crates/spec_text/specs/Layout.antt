@@ -1,6 +1,6 @@
 -- A text as tokens with gaps between them: document 01, "The edition we read", Bytes. No two tokens overlap, and every byte that is of no token is of a gap.
 use Rattle.std.specs.Prelude.{◌≡◌, true, List, [], ◌∷◌, ◌++◌, ℕ, ◌+◌, length}
-use Rattle.spec_text.specs.Bytes.{isBlank, slash, star}
+use Rattle.spec_text.specs.Bytes.{is_blank, slash, star}
 use Rattle.spec_text.specs.Placed.{Placed, placed}
 use Rattle.spec_text.specs.Spelled.{Spelled, Longest}
 
@@ -11,7 +11,7 @@ Unended c = (x y : List ℕ) → c ≡ x ++ star ∷ slash ∷ y → ⊥
 -- "blanks are space, tab, CR, LF. Comments run from `/*` to the next `*/` and hold any bytes": the next one ends it
 pub data Gap : List ℕ → Type 0 where
   none : Gap []
-  blank : {b : ℕ} {g : List ℕ} → isBlank b ≡ true → Gap g → Gap (b ∷ g)
+  blank : {b : ℕ} {g : List ℕ} → is_blank b ≡ true → Gap g → Gap (b ∷ g)
   comment : (c : List ℕ) {g : List ℕ} → Unended (c ++ star ∷ []) → Gap g → Gap (slash ∷ star ∷ c ++ star ∷ slash ∷ g)
 
 -- the text from place i on

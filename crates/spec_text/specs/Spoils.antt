@@ -3,8 +3,8 @@
 use Rattle.std.specs.Prelude.{◌≡◌, true, false, List, [], ◌∷◌, ◌++◌, ℕ, suc, ◌+◌, ◌≤◌, ◌<◌, eqb, length}
 use Rattle.base_kinds.specs.Kinds.{marks}
 use Rattle.spec_text.specs.Find.{find}
-use Rattle.spec_text.specs.Bytes.{isBlank, isLetter, isDigit, isWord, is_plain, isEscape, quote, backslash, slash, star}
-use Rattle.base_ceilings.specs.Ceilings.{numberMost, stringMost, textMost, tokensMost, wordMost}
+use Rattle.spec_text.specs.Bytes.{is_blank, is_letter, is_digit, is_word, is_plain, is_escape, quote, backslash, slash, star}
+use Rattle.base_ceilings.specs.Ceilings.{number_most, string_most, text_most, tokens_most, word_most}
 use Rattle.spec_text.specs.Digits.{decimal}
 use Rattle.spec_text.specs.Spelled.{all, Between, Spelled, Longest}
 use Rattle.spec_text.specs.Layout.{Unended, Gap}
@@ -17,18 +17,18 @@ pub data Begins : ℕ → ℕ → List ℕ → ℕ → List ℕ → Type 0 where
 -- what stands at the front of s can be no token and no gap: the refusal's number, and how many bytes of s its part has
 pub data Wrong : List ℕ → ℕ → ℕ → Type 0 where
   -- "stray byte": no blank, of no word or number, no quote, and no mark. (Each mark of two bytes begins with one of one byte.)
-  stray : (b : ℕ) (s : List ℕ) → isBlank b ≡ false → isWord b ≡ false → eqb b quote ≡ false → find (b ∷ []) marks 1 ≡ 0 → Wrong (b ∷ s) 1 1
+  stray : (b : ℕ) (s : List ℕ) → is_blank b ≡ false → is_word b ≡ false → eqb b quote ≡ false → find (b ∷ []) marks 1 ≡ 0 → Wrong (b ∷ s) 1 1
   -- "bad byte in a string": "part from its start through the bad byte"
-  bad-byte : {x : List ℕ} (b : ℕ) (s : List ℕ) → Between x → is_plain b ≡ false → Wrong (quote ∷ x ++ b ∷ s) 1 (length x + 2)
-  bad-escape : {x : List ℕ} (b : ℕ) (s : List ℕ) → Between x → isEscape b ≡ false → Wrong (quote ∷ x ++ backslash ∷ b ∷ s) 1 (length x + 3)
+  bad_byte : {x : List ℕ} (b : ℕ) (s : List ℕ) → Between x → is_plain b ≡ false → Wrong (quote ∷ x ++ b ∷ s) 1 (length x + 2)
+  bad_escape : {x : List ℕ} (b : ℕ) (s : List ℕ) → Between x → is_escape b ≡ false → Wrong (quote ∷ x ++ backslash ∷ b ∷ s) 1 (length x + 3)
   -- "unclosed string or comment": "to the end of text if unclosed"
-  unclosed-string : {x : List ℕ} → Between x → Wrong (quote ∷ x) 1 (length x + 1)
-  unclosed-escape : {x : List ℕ} → Between x → Wrong (quote ∷ x ++ backslash ∷ []) 1 (length x + 2)
-  unclosed-comment : (c : List ℕ) → Unended c → Wrong (slash ∷ star ∷ c) 1 (length c + 2)
+  unclosed_string : {x : List ℕ} → Between x → Wrong (quote ∷ x) 1 (length x + 1)
+  unclosed_escape : {x : List ℕ} → Between x → Wrong (quote ∷ x ++ backslash ∷ []) 1 (length x + 2)
+  unclosed_comment : (c : List ℕ) → Unended c → Wrong (slash ∷ star ∷ c) 1 (length c + 2)
   -- "word, string, number .. ceiling passed": the whole of it, where that is a token but for its ceiling
-  long-word : (b : ℕ) (x s : List ℕ) → isLetter b ≡ true → all isWord x ≡ true → Longest (b ∷ x) s → wordMost < length (b ∷ x) → Wrong (b ∷ x ++ s) 2 (length (b ∷ x))
-  large-number : (b : ℕ) (x s : List ℕ) → isDigit b ≡ true → all isDigit x ≡ true → Longest (b ∷ x) s → numberMost < decimal (b ∷ x) → Wrong (b ∷ x ++ s) 2 (length (b ∷ x))
-  long-string : {x : List ℕ} (s : List ℕ) → Between x → stringMost < length x → Wrong (quote ∷ x ++ quote ∷ s) 2 (length x + 2)
+  long_word : (b : ℕ) (x s : List ℕ) → is_letter b ≡ true → all is_word x ≡ true → Longest (b ∷ x) s → word_most < length (b ∷ x) → Wrong (b ∷ x ++ s) 2 (length (b ∷ x))
+  large_number : (b : ℕ) (x s : List ℕ) → is_digit b ≡ true → all is_digit x ≡ true → Longest (b ∷ x) s → number_most < decimal (b ∷ x) → Wrong (b ∷ x ++ s) 2 (length (b ∷ x))
+  long_string : {x : List ℕ} (s : List ℕ) → Between x → string_most < length x → Wrong (quote ∷ x ++ quote ∷ s) 2 (length x + 2)
 
 -- the text from place i on, where `most` tokens may come, is broken: the refusal's number, the place of its part and how many bytes that has
 pub data Breaks (most i : ℕ) (t : List ℕ) : ℕ → ℕ → ℕ → Type 0 where
@@ -39,5 +39,5 @@ pub data Breaks (most i : ℕ) (t : List ℕ) : ℕ → ℕ → ℕ → Type 0 w
 -- the whole text is refused so: "then length, then bytes and tokens (1, 2)"
 pub data Spoils (t : List ℕ) : ℕ → ℕ → ℕ → Type 0 where
   -- "0 for the length of text"
-  too_long : textMost < length t → Spoils t 2 0 0
-  broken : {x i n : ℕ} → length t ≤ textMost → Breaks tokensMost 0 t x i n → Spoils t x i n
+  too_long : text_most < length t → Spoils t 2 0 0
+  broken : {x i n : ℕ} → length t ≤ text_most → Breaks tokens_most 0 t x i n → Spoils t x i n

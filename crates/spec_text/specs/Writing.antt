@@ -2,8 +2,8 @@
 -- "one space exactly where two tokens side by side would read otherwise".
 use Rattle.std.specs.Prelude.{Bool, List, [], ◌∷◌, ◌++◌, map, ℕ, ◌-◌, eqb, length, get_or, take, drop}
 use Rattle.base_bytes.specs.Choice.{pick}
-use Rattle.spec_text.specs.Formats.{digitsOf}
-use Rattle.base_kinds.specs.Kinds.{marks, keywords, Token, sym, name, number, text, kind_of, name-kind, number-kind, string-kind}
+use Rattle.spec_text.specs.Formats.{digits_of}
+use Rattle.base_kinds.specs.Kinds.{marks, keywords, Token, sym, name, number, text, kind_of, name_kind, number_kind, string_kind}
 use Rattle.spec_text.specs.Bytes.{quote}
 use Rattle.spec_text.specs.Digits.{decimal}
 use Rattle.spec_text.specs.Placed.{Placed}
@@ -13,33 +13,33 @@ use Rattle.spec_text.specs.Spelled.{joins}
 abbrev pub spell : Token → List ℕ
 spell (sym k) = get_or (marks ++ keywords) (k - 1) []
 spell (name w) = w
-spell (number n) = digitsOf n
+spell (number n) = digits_of n
 spell (text w) = quote ∷ w ++ quote ∷ []
 
 -- the token that bytes of a kind are
-abbrev pub tokenOf : ℕ → List ℕ → Token
-tokenOf k x =
-    pick (eqb k name-kind) (name x) (pick (eqb k number-kind) (number (decimal x)) (pick (eqb k string-kind) (text (take (length x - 2) (drop 1 x))) (sym k)))
+abbrev pub token_of : ℕ → List ℕ → Token
+token_of k x =
+    pick (eqb k name_kind) (name x) (pick (eqb k number_kind) (number (decimal x)) (pick (eqb k string_kind) (text (take (length x - 2) (drop 1 x))) (sym k)))
 
 -- the tokens of a text, with what they hold
 abbrev pub part_of : List ℕ → Placed → List ℕ
 part_of t p = take (p.end - p.start) (drop p.start t)
 
-abbrev pub tokenIn : List ℕ → Placed → Token
-tokenIn t p = tokenOf p.kind (part_of t p)
+abbrev pub token_in : List ℕ → Placed → Token
+token_in t p = token_of p.kind (part_of t p)
 
-abbrev pub tokensIn : List ℕ → List Placed → List Token
-tokensIn t ps = map (tokenIn t) ps
+abbrev pub tokens_in : List ℕ → List Placed → List Token
+tokens_in t ps = map (token_in t) ps
 
 -- two tokens side by side would read otherwise
 abbrev pub apart : Token → Token → Bool
 apart a b = joins (kind_of a) (spell a) (get_or (spell b) 0 0)
 
 -- behind the token a, the others with one space exactly where it is needed
-unfoldable pub writeBehind : Token → List Token → List ℕ
-writeBehind a [] = []
-writeBehind a (b ∷ ts) = pick (apart a b) (32 ∷ []) [] ++ (spell b ++ writeBehind b ts)
+unfoldable pub write_behind : Token → List Token → List ℕ
+write_behind a [] = []
+write_behind a (b ∷ ts) = pick (apart a b) (32 ∷ []) [] ++ (spell b ++ write_behind b ts)
 
 abbrev pub write : List Token → List ℕ
 write [] = []
-write (a ∷ ts) = spell a ++ writeBehind a ts
+write (a ∷ ts) = spell a ++ write_behind a ts

@@ -1,7 +1,7 @@
 -- Document 01, "By program: 001's factorial with its channel declared at the body's start prints `result: 479001600` and makes 13 processes". The whole run, computed.
 use Rattle.std.specs.Prelude.{ℕ, ◌≡◌, refl, [], ◌∷◌, length}
 use Rattle.base_kinds.specs.Kinds.{bytes}
-use Rattle.spec_grammar.specs.Marks.{k-bang, k-ask}
+use Rattle.spec_grammar.specs.Marks.{k_bang, k_ask}
 use Rattle.spec_grammar.specs.Tree.{Name, plain, num, binary, into, leaf, express, send, receive, print, run, unset, group, Model}
 use Rattle.spec_machine.specs.State.{State}
 use Rattle.spec_machine.specs.Begins.{initial}
@@ -31,10 +31,10 @@ abbrev factorial : Model
 factorial =
     proctype fact (group int (n ∷ []) ∷ group chan (p ∷ []) ∷ []) (channel child 1 (int ∷ []) ∷ scalar int result unset ∷ [])
     (either
-    ((leaf (express (binary 9 (of n) (num 1))) ∷ leaf (send k-bang (plain p) (num 1 ∷ [])) ∷ []) ∷
-    (leaf (express (binary 11 (of n) (num 2))) ∷ leaf (run fact (binary 15 (of n) (num 1) ∷ of child ∷ [])) ∷ leaf (receive k-ask (plain child) (into (plain result) ∷ [])) ∷ leaf (send k-bang (plain p) (binary 16 (of n) (of result) ∷ [])) ∷ []) ∷ []) ∷ []) ∷
+    ((leaf (express (binary 9 (of n) (num 1))) ∷ leaf (send k_bang (plain p) (num 1 ∷ [])) ∷ []) ∷
+    (leaf (express (binary 11 (of n) (num 2))) ∷ leaf (run fact (binary 15 (of n) (num 1) ∷ of child ∷ [])) ∷ leaf (receive k_ask (plain child) (into (plain result) ∷ [])) ∷ leaf (send k_bang (plain p) (binary 16 (of n) (of result) ∷ [])) ∷ []) ∷ []) ∷ []) ∷
     main (scalar int result unset ∷ channel child 1 (int ∷ []) ∷ [])
-    (leaf (run fact (num 12 ∷ of child ∷ [])) ∷ leaf (receive k-ask (plain child) (into (plain result) ∷ [])) ∷ leaf (print (bytes "result: %d\\n") (of result ∷ [])) ∷ []) ∷ []
+    (leaf (run fact (num 12 ∷ of child ∷ [])) ∷ leaf (receive k_ask (plain child) (into (plain result) ∷ [])) ∷ leaf (print (bytes "result: %d\\n") (of result ∷ [])) ∷ []) ∷ []
 
 abbrev after : ℕ → Ran State
 after k = run_from (machine_of factorial) k (initial factorial)

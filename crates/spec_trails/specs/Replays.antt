@@ -23,8 +23,8 @@ claimed (standing blocked) = 4
 claimed (standing «open») = 5
 
 -- and the claim with that number
-abbrev pub claimBy : ℕ → Claim
-claimBy v = pick (eqb v 1) assertion (pick (eqb v 2) fault (pick (eqb v 3) (standing finished) (pick (eqb v 4) (standing blocked) (standing «open»))))
+abbrev pub claim_by : ℕ → Claim
+claim_by v = pick (eqb v 1) assertion (pick (eqb v 2) fault (pick (eqb v 3) (standing finished) (pick (eqb v 4) (standing blocked) (standing «open»))))
 
 -- accepted, or refused with a number at a line
 pub data Replayed : Type 0 where
@@ -48,8 +48,8 @@ module _ {S : Type 0} (M : Machine S) where
   recorded line s (some x) rest = followed line s (advance M s x).0 (advance M s x).1 rest
 
   -- the records from a line on, in state s, behind a step that failed so, or did not
-  unfoldable pub replayFrom : Claim → List Recorded → ℕ → Option Claim → S → Replayed × S
-  replayFrom claim [] line none s = (judged claim (standing (verdict M s)) line, s)
-  replayFrom claim [] line (some f) s = (judged claim f line, s)
-  replayFrom claim (a ∷ more) line none s = recorded line s (asked M a.process a.choice (offered M s)) (λ f x. replayFrom claim more (line + 1) f x)
-  replayFrom claim (a ∷ more) line (some f) s = (refused 11 line, s)
+  unfoldable pub replay_from : Claim → List Recorded → ℕ → Option Claim → S → Replayed × S
+  replay_from claim [] line none s = (judged claim (standing (verdict M s)) line, s)
+  replay_from claim [] line (some f) s = (judged claim f line, s)
+  replay_from claim (a ∷ more) line none s = recorded line s (asked M a.process a.choice (offered M s)) (λ f x. replay_from claim more (line + 1) f x)
+  replay_from claim (a ∷ more) line (some f) s = (refused 11 line, s)

@@ -18,23 +18,23 @@ pub record Ran (S : Type 0) : Type 0 where
   pub count : ℕ
   pub state : S
 
-abbrev pub oneMore : {S : Type 0} → Ran S → Ran S
-oneMore r = record { ending = r.ending; count = suc r.count; state = r.state }
+abbrev pub one_more : {S : Type 0} → Ran S → Ran S
+one_more r = record { ending = r.ending; count = suc r.count; state = r.state }
 
 module _ {S : Type 0} (M : Machine S) where
   abbrev pub still : S → Ran S
   still s = record { ending = stood (verdict M s); count = 0; state = s }
 
-  abbrev pub firstTaken : S → List Step → Outcome S
-  firstTaken s [] = (Idle, s)
-  firstTaken s (x ∷ l) = advance M s x
+  abbrev pub first_taken : S → List Step → Outcome S
+  first_taken s [] = (Idle, s)
+  first_taken s (x ∷ l) = advance M s x
 
   abbrev pub run_by : Taken → S → (S → Ran S) → Ran S
-  run_by Done s rest = oneMore (rest s)
+  run_by Done s rest = one_more (rest s)
   run_by Refuted s rest = record { ending = refuted; count = 1; state = s }
   run_by (Faulted f) s rest = record { ending = faulted f; count = 1; state = s }
   run_by Idle s rest = still s
 
   unfoldable pub run_from : ℕ → S → Ran S
   run_from zero s = still s
-  run_from (suc n) s = run_by (firstTaken s (offered M s)).0 (firstTaken s (offered M s)).1 (λ x. run_from n x)
+  run_from (suc n) s = run_by (first_taken s (offered M s)).0 (first_taken s (offered M s)).1 (λ x. run_from n x)

@@ -9,7 +9,7 @@ use base_codes::within;
 
 fn counts_from(s: &[i32], a: usize, b: usize, i: usize) -> bool
     requires { i < 1099511627776 }
-    ensures { result ≡ fits.countsFrom s.now a b i }
+    ensures { result ≡ fits.counts_from s.now a b i }
 {
     both(
         state_types::counts_at(s, a, i),
@@ -19,7 +19,7 @@ fn counts_from(s: &[i32], a: usize, b: usize, i: usize) -> bool
 
 // The last item of the model.
 fn items_last(t: &[u32]) -> usize
-    ensures { result ≡ standing.itemsLast t.now }
+    ensures { result ≡ standing.items_last t.now }
 {
     base_bytes::least(
         state_layout::KEPT_MOST,
@@ -29,7 +29,7 @@ fn items_last(t: &[u32]) -> usize
 
 // Does a statement have its place at item q?
 fn is_place(t: &[u32], q: u32) -> bool
-    ensures { result ≡ standing.placeAt t.now q }
+    ensures { result ≡ standing.place_at t.now q }
 {
     let c = table_layout::code(t, q as usize);
     if base_codes::is_alone(c) {
@@ -57,7 +57,7 @@ fn belongs(t: &[u32], u: u32, q: u32) -> bool
 }
 
 fn is_process(t: &[u32], s: &[i32], p: u8) -> bool
-    ensures { result ≡ standing.isProcess t.now s.now p }
+    ensures { result ≡ standing.is_process t.now s.now p }
 {
     let u = state_layout::unit_of(s, p);
     both(
@@ -74,7 +74,7 @@ fn is_process(t: &[u32], s: &[i32], p: u8) -> bool
 }
 
 fn process_sound(t: &[u32], s: &[i32], p: u8) -> bool
-    ensures { result ≡ standing.processSound t.now s.now p }
+    ensures { result ≡ standing.process_sound t.now s.now p }
 {
     let e = items_last(t);
     both(
@@ -84,7 +84,7 @@ fn process_sound(t: &[u32], s: &[i32], p: u8) -> bool
 }
 
 fn processes_sound(t: &[u32], s: &[i32], n: u8) -> bool
-    ensures { result ≡ fits.every (standing.processSound t.now s.now) 0 n }
+    ensures { result ≡ fits.every (standing.process_sound t.now s.now) 0 n }
 {
     let mut p: u8 = 0;
     while p < n {
@@ -97,7 +97,7 @@ fn processes_sound(t: &[u32], s: &[i32], n: u8) -> bool
 }
 
 fn is_channel(t: &[u32], s: &[i32], c: u32) -> bool
-    ensures { result ≡ standing.isChannel t.now s.now c }
+    ensures { result ≡ standing.is_channel t.now s.now c }
 {
     let d = state_layout::declared_of(s, c);
     let n = state_layout::waiting_of(s, c) as usize;
@@ -117,7 +117,7 @@ fn is_channel(t: &[u32], s: &[i32], c: u32) -> bool
 }
 
 fn channel_sound(t: &[u32], s: &[i32], c: u32) -> bool
-    ensures { result ≡ standing.channelSound t.now s.now c }
+    ensures { result ≡ standing.channel_sound t.now s.now c }
 {
     let e = items_last(t);
     both(
@@ -132,7 +132,7 @@ fn channel_sound(t: &[u32], s: &[i32], c: u32) -> bool
 }
 
 fn channels_sound(t: &[u32], s: &[i32], n: u32) -> bool
-    ensures { result ≡ fits.every (standing.channelSound t.now s.now) 0 n }
+    ensures { result ≡ fits.every (standing.channel_sound t.now s.now) 0 n }
 {
     let mut c: u32 = 0;
     while c < n {
@@ -184,7 +184,7 @@ fn same_numbers(x: &[i32], s: &[i32]) -> bool
 
 // Are these numbers a state of the model with these tables?
 pub fn is_state(t: &[u32], s: &[i32]) -> bool
-    ensures { result ≡ standing.isStateOf t.now s.now }
+    ensures { result ≡ standing.is_state_of t.now s.now }
 {
     if s.len() < base_ceilings::STATE_ROOM {
         return false;

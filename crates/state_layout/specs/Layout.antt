@@ -7,31 +7,31 @@
 --   the rest is 0
 -- Processes count from 0. Channels count from 1 as made; the record of channel n is record n - 1.
 use Rattle.std.specs.Prelude.{ℕ, ◌+◌, ◌*◌, min, List, ◌++◌, length, get_or, replicate, drop, ℤ, pos}
-use Rattle.base_ceilings.specs.Ceilings.{capacityMost, fieldsMost, globalsMost, numbersMost, processesMost, stateRoom}
+use Rattle.base_ceilings.specs.Ceilings.{capacity_most, fields_most, globals_most, numbers_most, processes_most, state_room}
 use Rattle.base_bytes.specs.Numbers.{nat}
 
 -- ## strides
-abbrev pub processSize : ℕ
-processSize = 2 + numbersMost
+abbrev pub process_size : ℕ
+process_size = 2 + numbers_most
 
-abbrev pub channelSize : ℕ
-channelSize = 2 + capacityMost * fieldsMost
+abbrev pub channel_size : ℕ
+channel_size = 2 + capacity_most * fields_most
 
 -- ## where each number stands
-abbrev pub globalAt : ℕ → ℕ
-globalAt k = 2 + k
+abbrev pub global_at_lem : ℕ → ℕ
+global_at_lem k = 2 + k
 
-abbrev pub processAt : ℕ → ℕ
-processAt p = 2 + globalsMost + processSize * p
+abbrev pub process_at_lem : ℕ → ℕ
+process_at_lem p = 2 + globals_most + process_size * p
 
 abbrev pub local_at : ℕ → ℕ → ℕ
-local_at p k = processAt p + 2 + k
+local_at p k = process_at_lem p + 2 + k
 
-abbrev pub channelAt : ℕ → ℕ
-channelAt c = processAt processesMost + channelSize * c
+abbrev pub channel_at : ℕ → ℕ
+channel_at c = process_at_lem processes_most + channel_size * c
 
-abbrev pub fieldAt : ℕ → ℕ → ℕ → ℕ
-fieldAt c m f = channelAt c + 2 + fieldsMost * m + f
+abbrev pub field_at : ℕ → ℕ → ℕ → ℕ
+field_at c m f = channel_at c + 2 + fields_most * m + f
 
 -- ## what they say
 module _ (s : List ℤ) where
@@ -41,38 +41,38 @@ module _ (s : List ℤ) where
   abbrev pub count_of : ℕ → ℕ
   count_of i = nat (cell_of i)
 
-  abbrev pub processesOf : ℕ
-  processesOf = count_of 0
+  abbrev pub processes_of : ℕ
+  processes_of = count_of 0
 
-  abbrev pub channelsOf : ℕ
-  channelsOf = count_of 1
+  abbrev pub channels_of : ℕ
+  channels_of = count_of 1
 
   -- the item that begins the proctype of process p
   abbrev pub unit_of : ℕ → ℕ
-  unit_of p = count_of (processAt p)
+  unit_of p = count_of (process_at_lem p)
 
   abbrev pub place_of : ℕ → ℕ
-  place_of p = count_of (processAt p + 1)
+  place_of p = count_of (process_at_lem p + 1)
 
   -- the item that declares the channel of record c
-  abbrev pub declaredOf : ℕ → ℕ
-  declaredOf c = count_of (channelAt c)
+  abbrev pub declared_of : ℕ → ℕ
+  declared_of c = count_of (channel_at c)
 
   -- how many messages it holds
-  abbrev pub waitingOf : ℕ → ℕ
-  waitingOf c = count_of (channelAt c + 1)
+  abbrev pub waiting_of : ℕ → ℕ
+  waiting_of c = count_of (channel_at c + 1)
 
   -- field f of its message m
   abbrev pub field_of : ℕ → ℕ → ℕ → ℤ
-  field_of c m f = cell_of (fieldAt c m f)
+  field_of c m f = cell_of (field_at c m f)
 
 -- a natural number as a state keeps it, as far as 31 bits reach, which nothing that is counted passes
-abbrev pub keptMost : ℕ
-keptMost = 2147483647
+abbrev pub kept_most : ℕ
+kept_most = 2147483647
 
 abbrev pub kept : ℕ → ℤ
-kept n = pos (min keptMost n)
+kept n = pos (min kept_most n)
 
 -- zeros over the whole of a state; what lies behind it stays
 abbrev pub cleared : List ℤ → List ℤ
-cleared s = replicate (min stateRoom (length s)) (pos 0) ++ drop (min stateRoom (length s)) s
+cleared s = replicate (min state_room (length s)) (pos 0) ++ drop (min state_room (length s)) s

@@ -1,6 +1,6 @@
 // A state: 2,048 signed numbers. specs/Layout.antt says where each of them stands. Reading past the end gives 0, storing there changes nothing.
 ghost use Rattle.std.specs.Prelude.{◌≡◌, ◌<◌, ◌+◌, set};
-ghost use Rattle.state_layout.specs.Layout.{keptMost};
+ghost use Rattle.state_layout.specs.Layout.{kept_most};
 ghost use Rattle.base_bytes.specs.Numbers.{nat};
 ghost use Rattle.state_layout.specs.Layout as layout;
 
@@ -37,14 +37,14 @@ pub fn put(s: &mut [i32], i: usize, v: i32)
 // A number as a natural one, 0 below 0.
 pub fn natural(v: i32) -> u32
     ensures value { result ≡ nat v }
-    ensures upper_bound { result < keptMost + 1 }
+    ensures upper_bound { result < kept_most + 1 }
 {
     if v < 0 { 0 } else { v as u32 }
 }
 
 pub fn count(s: &[i32], i: usize) -> u32
     ensures value { result ≡ layout.count_of s.now i }
-    ensures upper_bound { result < keptMost + 1 }
+    ensures upper_bound { result < kept_most + 1 }
 {
     natural(cell(s, i))
 }
@@ -64,14 +64,14 @@ pub fn put_count(s: &mut [i32], i: usize, n: usize)
 
 // Where the global number k stands.
 pub fn global_at(k: u32) -> usize
-    ensures { result ≡ layout.globalAt k }
+    ensures { result ≡ layout.global_at_lem k }
 {
     GLOBALS_FROM + k as usize
 }
 
 // Where the record of process p begins.
 pub fn process_at(p: u8) -> usize
-    ensures { result ≡ layout.processAt p }
+    ensures { result ≡ layout.process_at_lem p }
 {
     PROCESSES_FROM + PROCESS_SIZE * p as usize
 }
@@ -85,14 +85,14 @@ pub fn local_at(p: u8, k: u32) -> usize
 
 // Where the record c of channels begins.
 pub fn channel_at(c: u32) -> usize
-    ensures { result ≡ layout.channelAt c }
+    ensures { result ≡ layout.channel_at c }
 {
     CHANNELS_FROM + CHANNEL_SIZE * c as usize
 }
 
 // Where the field f of its message m stands.
 pub fn field_at(c: u32, m: u32, f: u32) -> usize
-    ensures { result ≡ layout.fieldAt c m f }
+    ensures { result ≡ layout.field_at c m f }
 {
     CHANNELS_FROM
         + CHANNEL_SIZE * c as usize
@@ -103,16 +103,16 @@ pub fn field_at(c: u32, m: u32, f: u32) -> usize
 
 // How many processes there are.
 pub fn processes(s: &[i32]) -> u32
-    ensures value { result ≡ layout.processesOf s.now }
-    ensures upper_bound { result < keptMost + 1 }
+    ensures value { result ≡ layout.processes_of s.now }
+    ensures upper_bound { result < kept_most + 1 }
 {
     count(s, 0)
 }
 
 // How many channels were made.
 pub fn channels(s: &[i32]) -> u32
-    ensures value { result ≡ layout.channelsOf s.now }
-    ensures upper_bound { result < keptMost + 1 }
+    ensures value { result ≡ layout.channels_of s.now }
+    ensures upper_bound { result < kept_most + 1 }
 {
     count(s, 1)
 }
@@ -120,7 +120,7 @@ pub fn channels(s: &[i32]) -> u32
 // The item that begins the proctype of process p.
 pub fn unit_of(s: &[i32], p: u8) -> u32
     ensures value { result ≡ layout.unit_of s.now p }
-    ensures upper_bound { result < keptMost + 1 }
+    ensures upper_bound { result < kept_most + 1 }
 {
     count(s, process_at(p))
 }
@@ -128,23 +128,23 @@ pub fn unit_of(s: &[i32], p: u8) -> u32
 // Its place.
 pub fn place_of(s: &[i32], p: u8) -> u32
     ensures value { result ≡ layout.place_of s.now p }
-    ensures upper_bound { result < keptMost + 1 }
+    ensures upper_bound { result < kept_most + 1 }
 {
     count(s, process_at(p) + 1)
 }
 
 // The item that declares the channel of record c.
 pub fn declared_of(s: &[i32], c: u32) -> u32
-    ensures value { result ≡ layout.declaredOf s.now c }
-    ensures upper_bound { result < keptMost + 1 }
+    ensures value { result ≡ layout.declared_of s.now c }
+    ensures upper_bound { result < kept_most + 1 }
 {
     count(s, channel_at(c))
 }
 
 // How many messages it holds.
 pub fn waiting_of(s: &[i32], c: u32) -> u32
-    ensures value { result ≡ layout.waitingOf s.now c }
-    ensures upper_bound { result < keptMost + 1 }
+    ensures value { result ≡ layout.waiting_of s.now c }
+    ensures upper_bound { result < kept_most + 1 }
 {
     count(s, channel_at(c) + 1)
 }

@@ -1,6 +1,6 @@
 // The initial state of a model, and one process more. No function asks anything of its caller, but that an item's number has 32 bits.
 ghost use Rattle.std.specs.Prelude.{◌≡◌, ◌+◌, ◌-◌, ◌<◌, ◌≤◌};
-ghost use Rattle.base_ceilings.specs.Ceilings.{itemsMost};
+ghost use Rattle.base_ceilings.specs.Ceilings.{items_most};
 ghost use Rattle.state_layout.specs.Walks.{walk};
 ghost use Rattle.state_start.specs.Values as values;
 ghost use Rattle.state_start.specs.Starting as starting;
@@ -22,7 +22,7 @@ fn value_at(t: &[u32], d: u32) -> usize
 
 // A number, `true` or `false`.
 fn literal(t: &[u32], k: usize) -> i32
-    ensures { result ≡ values.literalOf t.now k }
+    ensures { result ≡ values.literal_of t.now k }
 {
     match table_layout::code(t, k) {
         base_codes::NUMBER => state_layout::kept(table_layout::number(t, k)),
@@ -60,7 +60,7 @@ fn fill(s: &mut [i32], l: u32, p: u8, v: i32)
 
 // One channel more, declared by item m.
 fn make_channel(s: &mut [i32], m: usize)
-    ensures { s.new ≡ starting.channelMade m s.old }
+    ensures { s.new ≡ starting.channel_made m s.old }
 {
     let c = state_layout::channels(s);
     state_layout::put_count(s, state_layout::channel_at(c), m);
@@ -81,7 +81,7 @@ fn store(s: &mut [i32], l: u32, p: u8, v: i32)
 // The variable l, whose value's item is k.
 fn make_variable(t: &[u32], s: &mut [i32], l: u32, p: u8, k: usize)
     requires { k < 4294967299 }
-    ensures { s.new ≡ starting.variableMade t.now l p k s.old }
+    ensures { s.new ≡ starting.variable_made t.now l p k s.old }
 {
     if table_layout::code(t, k + 1) == base_codes::CHANNEL {
         let n = state_layout::channels(s);
@@ -130,8 +130,8 @@ fn enter(t: &[u32], s: &mut [i32], p: u8, j: u32)
 
 // How many items the unit that item u begins has from there on.
 pub fn unit_length(t: &[u32], u: u32) -> u32
-    ensures value { result ≡ starting.unitLength t.now u }
-    ensures upper_bound { (result ≤ itemsMost) × (u + result < 4294967296) }
+    ensures value { result ≡ starting.unit_length t.now u }
+    ensures upper_bound { (result ≤ items_most) × (u + result < 4294967296) }
 {
     let e = table_layout::link(t, u as usize);
     if e < u as usize {
@@ -142,7 +142,7 @@ pub fn unit_length(t: &[u32], u: u32) -> u32
 
 // The next process, of the unit that item u begins, if one more fits.
 pub fn make_process(t: &[u32], s: &mut [i32], u: u32)
-    ensures { s.new ≡ starting.processMade t.now u s.old }
+    ensures { s.new ≡ starting.process_made t.now u s.old }
 {
     let p = state_layout::processes(s);
     if p < PROCESSES_MOST {
@@ -159,7 +159,7 @@ pub fn make_process(t: &[u32], s: &mut [i32], u: u32)
 
 // Item j, if it declares a global variable.
 fn make_global(t: &[u32], s: &mut [i32], j: u32)
-    ensures { s.new ≡ starting.globalMade t.now j s.old }
+    ensures { s.new ≡ starting.global_made t.now j s.old }
 {
     if table_layout::code(t, j as usize) == base_codes::DECLARED {
         if table_layout::link(t, j as usize) / 8 % 2 == 0 {
@@ -177,7 +177,7 @@ fn minus_two(j: u32) -> usize
 
 // How many processes the unit that item j begins starts.
 fn starts_of(t: &[u32], j: u32) -> usize
-    ensures { result ≡ starting.startsOf t.now j }
+    ensures { result ≡ starting.starts_of t.now j }
 {
     match table_layout::code(t, j as usize) {
         base_codes::ACTIVE => 1,
@@ -188,7 +188,7 @@ fn starts_of(t: &[u32], j: u32) -> usize
 }
 
 fn start_unit(t: &[u32], s: &mut [i32], j: u32)
-    ensures { s.new ≡ starting.unitStarted t.now j s.old }
+    ensures { s.new ≡ starting.unit_started t.now j s.old }
 {
     let n = base_bytes::least(base_ceilings::PROCESSES_MOST, starts_of(t, j));
     let mut k: usize = 0;
@@ -199,7 +199,7 @@ fn start_unit(t: &[u32], s: &mut [i32], j: u32)
 }
 
 fn make_globals(t: &[u32], s: &mut [i32], n: u32)
-    ensures { s.new ≡ walk (starting.globalMade t.now) 0 n s.old }
+    ensures { s.new ≡ walk (starting.global_made t.now) 0 n s.old }
 {
     let mut j: u32 = 0;
     while j < n {
@@ -209,7 +209,7 @@ fn make_globals(t: &[u32], s: &mut [i32], n: u32)
 }
 
 fn start_units(t: &[u32], s: &mut [i32], n: u32)
-    ensures { s.new ≡ walk (starting.unitStarted t.now) 0 n s.old }
+    ensures { s.new ≡ walk (starting.unit_started t.now) 0 n s.old }
 {
     let mut j: u32 = 0;
     while j < n {
@@ -220,7 +220,7 @@ fn start_units(t: &[u32], s: &mut [i32], n: u32)
 
 // The initial state, over the whole of s.
 pub fn start(t: &[u32], s: &mut [i32])
-    ensures { s.new ≡ starting.initialOf t.now s.old }
+    ensures { s.new ≡ starting.initial_of t.now s.old }
 {
     let n = base_bytes::least(base_ceilings::ITEMS_MOST, table_layout::items(t)) as u32;
     state_layout::clear(s);

@@ -6,7 +6,7 @@ use base_bytes::{both, either};
 
 // Does item j make a global variable?
 pub fn is_global(t: &[u32], j: usize) -> bool
-    ensures { result ≡ fits.isGlobal t.now j }
+    ensures { result ≡ fits.is_global t.now j }
 {
     both(
         table_layout::code(t, j) == base_codes::DECLARED,
@@ -24,7 +24,7 @@ pub fn is_local(t: &[u32], j: usize) -> bool
 
 // Is the number at i one from 0 to most?
 pub fn counts_at(s: &[i32], most: usize, i: usize) -> bool
-    ensures { result ≡ fits.countsAt s.now most i }
+    ensures { result ≡ fits.counts_at s.now most i }
 {
     state_layout::cell(s, i)
         == state_layout::kept(base_bytes::least(most, state_layout::count(s, i) as usize))
@@ -32,20 +32,20 @@ pub fn counts_at(s: &[i32], most: usize, i: usize) -> bool
 
 // Does the number at i lie in the type ty?
 fn fits_at(s: &[i32], ty: u8, i: usize) -> bool
-    ensures { result ≡ fits.fitsAt s.now ty i }
+    ensures { result ≡ fits.fits_at s.now ty i }
 {
     let v = state_layout::cell(s, i);
     base_values::cast(ty, v) == v
 }
 
 fn element_fits(s: &[i32], l: u32, p: u8, k: u8) -> bool
-    ensures { result ≡ fits.elementFits s.now l p k }
+    ensures { result ≡ fits.element_fits s.now l p k }
 {
     fits_at(s, step_eval::type_of(l), step_eval::slot(l, p, k))
 }
 
 fn variable_fits(s: &[i32], l: u32, p: u8) -> bool
-    ensures { result ≡ fits.variableFits s.now l p }
+    ensures { result ≡ fits.variable_fits s.now l p }
 {
     let n = step_eval::size_of(l);
     let mut k: u32 = 0;
@@ -59,7 +59,7 @@ fn variable_fits(s: &[i32], l: u32, p: u8) -> bool
 }
 
 fn global_fits(t: &[u32], s: &[i32], j: usize) -> bool
-    ensures { result ≡ fits.globalFits t.now s.now j }
+    ensures { result ≡ fits.global_fits t.now s.now j }
 {
     if is_global(t, j) {
         variable_fits(s, table_layout::link(t, j) as u32, 0)
@@ -69,7 +69,7 @@ fn global_fits(t: &[u32], s: &[i32], j: usize) -> bool
 }
 
 pub fn globals_fit(t: &[u32], s: &[i32], n: usize) -> bool
-    ensures { result ≡ fits.every (fits.globalFits t.now s.now) 0 n }
+    ensures { result ≡ fits.every (fits.global_fits t.now s.now) 0 n }
 {
     let mut j: usize = 0;
     while j < n {
@@ -82,7 +82,7 @@ pub fn globals_fit(t: &[u32], s: &[i32], n: usize) -> bool
 }
 
 fn local_fits(t: &[u32], s: &[i32], p: u8, j: usize) -> bool
-    ensures { result ≡ fits.localFits t.now s.now p j }
+    ensures { result ≡ fits.local_fits t.now s.now p j }
 {
     if is_local(t, j) {
         variable_fits(s, table_layout::link(t, j) as u32, p)
@@ -92,7 +92,7 @@ fn local_fits(t: &[u32], s: &[i32], p: u8, j: usize) -> bool
 }
 
 pub fn locals_fit(t: &[u32], s: &[i32], p: u8, u: u32) -> bool
-    ensures { result ≡ fits.localsFit t.now s.now p u }
+    ensures { result ≡ fits.locals_fit t.now s.now p u }
 {
     let n = state_start::unit_length(t, u);
     let mut k: u32 = 0;
@@ -106,7 +106,7 @@ pub fn locals_fit(t: &[u32], s: &[i32], p: u8, u: u32) -> bool
 }
 
 fn field_fits(t: &[u32], s: &[i32], c: u32, d: u32, m: u32, f: u32) -> bool
-    ensures { result ≡ fits.fieldFits t.now s.now c d m f }
+    ensures { result ≡ fits.field_fits t.now s.now c d m f }
 {
     fits_at(
         s,
@@ -116,7 +116,7 @@ fn field_fits(t: &[u32], s: &[i32], c: u32, d: u32, m: u32, f: u32) -> bool
 }
 
 fn message_fits(t: &[u32], s: &[i32], c: u32, d: u32, m: u32) -> bool
-    ensures { result ≡ fits.messageFits t.now s.now c d m }
+    ensures { result ≡ fits.message_fits t.now s.now c d m }
 {
     let n = step_ready::fields(t, d);
     let mut f: u32 = 0;
@@ -130,7 +130,7 @@ fn message_fits(t: &[u32], s: &[i32], c: u32, d: u32, m: u32) -> bool
 }
 
 pub fn messages_fit(t: &[u32], s: &[i32], c: u32, d: u32, n: u32) -> bool
-    ensures { result ≡ fits.every (fits.messageFits t.now s.now c d) 0 n }
+    ensures { result ≡ fits.every (fits.message_fits t.now s.now c d) 0 n }
 {
     let mut m: u32 = 0;
     while m < n {

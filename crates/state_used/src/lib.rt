@@ -12,13 +12,13 @@ fn copy_number(s: &[i32], x: &mut [i32], i: usize)
 
 // Number k of the variable l.
 fn shape_element(s: &[i32], x: &mut [i32], l: u32, p: u8, k: u8)
-    ensures { x.new ≡ shapes.elementShaped s.now l p k x.old }
+    ensures { x.new ≡ shapes.element_shaped s.now l p k x.old }
 {
     copy_number(s, x, step_eval::slot(l, p, k));
 }
 
 fn shape_variable(s: &[i32], x: &mut [i32], l: u32, p: u8)
-    ensures { x.new ≡ shapes.variableShaped s.now l p x.old }
+    ensures { x.new ≡ shapes.variable_shaped s.now l p x.old }
 {
     let n = step_eval::size_of(l);
     let mut k: u32 = 0;
@@ -29,7 +29,7 @@ fn shape_variable(s: &[i32], x: &mut [i32], l: u32, p: u8)
 }
 
 fn shape_global(t: &[u32], s: &[i32], x: &mut [i32], j: usize)
-    ensures { x.new ≡ shapes.globalShaped t.now s.now j x.old }
+    ensures { x.new ≡ shapes.global_shaped t.now s.now j x.old }
 {
     if state_types::is_global(t, j) {
         shape_variable(s, x, table_layout::link(t, j) as u32, 0);
@@ -37,7 +37,7 @@ fn shape_global(t: &[u32], s: &[i32], x: &mut [i32], j: usize)
 }
 
 fn shape_globals(t: &[u32], s: &[i32], x: &mut [i32], n: usize)
-    ensures { x.new ≡ walk (shapes.globalShaped t.now s.now) 0 n x.old }
+    ensures { x.new ≡ walk (shapes.global_shaped t.now s.now) 0 n x.old }
 {
     let mut j: usize = 0;
     while j < n {
@@ -47,7 +47,7 @@ fn shape_globals(t: &[u32], s: &[i32], x: &mut [i32], n: usize)
 }
 
 fn shape_local(t: &[u32], s: &[i32], x: &mut [i32], p: u8, j: usize)
-    ensures { x.new ≡ shapes.localShaped t.now s.now p j x.old }
+    ensures { x.new ≡ shapes.local_shaped t.now s.now p j x.old }
 {
     if state_types::is_local(t, j) {
         shape_variable(s, x, table_layout::link(t, j) as u32, p);
@@ -56,7 +56,7 @@ fn shape_local(t: &[u32], s: &[i32], x: &mut [i32], p: u8, j: usize)
 
 // The variables of process p, whose unit item u begins.
 fn shape_locals(t: &[u32], s: &[i32], x: &mut [i32], p: u8, u: u32)
-    ensures { x.new ≡ shapes.localsShaped t.now s.now p u x.old }
+    ensures { x.new ≡ shapes.locals_shaped t.now s.now p u x.old }
 {
     let n = state_start::unit_length(t, u);
     let mut k: u32 = 0;
@@ -67,7 +67,7 @@ fn shape_locals(t: &[u32], s: &[i32], x: &mut [i32], p: u8, u: u32)
 }
 
 fn shape_process(t: &[u32], s: &[i32], x: &mut [i32], p: u8)
-    ensures { x.new ≡ shapes.processShaped t.now s.now p x.old }
+    ensures { x.new ≡ shapes.process_shaped t.now s.now p x.old }
 {
     let u = state_layout::unit_of(s, p);
     let i = state_layout::process_at(p);
@@ -77,7 +77,7 @@ fn shape_process(t: &[u32], s: &[i32], x: &mut [i32], p: u8)
 }
 
 fn shape_processes(t: &[u32], s: &[i32], x: &mut [i32], n: u8)
-    ensures { x.new ≡ walk (shapes.processShaped t.now s.now) 0 n x.old }
+    ensures { x.new ≡ walk (shapes.process_shaped t.now s.now) 0 n x.old }
 {
     let mut p: u8 = 0;
     while p < n {
@@ -88,13 +88,13 @@ fn shape_processes(t: &[u32], s: &[i32], x: &mut [i32], n: u8)
 
 // Field f of message m in the record c.
 fn shape_field(s: &[i32], x: &mut [i32], c: u32, m: u32, f: u32)
-    ensures { x.new ≡ shapes.fieldShaped s.now c m f x.old }
+    ensures { x.new ≡ shapes.field_shaped s.now c m f x.old }
 {
     copy_number(s, x, state_layout::field_at(c, m, f));
 }
 
 fn shape_message(t: &[u32], s: &[i32], x: &mut [i32], c: u32, d: u32, m: u32)
-    ensures { x.new ≡ shapes.messageShaped t.now s.now c d m x.old }
+    ensures { x.new ≡ shapes.message_shaped t.now s.now c d m x.old }
 {
     let n = step_ready::fields(t, d);
     let mut f: u32 = 0;
@@ -105,7 +105,7 @@ fn shape_message(t: &[u32], s: &[i32], x: &mut [i32], c: u32, d: u32, m: u32)
 }
 
 fn shape_messages(t: &[u32], s: &[i32], x: &mut [i32], c: u32, d: u32, n: u32)
-    ensures { x.new ≡ walk (shapes.messageShaped t.now s.now c d) 0 n x.old }
+    ensures { x.new ≡ walk (shapes.message_shaped t.now s.now c d) 0 n x.old }
 {
     let mut m: u32 = 0;
     while m < n {
@@ -115,7 +115,7 @@ fn shape_messages(t: &[u32], s: &[i32], x: &mut [i32], c: u32, d: u32, n: u32)
 }
 
 fn shape_channel(t: &[u32], s: &[i32], x: &mut [i32], c: u32)
-    ensures { x.new ≡ shapes.channelShaped t.now s.now c x.old }
+    ensures { x.new ≡ shapes.channel_shaped t.now s.now c x.old }
 {
     let d = state_layout::declared_of(s, c);
     let n = base_bytes::least(
@@ -129,7 +129,7 @@ fn shape_channel(t: &[u32], s: &[i32], x: &mut [i32], c: u32)
 }
 
 fn shape_channels(t: &[u32], s: &[i32], x: &mut [i32], n: u32)
-    ensures { x.new ≡ walk (shapes.channelShaped t.now s.now) 0 n x.old }
+    ensures { x.new ≡ walk (shapes.channel_shaped t.now s.now) 0 n x.old }
 {
     let mut c: u32 = 0;
     while c < n {
@@ -140,7 +140,7 @@ fn shape_channels(t: &[u32], s: &[i32], x: &mut [i32], n: u32)
 
 // How many processes there are, within the ceiling.
 pub fn processes_in(s: &[i32]) -> u8
-    ensures { result ≡ shapes.processesIn s.now }
+    ensures { result ≡ shapes.processes_in s.now }
 {
     base_bytes::least(
         base_ceilings::PROCESSES_MOST,
@@ -150,7 +150,7 @@ pub fn processes_in(s: &[i32]) -> u8
 
 // How many channels were made, within the ceiling.
 pub fn channels_in(s: &[i32]) -> u32
-    ensures { result ≡ shapes.channelsIn s.now }
+    ensures { result ≡ shapes.channels_in s.now }
 {
     base_bytes::least(
         base_ceilings::CHANNELS_MOST,
@@ -160,7 +160,7 @@ pub fn channels_in(s: &[i32]) -> u32
 
 // What is in use of s, on x.
 pub fn shape(t: &[u32], s: &[i32], x: &mut [i32])
-    ensures { x.new ≡ shapes.shapedOn t.now s.now x.old }
+    ensures { x.new ≡ shapes.shaped_on t.now s.now x.old }
 {
     let p = processes_in(s);
     let c = channels_in(s);

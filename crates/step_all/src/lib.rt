@@ -1,7 +1,7 @@
 // The steps that are offered in a state, over all its processes; what a step does; and the verdict of a state.
 ghost use Rattle.std.specs.Prelude.{◌≡◌, ◌≤◌};
-ghost use Rattle.step_all.specs.Moving.{machineIn};
-ghost use Rattle.base_ceilings.specs.Ceilings.{processesMost};
+ghost use Rattle.step_all.specs.Moving.{machine_in};
+ghost use Rattle.base_ceilings.specs.Ceilings.{processes_most};
 ghost use Rattle.spec_machine.specs.Machine as machine;
 ghost use Rattle.step_all.specs.Moving as moving;
 
@@ -28,7 +28,7 @@ pub enum Offer {
 // How many processes there are.
 fn processes(s: &[i32]) -> u32
     ensures value { result ≡ moving.processes s.now }
-    ensures upper_bound { result ≤ processesMost }
+    ensures upper_bound { result ≤ processes_most }
 {
     base_bytes::least(
         base_ceilings::PROCESSES_MOST,
@@ -70,7 +70,7 @@ fn is_shut(t: &[u32], s: &[i32], q: usize) -> bool
 
 // Is any process offered a step?
 fn is_any(t: &[u32], s: &[i32], late: bool) -> bool
-    ensures { result ≡ machine.any_from (machineIn t.now) s.now late 0 (moving.processes s.now) }
+    ensures { result ≡ machine.any_from (machine_in t.now) s.now late 0 (moving.processes s.now) }
 {
     let n = processes(s);
     let mut p: u32 = 0;
@@ -85,14 +85,14 @@ fn is_any(t: &[u32], s: &[i32], late: bool) -> bool
 
 // Is `timeout` executable?
 fn is_late(t: &[u32], s: &[i32]) -> bool
-    ensures { result ≡ machine.late (machineIn t.now) s.now }
+    ensures { result ≡ machine.late (machine_in t.now) s.now }
 {
     if is_any(t, s, false) { false } else { true }
 }
 
 // The k-th step of process p, by what was found: no statement has a partner.
 fn offer_of(p: u8, k: u32, w: Walk) -> Offer
-    ensures { result ≡ moving.offerOf p k w }
+    ensures { result ≡ moving.offer_of p k w }
 {
     match w {
         Walk::Found(q) => Offer::Step(Step {
@@ -107,7 +107,7 @@ fn offer_of(p: u8, k: u32, w: Walk) -> Offer
 
 // The k-th step, from 1, that a process is offered. It is asked without `timeout` first: what it is offered then shows that `timeout` is not executable, and the others need not be asked.
 pub fn step_at(t: &[u32], s: &[i32], process: u32, k: u32) -> Offer
-    ensures { result ≡ moving.offerAs (machine.asked (machineIn t.now) process k (machine.offered (machineIn t.now) s.now)) }
+    ensures { result ≡ moving.offer_as (machine.asked (machine_in t.now) process k (machine.offered (machine_in t.now) s.now)) }
 {
     if processes(s) <= process {
         return Offer::Beyond(0);
@@ -134,7 +134,7 @@ pub fn step_at(t: &[u32], s: &[i32], process: u32, k: u32) -> Offer
 
 // The n-th step, from 0, of all processes, by process number, then text order, where `late` says whether `timeout` is executable. At a place where all wait, which is then shut, none is asked further.
 fn nth_by(t: &[u32], s: &[i32], late: bool, n: u32) -> Offer
-    ensures { result ≡ moving.nthIn n (machine.list_from (machineIn t.now) s.now late 0 (moving.processes s.now)) }
+    ensures { result ≡ moving.nth_in n (machine.list_from (machine_in t.now) s.now late 0 (moving.processes s.now)) }
 {
     let count = processes(s);
     let mut shut: u32 = NOWHERE;
@@ -167,7 +167,7 @@ fn nth_by(t: &[u32], s: &[i32], late: bool, n: u32) -> Offer
 
 // The n-th step, from 0, of all that are offered. `timeout` is looked for only where nothing else is offered.
 pub fn nth(t: &[u32], s: &[i32], n: u32) -> Offer
-    ensures { result ≡ moving.nthIn n (machine.offered (machineIn t.now) s.now) }
+    ensures { result ≡ moving.nth_in n (machine.offered (machine_in t.now) s.now) }
 {
     let o = nth_by(t, s, false, n);
     match o {
@@ -184,14 +184,14 @@ pub fn nth(t: &[u32], s: &[i32], n: u32) -> Offer
 
 // A step is taken, and then comes what follows every step: nothing today.
 pub fn advance(t: &[u32], s: &mut [i32], x: Step) -> Taken
-    ensures { (result, s.new) ≡ machine.advance (machineIn t.now) s.old x }
+    ensures { (result, s.new) ≡ machine.advance (machine_in t.now) s.old x }
 {
     step_take::take(t, s, x.process, x.place)
 }
 
 // Has every process ended?
 fn is_ended(t: &[u32], s: &[i32]) -> bool
-    ensures { result ≡ machine.endedFrom (machineIn t.now) s.now 0 (moving.processes s.now) }
+    ensures { result ≡ machine.ended_from (machine_in t.now) s.now 0 (moving.processes s.now) }
 {
     let n = processes(s);
     let mut p: u32 = 0;
@@ -207,7 +207,7 @@ fn is_ended(t: &[u32], s: &[i32]) -> bool
 }
 
 pub fn verdict_of(t: &[u32], s: &[i32]) -> Verdict
-    ensures { result ≡ moving.verdictAs (machine.verdict (machineIn t.now) s.now) }
+    ensures { result ≡ moving.verdict_as (machine.verdict (machine_in t.now) s.now) }
 {
     if is_ended(t, s) {
         return Verdict::Finished;

@@ -3,14 +3,14 @@
 -- `ts` are the lent tables, `s` the lent state, `out` the bytes that are lent for printed text.
 use Rattle.std.specs.Prelude.{ℕ, ◌-◌, List, length, ℤ, eqb, ltb}
 use Rattle.std.proofs.Math.Option.{Option, none, some}
-use Rattle.base_ceilings.specs.Ceilings.{printRoom, stateRoom, tablesRoom}
+use Rattle.base_ceilings.specs.Ceilings.{print_room, state_room, tables_room}
 use Rattle.base_bytes.specs.Choice.{pick}
 use Rattle.step_prints.specs.Printing.{pen, puts}
 use Rattle.read_genuine.specs.Genuine.{written, genuine}
-use Rattle.state_start.specs.Starting.{initialOf}
-use Rattle.state_check.specs.Standing.{isStateOf}
+use Rattle.state_start.specs.Starting.{initial_of}
+use Rattle.state_check.specs.Standing.{is_state_of}
 use Rattle.spec_machine.specs.Machine as machine
-use Rattle.step_all.specs.Moving.{machineIn, nthIn, verdictAs}
+use Rattle.step_all.specs.Moving.{machine_in, nth_in, verdict_as}
 use Rattle.step_all.specs.declared.Offer.{Offer}
 use Rattle.step_all.specs.declared.Offer.TheVariants as offer
 use Rattle.step_all.specs.declared.Verdict.{Verdict}
@@ -29,42 +29,42 @@ use Rattle.step_entry.specs.declared.Standing.TheVariants as standing
 
 -- ## refusals by number, 0 for none
 -- 7 for the rooms of tables and state, then 8
-unfoldable pub foreignOf : List ℕ → List ℤ → ℕ
-foreignOf ts s = pick (ltb (length ts) tablesRoom) 7 (pick (ltb (length s) stateRoom) 7 (pick (genuine ts) 0 8))
+unfoldable pub foreign_of : List ℕ → List ℤ → ℕ
+foreign_of ts s = pick (ltb (length ts) tables_room) 7 (pick (ltb (length s) state_room) 7 (pick (genuine ts) 0 8))
 
 -- then 9
-unfoldable pub refusalOf : List ℕ → List ℤ → ℕ
-refusalOf ts s = pick (eqb (foreignOf ts s) 0) (pick (isStateOf (written ts) s) 0 9) (foreignOf ts s)
+unfoldable pub refusal_of : List ℕ → List ℤ → ℕ
+refusal_of ts s = pick (eqb (foreign_of ts s) 0) (pick (is_state_of (written ts) s) 0 9) (foreign_of ts s)
 
 -- ## the initial state: the refusal's number, and what is left
-unfoldable pub startLeft : List ℕ → List ℤ → List ℤ
-startLeft ts s = pick (eqb (foreignOf ts s) 0) (initialOf (written ts) s) s
+unfoldable pub start_left : List ℕ → List ℤ → List ℤ
+start_left ts s = pick (eqb (foreign_of ts s) 0) (initial_of (written ts) s) s
 
 -- ## the verdict of a state
-abbrev pub standingOf : Verdict → Standing
-standingOf verdict.Finished = Finished
-standingOf verdict.Blocked = Blocked
-standingOf verdict.Open = Open
+abbrev pub standing_of : Verdict → Standing
+standing_of verdict.Finished = Finished
+standing_of verdict.Blocked = Blocked
+standing_of verdict.Open = Open
 
-unfoldable pub verdictFor : List ℕ → List ℤ → Standing
-verdictFor ts s = pick (eqb (refusalOf ts s) 0) (standingOf (verdictAs (machine.verdict (machineIn (written ts)) s))) (standing.Refused (refusalOf ts s))
+unfoldable pub verdict_for : List ℕ → List ℤ → Standing
+verdict_for ts s = pick (eqb (refusal_of ts s) 0) (standing_of (verdict_as (machine.verdict (machine_in (written ts)) s))) (standing.Refused (refusal_of ts s))
 
 -- ## the n-th step of all that are offered
 -- where n is past the last, the rest of n is known, and so how many there are
-abbrev pub offerBy : Offer → ℕ → Listed
-offerBy (offer.Step x) n = Step x
-offerBy (offer.Beyond left) n = Only (n - left)
+abbrev pub offer_by : Offer → ℕ → Listed
+offer_by (offer.Step x) n = Step x
+offer_by (offer.Beyond left) n = Only (n - left)
 
-unfoldable pub offeredOf : List ℕ → List ℤ → ℕ → Listed
-offeredOf ts s n = pick (eqb (refusalOf ts s) 0) (offerBy (nthIn n (machine.offered (machineIn (written ts)) s)) n) (listed.Refused (refusalOf ts s))
+unfoldable pub offered_of : List ℕ → List ℤ → ℕ → Listed
+offered_of ts s n = pick (eqb (refusal_of ts s) 0) (offer_by (nth_in n (machine.offered (machine_in (written ts)) s)) n) (listed.Refused (refusal_of ts s))
 
 -- ## taking the k-th offered step of process p
 -- what a step that was taken answers: how many bytes it printed, or that it failed; one that does nothing was none
-abbrev pub tookBy : Taken → ℕ → Stepped
-tookBy taken.Done n = Took n
-tookBy taken.Refuted n = Assert
-tookBy (taken.Faulted f) n = Fault f
-tookBy taken.Idle n = stepped.Refused 11
+abbrev pub took_by : Taken → ℕ → Stepped
+took_by taken.Done n = Took n
+took_by taken.Refuted n = Assert
+took_by (taken.Faulted f) n = Fault f
+took_by taken.Idle n = stepped.Refused 11
 
 -- the answer, and what is left in the lent state and the lent bytes
 pub record Outcome : Type 0 where
@@ -72,29 +72,29 @@ pub record Outcome : Type 0 where
   pub state : List ℤ
   pub printed : List ℕ
 
-abbrev pub refusedBy : ℕ → List ℤ → List ℕ → Outcome
-refusedBy x s out = record { answer = stepped.Refused x; state = s; printed = out }
+abbrev pub refused_by : ℕ → List ℤ → List ℕ → Outcome
+refused_by x s out = record { answer = stepped.Refused x; state = s; printed = out }
 
 -- an offered step: its text is worked out in the state before it
-abbrev pub tookAt : List ℕ → List ℤ → machine.Step → List ℕ → Outcome
-tookAt w s x out =
+abbrev pub took_at : List ℕ → List ℤ → machine.Step → List ℕ → Outcome
+took_at w s x out =
     record {
-      answer = tookBy (machine.advance (machineIn w) s x).0 (puts ((machineIn w).printed s x) (pen out 0)).at;
-      state = (machine.advance (machineIn w) s x).1;
-      printed = (puts ((machineIn w).printed s x) (pen out 0)).bytes;
+      answer = took_by (machine.advance (machine_in w) s x).0 (puts ((machine_in w).printed s x) (pen out 0)).at;
+      state = (machine.advance (machine_in w) s x).1;
+      printed = (puts ((machine_in w).printed s x) (pen out 0)).bytes;
     }
 
-abbrev pub outcomeBy : Option machine.Step → List ℕ → List ℤ → List ℕ → Outcome
-outcomeBy none w s out = refusedBy 11 s out
-outcomeBy (some x) w s out = tookAt w s x out
+abbrev pub outcome_by : Option machine.Step → List ℕ → List ℤ → List ℕ → Outcome
+outcome_by none w s out = refused_by 11 s out
+outcome_by (some x) w s out = took_at w s x out
 
 -- the k-th offered step of process p, if there is one
-abbrev pub askedIn : List ℕ → List ℤ → ℕ → ℕ → Option machine.Step
-askedIn w s p k = machine.asked (machineIn w) p k (machine.offered (machineIn w) s)
+abbrev pub asked_in : List ℕ → List ℤ → ℕ → ℕ → Option machine.Step
+asked_in w s p k = machine.asked (machine_in w) p k (machine.offered (machine_in w) s)
 
 -- 7 for any of the three rooms, then 8, 9 and 11
-unfoldable pub stepRefusal : List ℕ → List ℤ → List ℕ → ℕ
-stepRefusal ts s out = pick (ltb (length out) printRoom) 7 (refusalOf ts s)
+unfoldable pub step_refusal : List ℕ → List ℤ → List ℕ → ℕ
+step_refusal ts s out = pick (ltb (length out) print_room) 7 (refusal_of ts s)
 
-unfoldable pub outcomeOf : List ℕ → List ℤ → ℕ → ℕ → List ℕ → Outcome
-outcomeOf ts s p k out = pick (eqb (stepRefusal ts s out) 0) (outcomeBy (askedIn (written ts) s p k) (written ts) s out) (refusedBy (stepRefusal ts s out) s out)
+unfoldable pub outcome_of : List ℕ → List ℤ → ℕ → ℕ → List ℕ → Outcome
+outcome_of ts s p k out = pick (eqb (step_refusal ts s out) 0) (outcome_by (asked_in (written ts) s p k) (written ts) s out) (refused_by (step_refusal ts s out) s out)

@@ -34,7 +34,7 @@ pub enum Stepped {
 
 // Refusals 7 and 8, or 0.
 pub fn foreign(tables: &[u32], state: &[i32]) -> u8
-    ensures { result ≡ entries.foreignOf tables.now state.now }
+    ensures { result ≡ entries.foreign_of tables.now state.now }
 {
     if tables.len() < base_ceilings::TABLES_ROOM {
         return 7;
@@ -51,7 +51,7 @@ pub fn foreign(tables: &[u32], state: &[i32]) -> u8
 
 // Refusals 7, 8 and 9, or 0.
 pub fn refusal(tables: &[u32], state: &[i32]) -> u8
-    ensures { result ≡ entries.refusalOf tables.now state.now }
+    ensures { result ≡ entries.refusal_of tables.now state.now }
 {
     let x = foreign(tables, state);
     if x != 0 {
@@ -66,8 +66,8 @@ pub fn refusal(tables: &[u32], state: &[i32]) -> u8
 
 // The initial state of a model, written whole; the answer is 0, or the number of the refusal.
 pub fn start(tables: &[u32], state: &mut [i32]) -> u8
-    ensures value { result ≡ entries.foreignOf tables.now state.old }
-    ensures state_after { state.new ≡ entries.startLeft tables.now state.old }
+    ensures value { result ≡ entries.foreign_of tables.now state.old }
+    ensures state_after { state.new ≡ entries.start_left tables.now state.old }
 {
     let x = foreign(tables, state);
     if x != 0 {
@@ -78,7 +78,7 @@ pub fn start(tables: &[u32], state: &mut [i32]) -> u8
 }
 
 fn standing_of(v: Verdict) -> Standing
-    ensures { result ≡ entries.standingOf v }
+    ensures { result ≡ entries.standing_of v }
 {
     match v {
         Verdict::Finished => Standing::Finished,
@@ -89,7 +89,7 @@ fn standing_of(v: Verdict) -> Standing
 
 // How a state stands.
 pub fn verdict(tables: &[u32], state: &[i32]) -> Standing
-    ensures { result ≡ entries.verdictFor tables.now state.now }
+    ensures { result ≡ entries.verdict_for tables.now state.now }
 {
     let x = refusal(tables, state);
     if x != 0 {
@@ -100,7 +100,7 @@ pub fn verdict(tables: &[u32], state: &[i32]) -> Standing
 
 // The n-th step, from 0, of all that are offered, by process number, then text order; where there are no more than n, how many there are.
 pub fn offered(tables: &[u32], state: &[i32], n: u32) -> Listed
-    ensures { result ≡ entries.offeredOf tables.now state.now n }
+    ensures { result ≡ entries.offered_of tables.now state.now n }
 {
     let x = refusal(tables, state);
     if x != 0 {
@@ -115,9 +115,9 @@ pub fn offered(tables: &[u32], state: &[i32], n: u32) -> Listed
 
 // A step that is offered.
 fn move_on(w: &[u32], state: &mut [i32], x: Step, printed: &mut [u8]) -> Stepped
-    ensures value { result ≡ (entries.tookAt w.now state.old x printed.old).answer }
-    ensures state_after { state.new ≡ (entries.tookAt w.now state.old x printed.old).state }
-    ensures printed_after { printed.new ≡ (entries.tookAt w.now state.old x printed.old).printed }
+    ensures value { result ≡ (entries.took_at w.now state.old x printed.old).answer }
+    ensures state_after { state.new ≡ (entries.took_at w.now state.old x printed.old).state }
+    ensures printed_after { printed.new ≡ (entries.took_at w.now state.old x printed.old).printed }
 {
     let n = step_prints::print_at(w, state, x.process, x.place, printed);
     let r = step_all::advance(w, state, x);
@@ -131,9 +131,9 @@ fn move_on(w: &[u32], state: &mut [i32], x: Step, printed: &mut [u8]) -> Stepped
 
 // Takes the k-th step, from 1, that a process is offered.
 pub fn step(tables: &[u32], state: &mut [i32], process: u32, k: u32, printed: &mut [u8]) -> Stepped
-    ensures value { result ≡ (entries.outcomeOf tables.now state.old process k printed.old).answer }
-    ensures state_after { state.new ≡ (entries.outcomeOf tables.now state.old process k printed.old).state }
-    ensures printed_after { printed.new ≡ (entries.outcomeOf tables.now state.old process k printed.old).printed }
+    ensures value { result ≡ (entries.outcome_of tables.now state.old process k printed.old).answer }
+    ensures state_after { state.new ≡ (entries.outcome_of tables.now state.old process k printed.old).state }
+    ensures printed_after { printed.new ≡ (entries.outcome_of tables.now state.old process k printed.old).printed }
 {
     if printed.len() < base_ceilings::PRINT_ROOM {
         return Stepped::Refused(7);

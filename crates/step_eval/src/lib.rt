@@ -38,7 +38,7 @@ pub enum Node {
 
 // The variable that the reference which ends with item j names.
 pub fn variable(t: &[u32], j: usize) -> u32
-    ensures { result ≡ variables.variableOf t.now j }
+    ensures { result ≡ variables.variable_of t.now j }
 {
     table_layout::link(t, table_layout::link(t, j)) as u32
 }
@@ -71,7 +71,7 @@ pub fn slot(l: u32, p: u8, k: u8) -> usize
 
 // The element with an index that was worked out.
 pub fn element(l: u32, p: u8, a: Answer) -> Located
-    ensures { result ≡ variables.elementOf l p a }
+    ensures { result ≡ variables.element_of l p a }
 {
     match a {
         Answer::Value(i) => {
@@ -99,7 +99,7 @@ pub fn load(s: &[i32], x: Located) -> Answer
 
 // The record of the channel whose number was worked out.
 pub fn channel(s: &[i32], a: Answer) -> Reached
-    ensures { result ≡ variables.channelOf s.now a }
+    ensures { result ≡ variables.channel_of s.now a }
 {
     match a {
         Answer::Value(v) => {
@@ -156,7 +156,7 @@ fn node_of(c: u8) -> Node
 }
 
 pub fn is_fault(x: Answer) -> bool
-    ensures { result ≡ expressions.isFault x }
+    ensures { result ≡ expressions.is_fault x }
 {
     match x {
         Answer::Value(_) => false,
@@ -185,7 +185,7 @@ fn truth(x: Answer) -> Answer
 }
 
 fn unary(op: u8, x: Answer) -> Answer
-    ensures { result ≡ expressions.unaryBy op x }
+    ensures { result ≡ expressions.unary_by op x }
 {
     match x {
         Answer::Value(v) => Answer::Value(base_values::apply_unary(op, v)),
@@ -194,7 +194,7 @@ fn unary(op: u8, x: Answer) -> Answer
 }
 
 fn right(op: u8, a: i32, y: Answer) -> Answer
-    ensures { result ≡ expressions.rightBy op a y }
+    ensures { result ≡ expressions.right_by op a y }
 {
     match y {
         Answer::Value(b) => base_values::apply(op, a, b),
@@ -203,7 +203,7 @@ fn right(op: u8, a: i32, y: Answer) -> Answer
 }
 
 fn both(op: u8, x: Answer, y: Answer) -> Answer
-    ensures { result ≡ expressions.bothBy op x y }
+    ensures { result ≡ expressions.both_by op x y }
 {
     match x {
         Answer::Value(a) => right(op, a, y),
@@ -248,7 +248,7 @@ fn plain(t: &[u32], s: &[i32], p: u8, d: usize) -> Answer
 }
 
 fn eval_at(t: &[u32], s: &[i32], p: u8, h: usize, from: usize, to: usize) -> Answer
-    ensures { result ≡ expressions.evalT t.now s.now p h from to }
+    ensures { result ≡ expressions.eval_t t.now s.now p h from to }
 {
     if h == 0 {
         return Answer::Value(0);
@@ -309,14 +309,14 @@ fn eval_at(t: &[u32], s: &[i32], p: u8, h: usize, from: usize, to: usize) -> Ans
 
 // The value of the expression that the items from `from` to before `to` hold.
 pub fn eval(t: &[u32], s: &[i32], p: u8, from: usize, to: usize) -> Answer
-    ensures { result ≡ expressions.evalOf t.now s.now p from to }
+    ensures { result ≡ expressions.eval_of t.now s.now p from to }
 {
     eval_at(t, s, p, base_ceilings::HEIGHT_MOST, from, to)
 }
 
 // Where the reference that they hold stands.
 pub fn locate(t: &[u32], s: &[i32], p: u8, from: usize, to: usize) -> Located
-    ensures { result ≡ expressions.locateOf t.now s.now p from to }
+    ensures { result ≡ expressions.locate_of t.now s.now p from to }
 {
     let j = minus_one(to);
     if table_layout::code(t, j) == base_codes::INDEX {

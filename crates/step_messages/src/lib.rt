@@ -1,8 +1,8 @@
 // Arguments worked out, and messages put into and taken out of channels. No function asks anything of its caller.
 ghost use Rattle.std.specs.Prelude.{◌≡◌, ◌+◌, ◌-◌, ◌<◌, ◌*◌, get_or, set, pos};
-ghost use Rattle.base_ceilings.specs.Ceilings.{capacityMost, fieldsMost, numbersMost};
+ghost use Rattle.base_ceilings.specs.Ceilings.{capacity_most, fields_most, numbers_most};
 ghost use Rattle.state_layout.specs.Walks.{walk};
-ghost use Rattle.base_values.specs.Types.{castOf};
+ghost use Rattle.base_values.specs.Types.{cast_of};
 ghost use Rattle.state_layout.specs.Layout as layout;
 ghost use Rattle.step_messages.specs.Messages as messages;
 
@@ -24,7 +24,7 @@ pub enum Gathered {
 
 // The type of field f of the channels that item d declares.
 pub fn field_type(t: &[u32], d: u32, f: u32) -> u8
-    ensures { result ≡ messages.fieldType t.now d f }
+    ensures { result ≡ messages.field_type t.now d f }
 {
     let c = table_layout::code(t, d as usize + 1 + 2 * f as usize);
     if c < 130 { 0 } else { c - 130 }
@@ -32,8 +32,8 @@ pub fn field_type(t: &[u32], d: u32, f: u32) -> u8
 
 // The values of the arguments from item a on, into `values`.
 pub fn gather(t: &[u32], s: &[i32], p: u8, a: usize, values: &mut [i32]) -> Gathered
-    ensures value { result ≡ messages.gatherEnd t.now s.now p numbersMost a }
-    ensures values_after { values.new ≡ messages.gatherList t.now s.now p numbersMost a 0 values.old }
+    ensures value { result ≡ messages.gather_end t.now s.now p numbers_most a }
+    ensures values_after { values.new ≡ messages.gather_list t.now s.now p numbers_most a 0 values.old }
 {
     let mut j = a;
     let mut k: usize = 0;
@@ -79,8 +79,8 @@ fn note(places: &mut [usize], k: usize, i: usize)
 
 // Where each of the received arguments from item a on is stored, into `places`.
 pub fn aim(t: &[u32], s: &[i32], p: u8, a: usize, places: &mut [usize]) -> Gathered
-    ensures value { result ≡ messages.aimEnd t.now s.now p fieldsMost a }
-    ensures places_after { places.new ≡ messages.aimList t.now s.now p fieldsMost a 0 places.old }
+    ensures value { result ≡ messages.aim_end t.now s.now p fields_most a }
+    ensures places_after { places.new ≡ messages.aim_list t.now s.now p fields_most a 0 places.old }
 {
     let mut j = a;
     let mut k: usize = 0;
@@ -106,7 +106,7 @@ pub fn aim(t: &[u32], s: &[i32], p: u8, a: usize, places: &mut [usize]) -> Gathe
 
 // The field f of message w of channel c, with a value cast to its type.
 fn put_field(t: &[u32], s: &mut [i32], d: u32, c: u32, w: u32, f: u32, v: i32)
-    ensures { s.new ≡ set s.old (layout.fieldAt c w f) (castOf (messages.fieldType t.now d f) v) }
+    ensures { s.new ≡ set s.old (layout.field_at c w f) (cast_of (messages.field_type t.now d f) v) }
 {
     state_layout::put(
         s,
@@ -139,7 +139,7 @@ fn copy_cell(s: &mut [i32], to: usize, from: usize)
 
 // How many numbers stand behind message w of a full channel.
 fn behind(w: u32) -> u32
-    ensures { result ≡ fieldsMost * (capacityMost - 1 - w) }
+    ensures { result ≡ fields_most * (capacity_most - 1 - w) }
 {
     if w < LAST {
         FIELDS_MOST * (LAST - w)
@@ -150,7 +150,7 @@ fn behind(w: u32) -> u32
 
 // The messages of channel c behind message w move up.
 fn move_up(s: &mut [i32], c: u32, w: u32)
-    ensures { s.new ≡ walk (λ i x. set x (layout.fieldAt c w i) (layout.cell_of x (layout.fieldAt c (w + 1) i))) 0 (fieldsMost * (capacityMost - 1 - w)) s.old }
+    ensures { s.new ≡ walk (λ i x. set x (layout.field_at c w i) (layout.cell_of x (layout.field_at c (w + 1) i))) 0 (fields_most * (capacity_most - 1 - w)) s.old }
 {
     let n = behind(w);
     let mut i: u32 = 0;
@@ -166,7 +166,7 @@ fn move_up(s: &mut [i32], c: u32, w: u32)
 
 // The place of its last message is cleared.
 fn clear_last(s: &mut [i32], c: u32)
-    ensures { s.new ≡ walk (λ i x. set x (layout.fieldAt c (capacityMost - 1) i) (pos 0)) 0 fieldsMost s.old }
+    ensures { s.new ≡ walk (λ i x. set x (layout.field_at c (capacity_most - 1) i) (pos 0)) 0 fields_most s.old }
 {
     let mut i: u32 = 0;
     while i < FIELDS_MOST {
@@ -177,7 +177,7 @@ fn clear_last(s: &mut [i32], c: u32)
 
 // Message w of channel c goes.
 pub fn take(s: &mut [i32], c: u32, w: u32)
-    ensures { s.new ≡ messages.takenOut c w s.old }
+    ensures { s.new ≡ messages.taken_out c w s.old }
 {
     let n = state_layout::waiting_of(s, c);
     move_up(s, c, w);
@@ -197,7 +197,7 @@ fn place_at(places: &[usize], k: usize) -> usize
 }
 
 fn deliver_one(t: &[u32], s: &mut [i32], m: usize, k: usize, places: &[usize], values: &[i32])
-    ensures { s.new ≡ messages.deliveredOne t.now m k places.now values.now s.old }
+    ensures { s.new ≡ messages.delivered_one t.now m k places.now values.now s.old }
 {
     if !step_ready::is_compared(t, m) {
         let l = step_eval::variable(t, step_eval::minus_one(m));
@@ -208,7 +208,7 @@ fn deliver_one(t: &[u32], s: &mut [i32], m: usize, k: usize, places: &[usize], v
 
 // The values go where the received arguments from item a on are stored.
 pub fn deliver(t: &[u32], s: &mut [i32], a: usize, places: &[usize], values: &[i32])
-    ensures { s.new ≡ messages.delivered t.now fieldsMost a 0 places.now values.now s.old }
+    ensures { s.new ≡ messages.delivered t.now fields_most a 0 places.now values.now s.old }
 {
     let mut j = a;
     let mut k: usize = 0;

@@ -1,7 +1,7 @@
 // The steps that a place offers, in text order, each by its place: the k-th of them, and how many there are.
 ghost use Rattle.std.specs.Prelude.{◌≡◌, ◌+◌, ◌-◌, ◌<◌, ◌≤◌, [], ◌∷◌};
-ghost use Rattle.base_ceilings.specs.Ceilings.{itemsMost};
-ghost use Rattle.state_layout.specs.Layout.{keptMost};
+ghost use Rattle.base_ceilings.specs.Ceilings.{items_most};
+ghost use Rattle.state_layout.specs.Layout.{kept_most};
 ghost use Rattle.state_layout.specs.Layout as layout;
 ghost use Rattle.step_offers.specs.Offers as offers;
 
@@ -34,7 +34,7 @@ fn pick_one(k: u32, q: u32) -> Walk
 }
 
 fn is_selection(t: &[u32], q: u32) -> bool
-    ensures { result ≡ offers.isSelection t.now q }
+    ensures { result ≡ offers.is_selection t.now q }
 {
     let c = table_layout::code(t, q as usize);
     if c == base_codes::IF {
@@ -46,7 +46,7 @@ fn is_selection(t: &[u32], q: u32) -> bool
 
 // Is there an option at item m, before `stop`?
 fn is_option(t: &[u32], m: u32, stop: u32) -> bool
-    ensures { result ≡ offers.isOption t.now m stop }
+    ensures { result ≡ offers.is_option t.now m stop }
 {
     if m < stop {
         table_layout::code(t, m as usize) == base_codes::OPTION
@@ -57,7 +57,7 @@ fn is_option(t: &[u32], m: u32, stop: u32) -> bool
 
 // Where the option at item m ends.
 fn end_of(t: &[u32], m: u32, stop: u32) -> u32
-    requires { (m < stop) × (stop ≤ itemsMost) }
+    requires { (m < stop) × (stop ≤ items_most) }
     ensures value { result ≡ offers.end_of t.now m stop }
     ensures lower_bound { (m < result) × (result ≤ stop) }
 {
@@ -67,7 +67,7 @@ fn end_of(t: &[u32], m: u32, stop: u32) -> u32
 
 // The place of its first statement.
 fn first_of(t: &[u32], m: u32) -> u32
-    requires { m < itemsMost }
+    requires { m < items_most }
     ensures value { result ≡ offers.first_of t.now m }
     ensures upper_bound { result < 8196 }
 {
@@ -80,7 +80,7 @@ fn first_of(t: &[u32], m: u32) -> u32
 
 // The statement at place q, if it is `else` and the k-th.
 fn else_at(t: &[u32], q: u32, k: u32) -> Walk
-    ensures { result ≡ offers.pick_at k (offers.elseAt t.now q 0) }
+    ensures { result ≡ offers.pick_at k (offers.else_at t.now q 0) }
 {
     if table_layout::code(t, q as usize) == base_codes::ELSE {
         pick_one(k, q)
@@ -99,8 +99,8 @@ fn lacking(n: u32, l: u32) -> u32
 // The k-th of what is offered at place q.
 #[cycle(walk_item_walk_options)]
 fn walk_item(t: &[u32], s: &[i32], p: u8, late: bool, d: u32, q: u32, stop: u32, k: u32) -> Walk
-    requires { (q < keptMost + 1) × (stop ≤ itemsMost) }
-    ensures { result ≡ offers.pick_at k (offers.offersFrom t.now s.now p late d q stop) }
+    requires { (q < kept_most + 1) × (stop ≤ items_most) }
+    ensures { result ≡ offers.pick_at k (offers.offers_from t.now s.now p late d q stop) }
 {
     if d == 0 {
         return Walk::Left(k);
@@ -138,8 +138,8 @@ fn walk_options(
     stop: u32,
     k: u32,
 ) -> Walk
-    requires { stop ≤ itemsMost }
-    ensures { result ≡ offers.pick_at k (offers.eachOption t.now (λ f e. offers.offersFrom t.now s.now p late d f e) n m stop) }
+    requires { stop ≤ items_most }
+    ensures { result ≡ offers.pick_at k (offers.each_option t.now (λ f e. offers.offers_from t.now s.now p late d f e) n m stop) }
 {
     if n == 0 {
         return Walk::Left(k);
@@ -157,8 +157,8 @@ fn walk_options(
 
 // The k-th `else` of the options from item m on.
 fn walk_else(t: &[u32], n: u32, m: u32, stop: u32, k: u32) -> Walk
-    requires { stop ≤ itemsMost }
-    ensures { result ≡ offers.pick_at k (offers.eachOption t.now (offers.elseAt t.now) n m stop) }
+    requires { stop ≤ items_most }
+    ensures { result ≡ offers.pick_at k (offers.each_option t.now (offers.else_at t.now) n m stop) }
 {
     if n == 0 {
         return Walk::Left(k);
@@ -177,7 +177,7 @@ fn walk_else(t: &[u32], n: u32, m: u32, stop: u32, k: u32) -> Walk
 
 // The step, from 0, that is the k-th that process p is offered.
 pub fn offered(t: &[u32], s: &[i32], p: u8, late: bool, k: u32) -> Walk
-    ensures { result ≡ offers.pick_at k (offers.offersOf t.now s.now p late (layout.place_of s.now p)) }
+    ensures { result ≡ offers.pick_at k (offers.offers_of t.now s.now p late (layout.place_of s.now p)) }
 {
     walk_item(
         t,
@@ -193,7 +193,7 @@ pub fn offered(t: &[u32], s: &[i32], p: u8, late: bool, k: u32) -> Walk
 
 // Is it offered any?
 pub fn is_offered(t: &[u32], s: &[i32], p: u8, late: bool) -> bool
-    ensures { result ≡ offers.is_some (offers.offersOf t.now s.now p late (layout.place_of s.now p)) }
+    ensures { result ≡ offers.is_some (offers.offers_of t.now s.now p late (layout.place_of s.now p)) }
 {
     let w = offered(t, s, p, late, 0);
     match w {
@@ -204,7 +204,7 @@ pub fn is_offered(t: &[u32], s: &[i32], p: u8, late: bool) -> bool
 
 // How many it is offered, as far as 4,096.
 pub fn count(t: &[u32], s: &[i32], p: u8, late: bool) -> u32
-    ensures { result ≡ offers.count_of (offers.offersOf t.now s.now p late (layout.place_of s.now p)) }
+    ensures { result ≡ offers.count_of (offers.offers_of t.now s.now p late (layout.place_of s.now p)) }
 {
     let w = offered(t, s, p, late, OFFERS_MOST);
     match w {

@@ -2,14 +2,14 @@
 -- What a printf writes: document 01, "Strings", "a backslash must be followed by `n`, `t`, `"` or a backslash", and row 5, "`%` in a format not followed by `d` or `%`".
 -- A number is written in signed decimal, whatever its type. `l` holds the values of the arguments.
 use Rattle.std.specs.Prelude.{ℕ, zero, suc, ◌+◌, ◌-◌, ◌/◌, ◌%◌, Bool, true, false, List, [], ◌∷◌, ◌++◌, length, get_or, set, replicate, ℤ, pos, negsuc, eqb, ltb}
-use Rattle.base_ceilings.specs.Ceilings.{numbersMost}
+use Rattle.base_ceilings.specs.Ceilings.{numbers_most}
 use Rattle.base_bytes.specs.Choice.{pick}
 use Rattle.spec_text.specs.Formats.{formatted, opened, counted}
-use Rattle.table_layout.specs.Access.{code_of, nameLength, nameByte}
+use Rattle.table_layout.specs.Access.{code_of, name_length, name_byte}
 use Rattle.step_messages.specs.declared.Gathered.{Gathered}
 use Rattle.step_messages.specs.declared.Gathered.TheVariants.{Upto, Failed}
-use Rattle.step_messages.specs.Messages.{gatherEnd, gatherList}
-use Rattle.base_codes.specs.Codes.{c-text}
+use Rattle.step_messages.specs.Messages.{gather_end, gather_list}
+use Rattle.base_codes.specs.Codes.{c_text}
 
 -- ## a pen over bytes, which stops at the end
 pub record Pen : Type 0 where
@@ -34,19 +34,19 @@ size_of (negsuc n) = n + 1
 
 -- ## a format, its bytes at i, i + 1, ..
 module _ (t : List ℕ) (l : List ℤ) where
-  unfoldable pub writtenFrom : ℕ → ℕ → ℕ → ℕ → ℕ → List ℕ
-  writtenFrom zero j i was k = []
-  writtenFrom (suc n) j i was k = formatted l was (nameByte t j i) k ++ writtenFrom n j (i + 1) (opened was (nameByte t j i)) (counted was (nameByte t j i) k)
+  unfoldable pub written_from : ℕ → ℕ → ℕ → ℕ → ℕ → List ℕ
+  written_from zero j i was k = []
+  written_from (suc n) j i was k = formatted l was (name_byte t j i) k ++ written_from n j (i + 1) (opened was (name_byte t j i)) (counted was (name_byte t j i) k)
 
   -- the text that the format which is item j writes
   abbrev pub text_of : ℕ → List ℕ
-  text_of j = writtenFrom (nameLength t j) j 0 0 0
+  text_of j = written_from (name_length t j) j 0 0 0
 
 -- the text, unless an argument is at fault: "A failed assertion or fault changes no state and prints nothing"
-abbrev pub unlessFailed : Gathered → List ℕ → List ℕ
-unlessFailed (Upto e) xs = xs
-unlessFailed (Failed f) xs = []
+abbrev pub unless_failed : Gathered → List ℕ → List ℕ
+unless_failed (Upto e) xs = xs
+unless_failed (Failed f) xs = []
 
 -- what the step of the statement at place q prints, in the state before it: a printf (72) its text, any other nothing
-unfoldable pub printedAt : List ℕ → List ℤ → ℕ → ℕ → List ℕ
-printedAt t s p q = pick (eqb (code_of t q) c-text) (unlessFailed (gatherEnd t s p numbersMost (q + 1)) (text_of t (gatherList t s p numbersMost (q + 1) 0 (replicate numbersMost (pos 0))) q)) []
+unfoldable pub printed_at : List ℕ → List ℤ → ℕ → ℕ → List ℕ
+printed_at t s p q = pick (eqb (code_of t q) c_text) (unless_failed (gather_end t s p numbers_most (q + 1)) (text_of t (gather_list t s p numbers_most (q + 1) 0 (replicate numbers_most (pos 0))) q)) []

@@ -26,7 +26,7 @@ fn digit(n: u32) -> u8
 }
 
 fn digits(n: u32, f: usize, out: &mut [u8], w: usize) -> usize
-    ensures { pen out.new result ≡ puts (formats.digitsBy f n) (pen out.old w) }
+    ensures { pen out.new result ≡ puts (formats.digits_by f n) (pen out.old w) }
 {
     if f == 0 {
         return w;
@@ -51,7 +51,7 @@ pub fn size_of(v: i32) -> u32
 }
 
 fn put_number(out: &mut [u8], w: usize, v: i32) -> usize
-    ensures { pen out.new result ≡ puts (formats.decimalOf v) (pen out.old w) }
+    ensures { pen out.new result ≡ puts (formats.decimal_of v) (pen out.old w) }
 {
     if v < 0 {
         let q = put(out, w, 45);
@@ -139,7 +139,7 @@ pub fn print(t: &[u32], values: &[i32], j: usize, out: &mut [u8], w: usize) -> u
 
 // What the step of the statement at place q prints, in the state before it, at the front of out; how many bytes.
 pub fn print_at(t: &[u32], s: &[i32], p: u8, q: u32, out: &mut [u8]) -> usize
-    ensures { pen out.new result ≡ puts (printing.printedAt t.now s.now p q) (pen out.old 0) }
+    ensures { pen out.new result ≡ puts (printing.printed_at t.now s.now p q) (pen out.old 0) }
 {
     if table_layout::code(t, q as usize) != base_codes::TEXT {
         return 0;

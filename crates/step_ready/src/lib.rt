@@ -1,10 +1,10 @@
 // Which statements are executable, in a state, for a process. No function that is lent asks anything of its caller.
 ghost use Rattle.std.specs.Prelude.{◌≡◌, ◌+◌, ◌<◌, ◌≤◌, eqb};
-ghost use Rattle.base_ceilings.specs.Ceilings.{fieldsMost, itemsMost};
-ghost use Rattle.base_codes.specs.Codes.{c-channel};
+ghost use Rattle.base_ceilings.specs.Ceilings.{fields_most, items_most};
+ghost use Rattle.base_codes.specs.Codes.{c_channel};
 ghost use Rattle.base_bytes.specs.Choice.{pick};
 ghost use Rattle.table_layout.specs.Access.{code_of};
-ghost use Rattle.base_values.specs.Operators.{equalBy};
+ghost use Rattle.base_values.specs.Operators.{equal_by};
 ghost use Rattle.step_ready.specs.declared.Found.TheVariants.{Nothing};
 ghost use Rattle.step_ready.specs.Channels as channels;
 ghost use Rattle.step_ready.specs.Executing as executing;
@@ -32,7 +32,7 @@ pub enum Found {
 
 // How many messages the channel that item d declares can hold.
 pub fn capacity(t: &[u32], d: u32) -> usize
-    ensures { result ≡ channels.capacityOf t.now d }
+    ensures { result ≡ channels.capacity_of t.now d }
 {
     table_layout::number(t, step_eval::minus_one(d as usize))
 }
@@ -40,7 +40,7 @@ pub fn capacity(t: &[u32], d: u32) -> usize
 // How many fields they have.
 pub fn fields(t: &[u32], d: u32) -> u32
     ensures value { result ≡ channels.fields_of t.now d }
-    ensures upper_bound { result ≤ fieldsMost }
+    ensures upper_bound { result ≤ fields_most }
 {
     if table_layout::code(t, d as usize + 2) == base_codes::FIELD {
         if table_layout::code(t, d as usize + 4) == base_codes::FIELD {
@@ -59,7 +59,7 @@ pub fn fields(t: &[u32], d: u32) -> u32
 
 // How many arguments there are from item a on, as far as they are too many for a message.
 pub fn arguments(t: &[u32], a: usize) -> u32
-    ensures { result ≡ channels.argumentsOf t.now a }
+    ensures { result ≡ channels.arguments_of t.now a }
 {
     let mut j = a;
     let mut n: u32 = 0;
@@ -75,7 +75,7 @@ pub fn arguments(t: &[u32], a: usize) -> u32
 
 // Is the received argument with the mark m compared, not stored?
 pub fn is_compared(t: &[u32], m: usize) -> bool
-    ensures { result ≡ channels.comparedAt t.now m }
+    ensures { result ≡ channels.compared_at t.now m }
 {
     if table_layout::code(t, m) == base_codes::INTO {
         table_layout::code(t, table_layout::link(t, step_eval::minus_one(m))) == base_codes::MESSAGE
@@ -85,7 +85,7 @@ pub fn is_compared(t: &[u32], m: usize) -> bool
 }
 
 fn equal(x: Answer, w: i32) -> Answer
-    ensures { result ≡ equalBy x w }
+    ensures { result ≡ equal_by x w }
 {
     match x {
         Answer::Value(v) => Answer::Value((v == w) as i32),
@@ -95,14 +95,14 @@ fn equal(x: Answer, w: i32) -> Answer
 
 // The channel that the reference from `from` to before `to` means.
 pub fn reached(t: &[u32], s: &[i32], p: u8, from: usize, to: usize) -> Reached
-    ensures { result ≡ channels.reachedOf t.now s.now p from to }
+    ensures { result ≡ channels.reached_of t.now s.now p from to }
 {
     step_eval::channel(s, step_eval::load(s, step_eval::locate(t, s, p, from, to)))
 }
 
 // The channel, if it has n fields.
 pub fn addressed(t: &[u32], s: &[i32], c: Reached, n: u32) -> Reached
-    ensures { result ≡ channels.addressedOf t.now s.now c n }
+    ensures { result ≡ channels.addressed_of t.now s.now c n }
 {
     match c {
         Reached::Record(k) => {
@@ -118,7 +118,7 @@ pub fn addressed(t: &[u32], s: &[i32], c: Reached, n: u32) -> Reached
 
 // Does an argument agree with field f of message w in channel c?
 fn agrees(t: &[u32], s: &[i32], p: u8, c: u32, w: u32, a: usize, m: usize, f: u32) -> Answer
-    ensures { result ≡ channels.agreesOf t.now s.now p c w a m f }
+    ensures { result ≡ channels.agrees_of t.now s.now p c w a m f }
 {
     if is_compared(t, m) {
         equal(
@@ -132,7 +132,7 @@ fn agrees(t: &[u32], s: &[i32], p: u8, c: u32, w: u32, a: usize, m: usize, f: u3
 
 // Do the arguments from a on agree with message w in channel c?
 fn matches(t: &[u32], s: &[i32], p: u8, c: u32, w: u32, a: usize) -> Answer
-    ensures { result ≡ channels.matchesOf t.now s.now p c w a }
+    ensures { result ≡ channels.matches_of t.now s.now p c w a }
 {
     let mut j = a;
     let mut f: u32 = 0;
@@ -153,7 +153,7 @@ fn matches(t: &[u32], s: &[i32], p: u8, c: u32, w: u32, a: usize) -> Answer
 
 // What the test of message w says.
 fn found_by(w: u32, x: Answer) -> Found
-    ensures { result ≡ channels.foundBy w x Nothing }
+    ensures { result ≡ channels.found_by w x Nothing }
 {
     if step_eval::holds(x) {
         return Found::Message(w);
@@ -191,7 +191,7 @@ pub fn find(t: &[u32], s: &[i32], p: u8, c: u32, a: usize, n: u32) -> Found
 
 // How many messages a receive tries: the oldest alone, where there is one.
 pub fn tried(s: &[i32], c: u32) -> u32
-    ensures { result ≡ channels.triedOf s.now c }
+    ensures { result ≡ channels.tried_of s.now c }
 {
     if state_layout::waiting_of(s, c) == 0 {
         return 0;
@@ -211,13 +211,13 @@ fn passes(x: Answer) -> bool
 
 // Is an item at a place its own mark?
 fn is_own_mark(c: u8) -> bool
-    ensures { result ≡ executing.isOwnMark c }
+    ensures { result ≡ executing.is_own_mark c }
 {
     base_bytes::either(base_codes::is_alone(c), c == base_codes::END_BODY)
 }
 
 fn is_always(c: u8) -> bool
-    ensures { result ≡ executing.isAlways c }
+    ensures { result ≡ executing.is_always c }
 {
     match c {
         base_codes::TEXT => true,
@@ -246,7 +246,7 @@ pub fn mark(t: &[u32], q: u32) -> usize
 
 // 1 for an item that makes a channel.
 fn makes(t: &[u32], j: usize) -> u32
-    ensures value { result ≡ pick (eqb (code_of t.now j) c-channel) 1 0 }
+    ensures value { result ≡ pick (eqb (code_of t.now j) c_channel) 1 0 }
     ensures upper_bound { result ≤ 1 }
 {
     if table_layout::code(t, j) == base_codes::CHANNEL {
@@ -258,8 +258,8 @@ fn makes(t: &[u32], j: usize) -> u32
 
 // How many channels a process of the unit that item u begins makes.
 fn channels_in(t: &[u32], u: u32) -> u32
-    ensures value { result ≡ executing.channelsIn t.now u }
-    ensures upper_bound { result ≤ itemsMost }
+    ensures value { result ≡ executing.channels_in t.now u }
+    ensures upper_bound { result ≤ items_most }
 {
     let n = state_start::unit_length(t, u);
     let mut k: u32 = 0;
@@ -306,7 +306,7 @@ pub fn can_receive(t: &[u32], s: &[i32], p: u8, a: usize, c: Reached) -> bool
 
 // The channel of the send or receive at place q with the mark m.
 pub fn message(t: &[u32], s: &[i32], p: u8, q: usize, m: u32) -> Reached
-    ensures { result ≡ executing.messageOf t.now s.now p q m }
+    ensures { result ≡ executing.message_of t.now s.now p q m }
 {
     addressed(
         t,
@@ -318,7 +318,7 @@ pub fn message(t: &[u32], s: &[i32], p: u8, q: usize, m: u32) -> Reached
 
 fn ready_by(t: &[u32], s: &[i32], p: u8, late: bool, q: usize, m: usize) -> bool
     requires { m < 4294967296 }
-    ensures { result ≡ executing.readyBy t.now s.now p late q m }
+    ensures { result ≡ executing.ready_by t.now s.now p late q m }
 {
     let c = table_layout::code(t, m);
     match c {
@@ -333,7 +333,7 @@ fn ready_by(t: &[u32], s: &[i32], p: u8, late: bool, q: usize, m: usize) -> bool
 
 // Is the statement at place q executable? `late` says whether `timeout` is; `else`, `if` and `do` are judged elsewhere.
 pub fn ready(t: &[u32], s: &[i32], p: u8, late: bool, q: u32) -> bool
-    ensures { result ≡ executing.readyOf t.now s.now p late q }
+    ensures { result ≡ executing.ready_of t.now s.now p late q }
 {
     ready_by(t, s, p, late, q as usize, mark(t, q))
 }

@@ -125,7 +125,7 @@ fn fetch(s: &[i32], c: u32, w: u32, values: &mut [i32])
 
 // Message w of channel c goes where the arguments from item a on are stored.
 fn receive_from(t: &[u32], s: &mut [i32], p: u8, a: usize, c: u32, w: u32) -> Taken
-    ensures { (result, s.new) ≡ statements.receivedFrom t.now p a c w s.old }
+    ensures { (result, s.new) ≡ statements.received_from t.now p a c w s.old }
 {
     let mut places = [0usize; base_ceilings::FIELDS_MOST];
     let g = step_messages::aim(t, s, p, a, &mut places);

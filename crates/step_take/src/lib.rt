@@ -1,7 +1,7 @@
 // Taking the step of the statement at a place, `run` among them.
 ghost use Rattle.std.specs.Prelude.{◌≡◌, ◌<◌};
-ghost use Rattle.base_ceilings.specs.Ceilings.{numbersMost, processesMost};
-ghost use Rattle.state_layout.specs.Layout.{processesOf};
+ghost use Rattle.base_ceilings.specs.Ceilings.{numbers_most, processes_most};
+ghost use Rattle.state_layout.specs.Layout.{processes_of};
 ghost use Rattle.step_take.specs.Effects as effects;
 
 use base_outcome::Taken;
@@ -10,7 +10,7 @@ use step_messages::Gathered;
 
 // Where the arguments from item a on end.
 fn end_of(t: &[u32], a: usize) -> usize
-    ensures { result ≡ effects.endFrom t.now numbersMost a }
+    ensures { result ≡ effects.end_from t.now numbers_most a }
 {
     let mut j = a;
     let mut n: usize = 0;
@@ -25,7 +25,7 @@ fn end_of(t: &[u32], a: usize) -> usize
 }
 
 fn set_parameter(t: &[u32], s: &mut [i32], p: u8, values: &[i32], j: u32)
-    ensures { s.new ≡ effects.parameterSet t.now p values.now j s.old }
+    ensures { s.new ≡ effects.parameter_set t.now p values.now j s.old }
 {
     if table_layout::code(t, j as usize) == base_codes::PARAMETER {
         let l = table_layout::link(t, j as usize) as u32;
@@ -39,7 +39,7 @@ fn set_parameter(t: &[u32], s: &mut [i32], p: u8, values: &[i32], j: u32)
 
 // One more process of the unit that item u begins, with the values of its arguments.
 fn call(t: &[u32], s: &mut [i32], u: u32, values: &[i32])
-    requires { processesOf s.old < processesMost }
+    requires { processes_of s.old < processes_most }
     ensures { s.new ≡ effects.called t.now u values.now s.old }
 {
     let p = state_layout::processes(s) as u8;
@@ -75,7 +75,7 @@ fn run(t: &[u32], s: &mut [i32], p: u8, m: usize) -> Taken
 // `v = run` with the marks m of its target, which stands in place i, and e of run.
 fn set_run_at(t: &[u32], s: &mut [i32], p: u8, i: usize, m: usize, e: usize) -> Taken
     requires { e < 4294967296 }
-    ensures { (result, s.new) ≡ effects.setRunAt t.now p i m e s.old }
+    ensures { (result, s.new) ≡ effects.set_run_at t.now p i m e s.old }
 {
     let u = table_layout::link(t, e) as u32;
     if !step_ready::has_room(t, s, u) {
@@ -99,7 +99,7 @@ fn set_run_at(t: &[u32], s: &mut [i32], p: u8, i: usize, m: usize, e: usize) -> 
 
 fn set_run(t: &[u32], s: &mut [i32], p: u8, q: usize, m: usize, e: usize) -> Taken
     requires { e < 4294967296 }
-    ensures { (result, s.new) ≡ effects.setRan t.now p q m e s.old }
+    ensures { (result, s.new) ≡ effects.set_ran t.now p q m e s.old }
 {
     let x = step_eval::locate(t, s, p, q, m);
     match x {
@@ -122,7 +122,7 @@ fn target(t: &[u32], s: &mut [i32], p: u8, q: usize, m: usize) -> Taken
 
 fn take_by(t: &[u32], s: &mut [i32], p: u8, q: usize, m: usize) -> Taken
     requires { m < 4294967296 }
-    ensures { (result, s.new) ≡ effects.takenBy t.now p q m s.old }
+    ensures { (result, s.new) ≡ effects.taken_by t.now p q m s.old }
 {
     match table_layout::code(t, m) {
         base_codes::TEXT => step_statements::print(t, s, p, m as u32),

@@ -10,20 +10,20 @@ pub runs-more : (f : ℕ → Entry) (i : ℕ) {k k1 : ℕ} → k ≡ suc k1 → 
 unfolding runs
 runs-more f i e = rw e
 
-pub runs-end : (f : ℕ → Entry) (i : ℕ) {k : ℕ} → k ≡ 0 → runs f i k ≡ []
+pub runs_end : (f : ℕ → Entry) (i : ℕ) {k : ℕ} → k ≡ 0 → runs f i k ≡ []
 unfolding runs
-runs-end f i e = rw e
+runs_end f i e = rw e
 
 pub length_runs : (f : ℕ → Entry) (i k : ℕ) → length (runs f i k) ≡ k
 unfolding runs
 length_runs f i zero = refl
 length_runs f i (suc k) = omega (arith, length_runs f (i + 1) k)
 
-pub runs-at : (f : ℕ → Entry) (i k j : ℕ) → j < k → get_or (runs f i k) j nothing ≡ f (i + j)
+pub runs_at : (f : ℕ → Entry) (i k j : ℕ) → j < k → get_or (runs f i k) j nothing ≡ f (i + j)
 unfolding runs
-runs-at f i zero j h = absurd (omega arith)
-runs-at f i (suc k) zero h = ap f (omega arith)
-runs-at f i (suc k) (suc j) h = runs-at f (i + 1) k j (omega arith) ∙ ap f (omega arith)
+runs_at f i zero j h = absurd (omega arith)
+runs_at f i (suc k) zero h = ap f (omega arith)
+runs_at f i (suc k) (suc j) h = runs_at f (i + 1) k j (omega arith) ∙ ap f (omega arith)
 
 pub joined-more : (g : Entry → List ℕ) (f : ℕ → Entry) (i : ℕ) {k k1 : ℕ} → k ≡ suc k1 → joined g (runs f i k) ≡ g (f i) ++ joined g (runs f (i + 1) k1)
 unfolding joined
@@ -31,4 +31,4 @@ joined-more g f i {k1 = n} e = rw (runs-more f i {k1 = n} e)
 
 pub joined_end : (g : Entry → List ℕ) (f : ℕ → Entry) (i : ℕ) {k : ℕ} → k ≡ 0 → joined g (runs f i k) ≡ []
 unfolding joined
-joined_end g f i e = rw (runs-end f i e)
+joined_end g f i e = rw (runs_end f i e)

@@ -1,8 +1,8 @@
--- Mechanism, held to the specification by `tree-tables`, `tables-tree` (crate `read_accepts_proof`), but for `nothing`, of proofs alone.
+-- Mechanism, held to the specification by `tree_tables`, `tables_tree` (crate `read_accepts_proof`), but for `nothing`, of proofs alone.
 -- An entry: what one item of a model says, in numbers, and no place of a text in it.
 -- Its code is the number of its symbol; a name (70) and a string (72, without its quotes) have bytes, a number (71) has a value.
 use Rattle.std.specs.Prelude.{ℕ, zero, suc, ◌+◌, List, [], ◌∷◌, ◌++◌, eqb}
-use Rattle.base_codes.specs.Codes.{c-number}
+use Rattle.base_codes.specs.Codes.{c_number}
 use Rattle.base_bytes.specs.Choice.{pick}
 
 pub record Entry : Type 0 where
@@ -18,7 +18,7 @@ nothing = entry 0 [] 0
 
 -- the number of a number item
 unfoldable pub number : Entry → List ℕ
-number e = pick (eqb e.code c-number) (e.value ∷ []) []
+number e = pick (eqb e.code c_number) (e.value ∷ []) []
 
 abbrev pub bytes : Entry → List ℕ
 bytes e = e.bytes

@@ -1,6 +1,6 @@
 // The entries of a model's items, read from the text, the places of its tokens, and the items' codes and tokens.
 ghost use Rattle.std.specs.Prelude.{◌≡◌, ◌-◌, ◌<◌, ◌≤◌, length};
-ghost use Rattle.base_ceilings.specs.Ceilings.{stringMost};
+ghost use Rattle.base_ceilings.specs.Ceilings.{string_most};
 ghost use Rattle.base_pens.specs.Pen.{pen};
 ghost use Rattle.base_pens.specs.Pack.{well};
 ghost use Rattle.table_entries.specs.Sources.{clipped, bytes_of, value_of, entry_at};
@@ -61,7 +61,7 @@ pub fn size_at(
     i: usize,
 ) -> usize
     ensures value { result ≡ length (entry_at text.now starts.now ends.now codes.now toks.now i).bytes }
-    ensures upper_bound { result ≤ stringMost }
+    ensures upper_bound { result ≤ string_most }
 {
     let t = base_bytes::word_at(toks, i);
     let s = bytes_of(

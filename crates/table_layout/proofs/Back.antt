@@ -10,20 +10,20 @@ use lib.ListN.{length, get_or}
 use lib.Seq.{ext_get_or}
 use lib.Dec.{eqb}
 use borrow.Author.Tests.{eqb-true, eqb-false}
-use Rattle.base_codes.specs.Codes.{c-name, c-number, c-text}
+use Rattle.base_codes.specs.Codes.{c_name, c_number, c_text}
 use Rattle.base_bytes.specs.Choice.{pick}
 use Rattle.table_entries.specs.Entry.{Entry, nothing, runs}
-use Rattle.table_entries.proofs.Runs.{length_runs, runs-at}
+use Rattle.table_entries.proofs.Runs.{length_runs, runs_at}
 use Rattle.table_layout.specs.Tables.{tables_of}
-use Rattle.table_layout.specs.Access.{link_of, number_of, nameLength, nameByte}
-use Rattle.table_layout.specs.Back.{AllFair, Small, upto, bytesBack, valueBack, entryBack, entriesBack}
-use Rattle.table_layout.proofs.Holds.{fair-at, holds-items, holds-code, holds-link, holds-number, holds-name-length, holds-name-byte}
+use Rattle.table_layout.specs.Access.{link_of, number_of, name_length, name_byte}
+use Rattle.table_layout.specs.Back.{AllFair, Small, upto, bytes_back, value_back, entry_back, entries_back}
+use Rattle.table_layout.proofs.Holds.{fair_at, holds-items, holds-code, holds_link, holds-number, holds_name_length, holds_name_byte}
 
-upto-at : (f : ℕ → ℕ) (i n j : ℕ) → j < n → get_or (upto f i n) j 0 ≡ f (i + j)
+upto_at : (f : ℕ → ℕ) (i n j : ℕ) → j < n → get_or (upto f i n) j 0 ≡ f (i + j)
 unfolding upto
-upto-at f i zero j h = absurd (omega arith)
-upto-at f i (suc n) zero h = rw add-zero
-upto-at f i (suc n) (suc j) h = let e : i + 1 + j ≡ i + suc j = omega arith in upto-at f (i + 1) n j (omega arith) ∙ rw e
+upto_at f i zero j h = absurd (omega arith)
+upto_at f i (suc n) zero h = rw add-zero
+upto_at f i (suc n) (suc j) h = let e : i + 1 + j ≡ i + suc j = omega arith in upto_at f (i + 1) n j (omega arith) ∙ rw e
 
 length-upto : (f : ℕ → ℕ) (i n : ℕ) → length (upto f i n) ≡ n
 unfolding upto
@@ -34,7 +34,7 @@ length-upto f i (suc n) = omega (arith, length-upto f (i + 1) n)
 upto_is : (f : ℕ → ℕ) (n : ℕ) (s : List ℕ) → n ≡ length s → ((k : ℕ) → k < length s → f k ≡ get_or s k 0) → upto f 0 n ≡ s
 upto_is f n s e h =
     ext_get_or 0 (upto f 0 n) s (length-upto f 0 n ∙ e)
-    (λ k l. let g : k < n = omega (arith, l, length-upto f 0 n) in upto-at f 0 n k g ∙ ap f (zero-add k) ∙ h k (omega arith))
+    (λ k l. let g : k < n = omega (arith, l, length-upto f 0 n) in upto_at f 0 n k g ∙ ap f (zero-add k) ∙ h k (omega arith))
 
 module _ (es : List Entry) (ls : List ℕ) (fair : AllFair es) (small : Small es) (i : ℕ) (h : i < length es) where
   abbrev T : List ℕ
@@ -43,49 +43,49 @@ module _ (es : List Entry) (ls : List ℕ) (fair : AllFair es) (small : Small es
   abbrev e : Entry
   e = get_or es i nothing
 
-  spelled_back : (e.code ≡ c-name) ⊎ (e.code ≡ c-text) → upto (nameByte T i) 0 (nameLength T i) ≡ e.bytes
-  spelled_back c = upto_is (nameByte T i) (nameLength T i) e.bytes (holds-name-length es ls fair i h c) (holds-name-byte es ls fair i h c small)
+  spelled_back : (e.code ≡ c_name) ⊎ (e.code ≡ c_text) → upto (name_byte T i) 0 (name_length T i) ≡ e.bytes
+  spelled_back c = upto_is (name_byte T i) (name_length T i) e.bytes (holds_name_length es ls fair i h c) (holds_name_byte es ls fair i h c small)
 
-  strings : (b : Bool) → eqb e.code c-text ≡ b → (e.code ≡ c-name → ⊥) → pick b (upto (nameByte T i) 0 (nameLength T i)) [] ≡ e.bytes
+  strings : (b : Bool) → eqb e.code c_text ≡ b → (e.code ≡ c_name → ⊥) → pick b (upto (name_byte T i) 0 (name_length T i)) [] ≡ e.bytes
   strings true t n = spelled_back (inr (eqb-true _ _ t))
-  strings false t n = sym ((fair-at es fair i h).bare n (eqb-false _ _ t))
+  strings false t n = sym ((fair_at es fair i h).bare n (eqb-false _ _ t))
 
-  names : (b : Bool) → eqb e.code c-name ≡ b → pick b (upto (nameByte T i) 0 (nameLength T i)) (pick (eqb e.code c-text) (upto (nameByte T i) 0 (nameLength T i)) []) ≡ e.bytes
+  names : (b : Bool) → eqb e.code c_name ≡ b → pick b (upto (name_byte T i) 0 (name_length T i)) (pick (eqb e.code c_text) (upto (name_byte T i) 0 (name_length T i)) []) ≡ e.bytes
   names true t = spelled_back (inl (eqb-true _ _ t))
-  names false t = strings (eqb e.code c-text) refl (eqb-false _ _ t)
+  names false t = strings (eqb e.code c_text) refl (eqb-false _ _ t)
 
-  bytes_back : bytesBack T i ≡ e.bytes
-  unfolding bytesBack
-  bytes_back = rw (holds-code es ls fair i h) (names (eqb e.code c-name) refl)
+  bytes_back_lem : bytes_back T i ≡ e.bytes
+  unfolding bytes_back
+  bytes_back_lem = rw (holds-code es ls fair i h) (names (eqb e.code c_name) refl)
 
-  values : (b : Bool) → eqb e.code c-number ≡ b → pick b (number_of T i) 0 ≡ e.value
+  values : (b : Bool) → eqb e.code c_number ≡ b → pick b (number_of T i) 0 ≡ e.value
   values true t = holds-number es ls fair i h (eqb-true _ _ t)
-  values false t = sym ((fair-at es fair i h).still (eqb-false _ _ t))
+  values false t = sym ((fair_at es fair i h).still (eqb-false _ _ t))
 
-  value-back : valueBack T i ≡ e.value
-  unfolding valueBack
-  value-back = rw (holds-code es ls fair i h) (values (eqb e.code c-number) refl)
+  value_back_lem : value_back T i ≡ e.value
+  unfolding value_back
+  value_back_lem = rw (holds-code es ls fair i h) (values (eqb e.code c_number) refl)
 
-  pub entry-back : entryBack T i ≡ get_or es i nothing
-  unfolding entryBack
-  entry-back = rw (holds-code es ls fair i h, bytes_back, value-back)
+  pub entry-back : entry_back T i ≡ get_or es i nothing
+  unfolding entry_back
+  entry-back = rw (holds-code es ls fair i h, bytes_back_lem, value_back_lem)
 
 -- the tables of entries, read back, are the entries
-pub read_back : (es : List Entry) (ls : List ℕ) → AllFair es → Small es → entriesBack (tables_of es ls) ≡ es
-unfolding entriesBack
+pub read_back : (es : List Entry) (ls : List ℕ) → AllFair es → Small es → entries_back (tables_of es ls) ≡ es
+unfolding entries_back
 read_back es ls fair small =
     rw (holds-items es ls)
-    (ext_get_or nothing (runs (entryBack (tables_of es ls)) 0 (length es)) es (length_runs (entryBack (tables_of es ls)) 0 (length es))
-    (λ k l. let g : k < length es = omega (arith, l, length_runs (entryBack (tables_of es ls)) 0 (length es)) in
-    runs-at (entryBack (tables_of es ls)) 0 (length es) k g ∙ ap (entryBack (tables_of es ls)) (zero-add k) ∙ entry-back es ls fair small k g))
+    (ext_get_or nothing (runs (entry_back (tables_of es ls)) 0 (length es)) es (length_runs (entry_back (tables_of es ls)) 0 (length es))
+    (λ k l. let g : k < length es = omega (arith, l, length_runs (entry_back (tables_of es ls)) 0 (length es)) in
+    runs_at (entry_back (tables_of es ls)) 0 (length es) k g ∙ ap (entry_back (tables_of es ls)) (zero-add k) ∙ entry-back es ls fair small k g))
 
 -- so equal tables are of equal entries
-pub tables-determine : (es fs : List Entry) (ls ms : List ℕ) → AllFair es → AllFair fs → Small es → Small fs → tables_of es ls ≡ tables_of fs ms → es ≡ fs
-tables-determine es fs ls ms a b p q t = sym (read_back es ls a p) ∙ ap entriesBack t ∙ read_back fs ms b q
+pub tables_determine : (es fs : List Entry) (ls ms : List ℕ) → AllFair es → AllFair fs → Small es → Small fs → tables_of es ls ≡ tables_of fs ms → es ≡ fs
+tables_determine es fs ls ms a b p q t = sym (read_back es ls a p) ∙ ap entries_back t ∙ read_back fs ms b q
 
 -- and of equal links, as far as there are items
-pub links-determine : (es fs : List Entry) (ls ms : List ℕ) → AllFair es → AllFair fs → Small es → Small fs → tables_of es ls ≡ tables_of fs ms
+pub links_determine : (es fs : List Entry) (ls ms : List ℕ) → AllFair es → AllFair fs → Small es → Small fs → tables_of es ls ≡ tables_of fs ms
     → (i : ℕ) → i < length es → get_or ls i 0 ≡ get_or ms i 0
-links-determine es fs ls ms a b p q t i h =
-    let e : es ≡ fs = tables-determine es fs ls ms a b p q t in
-    sym (holds-link es ls a i h) ∙ ap (λ l. link_of l i) t ∙ holds-link fs ms b i (rw (← e) h)
+links_determine es fs ls ms a b p q t i h =
+    let e : es ≡ fs = tables_determine es fs ls ms a b p q t in
+    sym (holds_link es ls a i h) ∙ ap (λ l. link_of l i) t ∙ holds_link fs ms b i (rw (← e) h)

@@ -4,16 +4,16 @@ use mathlib.Core.Path.{◌≡◌, sym, ◌∙◌}
 use mathlib.Core.List.{List}
 use native.Mathlib.Omega.{arith}
 use borrow.Author.Tests.{lt-ltb, le-ltb}
-use Rattle.table_layout.specs.Access.{items_of, word_of, code_of, argOf, nameLength, poolByte, nameByte}
+use Rattle.table_layout.specs.Access.{items_of, word_of, code_of, arg_of, name_length, pool_byte, name_byte}
 
-module _ (t : List ℕ) (i k : ℕ) {n : ℕ} (en : n ≡ nameLength t i) where
-  pub byte-in : k < n → {a r : ℕ} → a ≡ argOf t i → r ≡ poolByte t (a / 128 + k) → r ≡ nameByte t i k
-  unfolding nameByte
-  byte-in h {a} ea er = let g : k < a % 128 = omega arith in er ∙ sym (simp (← ea, lt-ltb _ _ g))
+module _ (t : List ℕ) (i k : ℕ) {n : ℕ} (en : n ≡ name_length t i) where
+  pub byte_in : k < n → {a r : ℕ} → a ≡ arg_of t i → r ≡ pool_byte t (a / 128 + k) → r ≡ name_byte t i k
+  unfolding name_byte
+  byte_in h {a} ea er = let g : k < a % 128 = omega arith in er ∙ sym (simp (← ea, lt-ltb _ _ g))
 
-  pub byte-out : n ≤ k → 0 ≡ nameByte t i k
-  unfolding nameByte
-  byte-out h = let g : nameLength t i ≤ k = omega arith in sym (simp (le-ltb _ _ g))
+  pub byte_out : n ≤ k → 0 ≡ name_byte t i k
+  unfolding name_byte
+  byte_out h = let g : name_length t i ≤ k = omega arith in sym (simp (le-ltb _ _ g))
 
 -- the code of an item that there is, and of none
 module _ (t : List ℕ) (i : ℕ) {n : ℕ} (en : n ≡ items_of t) where

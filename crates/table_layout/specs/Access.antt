@@ -11,8 +11,8 @@ module _ (t : List ℕ) where
   abbrev pub items_of : ℕ
   items_of = get_or t 1 0
 
-  abbrev pub numbersOf : ℕ
-  numbersOf = get_or t 2 0
+  abbrev pub numbers_of : ℕ
+  numbers_of = get_or t 2 0
 
   -- the word of item i, which holds its code and its argument
   abbrev pub word_of : ℕ → ℕ
@@ -22,24 +22,24 @@ module _ (t : List ℕ) where
   unfoldable pub code_of : ℕ → ℕ
   code_of i = pick (ltb i items_of) (word_of i % 256) 0
 
-  abbrev pub argOf : ℕ → ℕ
-  argOf i = word_of i / 256
+  abbrev pub arg_of : ℕ → ℕ
+  arg_of i = word_of i / 256
 
   abbrev pub link_of : ℕ → ℕ
   link_of i = get_or t (4 + items_of + i) 0
 
   -- the value of item i, if it is a number
   abbrev pub number_of : ℕ → ℕ
-  number_of i = get_or t (4 + 2 * items_of + argOf i) 0
+  number_of i = get_or t (4 + 2 * items_of + arg_of i) 0
 
   -- how many bytes item i has, if it is a name or a string
-  abbrev pub nameLength : ℕ → ℕ
-  nameLength i = argOf i % 128
+  abbrev pub name_length : ℕ → ℕ
+  name_length i = arg_of i % 128
 
   -- byte j of the pool
-  unfoldable pub poolByte : ℕ → ℕ
-  poolByte j = digit (j % 4) (get_or t (4 + 2 * items_of + numbersOf + j / 4) 0)
+  unfoldable pub pool_byte : ℕ → ℕ
+  pool_byte j = digit (j % 4) (get_or t (4 + 2 * items_of + numbers_of + j / 4) 0)
 
   -- byte k of the name or string that item i is; 0 past its end
-  unfoldable pub nameByte : ℕ → ℕ → ℕ
-  nameByte i k = pick (ltb k (nameLength i)) (poolByte (argOf i / 128 + k)) 0
+  unfoldable pub name_byte : ℕ → ℕ → ℕ
+  name_byte i k = pick (ltb k (name_length i)) (pool_byte (arg_of i / 128 + k)) 0

@@ -1,4 +1,4 @@
--- Mechanism, held to the specification by `tree-tables`, `tables-tree` (crate `read_accepts_proof`).
+-- Mechanism, held to the specification by `tree_tables`, `tables_tree` (crate `read_accepts_proof`).
 -- The tables of a model: numbers that hold exactly what its tree holds (document 01, "Ceilings").
 --   [0] how many numbers the tables have; [1] N, how many items; [2] K, how many of them are numbers; [3] P, how many words the pool has
 --   N words, one for each item: its code + 256 * its argument, where the argument is for a name (70) or a string (72) the length of its bytes + 128 * their offset
@@ -7,30 +7,30 @@
 --   K values, those of the numbers in order
 --   P words, the pool: the bytes of all names and strings (strings without their quotes) in order, no spelling shared, four to a word, lowest first, zeros at the end
 use Rattle.std.specs.Prelude.{ℕ, zero, suc, ◌+◌, ◌*◌, ◌-◌, min, List, [], ◌∷◌, ◌++◌, length, get_or, eqb}
-use Rattle.base_ceilings.specs.Ceilings.{textMost}
+use Rattle.base_ceilings.specs.Ceilings.{text_most}
 use Rattle.base_bytes.specs.Choice.{pick}
 use Rattle.base_pens.specs.Pack.{packed}
 use Rattle.table_entries.specs.Entry.{Entry, number, bytes, joined}
-use Rattle.base_codes.specs.Codes.{c-name, c-number, c-text}
+use Rattle.base_codes.specs.Codes.{c_name, c_number, c_text}
 
 -- offsets in the pool, as an argument keeps them: no text has as many bytes
-abbrev pub poolMost : ℕ
-poolMost = 2 * textMost - 1
+abbrev pub pool_most : ℕ
+pool_most = 2 * text_most - 1
 
 -- the argument of an item of code c with n bytes, where o bytes and k numbers stand before it
 unfoldable pub argument : ℕ → ℕ → ℕ → ℕ → ℕ
-argument c n o k = pick (eqb c c-number) k (pick (eqb c c-name) (n + 128 * min poolMost o) (pick (eqb c c-text) (n + 128 * min poolMost o) 0))
+argument c n o k = pick (eqb c c_number) k (pick (eqb c c_name) (n + 128 * min pool_most o) (pick (eqb c c_text) (n + 128 * min pool_most o) 0))
 
-unfoldable pub itemWord : ℕ → ℕ → ℕ → ℕ → ℕ
-itemWord c n o k = c + 256 * argument c n o k
+unfoldable pub item_word : ℕ → ℕ → ℕ → ℕ → ℕ
+item_word c n o k = c + 256 * argument c n o k
 
 -- 1 for a number
 unfoldable pub one : ℕ → ℕ
-one c = pick (eqb c c-number) 1 0
+one c = pick (eqb c c_number) 1 0
 
-unfoldable pub itemWords : ℕ → ℕ → List Entry → List ℕ
-itemWords o k [] = []
-itemWords o k (e ∷ es) = itemWord e.code (length e.bytes) o k ∷ itemWords (o + length e.bytes) (k + one e.code) es
+unfoldable pub item_words : ℕ → ℕ → List Entry → List ℕ
+item_words o k [] = []
+item_words o k (e ∷ es) = item_word e.code (length e.bytes) o k ∷ item_words (o + length e.bytes) (k + one e.code) es
 
 -- the links at i, i + 1, .., n of them; 0 where there is none
 unfoldable pub linked : List ℕ → ℕ → ℕ → List ℕ
@@ -50,4 +50,4 @@ whole n k p = 4 + 2 * n + k + p
 unfoldable pub tables_of : List Entry → List ℕ → List ℕ
 tables_of es ls =
     whole (length es) (length (numbers es)) (length (pool es)) ∷ length es ∷ length (numbers es) ∷ length (pool es)
-    ∷ (itemWords 0 0 es ++ (linked ls 0 (length es) ++ (numbers es ++ pool es)))
+    ∷ (item_words 0 0 es ++ (linked ls 0 (length es) ++ (numbers es ++ pool es)))

@@ -7,8 +7,8 @@ use Rattle.table_entries.specs.Entry.{Entry}
 use Rattle.table_entries.specs.Items.{entry_of}
 use Rattle.table_layout.specs.Tables.{tables_of}
 
-abbrev pub entriesIn : Model → List Entry
-entriesIn m = map entry_of (code m)
+abbrev pub entries_in : Model → List Entry
+entries_in m = map entry_of (code m)
 
-abbrev pub tablesIn : Model → List ℕ → List ℕ
-tablesIn m ls = tables_of (entriesIn m) ls
+abbrev pub tables_in : Model → List ℕ → List ℕ
+tables_in m ls = tables_of (entries_in m) ls

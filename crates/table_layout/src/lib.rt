@@ -1,11 +1,11 @@
 // The tables of a model: built from its items, and read.
 ghost use Rattle.std.specs.Prelude.{◌≡◌, ◌<◌, ◌≤◌, ◌*◌, length};
-ghost use Rattle.base_ceilings.specs.Ceilings.{itemsMost, stringMost};
+ghost use Rattle.base_ceilings.specs.Ceilings.{items_most, string_most};
 ghost use Rattle.base_pens.specs.Pen.{pen, puts};
 ghost use Rattle.table_entries.specs.Entry.{number, bytes, joined, runs};
-ghost use Rattle.table_entries.specs.Sources.{entry_at, entriesOf};
-ghost use Rattle.table_layout.specs.Tables.{itemWord, itemWords, linked, numbers, tables_of};
-ghost use Rattle.table_layout.specs.Access.{length_of, items_of, code_of, argOf, link_of, number_of, nameLength, nameByte};
+ghost use Rattle.table_entries.specs.Sources.{entry_at, entries_of};
+ghost use Rattle.table_layout.specs.Tables.{item_word, item_words, linked, numbers, tables_of};
+ghost use Rattle.table_layout.specs.Access.{length_of, items_of, code_of, arg_of, link_of, number_of, name_length, name_byte};
 ghost use Rattle.table_layout.specs.Tables as spec;
 
 // Offsets in the pool, as an item's word keeps them.
@@ -19,8 +19,8 @@ fn one(c: u8) -> usize
 }
 
 fn item_word(c: u8, n: usize, o: usize, k: usize) -> u32
-    requires { (n ≤ stringMost) × (k ≤ itemsMost) }
-    ensures { result ≡ itemWord c n o k }
+    requires { (n ≤ string_most) × (k ≤ items_most) }
+    ensures { result ≡ item_word c n o k }
 {
     let at = base_bytes::least(POOL_MOST, o);
     match c {
@@ -40,9 +40,9 @@ fn count_bytes(
     toks: &[u32],
     n: usize,
 ) -> usize
-    requires { n ≤ itemsMost }
+    requires { n ≤ items_most }
     ensures value { result ≡ length (joined bytes (runs (entry_at text.now starts.now ends.now codes.now toks.now) 0 n)) }
-    ensures upper_bound { result ≤ stringMost * n }
+    ensures upper_bound { result ≤ string_most * n }
 {
     let mut sum: usize = 0;
     let mut i: usize = 0;
@@ -62,7 +62,7 @@ fn count_numbers(
     toks: &[u32],
     n: usize,
 ) -> usize
-    requires { n ≤ itemsMost }
+    requires { n ≤ items_most }
     ensures value { result ≡ length (numbers (runs (entry_at text.now starts.now ends.now codes.now toks.now) 0 n)) }
     ensures upper_bound { result ≤ n }
 {
@@ -85,8 +85,8 @@ fn put_items(
     out: &mut [u32],
     p: usize,
 ) -> usize
-    requires { n ≤ itemsMost }
-    ensures { pen out.new result ≡ puts (itemWords 0 0 (runs (entry_at text.now starts.now ends.now codes.now toks.now) 0 n)) (pen out.old p) }
+    requires { n ≤ items_most }
+    ensures { pen out.new result ≡ puts (item_words 0 0 (runs (entry_at text.now starts.now ends.now codes.now toks.now) 0 n)) (pen out.old p) }
 {
     let mut q = p;
     let mut o: usize = 0;
@@ -196,7 +196,7 @@ pub fn build(
     links: &[u32],
     out: &mut [u32],
 ) -> usize
-    ensures { pen out.new result ≡ puts (tables_of (entriesOf text.now starts.now ends.now codes.now toks.now) links.now) (pen out.old 0) }
+    ensures { pen out.new result ≡ puts (tables_of (entries_of text.now starts.now ends.now codes.now toks.now) links.now) (pen out.old 0) }
 {
     let n = base_bytes::least(base_ceilings::ITEMS_MOST, codes.len());
     let k = count_numbers(text, starts, ends, codes, toks, n);
@@ -239,7 +239,7 @@ pub fn code(t: &[u32], i: usize) -> u8
 
 // Its argument.
 pub fn arg(t: &[u32], i: usize) -> usize
-    ensures value { result ≡ argOf t.now i }
+    ensures value { result ≡ arg_of t.now i }
     ensures upper_bound { result < 16777216 }
 {
     base_bytes::word_on(t, 4, i) / 256
@@ -263,14 +263,14 @@ pub fn number(t: &[u32], i: usize) -> usize
 
 // How many bytes it has, if it is a name or a string.
 pub fn name_length(t: &[u32], i: usize) -> usize
-    ensures value { result ≡ nameLength t.now i }
+    ensures value { result ≡ name_length t.now i }
     ensures upper_bound { result < 128 }
 {
     arg(t, i) % 128
 }
 
 fn pool_byte(t: &[u32], j: usize) -> u8
-    ensures { result ≡ Rattle.table_layout.specs.Access.poolByte t.now j }
+    ensures { result ≡ Rattle.table_layout.specs.Access.pool_byte t.now j }
 {
     base_pens::digit(
         j % 4,
@@ -280,7 +280,7 @@ fn pool_byte(t: &[u32], j: usize) -> u8
 
 // Byte k of it; 0 past its end.
 pub fn name_byte(t: &[u32], i: usize, k: usize) -> u8
-    ensures { result ≡ nameByte t.now i k }
+    ensures { result ≡ name_byte t.now i k }
 {
     if k < name_length(t, i) {
         pool_byte(t, arg(t, i) / 128 + k)

@@ -7,28 +7,28 @@ use Prim.Native.Nat.{◌≤◌, ◌+◌}
 use native.Mathlib.Omega.{arith}
 use lib.Dec.{T}
 use lib.ListN.{length, length-append}
-use Rattle.base_ceilings.specs.Ceilings.{stringMost}
+use Rattle.base_ceilings.specs.Ceilings.{string_most}
 use Rattle.base_bytes.specs.Choice.{both}
 use Rattle.base_kinds.specs.Kinds.{Token, sym, name, number, text}
 use Rattle.parse_grammar.specs.Engine.{nt, tm, act, L, done, emit, eat, by}
-use Rattle.parse_grammar.specs.Productions.{NT, e1, e2, e3, e4, e5, e6, e7, e8, e9, e10, t1, t2, t3, t4, t5, t6, t7, t8, t9, t10, n-operand, n-ref, n-ix, n-opened, n-closing, n-argument, n-arguments, n-more-arguments, n-sent, n-received, n-more-received, n-got, n-statement, n-after-name, n-action, n-after-ref, n-right-side, n-other, n-sequence, n-more-statements, n-after-separator, n-option, n-more-options, n-plain-type, n-type, n-value, n-set, n-variable, n-size, n-more-variables, n-chan-variable, n-chan-rest, n-chan-value, n_field, n-more-fields, n-more-chan-variables, n-declaration, n-body, n-items, n-parted, n-more-parted, n-parameters, n-group, n-more-groups, n-parameter, n-more-parameters, n-unit, n-after-mtype, n-message, n-more-messages, n-activity, n-process, n-model, n-more-units, Ter, sy, any_name, any-number, any-text, Right, eats, prods, G}
-use Rattle.parse_grammar.proofs.Tests.{is-some}
-use Rattle.parse_grammar.proofs.Inst.{all, all_in, sy-in}
+use Rattle.parse_grammar.specs.Productions.{NT, e1, e2, e3, e4, e5, e6, e7, e8, e9, e10, t1, t2, t3, t4, t5, t6, t7, t8, t9, t10, n_operand, n_ref, n_ix, n_opened, n_closing, n_argument, n_arguments, n_more_arguments, n_sent, n_received, n_more_received, n_got, n_statement, n_after_name, n_action, n_after_ref, n_right_side, n_other, n_sequence, n_more_statements, n_after_separator, n_option, n_more_options, n_plain_type, n_type, n_value, n_set, n_variable, n_size, n_more_variables, n_chan_variable, n_chan_rest, n_chan_value, n_field, n_more_fields, n_more_chan_variables, n_declaration, n_body, n_items, n_parted, n_more_parted, n_parameters, n_group, n_more_groups, n_parameter, n_more_parameters, n_unit, n_after_mtype, n_message, n_more_messages, n_activity, n_process, n_model, n_more_units, Ter, sy, any_name, any_number, any_text, Right, eats, prods, G}
+use Rattle.parse_grammar.proofs.Tests.{is_some_lem}
+use Rattle.parse_grammar.proofs.Inst.{all, all_in, sy_in}
 use Rattle.base_pens.specs.Pack.{Bytes}
 use Rattle.table_entries.specs.Entry.{bytes, joined}
-use Rattle.table_entries.specs.Items.{entry_of, Known, is_name, is-text, is_number, AllKnown}
-use Rattle.table_proof.specs.Marks.{isMark, marksIn, brings, brought}
-use Rattle.table_proof.proofs.Marks.{both-parts, mark-known, mark-silent}
-use Rattle.base_codes.specs.Codes.{c-number}
-use Rattle.base_codes.specs.Items.{Item, i-name, i-number, i-text}
+use Rattle.table_entries.specs.Items.{entry_of, Known, is_name_lem, is_text, is_number, AllKnown}
+use Rattle.table_proof.specs.Marks.{is_mark, marks_in, brings, brought}
+use Rattle.table_proof.proofs.Marks.{both_parts, mark-known, mark-silent}
+use Rattle.base_codes.specs.Codes.{c_number}
+use Rattle.base_codes.specs.Items.{Item, i_name, i_number, i_text}
 use Rattle.table_entries.specs.Entry as E
 
 -- a token within the ceilings
 abbrev pub Held : Token → Type 0
 Held (sym k) = Unit {0}
-Held (name w) = (length w ≤ stringMost) × Bytes w
+Held (name w) = (length w ≤ string_most) × Bytes w
 Held (number n) = Unit {0}
-Held (text w) = (length w ≤ stringMost) × Bytes w
+Held (text w) = (length w ≤ string_most) × Bytes w
 
 abbrev pub AllHeld : List Token → Type 0
 AllHeld [] = Unit {0}
@@ -40,7 +40,7 @@ pub record Drawn (w : List Token) (o : List Item) : Type 0 where
   pub spelled : length (joined bytes (map entry_of o)) ≤ brought w
 
 -- every right side writes marks
-tested : (n : NT) → T (all marksIn (prods n))
+tested : (n : NT) → T (all marks_in (prods n))
 tested e1 = tt
 tested e2 = tt
 tested e3 = tt
@@ -61,66 +61,66 @@ tested t7 = tt
 tested t8 = tt
 tested t9 = tt
 tested t10 = tt
-tested n-operand = tt
-tested n-ref = tt
-tested n-ix = tt
-tested n-opened = tt
-tested n-closing = tt
-tested n-argument = tt
-tested n-arguments = tt
-tested n-more-arguments = tt
-tested n-sent = tt
-tested n-received = tt
-tested n-more-received = tt
-tested n-got = tt
-tested n-statement = tt
-tested n-after-name = tt
-tested n-action = tt
-tested n-after-ref = tt
-tested n-right-side = tt
-tested n-other = tt
-tested n-sequence = tt
-tested n-more-statements = tt
-tested n-after-separator = tt
-tested n-option = tt
-tested n-more-options = tt
-tested n-plain-type = tt
-tested n-type = tt
-tested n-value = tt
-tested n-set = tt
-tested n-variable = tt
-tested n-size = tt
-tested n-more-variables = tt
-tested n-chan-variable = tt
-tested n-chan-rest = tt
-tested n-chan-value = tt
+tested n_operand = tt
+tested n_ref = tt
+tested n_ix = tt
+tested n_opened = tt
+tested n_closing = tt
+tested n_argument = tt
+tested n_arguments = tt
+tested n_more_arguments = tt
+tested n_sent = tt
+tested n_received = tt
+tested n_more_received = tt
+tested n_got = tt
+tested n_statement = tt
+tested n_after_name = tt
+tested n_action = tt
+tested n_after_ref = tt
+tested n_right_side = tt
+tested n_other = tt
+tested n_sequence = tt
+tested n_more_statements = tt
+tested n_after_separator = tt
+tested n_option = tt
+tested n_more_options = tt
+tested n_plain_type = tt
+tested n_type = tt
+tested n_value = tt
+tested n_set = tt
+tested n_variable = tt
+tested n_size = tt
+tested n_more_variables = tt
+tested n_chan_variable = tt
+tested n_chan_rest = tt
+tested n_chan_value = tt
 tested n_field = tt
-tested n-more-fields = tt
-tested n-more-chan-variables = tt
-tested n-declaration = tt
-tested n-body = tt
-tested n-items = tt
-tested n-parted = tt
-tested n-more-parted = tt
-tested n-parameters = tt
-tested n-group = tt
-tested n-more-groups = tt
-tested n-parameter = tt
-tested n-more-parameters = tt
-tested n-unit = tt
-tested n-after-mtype = tt
-tested n-message = tt
-tested n-more-messages = tt
-tested n-activity = tt
-tested n-process = tt
-tested n-model = tt
-tested n-more-units = tt
+tested n_more_fields = tt
+tested n_more_chan_variables = tt
+tested n_declaration = tt
+tested n_body = tt
+tested n_items = tt
+tested n_parted = tt
+tested n_more_parted = tt
+tested n_parameters = tt
+tested n_group = tt
+tested n_more_groups = tt
+tested n_parameter = tt
+tested n_more_parameters = tt
+tested n_unit = tt
+tested n_after_mtype = tt
+tested n_message = tt
+tested n_more_messages = tt
+tested n_activity = tt
+tested n_process = tt
+tested n_model = tt
+tested n_more_units = tt
 
-marks-append : (r k : Right) → T (marksIn r) → T (marksIn k) → T (marksIn (r ++ k))
+marks-append : (r k : Right) → T (marks_in r) → T (marks_in k) → T (marks_in (r ++ k))
 marks-append [] k s t = t
-marks-append (act a ∷ r) k s t = join (isMark a) (both-parts (isMark a) (marksIn r) s) (λ u. marks-append r k u t)
+marks-append (act a ∷ r) k s t = join (is_mark a) (both_parts (is_mark a) (marks_in r) s) (λ u. marks-append r k u t)
   where
-    join : (b : Bool) → T b × T (marksIn r) → (T (marksIn r) → T (marksIn (r ++ k))) → T (both b (marksIn (r ++ k)))
+    join : (b : Bool) → T b × T (marks_in r) → (T (marks_in r) → T (marks_in (r ++ k))) → T (both b (marks_in (r ++ k)))
     join true p f = f p.1
     join false p f = p.0
 marks-append (tm c ∷ r) k s t = marks-append r k s t
@@ -136,27 +136,27 @@ module _ (o : List Item) where
   unfolding joined
   more_bytes i = length-append (entry_of i).bytes (joined bytes (map entry_of o))
 
-one-most : (i : Item) → length (E.number (entry_of i)) ≤ 1
+one_most : (i : Item) → length (E.number (entry_of i)) ≤ 1
 unfolding E.number
-one-most i = by (lib.Dec.eqb (entry_of i).code c-number)
+one_most i = by (lib.Dec.eqb (entry_of i).code c_number)
   where
     by : (b : Bool) → length (Rattle.base_bytes.specs.Choice.pick b ((entry_of i).value ∷ []) []) ≤ 1
     by true = omega arith
     by false = omega arith
 
-drawn-none : (c : Token) {w : List Token} {o : List Item} → Drawn w o → Drawn (c ∷ w) o
-drawn-none c d = record { known = λ h. d.known h.1; counted = omega (arith, d.counted); spelled = omega (arith, d.spelled) }
+drawn_none : (c : Token) {w : List Token} {o : List Item} → Drawn w o → Drawn (c ∷ w) o
+drawn_none c d = record { known = λ h. d.known h.1; counted = omega (arith, d.counted); spelled = omega (arith, d.spelled) }
 
-drawn-one : (c : Token) (i : Item) {w : List Token} {o : List Item} → (Held c → Known i) → length (entry_of i).bytes ≤ brings c → Drawn w o → Drawn (c ∷ w) (i ∷ o)
-drawn-one c i {o = o} k b d =
+drawn_one : (c : Token) (i : Item) {w : List Token} {o : List Item} → (Held c → Known i) → length (entry_of i).bytes ≤ brings c → Drawn w o → Drawn (c ∷ w) (i ∷ o)
+drawn_one c i {o = o} k b d =
     record {
       known = λ h. (k h.0, d.known h.1);
-      counted = omega (arith, d.counted, more_numbers o i, one-most i);
+      counted = omega (arith, d.counted, more_numbers o i, one_most i);
       spelled = omega (arith, d.spelled, more_bytes o i, b);
     }
 
-drawn-mark : (i : Item) {w : List Token} {o : List Item} → T (isMark i) → Drawn w o → Drawn w (i ∷ o)
-drawn-mark i {o = o} t d =
+drawn_mark : (i : Item) {w : List Token} {o : List Item} → T (is_mark i) → Drawn w o → Drawn w (i ∷ o)
+drawn_mark i {o = o} t d =
     record {
       known = λ h. (mark-known i t, d.known h);
       counted = omega (arith, d.counted, more_numbers o i, (mark-silent i t).1);
@@ -164,29 +164,29 @@ drawn-mark i {o = o} t d =
     }
 
 eaten : (t : Ter) (c : Token) (a : List Item) {w : List Token} {o : List Item} → eats t c ≡ some a → Drawn w o → Drawn (c ∷ w) (a ++ o)
-eaten (sy j) (sym k) a e d = rw (← (sy-in j k a e).1) (drawn-none (sym k) d)
-eaten (sy j) (name v) a e d = absurd (is-some e)
-eaten (sy j) (number n) a e d = absurd (is-some e)
-eaten (sy j) (text v) a e d = absurd (is-some e)
-eaten any_name (sym k) a e d = absurd (is-some e)
-eaten any_name (name v) a e d = let h : i-name v ∷ [] ≡ a = cc in rw (← h) (drawn-one (name v) (i-name v) (λ p. is_name p.0 p.1) (omega arith) d)
-eaten any_name (number n) a e d = absurd (is-some e)
-eaten any_name (text v) a e d = absurd (is-some e)
-eaten any-number (sym k) a e d = absurd (is-some e)
-eaten any-number (name v) a e d = absurd (is-some e)
-eaten any-number (number n) a e d = let h : i-number n ∷ [] ≡ a = cc in rw (← h) (drawn-one (number n) (i-number n) (λ p. is_number) (omega arith) d)
-eaten any-number (text v) a e d = absurd (is-some e)
-eaten any-text (sym k) a e d = absurd (is-some e)
-eaten any-text (name v) a e d = absurd (is-some e)
-eaten any-text (number n) a e d = absurd (is-some e)
-eaten any-text (text v) a e d = let h : i-text v ∷ [] ≡ a = cc in rw (← h) (drawn-one (text v) (i-text v) (λ p. is-text p.0 p.1) (omega arith) d)
+eaten (sy j) (sym k) a e d = rw (← (sy_in j k a e).1) (drawn_none (sym k) d)
+eaten (sy j) (name v) a e d = absurd (is_some_lem e)
+eaten (sy j) (number n) a e d = absurd (is_some_lem e)
+eaten (sy j) (text v) a e d = absurd (is_some_lem e)
+eaten any_name (sym k) a e d = absurd (is_some_lem e)
+eaten any_name (name v) a e d = let h : i_name v ∷ [] ≡ a = cc in rw (← h) (drawn_one (name v) (i_name v) (λ p. is_name_lem p.0 p.1) (omega arith) d)
+eaten any_name (number n) a e d = absurd (is_some_lem e)
+eaten any_name (text v) a e d = absurd (is_some_lem e)
+eaten any_number (sym k) a e d = absurd (is_some_lem e)
+eaten any_number (name v) a e d = absurd (is_some_lem e)
+eaten any_number (number n) a e d = let h : i_number n ∷ [] ≡ a = cc in rw (← h) (drawn_one (number n) (i_number n) (λ p. is_number) (omega arith) d)
+eaten any_number (text v) a e d = absurd (is_some_lem e)
+eaten any_text (sym k) a e d = absurd (is_some_lem e)
+eaten any_text (name v) a e d = absurd (is_some_lem e)
+eaten any_text (number n) a e d = absurd (is_some_lem e)
+eaten any_text (text v) a e d = let h : i_text v ∷ [] ≡ a = cc in rw (← h) (drawn_one (text v) (i_text v) (λ p. is_text p.0 p.1) (omega arith) d)
 
-nothing-drawn : Drawn [] []
+nothing_drawn : Drawn [] []
 unfolding joined
-nothing-drawn = record { known = λ h. tt; counted = omega arith; spelled = omega arith }
+nothing_drawn = record { known = λ h. tt; counted = omega arith; spelled = omega arith }
 
-pub drawn : {k : Right} {w : List Token} {o : List Item} → L G k w o → T (marksIn k) → Drawn w o
-drawn done t = nothing-drawn
-drawn (emit {a = a} {k = k} d) t = let p = both-parts (isMark a) (marksIn k) t in drawn-mark a p.0 (drawn d p.1)
+pub drawn : {k : Right} {w : List Token} {o : List Item} → L G k w o → T (marks_in k) → Drawn w o
+drawn done t = nothing_drawn
+drawn (emit {a = a} {k = k} d) t = let p = both_parts (is_mark a) (marks_in k) t in drawn_mark a p.0 (drawn d p.1)
 drawn (eat {t = x} {c = c} {a = a} e d) t = eaten x c a e (drawn d t)
-drawn (by {n = n} {r = r} {k = k} i d) t = drawn d (marks-append r k (all_in marksIn (prods n) (tested n) r i) t)
+drawn (by {n = n} {r = r} {k = k} i d) t = drawn d (marks-append r k (all_in marks_in (prods n) (tested n) r i) t)

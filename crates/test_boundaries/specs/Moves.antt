@@ -5,28 +5,28 @@ use Rattle.base_bytes.specs.Choice.{pick}
 use Rattle.base_bytes.specs.Lists.{same}
 use Rattle.base_kinds.specs.Kinds.{bytes}
 use Rattle.base_bytes.specs.Numbers.{nat}
-use Rattle.base_values.specs.Operators.{applyOf, unaryOf, divideOf}
+use Rattle.base_values.specs.Operators.{apply_of, unary_of, divide_of}
 use Rattle.base_values.specs.declared.Fault.TheVariants.{Divide, Index, Channel, Fields}
 use Rattle.base_values.specs.declared.Answer.{Answer}
 use Rattle.base_values.specs.declared.Answer.TheVariants.{Value, Fails}
 use Rattle.base_outcome.specs.declared.Taken.TheVariants.{Done, Refuted, Faulted, Idle}
 use Rattle.step_statements.specs.Statements.{Result}
-use Rattle.spec_text.specs.Formats.{digitsBy, escaped, formatted, opened, counted}
-use Rattle.spec_grammar.specs.Marks.{k-len, k-ask, k-bang}
-use Rattle.spec_grammar.specs.Tree.{Name, Expr, plain, indexed, num, get, query, unary, binary, choice, into, equal, exactly, exactly-true, exactly-false}
-use Rattle.spec_grammar.specs.Tree.{action, sequence, Tree, leaf, express, assign, increment, decrement, send, receive, assert, print, skip, goto, break, timeout, else, run, set-run, select, loop, bare, labelled, end, then, over, option}
+use Rattle.spec_text.specs.Formats.{digits_by, escaped, formatted, opened, counted}
+use Rattle.spec_grammar.specs.Marks.{k_len, k_ask, k_bang}
+use Rattle.spec_grammar.specs.Tree.{Name, Expr, plain, indexed, num, get, query, unary, binary, choice, into, equal, exactly, exactly_true, exactly_false}
+use Rattle.spec_grammar.specs.Tree.{action, sequence, Tree, leaf, express, assign, increment, decrement, send, receive, assert, print, skip, goto, break, timeout, else, run, set_run, select, loop, bare, labelled, end, then, over, option}
 use Rattle.spec_machine.specs.Eval.{eval}
 use Rattle.spec_machine.specs.Stage.{Stage, Ways}
-use Rattle.spec_machine.specs.Messages.{findFrom}
+use Rattle.spec_machine.specs.Messages.{find_from}
 use Rattle.spec_machine.specs.Arguments.{values, agrees, targets}
 use Rattle.spec_machine.specs.Ready.{ready}
 use Rattle.spec_machine.specs.Effect.{deliveries, effect, format, prints}
 use Rattle.spec_machine.specs.Offers.{offers}
-use Rattle.spec_machine.specs.Program.{Within, itself, in-if, in-do, unlabelled, behind-label, in-first, in_rest, in-option, in-others, labelIn}
+use Rattle.spec_machine.specs.Program.{Within, itself, in_if, in_do, unlabelled, behind_label, in_first, in_rest, in_option, in_others, label_in}
 
 -- to unfold this is to unfold all that the examples compute with
 unfoldable moving : Unit {0}
-unfolding same applyOf unaryOf divideOf eval values agrees findFrom targets ready deliveries effect offers digitsBy escaped formatted opened counted format
+unfolding same apply_of unary_of divide_of eval values agrees find_from targets ready deliveries effect offers digits_by escaped formatted opened counted format
 moving = tt
 
 -- ## the stage: a state has the place of the process, i, a[0], a[1], c, e, how many messages wait in channel 1, and how many processes there are. m is an mtype name, 7
@@ -120,50 +120,50 @@ var w = get (plain w)
 abbrev fault : Expr
 fault = binary 17 (num 1) (num 0)
 
-abbrev minus-1 : Expr
-minus-1 = unary 15 (num 1)
+abbrev minus_1 : Expr
+minus_1 = unary 15 (num 1)
 
 abbrev worth : Expr → Answer
 worth x = eval (stage true (with 1)).scene x
 
 -- ## "`&&`, `||` and the conditional evaluate only what they need"
-and-needs : (worth (binary 2 (num 0) fault) ≡ Value (pos 0)) × (worth (binary 2 (num 5) (num 6)) ≡ Value (pos 1)) × (worth (binary 2 (num 1) fault) ≡ Fails Divide)
+and_needs : (worth (binary 2 (num 0) fault) ≡ Value (pos 0)) × (worth (binary 2 (num 5) (num 6)) ≡ Value (pos 1)) × (worth (binary 2 (num 1) fault) ≡ Fails Divide)
 unfolding moving
-and-needs = (refl, refl, refl)
+and_needs = (refl, refl, refl)
 
-or-needs : (worth (binary 1 (num 5) fault) ≡ Value (pos 1)) × (worth (binary 1 (num 0) (num 6)) ≡ Value (pos 1)) × (worth (binary 1 (num 0) fault) ≡ Fails Divide)
+or_needs : (worth (binary 1 (num 5) fault) ≡ Value (pos 1)) × (worth (binary 1 (num 0) (num 6)) ≡ Value (pos 1)) × (worth (binary 1 (num 0) fault) ≡ Fails Divide)
 unfolding moving
-or-needs = (refl, refl, refl)
+or_needs = (refl, refl, refl)
 
-choice-needs : (worth (choice (num 0) fault (num 6)) ≡ Value (pos 6)) × (worth (choice (num 5) (num 6) fault) ≡ Value (pos 6))
+choice_needs : (worth (choice (num 0) fault (num 6)) ≡ Value (pos 6)) × (worth (choice (num 5) (num 6) fault) ≡ Value (pos 6))
     × (worth (choice (num 0) (num 6) fault) ≡ Fails Divide) × (worth (choice fault (num 6) (num 6)) ≡ Fails Divide)
 unfolding moving
-choice-needs = (refl, refl, refl, refl)
+choice_needs = (refl, refl, refl, refl)
 
 -- both operands, the left one first, then the divisor
-left-fault-first : (worth (binary 17 (get (indexed a (num 2))) (num 0)) ≡ Fails Index) × (worth (binary 17 fault (get (indexed a (num 2)))) ≡ Fails Divide)
+left_fault_first : (worth (binary 17 (get (indexed a (num 2))) (num 0)) ≡ Fails Index) × (worth (binary 17 fault (get (indexed a (num 2)))) ≡ Fails Divide)
     × (worth (binary 17 (num 1) (get (indexed a (num 2)))) ≡ Fails Index)
 unfolding moving
-left-fault-first = (refl, refl, refl)
+left_fault_first = (refl, refl, refl)
 
 -- ## "index out of range, a channel number that was never made .. (H: `len` of an unmade channel too.)"
-index-ends : (worth (get (indexed a (num 0))) ≡ Value (pos 0)) × (worth (get (indexed a (num 1))) ≡ Value (pos 0)) × (worth (get (indexed a (num 2))) ≡ Fails Index)
-    × (worth (get (indexed a (minus-1))) ≡ Fails Index)
+index_ends : (worth (get (indexed a (num 0))) ≡ Value (pos 0)) × (worth (get (indexed a (num 1))) ≡ Value (pos 0)) × (worth (get (indexed a (num 2))) ≡ Fails Index)
+    × (worth (get (indexed a (minus_1))) ≡ Fails Index)
 unfolding moving
-index-ends = (refl, refl, refl, refl)
+index_ends = (refl, refl, refl, refl)
 
-length : (worth (query k-len (plain c)) ≡ Value (pos 1)) × (worth (query k-len (plain e)) ≡ Fails Channel)
+length : (worth (query k_len (plain c)) ≡ Value (pos 1)) × (worth (query k_len (plain e)) ≡ Fails Channel)
 unfolding moving
 length = (refl, refl)
 
 -- ## "an expression when not 0"; "A statement whose test faults counts as executable (H)"; "all others always"
-expression : (can 0 (leaf (express (num 0))) ≡ false) × (can 0 (leaf (express (num 1))) ≡ true) × (can 0 (leaf (express minus-1)) ≡ true) × (can 0 (leaf (express fault)) ≡ true)
+expression : (can 0 (leaf (express (num 0))) ≡ false) × (can 0 (leaf (express (num 1))) ≡ true) × (can 0 (leaf (express minus_1)) ≡ true) × (can 0 (leaf (express fault)) ≡ true)
 unfolding moving
 expression = (refl, refl, refl, refl)
 
-expression-taken : (does 0 (leaf (express (num 1))) ≡ (Done, at 9 (with 0))) × (does 0 (leaf (express fault)) ≡ (Faulted Divide, with 0))
+expression_taken : (does 0 (leaf (express (num 1))) ≡ (Done, at 9 (with 0))) × (does 0 (leaf (express fault)) ≡ (Faulted Divide, with 0))
 unfolding moving
-expression-taken = (refl, refl)
+expression_taken = (refl, refl)
 
 always : (can 0 (leaf (assert (num 0))) ≡ true) × (can 0 (leaf (assign (plain i) (num 0))) ≡ true) × (can 0 (leaf skip) ≡ true) × (can 0 (leaf (goto L)) ≡ true) × (can 0 (leaf break) ≡ true)
     × (can 0 (leaf (print [] [])) ≡ true)
@@ -171,81 +171,81 @@ unfolding moving
 always = (refl, refl, refl, refl, refl, refl)
 
 -- ## "a receive when it is not empty and each constant and `eval` equals its field, tried left to right to the first difference"; the oldest message is 1, 7
-receive-waits : (can 0 (leaf (receive k-ask (plain c) (into (plain i) ∷ into (plain i) ∷ []))) ≡ false) × (can 1 (leaf (receive k-ask (plain c) (into (plain i) ∷ into (plain i) ∷ []))) ≡ true)
-    × (can 2 (leaf (receive k-ask (plain c) (into (plain i) ∷ into (plain i) ∷ []))) ≡ true)
+receive_waits : (can 0 (leaf (receive k_ask (plain c) (into (plain i) ∷ into (plain i) ∷ []))) ≡ false) × (can 1 (leaf (receive k_ask (plain c) (into (plain i) ∷ into (plain i) ∷ []))) ≡ true)
+    × (can 2 (leaf (receive k_ask (plain c) (into (plain i) ∷ into (plain i) ∷ []))) ≡ true)
 unfolding moving
-receive-waits = (refl, refl, refl)
+receive_waits = (refl, refl, refl)
 
-constant-agrees : (can 1 (leaf (receive k-ask (plain c) (exactly 1 ∷ into (plain i) ∷ []))) ≡ true) × (can 1 (leaf (receive k-ask (plain c) (exactly 2 ∷ into (plain i) ∷ []))) ≡ false)
-    × (can 1 (leaf (receive k-ask (plain c) (exactly 1 ∷ exactly 7 ∷ []))) ≡ true) × (can 1 (leaf (receive k-ask (plain c) (exactly 1 ∷ exactly 8 ∷ []))) ≡ false)
-    × (can 1 (leaf (receive k-ask (plain c) (exactly-true ∷ into (plain i) ∷ []))) ≡ true) × (can 1 (leaf (receive k-ask (plain c) (exactly-false ∷ into (plain i) ∷ []))) ≡ false)
+constant-agrees : (can 1 (leaf (receive k_ask (plain c) (exactly 1 ∷ into (plain i) ∷ []))) ≡ true) × (can 1 (leaf (receive k_ask (plain c) (exactly 2 ∷ into (plain i) ∷ []))) ≡ false)
+    × (can 1 (leaf (receive k_ask (plain c) (exactly 1 ∷ exactly 7 ∷ []))) ≡ true) × (can 1 (leaf (receive k_ask (plain c) (exactly 1 ∷ exactly 8 ∷ []))) ≡ false)
+    × (can 1 (leaf (receive k_ask (plain c) (exactly_true ∷ into (plain i) ∷ []))) ≡ true) × (can 1 (leaf (receive k_ask (plain c) (exactly_false ∷ into (plain i) ∷ []))) ≡ false)
 unfolding moving
 constant-agrees = (refl, refl, refl, refl, refl, refl)
 
-eval-agrees : (can 1 (leaf (receive k-ask (plain c) (equal (binary 15 (var i) (num 4)) ∷ into (plain i) ∷ []))) ≡ true)
-    × (can 1 (leaf (receive k-ask (plain c) (equal (var i) ∷ into (plain i) ∷ []))) ≡ false) × (can 1 (leaf (receive k-ask (plain c) (into (plain i) ∷ equal (binary 14 (var i) (num 2)) ∷ []))) ≡ true)
+eval-agrees : (can 1 (leaf (receive k_ask (plain c) (equal (binary 15 (var i) (num 4)) ∷ into (plain i) ∷ []))) ≡ true)
+    × (can 1 (leaf (receive k_ask (plain c) (equal (var i) ∷ into (plain i) ∷ []))) ≡ false) × (can 1 (leaf (receive k_ask (plain c) (into (plain i) ∷ equal (binary 14 (var i) (num 2)) ∷ []))) ≡ true)
 unfolding moving
 eval-agrees = (refl, refl, refl)
 
-mtype-name-agrees : (can 1 (leaf (receive k-ask (plain c) (into (plain i) ∷ into (plain m) ∷ []))) ≡ true) × (can 1 (leaf (receive k-ask (plain c) (into (plain m) ∷ into (plain i) ∷ []))) ≡ false)
+mtype_name_agrees : (can 1 (leaf (receive k_ask (plain c) (into (plain i) ∷ into (plain m) ∷ []))) ≡ true) × (can 1 (leaf (receive k_ask (plain c) (into (plain m) ∷ into (plain i) ∷ []))) ≡ false)
 unfolding moving
-mtype-name-agrees = (refl, refl)
+mtype_name_agrees = (refl, refl)
 
 -- a test at fault is met only where those before it agree
-to-the-first-difference : (can 1 (leaf (receive k-ask (plain c) (equal fault ∷ into (plain i) ∷ []))) ≡ true) × (can 1 (leaf (receive k-ask (plain c) (exactly 1 ∷ equal fault ∷ []))) ≡ true)
-    × (can 1 (leaf (receive k-ask (plain c) (exactly 2 ∷ equal fault ∷ []))) ≡ false) × (can 0 (leaf (receive k-ask (plain c) (equal fault ∷ into (plain i) ∷ []))) ≡ false)
+to_the_first_difference : (can 1 (leaf (receive k_ask (plain c) (equal fault ∷ into (plain i) ∷ []))) ≡ true) × (can 1 (leaf (receive k_ask (plain c) (exactly 1 ∷ equal fault ∷ []))) ≡ true)
+    × (can 1 (leaf (receive k_ask (plain c) (exactly 2 ∷ equal fault ∷ []))) ≡ false) × (can 0 (leaf (receive k_ask (plain c) (equal fault ∷ into (plain i) ∷ []))) ≡ false)
 unfolding moving
-to-the-first-difference = (refl, refl, refl, refl)
+to_the_first_difference = (refl, refl, refl, refl)
 
 -- the message goes out, what is compared is not stored
-receive-taken : (does 2 (leaf (receive k-ask (plain c) (exactly 1 ∷ into (plain i) ∷ []))) ≡ (Done, at 9 (state (pos 7) (pos 0) (pos 0) 1)))
-    × (does 1 (leaf (receive k-ask (plain c) (into (indexed a (num 1)) ∷ into (plain m) ∷ []))) ≡ (Done, at 9 (state (pos 5) (pos 0) (pos 1) 0)))
-    × (does 1 (leaf (receive k-ask (plain c) (into (plain i) ∷ into (plain i) ∷ []))) ≡ (Done, at 9 (state (pos 7) (pos 0) (pos 0) 0)))
+receive_taken : (does 2 (leaf (receive k_ask (plain c) (exactly 1 ∷ into (plain i) ∷ []))) ≡ (Done, at 9 (state (pos 7) (pos 0) (pos 0) 1)))
+    × (does 1 (leaf (receive k_ask (plain c) (into (indexed a (num 1)) ∷ into (plain m) ∷ []))) ≡ (Done, at 9 (state (pos 5) (pos 0) (pos 1) 0)))
+    × (does 1 (leaf (receive k_ask (plain c) (into (plain i) ∷ into (plain i) ∷ []))) ≡ (Done, at 9 (state (pos 7) (pos 0) (pos 0) 0)))
 unfolding moving
-receive-taken = (refl, refl, refl)
+receive_taken = (refl, refl, refl)
 
 -- "a receive's tests come before its targets", and those are met left to right
-receive-faults : (does 1 (leaf (receive k-ask (plain c) (into (indexed a (num 2)) ∷ equal fault ∷ []))) ≡ (Faulted Divide, with 1))
-    × (does 1 (leaf (receive k-ask (plain c) (into (indexed a (num 2)) ∷ into (indexed a fault) ∷ []))) ≡ (Faulted Index, with 1))
-    × (does 1 (leaf (receive k-ask (plain c) (into (indexed a fault) ∷ into (indexed a (num 2)) ∷ []))) ≡ (Faulted Divide, with 1))
+receive_faults : (does 1 (leaf (receive k_ask (plain c) (into (indexed a (num 2)) ∷ equal fault ∷ []))) ≡ (Faulted Divide, with 1))
+    × (does 1 (leaf (receive k_ask (plain c) (into (indexed a (num 2)) ∷ into (indexed a fault) ∷ []))) ≡ (Faulted Index, with 1))
+    × (does 1 (leaf (receive k_ask (plain c) (into (indexed a fault) ∷ into (indexed a (num 2)) ∷ []))) ≡ (Faulted Divide, with 1))
 unfolding moving
-receive-faults = (refl, refl, refl)
+receive_faults = (refl, refl, refl)
 
 -- ## "a channel's number and field count are tested first", on an empty and on a full channel too
-receive-one-of-two : (can 0 (leaf (receive k-ask (plain c) (into (plain i) ∷ []))) ≡ true) × (does 0 (leaf (receive k-ask (plain c) (into (plain i) ∷ []))) ≡ (Faulted Fields, with 0))
-    × (can 0 (leaf (receive k-ask (plain c) (into (plain i) ∷ into (plain i) ∷ into (plain i) ∷ []))) ≡ true)
+receive_one_of_two : (can 0 (leaf (receive k_ask (plain c) (into (plain i) ∷ []))) ≡ true) × (does 0 (leaf (receive k_ask (plain c) (into (plain i) ∷ []))) ≡ (Faulted Fields, with 0))
+    × (can 0 (leaf (receive k_ask (plain c) (into (plain i) ∷ into (plain i) ∷ into (plain i) ∷ []))) ≡ true)
 unfolding moving
-receive-one-of-two = (refl, refl, refl)
+receive_one_of_two = (refl, refl, refl)
 
-receive-unmade : (can 0 (leaf (receive k-ask (plain e) (into (plain i) ∷ []))) ≡ true) × (does 0 (leaf (receive k-ask (plain e) (into (plain i) ∷ []))) ≡ (Faulted Channel, with 0))
+receive_unmade : (can 0 (leaf (receive k_ask (plain e) (into (plain i) ∷ []))) ≡ true) × (does 0 (leaf (receive k_ask (plain e) (into (plain i) ∷ []))) ≡ (Faulted Channel, with 0))
 unfolding moving
-receive-unmade = (refl, refl)
+receive_unmade = (refl, refl)
 
-send-unmade : (can 2 (leaf (send k-bang (plain e) (num 1 ∷ []))) ≡ true) × (does 2 (leaf (send k-bang (plain e) (fault ∷ []))) ≡ (Faulted Channel, with 2))
+send_unmade : (can 2 (leaf (send k_bang (plain e) (num 1 ∷ []))) ≡ true) × (does 2 (leaf (send k_bang (plain e) (fault ∷ []))) ≡ (Faulted Channel, with 2))
 unfolding moving
-send-unmade = (refl, refl)
+send_unmade = (refl, refl)
 
-send-three-for-two : (can 2 (leaf (send k-bang (plain c) (num 1 ∷ num 1 ∷ fault ∷ []))) ≡ true) × (does 2 (leaf (send k-bang (plain c) (num 1 ∷ num 1 ∷ fault ∷ []))) ≡ (Faulted Fields, with 2))
+send_three_for_two : (can 2 (leaf (send k_bang (plain c) (num 1 ∷ num 1 ∷ fault ∷ []))) ≡ true) × (does 2 (leaf (send k_bang (plain c) (num 1 ∷ num 1 ∷ fault ∷ []))) ≡ (Faulted Fields, with 2))
 unfolding moving
-send-three-for-two = (refl, refl)
+send_three_for_two = (refl, refl)
 
-operand-index-first : (can 2 (leaf (send k-bang (indexed a (num 2)) (num 1 ∷ []))) ≡ true) × (does 2 (leaf (send k-bang (indexed a (num 2)) (num 1 ∷ []))) ≡ (Faulted Index, with 2))
+operand_index_first : (can 2 (leaf (send k_bang (indexed a (num 2)) (num 1 ∷ []))) ≡ true) × (does 2 (leaf (send k_bang (indexed a (num 2)) (num 1 ∷ []))) ≡ (Faulted Index, with 2))
 unfolding moving
-operand-index-first = (refl, refl)
+operand_index_first = (refl, refl)
 
 -- ## "a send when the channel is not full"; "Arguments of a send or `run` are worked out only when there is room for it"
-send-room : (can 1 (leaf (send k-bang (plain c) (num 1 ∷ num 2 ∷ []))) ≡ true) × (can 2 (leaf (send k-bang (plain c) (num 1 ∷ num 2 ∷ []))) ≡ false) × (can 1 (leaf (send k-bang (plain c) (num 1 ∷ fault ∷ []))) ≡ true)
-    × (can 2 (leaf (send k-bang (plain c) (num 1 ∷ fault ∷ []))) ≡ false)
+send_room : (can 1 (leaf (send k_bang (plain c) (num 1 ∷ num 2 ∷ []))) ≡ true) × (can 2 (leaf (send k_bang (plain c) (num 1 ∷ num 2 ∷ []))) ≡ false) × (can 1 (leaf (send k_bang (plain c) (num 1 ∷ fault ∷ []))) ≡ true)
+    × (can 2 (leaf (send k_bang (plain c) (num 1 ∷ fault ∷ []))) ≡ false)
 unfolding moving
-send-room = (refl, refl, refl, refl)
+send_room = (refl, refl, refl, refl)
 
-send-taken : (does 1 (leaf (send k-bang (plain c) (num 1 ∷ num 2 ∷ []))) ≡ (Done, at 9 (with 2))) × (does 1 (leaf (send k-bang (plain c) (num 1 ∷ fault ∷ []))) ≡ (Faulted Divide, with 1))
-    × (does 1 (leaf (send k-bang (plain c) (get (indexed a (num 2)) ∷ fault ∷ []))) ≡ (Faulted Index, with 1))
+send_taken : (does 1 (leaf (send k_bang (plain c) (num 1 ∷ num 2 ∷ []))) ≡ (Done, at 9 (with 2))) × (does 1 (leaf (send k_bang (plain c) (num 1 ∷ fault ∷ []))) ≡ (Faulted Divide, with 1))
+    × (does 1 (leaf (send k_bang (plain c) (get (indexed a (num 2)) ∷ fault ∷ []))) ≡ (Faulted Index, with 1))
 unfolding moving
-send-taken = (refl, refl, refl)
+send_taken = (refl, refl, refl)
 
 -- ## "`run` when a process and its channels still fit"; "`v = run` stores 0 where nothing fits", and works no argument out there
-run_room : (can 0 (leaf (run p [])) ≡ true) × (crowded (leaf (run p [])) ≡ false) × (crowded (leaf (run p (fault ∷ []))) ≡ false) × (crowded (leaf (set-run (plain i) p [])) ≡ true)
+run_room : (can 0 (leaf (run p [])) ≡ true) × (crowded (leaf (run p [])) ≡ false) × (crowded (leaf (run p (fault ∷ []))) ≡ false) × (crowded (leaf (set_run (plain i) p [])) ≡ true)
 unfolding moving
 run_room = (refl, refl, refl, refl)
 
@@ -253,29 +253,29 @@ run-taken : (does 0 (leaf (run p [])) ≡ (Done, set (at 9 (with 0)) 7 (pos 4)))
 unfolding moving
 run-taken = (refl, refl, refl)
 
-set-run-taken : (does 0 (leaf (set-run (plain i) p [])) ≡ (Done, set (at 9 (state (pos 3) (pos 0) (pos 0) 0)) 7 (pos 4)))
-    × (does 0 (leaf (set-run (plain i) p (fault ∷ []))) ≡ (Faulted Divide, with 0))
+set_run_taken : (does 0 (leaf (set_run (plain i) p [])) ≡ (Done, set (at 9 (state (pos 3) (pos 0) (pos 0) 0)) 7 (pos 4)))
+    × (does 0 (leaf (set_run (plain i) p (fault ∷ []))) ≡ (Faulted Divide, with 0))
 unfolding moving
-set-run-taken = (refl, refl)
+set_run_taken = (refl, refl)
 
-set-run-without-room : (crowdedly (leaf (set-run (plain i) p [])) ≡ (Done, at 9 (state (pos 0) (pos 0) (pos 0) 0)))
-    × (crowdedly (leaf (set-run (plain i) p (fault ∷ []))) ≡ (Done, at 9 (state (pos 0) (pos 0) (pos 0) 0)))
+set_run_without_room : (crowdedly (leaf (set_run (plain i) p [])) ≡ (Done, at 9 (state (pos 0) (pos 0) (pos 0) 0)))
+    × (crowdedly (leaf (set_run (plain i) p (fault ∷ []))) ≡ (Done, at 9 (state (pos 0) (pos 0) (pos 0) 0)))
 unfolding moving
-set-run-without-room = (refl, refl)
+set_run_without_room = (refl, refl)
 
 -- the target's index comes before the room
-set-run-index : (does 0 (leaf (set-run (indexed a (num 2)) p (fault ∷ []))) ≡ (Faulted Index, with 0)) × (crowdedly (leaf (set-run (indexed a (num 2)) p [])) ≡ (Faulted Index, with 0))
+set_run_index : (does 0 (leaf (set_run (indexed a (num 2)) p (fault ∷ []))) ≡ (Faulted Index, with 0)) × (crowdedly (leaf (set_run (indexed a (num 2)) p [])) ≡ (Faulted Index, with 0))
 unfolding moving
-set-run-index = (refl, refl)
+set_run_index = (refl, refl)
 
 -- ## "A failed assertion or fault changes no state and prints nothing"
-assertions : (does 0 (leaf (assert minus-1)) ≡ (Done, at 9 (with 0))) × (does 0 (leaf (assert (num 0))) ≡ (Refuted, with 0)) × (does 0 (leaf (assert fault)) ≡ (Faulted Divide, with 0))
+assertions : (does 0 (leaf (assert minus_1)) ≡ (Done, at 9 (with 0))) × (does 0 (leaf (assert (num 0))) ≡ (Refuted, with 0)) × (does 0 (leaf (assert fault)) ≡ (Faulted Divide, with 0))
 unfolding moving
 assertions = (refl, refl, refl)
 
 stores : (does 0 (leaf (assign (indexed a (num 0)) (num 4))) ≡ (Done, at 9 (state (pos 5) (pos 4) (pos 0) 0)))
     × (does 0 (leaf (assign (indexed a (num 1)) (num 4))) ≡ (Done, at 9 (state (pos 5) (pos 0) (pos 4) 0))) × (does 0 (leaf (assign (indexed a (num 2)) (num 4))) ≡ (Faulted Index, with 0))
-    × (does 0 (leaf (assign (indexed a minus-1) (num 4))) ≡ (Faulted Index, with 0))
+    × (does 0 (leaf (assign (indexed a minus_1) (num 4))) ≡ (Faulted Index, with 0))
 unfolding moving
 stores = (refl, refl, refl, refl)
 
@@ -285,19 +285,19 @@ target_first : (does 0 (leaf (assign (indexed a (num 2)) fault)) ≡ (Faulted In
 unfolding moving
 target_first = (refl, refl, refl)
 
-steps-by-one : (does 0 (leaf (increment (plain i))) ≡ (Done, at 9 (state (pos 6) (pos 0) (pos 0) 0)))
+steps_by_one : (does 0 (leaf (increment (plain i))) ≡ (Done, at 9 (state (pos 6) (pos 0) (pos 0) 0)))
     × (does 0 (leaf (decrement (indexed a (num 1)))) ≡ (Done, at 9 (state (pos 5) (pos 0) (negsuc 0) 0))) × (does 0 (leaf (increment (indexed a (num 2)))) ≡ (Faulted Index, with 0))
 unfolding moving
-steps-by-one = (refl, refl, refl)
+steps_by_one = (refl, refl, refl)
 
 -- "keep the low 32 bits": the most number and one more
-increment-wraps :
+increment_wraps :
     effect (stage true (state (pos 2147483647) (pos 0) (pos 0) 0)) ways (state (pos 2147483647) (pos 0) (pos 0) 0) (leaf (increment (plain i)))
     ≡ (Done, at 9 (state (neg_ℤ (pos 2147483648)) (pos 0) (pos 0) 0))
 unfolding moving
-increment-wraps = refl
+increment_wraps = refl
 
-prints-text : (prints (stage true (with 0)) (leaf (print (bytes "%d%%\\n") (minus-1 ∷ []))) ≡ bytes "-1%\n")
+prints-text : (prints (stage true (with 0)) (leaf (print (bytes "%d%%\\n") (minus_1 ∷ []))) ≡ bytes "-1%\n")
     × (prints (stage true (with 0)) (leaf (print (bytes "%d%d") (num 1 ∷ fault ∷ []))) ≡ []) × (does 0 (leaf (print (bytes "%d") (fault ∷ []))) ≡ (Faulted Divide, with 0))
 unfolding moving
 prints-text = (refl, refl, refl)
@@ -308,9 +308,9 @@ leads : (does 0 (leaf skip) ≡ (Done, at 9 (with 0))) × (does 0 (leaf (goto L)
 unfolding moving
 leads = (refl, refl, refl, refl, refl)
 
-timeout-early-and-late : (can 0 (leaf timeout) ≡ false) × (ready (stage true (with 0)) true (leaf timeout) ≡ true)
+timeout_early_and_late : (can 0 (leaf timeout) ≡ false) × (ready (stage true (with 0)) true (leaf timeout) ≡ true)
 unfolding moving
-timeout-early-and-late = (refl, refl)
+timeout_early_and_late = (refl, refl)
 
 -- ## offered steps of a selection whose items begin at item 10, by their places, in text order
 abbrev one : Tree action → Tree sequence
@@ -326,10 +326,10 @@ yes = one (leaf (express (num 1)))
 abbrev offered : Tree action → List ℕ
 offered s = offers (λ x j. ready (stage true (with 0)) false x) s 10
 
-options-in-text-order : (offered (select (option yes (option no (option yes over)))) ≡ 12 ∷ 20 ∷ []) × (offered (loop (option no (option no over))) ≡ [])
+options_in_text_order : (offered (select (option yes (option no (option yes over)))) ≡ 12 ∷ 20 ∷ []) × (offered (loop (option no (option no over))) ≡ [])
     × (offered (loop (option no (option (one (leaf else)) over))) ≡ 16 ∷ [])
 unfolding moving
-options-in-text-order = (refl, refl, refl)
+options_in_text_order = (refl, refl, refl)
 
 -- a selection as an option's first statement: its steps are the option's, flat
 nested-flat : offered (select (option (one (select (option yes (option no (option yes over))))) (option yes over))) ≡ 14 ∷ 22 ∷ 28 ∷ []
@@ -337,28 +337,28 @@ unfolding moving
 nested-flat = refl
 
 -- the inner `else` is judged in the inner selection and makes the outer option executable
-inner-else : (offered (select (option (one (select (option no (option (one (leaf else)) over)))) (option (one (leaf else)) over))) ≡ 18 ∷ [])
+inner_else : (offered (select (option (one (select (option no (option (one (leaf else)) over)))) (option (one (leaf else)) over))) ≡ 18 ∷ [])
     × (offered (select (option (one (select (option no (option (one (leaf else)) over)))) (option yes over))) ≡ 18 ∷ 23 ∷ [])
 unfolding moving
-inner-else = (refl, refl)
+inner_else = (refl, refl)
 
-outer-else : (offered (select (option (one (select (option no over))) (option (one (leaf else)) over))) ≡ 20 ∷ [])
+outer_else : (offered (select (option (one (select (option no over))) (option (one (leaf else)) over))) ≡ 20 ∷ [])
     × (offered (select (option (one (select (option yes over))) (option (one (leaf else)) over))) ≡ 14 ∷ [])
 unfolding moving
-outer-else = (refl, refl)
+outer_else = (refl, refl)
 
 -- "`else` and all the rest are judged with `timeout` not executable"; only the first statement of an option counts; its place is behind its label
-else-beside-timeout : (offered (select (option (one (leaf timeout)) (option (one (leaf else)) over))) ≡ 15 ∷ []) × (offered (select (option (one (leaf timeout)) over)) ≡ [])
+else_beside_timeout : (offered (select (option (one (leaf timeout)) (option (one (leaf else)) over))) ≡ 15 ∷ []) × (offered (select (option (one (leaf timeout)) over)) ≡ [])
 unfolding moving
-else-beside-timeout = (refl, refl)
+else_beside_timeout = (refl, refl)
 
-first-statement-alone : offered (select (option (then (bare (leaf (express (num 0)))) yes) (option (then (bare (leaf (express (num 1)))) no) over))) ≡ 18 ∷ []
+first_statement_alone : offered (select (option (then (bare (leaf (express (num 0)))) yes) (option (then (bare (leaf (express (num 1)))) no) over))) ≡ 18 ∷ []
 unfolding moving
-first-statement-alone = refl
+first_statement_alone = refl
 
-behind-a-label : offered (select (option (then (labelled L (leaf skip)) end) over)) ≡ 14 ∷ []
+behind_a_label : offered (select (option (then (labelled L (leaf skip)) end) over)) ≡ 14 ∷ []
 unfolding moving
-behind-a-label = refl
+behind_a_label = refl
 
 -- ## "an ended option leads past `fi`, or back to `do`": `do::1;break::else od;L:if::skip fi`, whose items begin at item 2, in a body that ends at item 19
 --   2 do 3 option 4 number 5 express 6 break 7 end-option 8 option 9 else 10 end-option 11 od 12 name 13 label 14 if 15 option 16 skip 17 end-option 18 fi 19 end-body
@@ -368,18 +368,18 @@ program =
     (then (labelled L (select (option (one (leaf skip)) over))) end)
 
 -- the expression leads to `break`, that behind `od`, behind the label; `else` back to `do`; `skip` past `fi`, where the body ends
-to-break : Within sequence program 2 19 0 (leaf (express (num 1))) 4 6 14
-to-break = in-first (unlabelled (in-do (in-option (in-first (unlabelled itself)))))
+to_break : Within sequence program 2 19 0 (leaf (express (num 1))) 4 6 14
+to_break = in_first (unlabelled (in_do (in_option (in_first (unlabelled itself)))))
 
-past-od : Within sequence program 2 19 0 (leaf break) 6 2 14
-past-od = in-first (unlabelled (in-do (in-option (in_rest (in-first (unlabelled itself))))))
+past_od : Within sequence program 2 19 0 (leaf break) 6 2 14
+past_od = in_first (unlabelled (in_do (in_option (in_rest (in_first (unlabelled itself))))))
 
-back-to-do : Within sequence program 2 19 0 (leaf else) 9 2 14
-back-to-do = in-first (unlabelled (in-do (in-others (in-option (in-first (unlabelled itself))))))
+back_to_do : Within sequence program 2 19 0 (leaf else) 9 2 14
+back_to_do = in_first (unlabelled (in_do (in_others (in_option (in_first (unlabelled itself))))))
 
-past-fi : Within sequence program 2 19 0 (leaf skip) 16 19 0
-past-fi = in_rest (in-first (behind-label (in-if (in-option (in-first (unlabelled itself))))))
+past_fi : Within sequence program 2 19 0 (leaf skip) 16 19 0
+past_fi = in_rest (in_first (behind_label (in_if (in_option (in_first (unlabelled itself))))))
 
-label-place : (labelIn L program 2 0 ≡ 14) × (labelIn p program 2 0 ≡ 0)
+label-place : (label_in L program 2 0 ≡ 14) × (label_in p program 2 0 ≡ 0)
 unfolding moving
 label-place = (refl, refl)

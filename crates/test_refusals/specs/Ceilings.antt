@@ -4,7 +4,7 @@ use Rattle.base_kinds.specs.Kinds.{bytes}
 use Rattle.read_passes.specs.declared.Judged.TheVariants.{Accepted, Refused}
 use Rattle.test_refusals.specs.Opened.{reads, right}
 
-ceilings-refused :
+ceilings_refused :
     right
     -- printf arguments 4
     ((bytes "init{printf(\"%d%d%d%d\",1,2,3,4)}", Accepted) ∷ (bytes "init{printf(\"%d%d%d%d%d\",1,2,3,4,5)}", Refused 6 0 0) ∷
@@ -18,4 +18,4 @@ ceilings-refused :
     -- "Within a pass the smallest place wins"; grammar comes before names, and a rule before a ceiling
     (bytes "init{a;break}", Refused 4 5 1) ∷ (bytes "init{printf(\"%x\",1)}", Refused 5 5 6) ∷ (bytes "init{a}init{}", Refused 3 12 1) ∷ (bytes "proctype p(){a}", Refused 4 13 1) ∷ [])
 unfolding reads
-ceilings-refused = refl
+ceilings_refused = refl

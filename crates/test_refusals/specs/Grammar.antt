@@ -4,7 +4,7 @@ use Rattle.base_kinds.specs.Kinds.{bytes}
 use Rattle.read_passes.specs.declared.Judged.TheVariants.{Accepted, Refused}
 use Rattle.test_refusals.specs.Opened.{reads, right, times}
 
-grammar-refused :
+grammar_refused :
     right
     -- open brackets 32, the brace of the body among them; the next is 2 also where it can continue no text
     ((bytes "init{" ++ replicate 31 40 ++ bytes "1" ++ replicate 31 41 ++ bytes "}", Accepted) ∷ (bytes "init{" ++ replicate 32 40, Refused 2 36 1) ∷
@@ -17,4 +17,4 @@ grammar-refused :
     -- "or end of text": "empty part at the end"
     (bytes "", Refused 3 0 0) ∷ (bytes "init{skip", Refused 3 9 0) ∷ [])
 unfolding reads
-grammar-refused = refl
+grammar_refused = refl

@@ -7,7 +7,7 @@ use Rattle.base_bytes.specs.Lists.{same}
 use Rattle.spec_text.specs.Find.{find}
 use Rattle.spec_text.specs.Layout.{Gap, none, blank, ends}
 use Rattle.spec_text.specs.Spoils.{Spoils, too_long}
-use Rattle.spec_text.specs.Writing.{writeBehind}
+use Rattle.spec_text.specs.Writing.{write_behind}
 use Rattle.spec_grammar.specs.Tree.{sequence, Tree, leaf, print, bare, end, then, body, init, Model}
 use Rattle.spec_normal.specs.Normal.{normal}
 use Rattle.spec_refusals.specs.Texts.{Tokens}
@@ -17,11 +17,11 @@ blanks zero = none
 blanks (suc n) = blank refl (blanks n)
 
 -- 65,536 blanks are laid out in no tokens; with one more the text is too long
-text-65536 : Tokens (replicate 65536 32) []
-text-65536 = record { laid = ends (blanks 65536); short = omega (arith, length-replicate {A = ℕ} 65536 32); few = omega arith }
+text_65536 : Tokens (replicate 65536 32) []
+text_65536 = record { laid = ends (blanks 65536); short = omega (arith, length-replicate {A = ℕ} 65536 32); few = omega arith }
 
-text-65537 : Spoils (replicate 65537 32) 2 0 0
-text-65537 = too_long (omega (arith, length-replicate {A = ℕ} 65537 32))
+text_65537 : Spoils (replicate 65537 32) 2 0 0
+text_65537 = too_long (omega (arith, length-replicate {A = ℕ} 65537 32))
 
 -- `printf` of 64 letters n times, and then of k
 prints : ℕ → ℕ → Tree sequence
@@ -32,10 +32,10 @@ abbrev printing : ℕ → ℕ → Model
 printing n k = init (body [] (prints n k)) ∷ []
 
 -- 5 bytes for `init{`, 75 for each of the first and its `;`, 10 and k for the last, 1 for `}`
-normal-8192 : length (normal (printing 109 1)) ≡ 8192
-unfolding prints writeBehind find same
-normal-8192 = refl
+normal_8192 : length (normal (printing 109 1)) ≡ 8192
+unfolding prints write_behind find same
+normal_8192 = refl
 
-normal-8193 : length (normal (printing 109 2)) ≡ 8193
-unfolding prints writeBehind find same
-normal-8193 = refl
+normal_8193 : length (normal (printing 109 2)) ≡ 8193
+unfolding prints write_behind find same
+normal_8193 = refl

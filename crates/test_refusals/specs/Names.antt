@@ -4,7 +4,7 @@ use Rattle.base_kinds.specs.Kinds.{bytes}
 use Rattle.read_passes.specs.declared.Judged.TheVariants.{Accepted, Refused}
 use Rattle.test_refusals.specs.Opened.{reads, right}
 
-names-refused :
+names_refused :
     right
     -- expression height 32: "whole expression's first token", which inside `assert( )` is behind the parenthesis
     ((bytes "init{" ++ replicate 31 126 ++ bytes "1}", Accepted) ∷ (bytes "init{" ++ replicate 32 126 ++ bytes "1}", Refused 2 5 1) ∷
@@ -17,4 +17,4 @@ names-refused :
     (bytes "init{int a;a!1}", Refused 4 11 1) ∷ (bytes "init{_pid=1}", Refused 4 5 4) ∷ (bytes "init{int x;run x()}proctype x(){skip}", Refused 4 15 1) ∷
     (bytes "mtype={m}init{mtype m=m;skip}", Refused 4 22 1) ∷ [])
 unfolding reads
-names-refused = refl
+names_refused = refl

@@ -24,7 +24,7 @@ use Rattle.rule_item.specs.Rules as rules
 use Rattle.rule_least.specs.Faults as faults
 use Rattle.rule_ceilings.specs.Ceilings as ceilings
 use Rattle.read_passes.specs.Judging as judging
-use Rattle.read_passes.specs.Judging.{judgeOf}
+use Rattle.read_passes.specs.Judging.{judge_of}
 use Rattle.read_passes.specs.declared.Judged.{Judged}
 
 -- to unfold this is to unfold all that the texts are read and judged with
@@ -32,28 +32,28 @@ unfoldable pub reads : Unit {0}
 unfolding
     base.same
     spellings.find
-    lexemesPieces.piece_of lexemesSpans.span digits.decimalFrom lexemesSpans.closing lexemesSpans.quoted
-    lexis.readFrom
-    productions.choices productions.bases productions.rights productions.productionBy productions.production productions.span productions.right
-    machineAnswer.parsed machineDepth.deep machineMachine.column machineMachine.write machineMachine.eat machineMachine.expand machineMachine.step-on machineMachine.run
-    sheetsHomes.insideOf sheetsHomes.home_of sheetsHomes.homes_of sheetsPayload.spelled sheetsPayload.sameName sheetsPayload.firstSame sheetsPayload.nameArg sheetsPayload.argOf
-    sheetsPayload.args_of sheetsSpans.shape_of sheetsSpans.start_of sheetsSpans.heightOf sheetsSpans.startsOf sheetsSpans.heightsOf sheetsWalks.first sheetsWalks.after
+    lexemesPieces.piece_of lexemesSpans.span digits.decimal_from lexemesSpans.closing lexemesSpans.quoted
+    lexis.read_from
+    productions.choices productions.bases productions.rights productions.production_by productions.production productions.span productions.right
+    machineAnswer.parsed machineDepth.deep machineMachine.column machineMachine.write machineMachine.eat machineMachine.expand machineMachine.step_on machineMachine.run
+    sheetsHomes.inside_of sheetsHomes.home_of sheetsHomes.homes_of sheetsPayload.spelled sheetsPayload.same_name sheetsPayload.first_same sheetsPayload.name_arg sheetsPayload.arg_of
+    sheetsPayload.args_of sheetsSpans.shape_of sheetsSpans.start_of sheetsSpans.height_of sheetsSpans.starts_of sheetsSpans.heights_of sheetsWalks.first sheetsWalks.after
     sheetsWalks.sum sheetsWalks.filled
     findingSearch.declares findingSearch.find findingSearch.lookup findingSearch.last findingSearch.opener findingSearch.one findingSearch.count findingSets.among
-    rules.isArray rules.isChan rules.roleOf rules.badVariable rules.badUse rules.badRef rules.badTwice rules.badNamed rules.badGoto rules.global_of rules.badRun rules.body_of
-    rules.badPassing rules.badCount rules.badEnd rules.badBreak rules.depthOn rules.twinAt rules.twin rules.badElse rules.badSecond rules.badSize rules.badField
-    rules.badFormat rules.badHeight rules.badBy codeSets.ruleOf
-    formats.formatFrom
-    faults.placeBy faults.sooner faults.joined faults.leastFrom faults.leastOf faults.checked
-    ceilings.numbersAt ceilings.numbers ceilings.startsAt ceilings.makes_at ceilings.wideAt ceilings.heavyAt ceilings.one ceilings.weight ceilings.total ceilings.anyPassed
+    rules.is_array rules.is_chan rules.role_of rules.bad_variable rules.bad_use rules.bad_ref rules.bad_twice rules.bad_named rules.bad_goto rules.global_of rules.bad_run rules.body_of
+    rules.bad_passing rules.bad_count rules.bad_end rules.bad_break rules.depth_on rules.twin_at rules.twin rules.bad_else rules.bad_second rules.bad_size rules.bad_field
+    rules.bad_format rules.bad_height rules.bad_by codeSets.rule_of
+    formats.format_from
+    faults.place_by faults.sooner faults.joined faults.least_from faults.least_of faults.checked
+    ceilings.numbers_at ceilings.numbers ceilings.starts_at ceilings.makes_at ceilings.wide_at ceilings.heavy_at ceilings.one ceilings.weight ceilings.total ceilings.any_passed
     ceilings.passed
-    judging.wideText
-    judging.atToken judging.byRules judging.byGrammar
+    judging.wide_text
+    judging.at_token judging.by_rules judging.by_grammar
 reads = tt
 
 -- each text beside its answer
 abbrev pub right : List (List ℕ × Judged) → Type 0
-right l = map (λ p. judgeOf p.0) l ≡ map (λ p. p.1) l
+right l = map (λ p. judge_of p.0) l ≡ map (λ p. p.1) l
 
 -- s n times
 abbrev pub times : ℕ → String → List ℕ

@@ -4,7 +4,7 @@ use Rattle.base_kinds.specs.Kinds.{bytes}
 use Rattle.read_passes.specs.declared.Judged.TheVariants.{Accepted, Refused}
 use Rattle.test_refusals.specs.Opened.{reads, right}
 
-rules-refused :
+rules_refused :
     right
     -- "wrong number of arguments": "the statement's first token after a label"
     ((bytes "proctype p(int a){skip}init{run p()}", Refused 5 28 3) ∷ (bytes "proctype p(int a){skip}init{int b;L:b=run p(1,2)}", Refused 5 36 1) ∷ (bytes "init{printf(\"%d\")}", Refused 5 5 6) ∷
@@ -21,4 +21,4 @@ rules-refused :
     (bytes "init{else}", Refused 5 5 4) ∷ (bytes "init{if::else::else fi}", Refused 5 15 4) ∷ (bytes "init{break}", Refused 5 5 5) ∷ (bytes "mtype={m}mtype={n}init{skip}", Refused 5 9 5) ∷
     (bytes "init{skip}init{skip}", Refused 5 10 4) ∷ [])
 unfolding reads
-rules-refused = refl
+rules_refused = refl

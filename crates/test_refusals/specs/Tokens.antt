@@ -4,7 +4,7 @@ use Rattle.base_kinds.specs.Kinds.{bytes}
 use Rattle.read_passes.specs.declared.Judged.TheVariants.{Accepted, Refused}
 use Rattle.test_refusals.specs.Opened.{reads, right}
 
-tokens-refused :
+tokens_refused :
     right
     -- "stray byte": P9 of the sample sheet; one at the end outranks a fault of the grammar before it; bytes 127 and 128
     ((bytes "init{'}", Refused 1 5 1) ∷ (bytes "init{}'", Refused 1 6 1) ∷ (bytes "init{skip}#", Refused 1 10 1) ∷ (bytes "init{skip}" ++ 127 ∷ [], Refused 1 10 1) ∷
@@ -25,4 +25,4 @@ tokens-refused :
     -- tokens 2,048: the next is refused, although none of them can begin a text
     (replicate 2049 59, Refused 2 2048 1) ∷ [])
 unfolding reads
-tokens-refused = refl
+tokens_refused = refl

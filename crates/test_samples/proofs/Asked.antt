@@ -9,24 +9,24 @@ use lib.Dec.{eqb}
 use Rattle.base_bytes.specs.Choice.{pick}
 use Rattle.read_passes.specs.declared.Judged.{Judged}
 use Rattle.read_passes.specs.declared.Judged.TheVariants.{Accepted}
-use Rattle.read_passes.specs.Judging.{judgeOf, tablesText}
+use Rattle.read_passes.specs.Judging.{judge_of, tables_text}
 use Rattle.read_entry.specs.Entries.{read_of, stays, left_of}
 use Rattle.read_accepts_proof.specs.Meaning.{Accepts}
-use Rattle.read_accepts_proof.proofs.Main.{accepted-means}
+use Rattle.read_accepts_proof.proofs.Main.{accepted_means}
 use Rattle.read_accepts_proof.proofs.Tables.{text-fits}
 use Rattle.read_genuine.specs.Genuine.{written}
-use Rattle.normal_entry.proofs.Laws.{judged-is, written_is}
-use Rattle.state_start.specs.Starting.{initialOf}
+use Rattle.normal_entry.proofs.Laws.{judged_is, written_is}
+use Rattle.state_start.specs.Starting.{initial_of}
 use Rattle.spec_machine.specs.Machine.{verdict}
-use Rattle.step_all.specs.Moving.{machineIn, verdictAs}
-use Rattle.step_entry.specs.Entries.{foreignOf, refusalOf, startLeft, standingOf, verdictFor, Outcome, refusedBy, outcomeBy, askedIn, stepRefusal, outcomeOf}
+use Rattle.step_all.specs.Moving.{machine_in, verdict_as}
+use Rattle.step_entry.specs.Entries.{foreign_of, refusal_of, start_left, standing_of, verdict_for, Outcome, refused_by, outcome_by, asked_in, step_refusal, outcome_of}
 use Rattle.agree_encode.specs.Encode.{encode}
-use Rattle.agree_states.proofs.Cells.{encode-long}
+use Rattle.agree_states.proofs.Cells.{encode_long}
 use Rattle.demands.specs.Lent.{Rooms, Tables, leaves}
-use Rattle.demands.proofs.Owned.{own-tables}
+use Rattle.demands.proofs.Owned.{own_tables}
 use Rattle.demands.proofs.Top.{demands}
-use Rattle.test_samples.specs.Samples.{lent, tables, cleared, started, paper, firstStep}
-use Rattle.base_ceilings.specs.Ceilings.{stateRoom, tablesRoom}
+use Rattle.test_samples.specs.Samples.{lent, tables, cleared, started, paper, first_step}
+use Rattle.base_ceilings.specs.Ceilings.{state_room, tables_room}
 use Rattle.step_entry.specs.declared.Standing.TheVariants as standing
 use Rattle.spec_machine.specs.Begins as plain
 
@@ -34,80 +34,80 @@ module _ (t : List ℕ) (acc : read_of t lent ≡ Accepted) where
   long : length lent ≡ 16384
   long = length-replicate {A = ℕ} 16384 0
 
-  judged : judgeOf t ≡ Accepted
-  judged = sym (judged-is t lent (tables t) (read_of t lent) long refl refl) ∙ acc
+  judged : judge_of t ≡ Accepted
+  judged = sym (judged_is t lent (tables t) (read_of t lent) long refl refl) ∙ acc
 
   accepts : Accepts t
-  accepts = accepted-means t judged
+  accepts = accepted_means t judged
 
-  own : written (tables t) ≡ tablesText t
+  own : written (tables t) ≡ tables_text t
   own = written_is t lent (tables t) (read_of t lent) long refl refl acc
 
-  as-left : tables t ≡ tablesText t ++ drop (length (tablesText t)) lent
+  as_left : tables t ≡ tables_text t ++ drop (length (tables_text t)) lent
   unfolding left_of
-  as-left = ap (λ (j : Judged). stays j (tablesText t) lent) acc
+  as_left = ap (λ (j : Judged). stays j (tables_text t) lent) acc
 
-  tables-long : tablesRoom ≤ length (tables t)
-  tables-long =
-      let e = ap length as-left in
-      let f = length-append (tablesText t) (drop (length (tablesText t)) lent) in
-      let g = length-drop (length (tablesText t)) lent in
+  tables_long : tables_room ≤ length (tables t)
+  tables_long =
+      let e = ap length as_left in
+      let f = length-append (tables_text t) (drop (length (tables_text t)) lent) in
+      let g = length-drop (length (tables_text t)) lent in
       let h = text-fits t accepts in
       omega (arith, e, f, g, h, long)
 
-  of-model : Tables (tables t) accepts.tree
-  of-model = own-tables (tables t) t accepts own
+  of_model : Tables (tables t) accepts.tree
+  of_model = own_tables (tables t) t accepts own
 
   rooms : Rooms (tables t) cleared
-  rooms = record { tables = tables-long; state = let e = length-replicate {A = ℤ} 2048 (pos 0) in omega (arith, e) }
+  rooms = record { tables = tables_long; state = let e = length-replicate {A = ℤ} 2048 (pos 0) in omega (arith, e) }
 
-  let_through : foreignOf (tables t) cleared ≡ 0
-  let_through = (demands.demand2.start (tables t) cleared accepts.tree rooms of-model).0
+  let_through : foreign_of (tables t) cleared ≡ 0
+  let_through = (demands.demand2.start (tables t) cleared accepts.tree rooms of_model).0
 
   -- what `start` leaves
-  starts : started t ≡ initialOf (tablesText t) cleared
-  unfolding startLeft
-  starts = ap (λ (n : ℕ). pick (eqb n 0) (initialOf (written (tables t)) cleared) cleared) let_through ∙ ap (λ (w : List ℕ). initialOf w cleared) own
+  starts : started t ≡ initial_of (tables_text t) cleared
+  unfolding start_left
+  starts = ap (λ (n : ℕ). pick (eqb n 0) (initial_of (written (tables t)) cleared) cleared) let_through ∙ ap (λ (w : List ℕ). initial_of w cleared) own
 
-  as-numbers : started t ≡ encode accepts.tree (plain.initial accepts.tree) ++ drop stateRoom cleared
+  as_numbers : started t ≡ encode accepts.tree (plain.initial accepts.tree) ++ drop state_room cleared
   unfolding leaves
-  as-numbers = (demands.demand2.start (tables t) cleared accepts.tree rooms of-model).1
+  as_numbers = (demands.demand2.start (tables t) cleared accepts.tree rooms of_model).1
 
-  rooms-then : Rooms (tables t) (started t)
-  rooms-then =
+  rooms_then : Rooms (tables t) (started t)
+  rooms_then =
       record {
-        tables = tables-long;
+        tables = tables_long;
         state =
-            let e = ap length as-numbers in
-            let f = length-append (encode accepts.tree (plain.initial accepts.tree)) (drop stateRoom cleared) in
-            let g = encode-long accepts.tree (plain.initial accepts.tree) in
+            let e = ap length as_numbers in
+            let f = length-append (encode accepts.tree (plain.initial accepts.tree)) (drop state_room cleared) in
+            let g = encode_long accepts.tree (plain.initial accepts.tree) in
             omega (arith, e, f, g);
       }
 
-  none-refused : refusalOf (tables t) (started t) ≡ 0
-  none-refused = go (refusalOf (tables t) (started t)) refl
+  none_refused : refusal_of (tables t) (started t) ≡ 0
+  none_refused = go (refusal_of (tables t) (started t)) refl
     where
-      go : (n : ℕ) → refusalOf (tables t) (started t) ≡ n → refusalOf (tables t) (started t) ≡ 0
+      go : (n : ℕ) → refusal_of (tables t) (started t) ≡ n → refusal_of (tables t) (started t) ≡ 0
       go zero e = e
       go (suc n) e =
-          let x = (demands.demand2.in_words.states-left (tables t) cleared).start let_through in
+          let x = (demands.demand2.in_words.states_left (tables t) cleared).start let_through in
           let r = ((demands.demand1.stepper (tables t) (started t)).number (suc n) (omega arith)).0 e in
-          absurd ((demands.demand2.cases (tables t) (started t)).never_both (suc n) x.0 x.1 r record { rooms = rooms-then; tables = x.2; numbers = x.3 })
+          absurd ((demands.demand2.cases (tables t) (started t)).never_both (suc n) x.0 x.1 r record { rooms = rooms_then; tables = x.2; numbers = x.3 })
 
   -- `verdict`
-  pub verdict-asked : verdictFor (tables t) (started t) ≡ standingOf (verdictAs (verdict (machineIn (tablesText t)) (initialOf (tablesText t) cleared)))
-  unfolding verdictFor
+  pub verdict-asked : verdict_for (tables t) (started t) ≡ standing_of (verdict_as (verdict (machine_in (tables_text t)) (initial_of (tables_text t) cleared)))
+  unfolding verdict_for
   verdict-asked =
-      ap (λ (n : ℕ). pick (eqb n 0) (standingOf (verdictAs (verdict (machineIn (written (tables t))) (started t)))) (standing.Refused n)) none-refused
-      ∙ ap₂ (λ (w : List ℕ) (s : List ℤ). standingOf (verdictAs (verdict (machineIn w) s))) own starts
+      ap (λ (n : ℕ). pick (eqb n 0) (standing_of (verdict_as (verdict (machine_in (written (tables t))) (started t)))) (standing.Refused n)) none_refused
+      ∙ ap₂ (λ (w : List ℕ) (s : List ℤ). standing_of (verdict_as (verdict (machine_in w) s))) own starts
 
   -- `step`
-  none-refuses : stepRefusal (tables t) (started t) paper ≡ 0
-  unfolding stepRefusal
-  none-refuses = none-refused
+  none_refuses : step_refusal (tables t) (started t) paper ≡ 0
+  unfolding step_refusal
+  none_refuses = none_refused
 
-  pub step-asked : firstStep t ≡ outcomeBy (askedIn (tablesText t) (initialOf (tablesText t) cleared) 0 1) (tablesText t) (initialOf (tablesText t) cleared) paper
-  unfolding outcomeOf
+  pub step-asked : first_step t ≡ outcome_by (asked_in (tables_text t) (initial_of (tables_text t) cleared) 0 1) (tables_text t) (initial_of (tables_text t) cleared) paper
+  unfolding outcome_of
   step-asked =
-      ap (λ (n : ℕ). pick (eqb n 0) (outcomeBy (askedIn (written (tables t)) (started t) 0 1) (written (tables t)) (started t) paper) (refusedBy n (started t) paper)) none-refuses
-      ∙ ap₂ (λ (w : List ℕ) (s : List ℤ). outcomeBy (askedIn w s 0 1) w s paper) own starts
+      ap (λ (n : ℕ). pick (eqb n 0) (outcome_by (asked_in (written (tables t)) (started t) 0 1) (written (tables t)) (started t) paper) (refused_by n (started t) paper)) none_refuses
+      ∙ ap₂ (λ (w : List ℕ) (s : List ℤ). outcome_by (asked_in w s 0 1) w s paper) own starts

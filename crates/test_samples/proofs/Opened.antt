@@ -54,55 +54,55 @@ unfoldable pub reads : Unit {0}
 unfolding
     base.same
     spellings.find
-    lexemesPieces.piece_of lexemesSpans.span lexemesDigits.decimalFrom lexemesSpans.closing lexemesSpans.quoted
-    lexis.readFrom
-    productions.choices productions.bases productions.rights productions.productionBy productions.production productions.span productions.right
-    machineAnswer.parsed machineDepth.deep machineMachine.column machineMachine.write machineMachine.eat machineMachine.expand machineMachine.step-on machineMachine.run
-    sheetsHomes.insideOf sheetsHomes.home_of sheetsHomes.homes_of sheetsPayload.spelled sheetsPayload.sameName sheetsPayload.firstSame sheetsPayload.nameArg sheetsPayload.argOf
-    sheetsPayload.args_of sheetsSpans.shape_of sheetsSpans.start_of sheetsSpans.heightOf sheetsSpans.startsOf sheetsSpans.heightsOf sheetsWalks.first sheetsWalks.after
+    lexemesPieces.piece_of lexemesSpans.span lexemesDigits.decimal_from lexemesSpans.closing lexemesSpans.quoted
+    lexis.read_from
+    productions.choices productions.bases productions.rights productions.production_by productions.production productions.span productions.right
+    machineAnswer.parsed machineDepth.deep machineMachine.column machineMachine.write machineMachine.eat machineMachine.expand machineMachine.step_on machineMachine.run
+    sheetsHomes.inside_of sheetsHomes.home_of sheetsHomes.homes_of sheetsPayload.spelled sheetsPayload.same_name sheetsPayload.first_same sheetsPayload.name_arg sheetsPayload.arg_of
+    sheetsPayload.args_of sheetsSpans.shape_of sheetsSpans.start_of sheetsSpans.height_of sheetsSpans.starts_of sheetsSpans.heights_of sheetsWalks.first sheetsWalks.after
     sheetsWalks.sum sheetsWalks.filled
     findingSearch.declares findingSearch.find findingSearch.lookup findingSearch.last findingSearch.one findingSearch.count findingSets.among
-    rules.isArray rules.roleOf rules.badVariable rules.badUse rules.badRef rules.badTwice rules.badSecond rules.badHeight codeSets.ruleOf rules.badBy
-    faults.joined faults.leastFrom faults.leastOf faults.checked
-    ceilings.numbersAt ceilings.numbers ceilings.startsAt ceilings.makes_at ceilings.wideAt ceilings.heavyAt ceilings.one ceilings.weight ceilings.total ceilings.anyPassed
+    rules.is_array rules.role_of rules.bad_variable rules.bad_use rules.bad_ref rules.bad_twice rules.bad_second rules.bad_height codeSets.rule_of rules.bad_by
+    faults.joined faults.least_from faults.least_of faults.checked
+    ceilings.numbers_at ceilings.numbers ceilings.starts_at ceilings.makes_at ceilings.wide_at ceilings.heavy_at ceilings.one ceilings.weight ceilings.total ceilings.any_passed
     ceilings.passed
-    codeSets.isPart places.markFrom codeSets.isAlone codeSets.isLead places.isPlace places.isStop places.placeFrom codeSets.isOpening codeSets.isClosing places.deeper places.closeFrom
-    places.closeOf places.next_from
-    links.type_at links.size_at links.offsetAt links.slot_at codeSets.class_of links.linkBy links.link_at links.filledBack links.linksOf
-    entriesEntry.number entriesEntry.joined entriesEntry.runs entriesSources.bytes_of entriesSources.value_of entriesSources.entry_at entriesSources.entriesOf
+    codeSets.is_part places.mark_from codeSets.is_alone codeSets.is_lead places.is_place places.is_stop places.place_from codeSets.is_opening codeSets.is_closing places.deeper places.close_from
+    places.close_of_lem places.next_from
+    links.type_at links.size_at links.offset_at links.slot_at codeSets.class_of links.link_by links.link_at links.filled_back links.links_of
+    entriesEntry.number entriesEntry.joined entriesEntry.runs entriesSources.bytes_of entriesSources.value_of entriesSources.entry_at entriesSources.entries_of
     pens.four pens.packed
-    tablesAccess.code_of tablesTables.argument tablesTables.itemWord tablesTables.one tablesTables.itemWords tablesTables.linked tablesTables.numbers tablesTables.pool
+    tablesAccess.code_of tablesTables.argument tablesTables.item_word tablesTables.one tablesTables.item_words tablesTables.linked tablesTables.numbers tablesTables.pool
     tablesTables.tables_of
-    judging.wideText
-    judging.byRules judging.byGrammar judging.tablesFrom judging.tablesAt
+    judging.wide_text
+    judging.by_rules judging.by_grammar judging.tables_from judging.tables_at
     reader.read_of
 reads = tt
 
 -- values, the initial state, steps and verdicts
 unfoldable pub moves : Unit {0}
 unfolding
-    valueOperators.divideOf valueOperators.remainderOf valueOperators.shiftLeftOf valueOperators.applyOf valueOperators.unaryOf valueTypes.width_of valueTypes.castOf
+    valueOperators.divide_of valueOperators.remainder_of valueOperators.shift_left_of valueOperators.apply_of valueOperators.unary_of valueTypes.width_of valueTypes.cast_of
     frames.walk
-    evaluatingExpressions.node_of evaluatingExpressions.plain_of evaluatingExpressions.evalT evaluatingExpressions.locateOf evaluatingVariables.slot_of
-    startingStarting.filled startingStarting.variableMade startingStarting.entered startingStarting.unitLength startingStarting.processMade startingStarting.globalMade
-    startingStarting.startsOf startingStarting.unitStarted startingStarting.scanned startingStarting.initialOf startingValues.value_at startingValues.value_of
-    executing.isOwnMark executing.isAlways executing.mark_of executing.readyBy
-    offering.first_of offering.eachOption offering.offersFrom
-    machine.any_from machine.late machine.list_from machine.offered machine.asked machine.advance machine.endedFrom machine.verdict
-    offering.pick_at printing.puts printing.printedAt
+    evaluatingExpressions.node_of evaluatingExpressions.plain_of evaluatingExpressions.eval_t evaluatingExpressions.locate_of evaluatingVariables.slot_of
+    startingStarting.filled startingStarting.variable_made startingStarting.entered startingStarting.unit_length startingStarting.process_made startingStarting.global_made
+    startingStarting.starts_of startingStarting.unit_started startingStarting.scanned startingStarting.initial_of startingValues.value_at startingValues.value_of
+    executing.is_own_mark executing.is_always executing.mark_of executing.ready_by
+    offering.first_of offering.each_option offering.offers_from
+    machine.any_from machine.late machine.list_from machine.offered machine.asked machine.advance machine.ended_from machine.verdict
+    offering.pick_at printing.puts printing.printed_at
     statements.assigned
-    effects.targeted effects.takenAs
+    effects.targeted effects.taken_as
 moves = tt
 
 -- normal text
 unfoldable pub writes : Unit {0}
 unfolding
     pens.digit
-    tablesAccess.poolByte tablesAccess.nameByte tablesBack.upto
-    valueOperators.levelOf
-    lettering.held_of lettering.tokenBy
+    tablesAccess.pool_byte tablesAccess.name_byte tablesBack.upto
+    valueOperators.level_of
+    lettering.held_of lettering.token_by
     patterns.rows
-    writerNormal.codesIn writerNormal.tokensOf writerTurning.cell writerTurning.rowFrom writerTurning.row_of writerTurning.laid writerTurning.operated writerTurning.turned
+    writerNormal.codes_in writerNormal.tokens_of writerTurning.cell writerTurning.row_from writerTurning.row_of writerTurning.laid writerTurning.operated writerTurning.turned
     writerTurning.kept writerTurning.told writerTurning.walk writerTurning.marks
-    formats.digitsBy spacing.writeBehind
+    formats.digits_by spacing.write_behind
 writes = tt

@@ -7,14 +7,14 @@ use lib.IntN.{ℤ}
 use Rattle.base_kinds.specs.Kinds.{bytes}
 use Rattle.base_values.specs.declared.Fault.{Fault}
 use Rattle.read_passes.specs.declared.Judged.TheVariants.{Accepted}
-use Rattle.read_passes.specs.Judging.{tablesText}
+use Rattle.read_passes.specs.Judging.{tables_text}
 use Rattle.read_entry.specs.Entries.{read_of}
-use Rattle.state_layout.specs.Layout.{globalAt, cell_of}
-use Rattle.state_start.specs.Starting.{initialOf}
+use Rattle.state_layout.specs.Layout.{global_at_lem, cell_of}
+use Rattle.state_start.specs.Starting.{initial_of}
 use Rattle.spec_machine.specs.Machine.{verdict}
-use Rattle.step_all.specs.Moving.{machineIn, verdictAs}
+use Rattle.step_all.specs.Moving.{machine_in, verdict_as}
 use Rattle.step_all.specs.declared.Verdict.TheVariants.{Blocked}
-use Rattle.step_entry.specs.Entries.{standingOf, Outcome, outcomeBy, askedIn}
+use Rattle.step_entry.specs.Entries.{standing_of, Outcome, outcome_by, asked_in}
 use Rattle.step_entry.specs.declared.Stepped.TheVariants.{Took}
 use Rattle.step_entry.specs.declared.Stepped.TheVariants as stepped
 use Rattle.test_samples.proofs.Opened.{reads, moves, writes}
@@ -28,34 +28,34 @@ both (suc n) [] h k = tt
 both (suc n) (x ∷ l) h k = (h.0, both n l h.1 k)
 
 -- ---- by what the text's own tables say
-abbrev byTables : Bytes → Outcome
-byTables m = outcomeBy (askedIn (tablesText m) (initialOf (tablesText m) cleared) 0 1) (tablesText m) (initialOf (tablesText m) cleared) paper
+abbrev by_tables : Bytes → Outcome
+by_tables m = outcome_by (asked_in (tables_text m) (initial_of (tables_text m) cleared) 0 1) (tables_text m) (initial_of (tables_text m) cleared) paper
 
-stored-so : (m : Bytes) (z : ℤ) → read_of m lent ≡ Accepted → (byTables m).answer ≡ Took 0 → cell_of (byTables m).state (globalAt 0) ≡ z → Stored m z
-stored-so m z a e f = (a, ap (λ (o : Outcome). o.answer) (step-asked m a) ∙ e, ap (λ (o : Outcome). cell_of o.state (globalAt 0)) (step-asked m a) ∙ f)
+stored_so : (m : Bytes) (z : ℤ) → read_of m lent ≡ Accepted → (by_tables m).answer ≡ Took 0 → cell_of (by_tables m).state (global_at_lem 0) ≡ z → Stored m z
+stored_so m z a e f = (a, ap (λ (o : Outcome). o.answer) (step-asked m a) ∙ e, ap (λ (o : Outcome). cell_of o.state (global_at_lem 0)) (step-asked m a) ∙ f)
 
-faulted-so : (m : Bytes) (x : Fault) → read_of m lent ≡ Accepted → (byTables m).answer ≡ stepped.Fault x → Faulted m x
-faulted-so m x a e = (a, ap (λ (o : Outcome). o.answer) (step-asked m a) ∙ e)
+faulted_so : (m : Bytes) (x : Fault) → read_of m lent ≡ Accepted → (by_tables m).answer ≡ stepped.Fault x → Faulted m x
+faulted_so m x a e = (a, ap (λ (o : Outcome). o.answer) (step-asked m a) ∙ e)
 
-blocked-so : (m : Bytes) → read_of m lent ≡ Accepted → verdictAs (verdict (machineIn (tablesText m)) (initialOf (tablesText m) cleared)) ≡ Blocked → Holds (blocks m)
-blocked-so m a e = (a, verdict-asked m a ∙ ap standingOf e)
+blocked_so : (m : Bytes) → read_of m lent ≡ Accepted → verdict_as (verdict (machine_in (tables_text m)) (initial_of (tables_text m) cleared)) ≡ Blocked → Holds (blocks m)
+blocked_so m a e = (a, verdict-asked m a ∙ ap standing_of e)
 
 -- P1 to P5
 values : All (take 7 sheet)
 unfolding reads moves
 values = (
-  stored-so (storing (bytes "2+5*3") (bytes "int")) _ refl refl refl,
+  stored_so (storing (bytes "2+5*3") (bytes "int")) _ refl refl refl,
   (
-    stored-so (storing (bytes "-7/2") (bytes "int")) _ refl refl refl,
+    stored_so (storing (bytes "-7/2") (bytes "int")) _ refl refl refl,
     (
-      stored-so (storing (bytes "-7%2") (bytes "int")) _ refl refl refl,
+      stored_so (storing (bytes "-7%2") (bytes "int")) _ refl refl refl,
       (
-        stored-so (storing (bytes "479001600*13") (bytes "int")) _ refl refl refl,
+        stored_so (storing (bytes "479001600*13") (bytes "int")) _ refl refl refl,
         (
-          stored-so (storing (bytes "(-2147483647-1)/-1") (bytes "int")) _ refl refl refl,
+          stored_so (storing (bytes "(-2147483647-1)/-1") (bytes "int")) _ refl refl refl,
           (
-            stored-so (storing (bytes "1<<31") (bytes "int")) _ refl refl refl,
-            (faulted-so (storing (bytes "1<<32") (bytes "int")) _ refl refl, tt),
+            stored_so (storing (bytes "1<<31") (bytes "int")) _ refl refl refl,
+            (faulted_so (storing (bytes "1<<32") (bytes "int")) _ refl refl, tt),
           ),
         ),
       ),
@@ -67,12 +67,12 @@ values = (
 stored : All (take 4 (drop 7 sheet))
 unfolding reads moves
 stored = (
-  stored-so (storing (bytes "300") (bytes "byte")) _ refl refl refl,
+  stored_so (storing (bytes "300") (bytes "byte")) _ refl refl refl,
   (
-    stored-so (storing (bytes "40000") (bytes "short")) _ refl refl refl,
+    stored_so (storing (bytes "40000") (bytes "short")) _ refl refl refl,
     (
-      stored-so (storing (bytes "-1") (bytes "byte")) _ refl refl refl,
-      (stored-so (storing (bytes "2") (bytes "bit")) _ refl refl refl, tt),
+      stored_so (storing (bytes "-1") (bytes "byte")) _ refl refl refl,
+      (stored_so (storing (bytes "2") (bytes "bit")) _ refl refl refl, tt),
     ),
   ),
 )
@@ -81,10 +81,10 @@ stored = (
 needed : All (take 3 (drop 11 sheet))
 unfolding reads moves
 needed = (
-  stored-so (storing (bytes "0&&1/0") (bytes "int")) _ refl refl refl,
+  stored_so (storing (bytes "0&&1/0") (bytes "int")) _ refl refl refl,
   (
-    faulted-so (storing (bytes "1/0&&0") (bytes "int")) _ refl refl,
-    (blocked-so (bytes "init{0}") refl refl, tt),
+    faulted_so (storing (bytes "1/0&&0") (bytes "int")) _ refl refl,
+    (blocked_so (bytes "init{0}") refl refl, tt),
   ),
 )
 
@@ -93,5 +93,5 @@ texts : All (drop 14 sheet)
 unfolding reads writes
 texts = (refl, ((refl, refl), ((refl, refl), tt)))
 
-pub samples-hold : All sheet
-samples-hold = both 7 sheet values (both 4 (drop 7 sheet) stored (both 3 (drop 11 sheet) needed texts))
+pub samples_hold : All sheet
+samples_hold = both 7 sheet values (both 4 (drop 7 sheet) stored (both 3 (drop 11 sheet) needed texts))

@@ -1,19 +1,19 @@
 -- Tests: worked examples and stored cases.
 -- The sample sheet of document 01 as one list: "Sample sheet (P: prove as one list, one result for all)". Each sample has its text, what it asks and the answer that the
--- sheet gives; that all of them hold is `samples-hold` (proofs/Sheet.antt). All is worked out from the bytes of the text, by the definitions that contracts name.
+-- sheet gives; that all of them hold is `samples_hold` (proofs/Sheet.antt). All is worked out from the bytes of the text, by the definitions that contracts name.
 -- Each is asked of the public entries: `read` on room for tables, `start` on room for a state, then `step` or `verdict`; refusals of `read`, normal text of `normal`.
 use Rattle.std.specs.Prelude.{List, [], ◌∷◌, ◌++◌, ◌≡◌, ℕ, length, replicate, ℤ, pos, neg_ℤ}
-use Rattle.base_ceilings.specs.Ceilings.{printRoom, stateRoom, tablesRoom}
+use Rattle.base_ceilings.specs.Ceilings.{print_room, state_room, tables_room}
 use Rattle.base_kinds.specs.Kinds.{bytes}
 use Rattle.read_passes.specs.declared.Judged.TheVariants.{Accepted, Refused}
 use Rattle.read_entry.specs.Entries.{read_of}
-use Rattle.read_entry.specs.Entries.{left_of as tablesLeft}
+use Rattle.read_entry.specs.Entries.{left_of as tables_left}
 use Rattle.normal_entry.specs.declared.Written.TheVariants.{Text}
 use Rattle.normal_entry.specs.Entries.{answer_of, left_of}
 use Rattle.base_values.specs.declared.Fault.{Fault}
 use Rattle.base_values.specs.declared.Fault.TheVariants.{Divide, Shift}
-use Rattle.state_layout.specs.Layout.{globalAt, cell_of}
-use Rattle.step_entry.specs.Entries.{startLeft, verdictFor, Outcome, outcomeOf}
+use Rattle.state_layout.specs.Layout.{global_at_lem, cell_of}
+use Rattle.step_entry.specs.Entries.{start_left, verdict_for, Outcome, outcome_of}
 use Rattle.step_entry.specs.declared.Stepped.TheVariants.{Took}
 use Rattle.step_entry.specs.declared.Stepped.TheVariants as stepped
 use Rattle.step_entry.specs.declared.Standing.TheVariants.{Blocked}
@@ -69,24 +69,24 @@ sheet =
 -- ## what each asks
 -- "tables are lent as 16,384 unsigned 32-bit numbers"
 abbrev pub lent : List ℕ
-lent = replicate tablesRoom 0
+lent = replicate tables_room 0
 
 -- what `read` leaves there of a text, and `start` in a state's room, for these tables
 abbrev pub tables : Bytes → List ℕ
-tables m = tablesLeft m lent
+tables m = tables_left m lent
 
 abbrev pub cleared : List ℤ
-cleared = replicate stateRoom (pos 0)
+cleared = replicate state_room (pos 0)
 
 abbrev pub started : Bytes → List ℤ
-started m = startLeft (tables m) cleared
+started m = start_left (tables m) cleared
 
 -- the first step that process 0 is offered in the initial state, taken with room for what it prints
 abbrev pub paper : List ℕ
-paper = replicate printRoom 0
+paper = replicate print_room 0
 
-abbrev pub firstStep : Bytes → Outcome
-firstStep m = outcomeOf (tables m) (started m) 0 1 paper
+abbrev pub first_step : Bytes → Outcome
+first_step m = outcome_of (tables m) (started m) 0 1 paper
 
 -- `TYPE x;init{x=EXPRESSION}`
 abbrev pub storing : Bytes → Bytes → Bytes
@@ -94,11 +94,11 @@ storing e w = w ++ (bytes " x;init{x=" ++ (e ++ bytes "}"))
 
 -- it is accepted, the step is taken, prints nothing, and leaves this in x, the first global number
 abbrev pub Stored : Bytes → ℤ → Type 0
-Stored m z = (read_of m lent ≡ Accepted) × ((firstStep m).answer ≡ Took 0) × (cell_of (firstStep m).state (globalAt 0) ≡ z)
+Stored m z = (read_of m lent ≡ Accepted) × ((first_step m).answer ≡ Took 0) × (cell_of (first_step m).state (global_at_lem 0) ≡ z)
 
 -- it is accepted, and the step is this fault
 abbrev pub Faulted : Bytes → Fault → Type 0
-Faulted m f = (read_of m lent ≡ Accepted) × ((firstStep m).answer ≡ stepped.Fault f)
+Faulted m f = (read_of m lent ≡ Accepted) × ((first_step m).answer ≡ stepped.Fault f)
 
 -- normal text: where just its room is lent, it is all that is there afterwards
 abbrev pub room_for : Bytes → List ℕ
@@ -109,7 +109,7 @@ abbrev pub Holds : Sample → Type 0
 Holds (gives e v) = Stored (storing e (bytes "int")) v
 Holds (faults e f) = Faulted (storing e (bytes "int")) f
 Holds (stores e w z) = Stored (storing e w) z
-Holds (blocks m) = (read_of m lent ≡ Accepted) × (verdictFor (tables m) (started m) ≡ Blocked)
+Holds (blocks m) = (read_of m lent ≡ Accepted) × (verdict_for (tables m) (started m) ≡ Blocked)
 Holds (refuses m x i n) = read_of m lent ≡ Refused x i n
 Holds (becomes m u) = (answer_of m (room_for u) ≡ Text (length u)) × (left_of m (room_for u) ≡ u)
 

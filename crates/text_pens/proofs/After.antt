@@ -6,23 +6,23 @@ use lib.ListN.{get_or}
 use Rattle.base_bytes.specs.Choice.{pick}
 use Rattle.base_kinds.specs.Kinds.{Token, sym, name, number, text, kind_of}
 use Rattle.spec_text.specs.Spelled.{joins}
-use Rattle.spec_text.specs.Writing.{spell, apart, writeBehind, write}
-use Rattle.text_pens.specs.After.{joinsBy, writeAfter}
+use Rattle.spec_text.specs.Writing.{spell, apart, write_behind, write}
+use Rattle.text_pens.specs.After.{joins_by, write_after}
 
-pub kind-decides : (a : Token) (c : ℕ) → joins (kind_of a) (spell a) c ≡ joinsBy (kind_of a) c
-unfolding joinsBy
-kind-decides (sym k) c = refl
-kind-decides (name w) c = refl
-kind-decides (number n) c = refl
-kind-decides (text w) c = refl
+pub kind_decides : (a : Token) (c : ℕ) → joins (kind_of a) (spell a) c ≡ joins_by (kind_of a) c
+unfolding joins_by
+kind_decides (sym k) c = refl
+kind_decides (name w) c = refl
+kind_decides (number n) c = refl
+kind_decides (text w) c = refl
 
-pub behind-after : (a : Token) (ts : List Token) → writeBehind a ts ≡ writeAfter (kind_of a) ts
-unfolding writeBehind writeAfter
+pub behind-after : (a : Token) (ts : List Token) → write_behind a ts ≡ write_after (kind_of a) ts
+unfolding write_behind write_after
 behind-after a [] = refl
-behind-after a (b ∷ ts) = rw (kind-decides a (get_or (spell b) 0 0), behind-after b ts)
+behind-after a (b ∷ ts) = rw (kind_decides a (get_or (spell b) 0 0), behind-after b ts)
 
 -- behind a string nothing joins, so the first token is written as if it stood behind one
-pub write-after : (ts : List Token) → write ts ≡ writeAfter 72 ts
-unfolding writeAfter joinsBy
+pub write-after : (ts : List Token) → write ts ≡ write_after 72 ts
+unfolding write_after joins_by
 write-after [] = refl
 write-after (a ∷ ts) = ap (spell a ++◌) (behind-after a ts)

@@ -10,13 +10,13 @@ use lib.Dec.{eqb, ltb}
 use borrow.Author.Tests.{lt-ltb, le-ltb, eq-eqb, ne_eqb, eqb-true}
 use Rattle.base_bytes.specs.Choice.{pick, both, either}
 use Rattle.base_bytes.specs.Lists.{same}
-use Rattle.base_bytes.proofs.Tests.{true-false, both_true, both-no}
+use Rattle.base_bytes.proofs.Tests.{true_false, both_true, both_no}
 use Rattle.base_kinds.specs.Kinds.{marks, keywords}
 use Rattle.spec_text.specs.Find.{find}
-use Rattle.spec_text.specs.Bytes.{isWord, isDigit}
-use Rattle.spec_text.specs.Spelled.{joins, markJoins}
-use Rattle.text_pens.specs.Sheet.{spelledBy}
-use Rattle.text_pens.specs.After.{joinsBy}
+use Rattle.spec_text.specs.Bytes.{is_word, is_digit}
+use Rattle.spec_text.specs.Spelled.{joins, mark_joins}
+use Rattle.text_pens.specs.Sheet.{spelled_by}
+use Rattle.text_pens.specs.After.{joins_by}
 
 -- ---- a mark has one byte, or two that are no zeros
 unfoldable small : List ℕ → Bool
@@ -39,23 +39,23 @@ marks-small : all_small marks ≡ true
 unfolding all_small small
 marks-small = refl
 
-mark-small : (k : ℕ) → k < 38 → small (spelledBy k) ≡ true
+mark-small : (k : ℕ) → k < 38 → small (spelled_by k) ≡ true
 mark-small k h = rw (get_or-append marks keywords [] (k - 1) (omega arith)) (small_at marks marks-small (k - 1) (omega arith))
 
 -- ---- no mark has three bytes
 unlike : (a b c : ℕ) (x : List ℕ) → small x ≡ true → same (a ∷ b ∷ c ∷ []) x ≡ false
 unfolding same small
 unlike a b c [] e = refl
-unlike a b c (d ∷ []) e = both-no (eqb a d) refl
-unlike a b c (d ∷ f ∷ []) e = both-no (eqb a d) (both-no (eqb b f) refl)
-unlike a b c (d ∷ f ∷ g ∷ s) e = absurd (true-false (sym e))
+unlike a b c (d ∷ []) e = both_no (eqb a d) refl
+unlike a b c (d ∷ f ∷ []) e = both_no (eqb a d) (both_no (eqb b f) refl)
+unlike a b c (d ∷ f ∷ g ∷ s) e = absurd (true_false (sym e))
 
-no-three : (a b c : ℕ) (xs : List (List ℕ)) (k : ℕ) → all_small xs ≡ true → find (a ∷ b ∷ c ∷ []) xs k ≡ 0
+no_three : (a b c : ℕ) (xs : List (List ℕ)) (k : ℕ) → all_small xs ≡ true → find (a ∷ b ∷ c ∷ []) xs k ≡ 0
 unfolding find all_small
-no-three a b c [] k h = refl
-no-three a b c (x ∷ xs) k h =
+no_three a b c [] k h = refl
+no_three a b c (x ∷ xs) k h =
     let p = both_true (small x) (all_small xs) h in
-    rw (unlike a b c x p.0) (no-three a b c xs (k + 1) p.1)
+    rw (unlike a b c x p.0) (no_three a b c xs (k + 1) p.1)
 
 -- ---- one byte, or two
 both-same : (t : Bool) → both t true ≡ t
@@ -68,52 +68,52 @@ slash-one a = both-same (eqb a 47)
 
 slash-two : (a d : ℕ) → same (a ∷ d ∷ []) (47 ∷ []) ≡ false
 unfolding same
-slash-two a d = both-no (eqb a 47) refl
+slash-two a d = both_no (eqb a 47) refl
 
 module _ (k c : ℕ) (h : k < 38) where
-  by-mark : joinsBy k c ≡ markJoins (spelledBy k) c
-  unfolding joinsBy
-  by-mark = rw (lt-ltb k 38 h)
+  by_mark : joins_by k c ≡ mark_joins (spelled_by k) c
+  unfolding joins_by
+  by_mark = rw (lt-ltb k 38 h)
 
-  pub two_bytes : (b : ℕ) → b ≡ get_or (spelledBy k) 1 0 → (b ≡ 0 → ⊥) → false ≡ joinsBy k c
+  pub two_bytes : (b : ℕ) → b ≡ get_or (spelled_by k) 1 0 → (b ≡ 0 → ⊥) → false ≡ joins_by k c
   unfolding small
-  two_bytes b e n = sym (by-mark ∙ go (spelledBy k) (mark-small k h) e)
+  two_bytes b e n = sym (by_mark ∙ go (spelled_by k) (mark-small k h) e)
     where
-      go : (x : List ℕ) → small x ≡ true → b ≡ get_or x 1 0 → markJoins x c ≡ false
+      go : (x : List ℕ) → small x ≡ true → b ≡ get_or x 1 0 → mark_joins x c ≡ false
       go [] s q = absurd (n q)
       go (a ∷ []) s q = absurd (n q)
-      go (a ∷ d ∷ []) s q = rw (no-three a d c marks 1 marks-small, slash-two a d)
-      go (a ∷ d ∷ f ∷ s') s q = absurd (true-false (sym s))
+      go (a ∷ d ∷ []) s q = rw (no_three a d c marks 1 marks-small, slash-two a d)
+      go (a ∷ d ∷ f ∷ s') s q = absurd (true_false (sym s))
 
-  pub one_byte : (b a m : ℕ) → b ≡ get_or (spelledBy k) 1 0 → b ≡ 0 → a ≡ get_or (spelledBy k) 0 0 → m ≡ find (a ∷ c ∷ []) marks 1 → joinsBy k c ≡ either (ltb 0 m) (both (eqb a 47) (eqb c 42))
+  pub one_byte : (b a m : ℕ) → b ≡ get_or (spelled_by k) 1 0 → b ≡ 0 → a ≡ get_or (spelled_by k) 0 0 → m ≡ find (a ∷ c ∷ []) marks 1 → joins_by k c ≡ either (ltb 0 m) (both (eqb a 47) (eqb c 42))
   unfolding small
-  one_byte b a m e n p q = by-mark ∙ go (spelledBy k) (mark-small k h) e p
+  one_byte b a m e n p q = by_mark ∙ go (spelled_by k) (mark-small k h) e p
     where
-      go : (x : List ℕ) → small x ≡ true → b ≡ get_or x 1 0 → a ≡ get_or x 0 0 → markJoins x c ≡ either (ltb 0 m) (both (eqb a 47) (eqb c 42))
-      go [] s e p = absurd (true-false (sym s))
+      go : (x : List ℕ) → small x ≡ true → b ≡ get_or x 1 0 → a ≡ get_or x 0 0 → mark_joins x c ≡ either (ltb 0 m) (both (eqb a 47) (eqb c 42))
+      go [] s e p = absurd (true_false (sym s))
       go (d ∷ []) s e p = rw (q, p, slash-one d)
-      go (d ∷ f ∷ []) s e p = absurd (true-false (sym s ∙ ap not (eq-eqb f 0 (sym e ∙ n))))
-      go (d ∷ f ∷ g ∷ s') s e p = absurd (true-false (sym s))
+      go (d ∷ f ∷ []) s e p = absurd (true_false (sym s ∙ ap not (eq-eqb f 0 (sym e ∙ n))))
+      go (d ∷ f ∷ g ∷ s') s e p = absurd (true_false (sym s))
 
   -- as the program goes: no mark of two bytes, a mark with the byte, a comment
-  pub joined-mark : (b a m : ℕ) → b ≡ get_or (spelledBy k) 1 0 → b ≡ 0 → a ≡ get_or (spelledBy k) 0 0 → m ≡ find (a ∷ c ∷ []) marks 1 → (m ≡ 0 → ⊥) → true ≡ joinsBy k c
+  pub joined-mark : (b a m : ℕ) → b ≡ get_or (spelled_by k) 1 0 → b ≡ 0 → a ≡ get_or (spelled_by k) 0 0 → m ≡ find (a ∷ c ∷ []) marks 1 → (m ≡ 0 → ⊥) → true ≡ joins_by k c
   joined-mark b a m e n p q z = sym (one_byte b a m e n p q ∙ rw (lt-ltb 0 m (omega (arith, z))))
 
-  pub joined-slash : (b a m : ℕ) → b ≡ get_or (spelledBy k) 1 0 → b ≡ 0 → a ≡ get_or (spelledBy k) 0 0 → m ≡ find (a ∷ c ∷ []) marks 1 → m ≡ 0 → a ≡ 47 → eqb c 42 ≡ joinsBy k c
+  pub joined-slash : (b a m : ℕ) → b ≡ get_or (spelled_by k) 1 0 → b ≡ 0 → a ≡ get_or (spelled_by k) 0 0 → m ≡ find (a ∷ c ∷ []) marks 1 → m ≡ 0 → a ≡ 47 → eqb c 42 ≡ joins_by k c
   joined-slash b a m e n p q z w = sym (one_byte b a m e n p q ∙ rw (z, eq-eqb a 47 w))
 
-  pub joined-none : (b a m : ℕ) → b ≡ get_or (spelledBy k) 1 0 → b ≡ 0 → a ≡ get_or (spelledBy k) 0 0 → m ≡ find (a ∷ c ∷ []) marks 1 → m ≡ 0 → (a ≡ 47 → ⊥) → false ≡ joinsBy k c
+  pub joined-none : (b a m : ℕ) → b ≡ get_or (spelled_by k) 1 0 → b ≡ 0 → a ≡ get_or (spelled_by k) 0 0 → m ≡ find (a ∷ c ∷ []) marks 1 → m ≡ 0 → (a ≡ 47 → ⊥) → false ≡ joins_by k c
   joined-none b a m e n p q z w = sym (one_byte b a m e n p q ∙ rw (z, ne_eqb a 47 w))
 
 -- ---- the other kinds
-pub word-joins : (k c : ℕ) → 38 ≤ k → k < 71 → isWord c ≡ joinsBy k c
-unfolding joinsBy
+pub word-joins : (k c : ℕ) → 38 ≤ k → k < 71 → is_word c ≡ joins_by k c
+unfolding joins_by
 word-joins k c h l = sym (rw (le-ltb k 38 h, lt-ltb k 71 l))
 
-pub number-joins : (k c : ℕ) → k ≡ 71 → isDigit c ≡ joinsBy k c
-unfolding joinsBy
+pub number-joins : (k c : ℕ) → k ≡ 71 → is_digit c ≡ joins_by k c
+unfolding joins_by
 number-joins k c h = rw h
 
-pub none-joins : (k c : ℕ) → 71 ≤ k → (k ≡ 71 → ⊥) → false ≡ joinsBy k c
-unfolding joinsBy
+pub none-joins : (k c : ℕ) → 71 ≤ k → (k ≡ 71 → ⊥) → false ≡ joins_by k c
+unfolding joins_by
 none-joins k c h n = sym (rw (le-ltb k 38 (omega arith), le-ltb k 71 h, ne_eqb k 71 n))

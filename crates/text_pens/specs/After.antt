@@ -6,12 +6,12 @@ use Rattle.base_bytes.specs.Choice.{pick}
 use Rattle.base_kinds.specs.Kinds.{Token, kind_of}
 use Rattle.spec_text.specs.Spelled.{joins}
 use Rattle.spec_text.specs.Writing.{spell}
-use Rattle.text_pens.specs.Sheet.{spelledBy}
+use Rattle.text_pens.specs.Sheet.{spelled_by}
 
 -- the byte c would join a token of kind k before it
-unfoldable pub joinsBy : ℕ → ℕ → Bool
-joinsBy k c = joins k (spelledBy k) c
+unfoldable pub joins_by : ℕ → ℕ → Bool
+joins_by k c = joins k (spelled_by k) c
 
-unfoldable pub writeAfter : ℕ → List Token → List ℕ
-writeAfter k [] = []
-writeAfter k (b ∷ ts) = pick (joinsBy k (get_or (spell b) 0 0)) (32 ∷ []) [] ++ (spell b ++ writeAfter (kind_of b) ts)
+unfoldable pub write_after : ℕ → List Token → List ℕ
+write_after k [] = []
+write_after k (b ∷ ts) = pick (joins_by k (get_or (spell b) 0 0)) (32 ∷ []) [] ++ (spell b ++ write_after (kind_of b) ts)

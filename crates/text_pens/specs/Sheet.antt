@@ -20,5 +20,5 @@ unfoldable pub sizes : List ℕ
 sizes = map length (marks ++ keywords)
 
 -- the spelling of a mark or keyword of kind k
-abbrev pub spelledBy : ℕ → List ℕ
-spelledBy k = get_or (marks ++ keywords) (k - 1) []
+abbrev pub spelled_by : ℕ → List ℕ
+spelled_by k = get_or (marks ++ keywords) (k - 1) []

@@ -1,10 +1,10 @@
 // Writing bytes one after the other to a lent slice that may end too soon: numbers in decimal, fixed spellings; and whether a byte would join what stands before it.
 ghost use Rattle.std.specs.Prelude.{◌≡◌, ◌+◌, ◌-◌, ◌%◌, ◌<◌, length, get_or, replicate};
 ghost use Rattle.base_pens.specs.Pen.{pen, write, puts};
-ghost use Rattle.spec_text.specs.Bytes.{isWord};
-ghost use Rattle.spec_text.specs.Formats.{digitsBy};
-ghost use Rattle.text_pens.specs.Sheet.{sheet, sizes, spelledBy};
-ghost use Rattle.text_pens.specs.After.{joinsBy};
+ghost use Rattle.spec_text.specs.Bytes.{is_word};
+ghost use Rattle.spec_text.specs.Formats.{digits_by};
+ghost use Rattle.text_pens.specs.Sheet.{sheet, sizes, spelled_by};
+ghost use Rattle.text_pens.specs.After.{joins_by};
 
 // The fixed spellings in the order of their kinds, eight bytes for each, and their lengths.
 const SHEET: [u8; 552] = *b"\
@@ -73,7 +73,7 @@ fn last_digit(n: u32) -> u8
 
 // Writes a number in decimal, at most fuel digits.
 pub fn put_digits(n: u32, fuel: usize, out: &mut [u8], p: usize) -> usize
-    ensures { pen out.new result ≡ puts (digitsBy fuel n) (pen out.old p) }
+    ensures { pen out.new result ≡ puts (digits_by fuel n) (pen out.old p) }
 {
     if fuel == 0 {
         return p;
@@ -106,7 +106,7 @@ fn size_at(i: usize) -> u8
 
 // Byte j of the spelling of kind k; 0 where it has none.
 fn letter(k: u8, j: usize) -> u8
-    ensures { result ≡ get_or (spelledBy k) j 0 }
+    ensures { result ≡ get_or (spelled_by k) j 0 }
 {
     if j < 8 {
         sheet_at(8 * before(k as usize) + j)
@@ -117,14 +117,14 @@ fn letter(k: u8, j: usize) -> u8
 
 // How many bytes the spelling of kind k has.
 fn size_of(k: u8) -> usize
-    ensures { result ≡ length (spelledBy k) }
+    ensures { result ≡ length (spelled_by k) }
 {
     size_at(before(k as usize)) as usize
 }
 
 // Writes the spelling of kind k.
 pub fn put_fixed(k: u8, out: &mut [u8], p: usize) -> usize
-    ensures { pen out.new result ≡ puts (spelledBy k) (pen out.old p) }
+    ensures { pen out.new result ≡ puts (spelled_by k) (pen out.old p) }
 {
     let n = size_of(k);
     let mut q = p;
@@ -137,7 +137,7 @@ pub fn put_fixed(k: u8, out: &mut [u8], p: usize) -> usize
 }
 
 fn is_word(b: u8) -> bool
-    ensures { result ≡ isWord b }
+    ensures { result ≡ is_word b }
 {
     if text_pieces::is_digit(b) {
         true
@@ -149,7 +149,7 @@ fn is_word(b: u8) -> bool
 // Would the byte c join a mark of kind k before it? Two bytes that are no mark together do not, but for a comment's opening.
 fn mark_joins(k: u8, c: u8) -> bool
     requires { k < 38 }
-    ensures { result ≡ joinsBy k c }
+    ensures { result ≡ joins_by k c }
 {
     if letter(k, 1) != 0 {
         return false;
@@ -163,7 +163,7 @@ fn mark_joins(k: u8, c: u8) -> bool
 
 // Would the byte c join a token of kind k before it?
 pub fn joins(k: u8, c: u8) -> bool
-    ensures { result ≡ joinsBy k c }
+    ensures { result ≡ joins_by k c }
 {
     if k < 38 {
         return mark_joins(k, c);

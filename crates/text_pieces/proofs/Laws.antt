@@ -9,13 +9,13 @@ use lib.Dec.{eqb}
 use lib.ListN.{length, get_or, take, drop, drop_of_length-le}
 use lib.Seq.{drop-cons, take_all}
 use Rattle.base_bytes.specs.Choice.{pick, both}
-use Rattle.spec_text.specs.Bytes.{isBlank, isLetter, isDigit, isWord, quote, slash, star}
-use Rattle.text_pieces.specs.Spans.{inRun, span, oneMore, closing, move_of, further, moved, quoted}
-use Rattle.spec_text.specs.Digits.{decimalFrom}
-use Rattle.text_pieces.specs.Pieces.{word_of, number_of, stringOf, commentOf, mark_of, piece_of}
+use Rattle.spec_text.specs.Bytes.{is_blank, is_letter, is_digit, is_word, quote, slash, star}
+use Rattle.text_pieces.specs.Spans.{in_run, span, one_more, closing, move_of, further, moved, quoted}
+use Rattle.spec_text.specs.Digits.{decimal_from}
+use Rattle.text_pieces.specs.Pieces.{word_of, number_of, string_of, comment_of, mark_of, piece_of}
 use Rattle.text_pieces.specs.declared.Piece.{Piece}
 use Rattle.text_pieces.specs.declared.Piece.TheVariants.{Skip}
-use Rattle.base_bytes.proofs.Tests.{both_true, either-no}
+use Rattle.base_bytes.proofs.Tests.{both_true, either_no}
 use lib.ListN.{get_or-eq_default, length-drop}
 use native.Mathlib.Decide.{dec_le}
 use borrow.Author.Tests.{eqb-true}
@@ -27,56 +27,56 @@ use Rattle.text_pieces.specs.declared.Move.{Move}
 use Rattle.text_pieces.specs.declared.Move.TheVariants.{On, End, Bad}
 
 -- ---- a run of bytes
-pub span-stop : (p : ℕ → Bool) (s : List ℕ) (i : ℕ) → i < length s → p (get_or s i 0) ≡ false → span p (drop i s) ≡ 0
+pub span_stop : (p : ℕ → Bool) (s : List ℕ) (i : ℕ) → i < length s → p (get_or s i 0) ≡ false → span p (drop i s) ≡ 0
 unfolding span
-span-stop p s i h e = rw (drop-cons s i 0 h, e)
+span_stop p s i h e = rw (drop-cons s i 0 h, e)
 
 pub span_more : (p : ℕ → Bool) (s : List ℕ) (i : ℕ) → i < length s → p (get_or s i 0) ≡ true → span p (drop i s) ≡ suc (span p (drop (i + 1) s))
 unfolding span
 span_more p s i h e = rw (drop-cons s i 0 h, e, add-one)
 
-pub span-end : (p : ℕ → Bool) (s : List ℕ) (i : ℕ) → length s ≤ i → span p (drop i s) ≡ 0
+pub span_end : (p : ℕ → Bool) (s : List ℕ) (i : ℕ) → length s ≤ i → span p (drop i s) ≡ 0
 unfolding span
-span-end p s i h = rw (drop_of_length-le s h)
+span_end p s i h = rw (drop_of_length-le s h)
 
-pub span-le : (p : ℕ → Bool) (s : List ℕ) → span p s ≤ length s
+pub span_le : (p : ℕ → Bool) (s : List ℕ) → span p s ≤ length s
 unfolding span
-span-le p [] = omega arith
-span-le p (b ∷ s) = go (p b) (span-le p s)
+span_le p [] = omega arith
+span_le p (b ∷ s) = go (p b) (span_le p s)
   where
     go : (t : Bool) → span p s ≤ length s → pick t (suc (span p s)) 0 ≤ suc (length s)
     go true h = omega arith
     go false h = omega arith
 
 -- without letters a run is of digits
-pub span-digits : (s : List ℕ) → span (inRun false) s ≡ span isDigit s
+pub span-digits : (s : List ℕ) → span (in_run false) s ≡ span is_digit s
 unfolding span
 span-digits [] = refl
-span-digits (b ∷ s) = rw (either-no (isDigit b), span-digits s)
+span-digits (b ∷ s) = rw (either_no (is_digit b), span-digits s)
 
 -- ---- a number, cut off at a most
 module _ (most : ℕ) where
-  cut-alike : (s : List ℕ) (v w : ℕ) → min most v ≡ min most w → min most (decimalFrom v s) ≡ min most (decimalFrom w s)
-  unfolding decimalFrom
-  cut-alike [] v w e = e
-  cut-alike (b ∷ s) v w e = cut-alike s (v * 10 + (b - 48)) (w * 10 + (b - 48)) (more (b - 48))
+  cut_alike : (s : List ℕ) (v w : ℕ) → min most v ≡ min most w → min most (decimal_from v s) ≡ min most (decimal_from w s)
+  unfolding decimal_from
+  cut_alike [] v w e = e
+  cut_alike (b ∷ s) v w e = cut_alike s (v * 10 + (b - 48)) (w * 10 + (b - 48)) (more (b - 48))
     where
       more : (d : ℕ) → min most (v * 10 + d) ≡ min most (w * 10 + d)
       more d = omega arith
 
-  pub cut-more : (s : List ℕ) (i v : ℕ) → i < length s →
-      min most (decimalFrom (min most (v * 10 + (get_or s i 0 - 48))) (drop (i + 1) s)) ≡ min most (decimalFrom v (drop i s))
-  unfolding decimalFrom
-  cut-more s i v h =
+  pub cut_more : (s : List ℕ) (i v : ℕ) → i < length s →
+      min most (decimal_from (min most (v * 10 + (get_or s i 0 - 48))) (drop (i + 1) s)) ≡ min most (decimal_from v (drop i s))
+  unfolding decimal_from
+  cut_more s i v h =
       rw (drop-cons s i 0 h, add-one)
-      (cut-alike (drop (suc i) s) (min most (v * 10 + (get_or s i 0 - 48))) (v * 10 + (get_or s i 0 - 48)) (twice (v * 10 + (get_or s i 0 - 48))))
+      (cut_alike (drop (suc i) s) (min most (v * 10 + (get_or s i 0 - 48))) (v * 10 + (get_or s i 0 - 48)) (twice (v * 10 + (get_or s i 0 - 48))))
     where
       twice : (x : ℕ) → min most (min most x) ≡ min most x
       twice x = omega arith
 
-  pub cut-end : (s : List ℕ) (i v : ℕ) → length s ≤ i → v ≤ most → v ≡ min most (decimalFrom v (drop i s))
-  unfolding decimalFrom
-  cut-end s i v h k = rw (drop_of_length-le s h) (omega arith)
+  pub cut_end : (s : List ℕ) (i v : ℕ) → length s ≤ i → v ≤ most → v ≡ min most (decimal_from v (drop i s))
+  unfolding decimal_from
+  cut_end s i v h k = rw (drop_of_length-le s h) (omega arith)
 
 -- ---- a comment
 abbrev pub later : ℕ → Close → Close
@@ -87,7 +87,7 @@ later-zero : (x : Close) → later 0 x ≡ x
 later-zero (After n) = ap After (omega arith)
 later-zero Never = refl
 
-later_more : (i : ℕ) (x : Close) → later i (oneMore x) ≡ later (i + 1) x
+later_more : (i : ℕ) (x : Close) → later i (one_more x) ≡ later (i + 1) x
 later_more i (After n) = ap After (omega arith)
 later_more i Never = refl
 
@@ -126,48 +126,48 @@ after_more i Unclosed = refl
 pub quoted-start : (s : List ℕ) → after 0 (quoted false s) ≡ quoted false s
 quoted-start s = after-zero (quoted false s)
 
-pub quoted-move : (escaped : Bool) (s : List ℕ) (i : ℕ) → i < length s →
+pub quoted_move : (escaped : Bool) (s : List ℕ) (i : ℕ) → i < length s →
     after i (quoted escaped (drop i s)) ≡ after i (moved (move_of escaped (get_or s i 0)) (λ e. quoted e (drop (i + 1) s)))
 unfolding quoted
-quoted-move escaped s i h = rw (drop-cons s i 0 h) (simp add-one)
+quoted_move escaped s i h = rw (drop-cons s i 0 h) (simp add-one)
 
-pub quoted-on : (escaped next : Bool) (s : List ℕ) (i : ℕ) → i < length s → move_of escaped (get_or s i 0) ≡ On next →
+pub quoted_on : (escaped next : Bool) (s : List ℕ) (i : ℕ) → i < length s → move_of escaped (get_or s i 0) ≡ On next →
     after i (quoted escaped (drop i s)) ≡ after (i + 1) (quoted next (drop (i + 1) s))
-quoted-on escaped next s i h e = quoted-move escaped s i h ∙ rw e (after_more i (quoted next (drop (i + 1) s)))
+quoted_on escaped next s i h e = quoted_move escaped s i h ∙ rw e (after_more i (quoted next (drop (i + 1) s)))
 
 pub quoted-closed : (escaped : Bool) (s : List ℕ) (i : ℕ) → i < length s → move_of escaped (get_or s i 0) ≡ End → after i (quoted escaped (drop i s)) ≡ Closed (i + 1)
-quoted-closed escaped s i h e = quoted-move escaped s i h ∙ rw e
+quoted-closed escaped s i h e = quoted_move escaped s i h ∙ rw e
 
-pub quoted-spoiled : (escaped : Bool) (s : List ℕ) (i : ℕ) → i < length s → move_of escaped (get_or s i 0) ≡ Bad → after i (quoted escaped (drop i s)) ≡ Spoiled (i + 1)
-quoted-spoiled escaped s i h e = quoted-move escaped s i h ∙ rw e
+pub quoted_spoiled : (escaped : Bool) (s : List ℕ) (i : ℕ) → i < length s → move_of escaped (get_or s i 0) ≡ Bad → after i (quoted escaped (drop i s)) ≡ Spoiled (i + 1)
+quoted_spoiled escaped s i h e = quoted_move escaped s i h ∙ rw e
 
-pub quoted-end : (escaped : Bool) (s : List ℕ) (i : ℕ) → length s ≤ i → after i (quoted escaped (drop i s)) ≡ Unclosed
+pub quoted_end : (escaped : Bool) (s : List ℕ) (i : ℕ) → length s ≤ i → after i (quoted escaped (drop i s)) ≡ Unclosed
 unfolding quoted
-quoted-end escaped s i h = rw (drop_of_length-le s h)
+quoted_end escaped s i h = rw (drop_of_length-le s h)
 
 -- ---- how far a comment and a string can reach
-close-le : (s : List ℕ) (starred : Bool) (n : ℕ) → closing starred s ≡ After n → n ≤ length s
+close_le : (s : List ℕ) (starred : Bool) (n : ℕ) → closing starred s ≡ After n → n ≤ length s
 unfolding closing
-close-le [] starred n e = absurd (let z : ◌≡◌ {A = ℕ} 0 1 = cc in omega arith)
-close-le (b ∷ s) starred n e = go (both starred (eqb b slash)) (closing (eqb b star) s) (close-le s (eqb b star)) e
+close_le [] starred n e = absurd (let z : ◌≡◌ {A = ℕ} 0 1 = cc in omega arith)
+close_le (b ∷ s) starred n e = go (both starred (eqb b slash)) (closing (eqb b star) s) (close_le s (eqb b star)) e
   where
-    go : (t : Bool) (x : Close) → ((m : ℕ) → x ≡ After m → m ≤ length s) → pick t (After 1) (oneMore x) ≡ After n → n ≤ suc (length s)
+    go : (t : Bool) (x : Close) → ((m : ℕ) → x ≡ After m → m ≤ length s) → pick t (After 1) (one_more x) ≡ After n → n ≤ suc (length s)
     go true x f q = let h : 1 ≡ n = cc in omega arith
     go false (After m) f q = let h : m + 1 ≡ n = cc in omega (arith, f m refl)
     go false Never f q = absurd (let z : ◌≡◌ {A = ℕ} 0 1 = cc in omega arith)
 
 pub closed-within : (x : Close) (s : List ℕ) (n : ℕ) → x ≡ closing false s → x ≡ After n → n ≤ length s
-closed-within x s n e q = close-le s false n (sym e ∙ q)
+closed-within x s n e q = close_le s false n (sym e ∙ q)
 
 reach : Quoted → ℕ
 reach (Closed n) = n
 reach (Spoiled n) = n
 reach Unclosed = 0
 
-quoted-le : (s : List ℕ) (escaped : Bool) → reach (quoted escaped s) ≤ length s
+quoted_le : (s : List ℕ) (escaped : Bool) → reach (quoted escaped s) ≤ length s
 unfolding quoted reach
-quoted-le [] escaped = omega arith
-quoted-le (b ∷ s) escaped = go (move_of escaped b) (λ e. quoted-le s e)
+quoted_le [] escaped = omega arith
+quoted_le (b ∷ s) escaped = go (move_of escaped b) (λ e. quoted_le s e)
   where
     on : (x : Quoted) → reach x ≤ length s → reach (further x) ≤ suc (length s)
     on (Closed n) h = omega arith
@@ -180,40 +180,40 @@ quoted-le (b ∷ s) escaped = go (move_of escaped b) (λ e. quoted-le s e)
     go Bad f = omega arith
 
 module _ (x : Quoted) (s : List ℕ) (n : ℕ) (e : x ≡ quoted false s) where
-  pub string-within : x ≡ Closed n → n ≤ length s
+  pub string_within : x ≡ Closed n → n ≤ length s
   unfolding reach
-  string-within q = rw (← e, q) at (quoted-le s false)
+  string_within q = rw (← e, q) at (quoted_le s false)
 
-  pub spoiled-within : x ≡ Spoiled n → n ≤ length s
+  pub spoiled_within : x ≡ Spoiled n → n ≤ length s
   unfolding reach
-  spoiled-within q = rw (← e, q) at (quoted-le s false)
+  spoiled_within q = rw (← e, q) at (quoted_le s false)
 
 -- ---- the piece at the front, by places of the text
-abbrev pub frontOf : ℕ → List ℕ → Piece
-frontOf b s =
-    pick (isBlank b) (Skip 1)
-    (pick (isLetter b) (word_of s (span isWord s))
-    (pick (isDigit b) (number_of s (span isDigit s))
-    (pick (eqb b quote) (stringOf (quoted false (drop 1 s)) (length (drop 1 s)))
-    (pick (both (eqb b slash) (eqb (get_or s 1 0) star)) (commentOf (closing false (drop 2 s)) (length (drop 2 s)))
+abbrev pub front_of : ℕ → List ℕ → Piece
+front_of b s =
+    pick (is_blank b) (Skip 1)
+    (pick (is_letter b) (word_of s (span is_word s))
+    (pick (is_digit b) (number_of s (span is_digit s))
+    (pick (eqb b quote) (string_of (quoted false (drop 1 s)) (length (drop 1 s)))
+    (pick (both (eqb b slash) (eqb (get_or s 1 0) star)) (comment_of (closing false (drop 2 s)) (length (drop 2 s)))
     (mark_of b (get_or s 1 0))))))
 
-pub front_of : (s : List ℕ) → (length s ≡ 0 → ⊥) → piece_of s ≡ frontOf (get_or s 0 0) s
+pub front_of_lem : (s : List ℕ) → (length s ≡ 0 → ⊥) → piece_of s ≡ front_of (get_or s 0 0) s
 unfolding piece_of
-front_of [] h = absurd (h refl)
-front_of (b ∷ s) h = refl
+front_of_lem [] h = absurd (h refl)
+front_of_lem (b ∷ s) h = refl
 
-pub nothing-there : (s : List ℕ) → length s ≡ 0 → Skip 0 ≡ piece_of s
+pub nothing_there : (s : List ℕ) → length s ≡ 0 → Skip 0 ≡ piece_of s
 unfolding piece_of
-nothing-there [] e = refl
-nothing-there (b ∷ s) e = absurd (omega arith)
+nothing_there [] e = refl
+nothing_there (b ∷ s) e = absurd (omega arith)
 
 -- a part through the end
 pub tail-part : (k : ℕ) (s : List ℕ) → take (length s - k) (drop k s) ≡ drop k s
 tail-part k s = take_all (length s - k) (drop k s) (rw (length-drop k s) (omega arith))
 
-pub two-there : (s : List ℕ) (b n : ℕ) → n ≡ get_or s 1 0 → both (eqb b slash) (eqb n star) ≡ true → 2 ≤ length s
-two-there s b n e h = go (dec_le 2 (length s))
+pub two_there : (s : List ℕ) (b n : ℕ) → n ≡ get_or s 1 0 → both (eqb b slash) (eqb n star) ≡ true → 2 ≤ length s
+two_there s b n e h = go (dec_le 2 (length s))
   where
     starred : n ≡ star
     starred = eqb-true n star (both_true (eqb b slash) (eqb n star) h).1

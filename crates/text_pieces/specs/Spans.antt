@@ -1,8 +1,8 @@
--- Mechanism, held to the specification by `reading-exact` (crate `text_spacing_proof`) and `reading-spoils` (crate `text_spoils_proof`), but for `inRun`, of contracts alone.
+-- Mechanism, held to the specification by `reading_exact` (crate `text_spacing_proof`) and `reading_spoils` (crate `text_spoils_proof`), but for `in_run`, of contracts alone.
 -- How far a word, a number, a string or a comment reaches: document 01, "The edition we read", Bytes.
 use Rattle.std.specs.Prelude.{Bool, true, false, List, [], ◌∷◌, ℕ, suc, ◌+◌, ◌-◌, ◌*◌, eqb}
 use Rattle.base_bytes.specs.Choice.{pick, both, either}
-use Rattle.spec_text.specs.Bytes.{isDigit, isLetter, is_plain, isEscape, quote, backslash, slash, star}
+use Rattle.spec_text.specs.Bytes.{is_digit, is_letter, is_plain, is_escape, quote, backslash, slash, star}
 use Rattle.text_pieces.specs.declared.Close.{Close}
 use Rattle.text_pieces.specs.declared.Close.TheVariants.{After, Never}
 use Rattle.text_pieces.specs.declared.Quoted.{Quoted}
@@ -11,8 +11,8 @@ use Rattle.text_pieces.specs.declared.Move.{Move}
 use Rattle.text_pieces.specs.declared.Move.TheVariants.{On, End, Bad}
 
 -- a byte of a number, or where letters count too of a word
-abbrev pub inRun : Bool → ℕ → Bool
-inRun letters b = either (isDigit b) (both letters (isLetter b))
+abbrev pub in_run : Bool → ℕ → Bool
+in_run letters b = either (is_digit b) (both letters (is_letter b))
 
 -- how many bytes at the front pass a test
 unfoldable pub span : (ℕ → Bool) → List ℕ → ℕ
@@ -20,17 +20,17 @@ span p [] = 0
 span p (b ∷ s) = pick (p b) (suc (span p s)) 0
 
 -- "Comments run from `/*` to the next `*/` and hold any bytes": how many bytes through the next `*/`; `starred` if the byte before is a star
-abbrev pub oneMore : Close → Close
-oneMore (After n) = After (n + 1)
-oneMore Never = Never
+abbrev pub one_more : Close → Close
+one_more (After n) = After (n + 1)
+one_more Never = Never
 
 unfoldable pub closing : Bool → List ℕ → Close
 closing starred [] = Never
-closing starred (b ∷ s) = pick (both starred (eqb b slash)) (After 1) (oneMore (closing (eqb b star) s))
+closing starred (b ∷ s) = pick (both starred (eqb b slash)) (After 1) (one_more (closing (eqb b star) s))
 
 -- what a byte of a string does; `escaped` if a backslash before it wants it
 abbrev pub move_of : Bool → ℕ → Move
-move_of true b = pick (isEscape b) (On false) Bad
+move_of true b = pick (is_escape b) (On false) Bad
 move_of false b = pick (eqb b quote) End (pick (eqb b backslash) (On true) (pick (is_plain b) (On false) Bad))
 
 abbrev pub further : Quoted → Quoted

@@ -1,11 +1,11 @@
 // One piece at the front of a text: what is skipped, a token, or a refusal (document 01, "Bytes", "Keywords", "Marks").
 ghost use Rattle.std.specs.Prelude.{◌≡◌, false, ◌+◌, ◌-◌, ◌≤◌, min, length, eqb};
-ghost use Rattle.base_ceilings.specs.Ceilings.{numberMost};
-ghost use Rattle.spec_text.specs.Bytes.{isBlank, isLetter, isDigit, is_plain, isEscape, slash, star};
+ghost use Rattle.base_ceilings.specs.Ceilings.{number_most};
+ghost use Rattle.spec_text.specs.Bytes.{is_blank, is_letter, is_digit, is_plain, is_escape, slash, star};
 ghost use Rattle.base_bytes.specs.Choice.{both};
-ghost use Rattle.text_pieces.specs.Spans.{inRun, span, closing, move_of, quoted};
+ghost use Rattle.text_pieces.specs.Spans.{in_run, span, closing, move_of, quoted};
 ghost use Rattle.spec_text.specs.Digits.{decimal};
-ghost use Rattle.text_pieces.specs.Pieces.{word_of, number_of, stringOf, commentOf, mark_of, piece_of};
+ghost use Rattle.text_pieces.specs.Pieces.{word_of, number_of, string_of, comment_of, mark_of, piece_of};
 
 // What stands at the front of a text, with its length.
 #[derive(Drop)]
@@ -46,7 +46,7 @@ pub enum Move {
 const NUMBER_MOST: u64 = base_ceilings::NUMBER_MOST as u64;
 
 fn is_blank(b: u8) -> bool
-    ensures { result ≡ isBlank b }
+    ensures { result ≡ is_blank b }
 {
     match b {
         b' ' => true,
@@ -58,7 +58,7 @@ fn is_blank(b: u8) -> bool
 }
 
 pub fn is_digit(b: u8) -> bool
-    ensures { result ≡ isDigit b }
+    ensures { result ≡ is_digit b }
 {
     match b {
         b'0'..=b'9' => true,
@@ -67,7 +67,7 @@ pub fn is_digit(b: u8) -> bool
 }
 
 pub fn is_letter(b: u8) -> bool
-    ensures { result ≡ isLetter b }
+    ensures { result ≡ is_letter b }
 {
     match b {
         b'A'..=b'Z' => true,
@@ -88,7 +88,7 @@ fn is_plain(b: u8) -> bool
 }
 
 fn is_escape(b: u8) -> bool
-    ensures { result ≡ isEscape b }
+    ensures { result ≡ is_escape b }
 {
     match b {
         b'n' => true,
@@ -101,7 +101,7 @@ fn is_escape(b: u8) -> bool
 
 // A byte of a number, or where letters count too of a word.
 fn is_run(b: u8, letters: bool) -> bool
-    ensures { result ≡ inRun letters b }
+    ensures { result ≡ in_run letters b }
 {
     if is_digit(b) {
         return true;
@@ -114,7 +114,7 @@ fn is_run(b: u8, letters: bool) -> bool
 
 // How many bytes at the front are of a number, or of a word.
 fn run(s: &[u8], letters: bool) -> usize
-    ensures { result ≡ span (inRun letters) s.now }
+    ensures { result ≡ span (in_run letters) s.now }
 {
     let mut i: usize = 0;
     while i < s.len() {
@@ -128,7 +128,7 @@ fn run(s: &[u8], letters: bool) -> usize
 
 // How many digits stand at the front.
 pub fn digits(s: &[u8]) -> usize
-    ensures { result ≡ span isDigit s.now }
+    ensures { result ≡ span is_digit s.now }
 {
     run(s, false)
 }
@@ -150,7 +150,7 @@ fn lesser(a: u64, b: u64) -> u64
 
 // The number that these digits write; every number past the most counts as one past it.
 pub fn value(s: &[u8]) -> u64
-    ensures { result ≡ min (numberMost + 1) (decimal s.now) }
+    ensures { result ≡ min (number_most + 1) (decimal s.now) }
 {
     let mut v: u64 = 0;
     let mut i: usize = 0;
@@ -234,7 +234,7 @@ fn quoted_from(s: &[u8]) -> Quoted
 }
 
 fn string(s: &[u8]) -> Piece
-    ensures { result ≡ stringOf (quoted false s.now) (length s.now) }
+    ensures { result ≡ string_of (quoted false s.now) (length s.now) }
 {
     let q = quoted_from(s);
     match q {
@@ -277,7 +277,7 @@ fn closing_in(s: &[u8]) -> Close
 }
 
 fn comment(s: &[u8]) -> Piece
-    ensures { result ≡ commentOf (closing false s.now) (length s.now) }
+    ensures { result ≡ comment_of (closing false s.now) (length s.now) }
 {
     let c = closing_in(s);
     match c {

@@ -13,7 +13,7 @@ use Rattle.spec_text.specs.Bytes.{slash, star}
 use Rattle.text_pieces.specs.Spans.{closing}
 use Rattle.text_pieces.specs.declared.Close.{Close}
 use Rattle.text_pieces.specs.declared.Close.TheVariants.{After, Never}
-use Rattle.text_spacing_proof.proofs.Spans.{closing-more, Comment, comment-ends}
+use Rattle.text_spacing_proof.proofs.Spans.{closing-more, Comment, comment_ends}
 use Rattle.spec_text.specs.Layout.{Unended}
 
 -- a text that holds a `*/` closes there at the latest
@@ -30,23 +30,23 @@ one_later b starred s m k h z = go (both starred (eqb b slash)) refl
     go true e = record { at = 1; is = rw e; early = omega arith }
     go false e = record { at = z.at + 1; is = rw (e, z.is); early = omega (arith, z.early) }
 
-at-star : (y : List ℕ) → Closes true (slash ∷ y) 1
+at_star : (y : List ℕ) → Closes true (slash ∷ y) 1
 unfolding closing
-at-star y = record { at = 1; is = refl; early = omega arith }
+at_star y = record { at = 1; is = refl; early = omega arith }
 
 closes_by : (starred : Bool) (x y : List ℕ) → Closes starred (x ++ star ∷ slash ∷ y) (length x + 2)
-closes_by starred [] y = one_later star starred (slash ∷ y) 1 2 (omega arith) (at-star y)
+closes_by starred [] y = one_later star starred (slash ∷ y) 1 2 (omega arith) (at_star y)
 closes_by starred (b ∷ x) y = one_later b starred (x ++ star ∷ slash ∷ y) (length x + 2) (length (b ∷ x) + 2) (omega arith) (closes_by (eqb b star) x y)
 
 -- a comment is unclosed exactly where no `*/` is
-pub never-unended : (c : List ℕ) → (closing false c ≡ Never) ↔ Unended c
-never-unended c = (to, λ u. from (closing false c) refl u)
+pub never_unended : (c : List ℕ) → (closing false c ≡ Never) ↔ Unended c
+never_unended c = (to, λ u. from (closing false c) refl u)
   where
     to : closing false c ≡ Never → Unended c
     to e x y w = let z = closes_by false x y in absurd (let q : After z.at ≡ Never = sym z.is ∙ ap (closing false) (sym w) ∙ e in let o : ◌≡◌ {A = ℕ} 0 1 = cc in omega arith)
 
     from : (k : Close) → closing false c ≡ k → Unended c → k ≡ Never
-    from (After n) e u = let z = comment-ends c n e in absurd (u z.inside z.rest z.whole)
+    from (After n) e u = let z = comment_ends c n e in absurd (u z.inside z.rest z.whole)
     from Never e u = refl
 
 -- a `*/` that ends before the last one stands before the last byte
@@ -80,7 +80,7 @@ closing-next c = (to, from)
     from : Unended (c ++ star ∷ []) → closing false (c ++ star ∷ slash ∷ []) ≡ After (length c + 2)
     from u =
         let z = closes_by false c [] in
-        let m = comment-ends (c ++ star ∷ slash ∷ []) z.at z.is in
+        let m = comment_ends (c ++ star ∷ slash ∷ []) z.at z.is in
         go z m (ℕ_discrete (length m.inside) (length c))
       where
         go : (z : Closes false (c ++ star ∷ slash ∷ []) (length c + 2)) (m : Comment (c ++ star ∷ slash ∷ []) z.at) → Dec (length m.inside ≡ length c) → closing false (c ++ star ∷ slash ∷ []) ≡ After (length c + 2)

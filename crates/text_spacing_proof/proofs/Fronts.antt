@@ -8,43 +8,43 @@ use borrow.Author.Tests.{lt-ltb, le-ltb, ltb-true, ltb-false, eq-eqb, ne_eqb, eq
 use lib.Dec.{eqb, ltb}
 use lib.ListN.{length, get_or, take, drop, length-append, take-append-drop}
 use lib.Seq.{take-append_seam, length-take-le}
-use Rattle.base_ceilings.specs.Ceilings.{numberMost, stringMost, wordMost}
+use Rattle.base_ceilings.specs.Ceilings.{number_most, string_most, word_most}
 use Rattle.base_bytes.specs.Choice.{pick, both, either}
 use Rattle.base_bytes.specs.Lists.{same}
-use Rattle.base_bytes.proofs.Tests.{both_true, either_true, either-false, true-false}
-use Rattle.base_kinds.specs.Kinds.{marks, number-kind, string-kind}
-use Rattle.spec_text.specs.Find.{find, wordKind}
-use Rattle.spec_text.specs.Bytes.{isBlank, isLetter, isDigit, isWord, quote, slash, star}
+use Rattle.base_bytes.proofs.Tests.{both_true, either_true, either_false, true_false}
+use Rattle.base_kinds.specs.Kinds.{marks, number_kind, string_kind}
+use Rattle.spec_text.specs.Find.{find, word_kind}
+use Rattle.spec_text.specs.Bytes.{is_blank, is_letter, is_digit, is_word, quote, slash, star}
 use Rattle.text_pieces.specs.Spans.{span, closing, quoted}
 use Rattle.spec_text.specs.Digits.{decimal}
-use Rattle.text_pieces.specs.Pieces.{word_of, number_of, stringOf, commentOf, mark_of, piece_of}
+use Rattle.text_pieces.specs.Pieces.{word_of, number_of, string_of, comment_of, mark_of, piece_of}
 use Rattle.text_pieces.specs.declared.Piece.{Piece}
 use Rattle.text_pieces.specs.declared.Piece.TheVariants.{Skip, Take, Stop}
 use Rattle.text_pieces.specs.declared.Close.{Close}
 use Rattle.text_pieces.specs.declared.Close.TheVariants.{After, Never}
 use Rattle.text_pieces.specs.declared.Quoted.{Quoted}
 use Rattle.text_pieces.specs.declared.Quoted.TheVariants.{Closed, Spoiled, Unclosed}
-use Rattle.text_pieces.proofs.Laws.{span-le}
-use Rattle.text_pieces.proofs.Sizes.{by-test, find-zero}
+use Rattle.text_pieces.proofs.Laws.{span_le}
+use Rattle.text_pieces.proofs.Sizes.{by_test, find-zero}
 use Rattle.text_spellings.proofs.Laws.{two-one}
-use Rattle.spec_text.specs.Spelled.{all, Between, Spelled, word, digits, string, mark, markJoins, joins}
+use Rattle.spec_text.specs.Spelled.{all, Between, Spelled, word, digits, string, mark, mark_joins, joins}
 use Rattle.spec_text.specs.Layout.{Gap, none, blank, comment}
-use Rattle.text_spacing_proof.proofs.Classes.{digit-letter, digit-blank, letter-blank}
+use Rattle.text_spacing_proof.proofs.Classes.{digit_letter, digit-blank, letter_blank}
 use Rattle.text_spacing_proof.proofs.Comments.{closing-next}
-use Rattle.text_spacing_proof.proofs.Tables.{mark-range, word-range, every, found-passes, fails-unfound}
-use Rattle.text_spacing_proof.proofs.Spans.{span-whole, span-all, span-stops, quoted-whole, Ends, quoted-ends, closing-more, Comment, comment-ends}
+use Rattle.text_spacing_proof.proofs.Tables.{mark_range, word_range, every, found_passes, fails_unfound}
+use Rattle.text_spacing_proof.proofs.Spans.{span-whole, span-all, span_stops, quoted-whole, Ends, quoted-ends, closing-more, Comment, comment_ends}
 
 -- ---- which test `joins` makes, kind by kind
-pub joins-word : (w x : List ℕ) (c : ℕ) → joins (wordKind w) x c ≡ isWord c
-joins-word w x c = let (p, q) = word-range w in rw (le-ltb (wordKind w) 38 p, lt-ltb (wordKind w) 71 q)
+pub joins-word : (w x : List ℕ) (c : ℕ) → joins (word_kind w) x c ≡ is_word c
+joins-word w x c = let (p, q) = word_range w in rw (le-ltb (word_kind w) 38 p, lt-ltb (word_kind w) 71 q)
 
-pub joins-mark : (k : ℕ) (x : List ℕ) (c : ℕ) → find x marks 1 ≡ suc k → joins (suc k) x c ≡ markJoins x c
-joins-mark k x c e = rw (lt-ltb (suc k) 38 (mark-range x k e))
+pub joins-mark : (k : ℕ) (x : List ℕ) (c : ℕ) → find x marks 1 ≡ suc k → joins (suc k) x c ≡ mark_joins x c
+joins-mark k x c e = rw (lt-ltb (suc k) 38 (mark_range x k e))
 
 -- ---- marks: what every mark of the table is
 -- its first byte begins nothing else
 unfoldable pub fronts : ℕ → Bool
-fronts a = both (not (isBlank a)) (both (not (isLetter a)) (both (not (isDigit a)) (not (eqb a quote))))
+fronts a = both (not (is_blank a)) (both (not (is_letter a)) (both (not (is_digit a)) (not (eqb a quote))))
 
 -- it has one byte or two, and does not open a comment
 unfoldable pub markish : List ℕ → Bool
@@ -58,21 +58,21 @@ unfolding markish fronts
 all-markish = refl
 
 pub mark-passes : (x : List ℕ) (k : ℕ) → find x marks 1 ≡ suc k → markish x ≡ true
-mark-passes x k e = found-passes markish x marks 1 all-markish (λ z. omega arith)
+mark-passes x k e = found_passes markish x marks 1 all-markish (λ z. omega arith)
 
 -- behind a byte that begins nothing else, a mark is looked for
 fronts-mark : (a : ℕ) (s : List ℕ) → fronts a ≡ true → both (eqb a slash) (eqb (get_or s 0 0) star) ≡ false → piece_of (a ∷ s) ≡ mark_of a (get_or s 0 0)
 unfolding piece_of fronts
 fronts-mark a s e h =
-    let (p, q) = both_true (not (isBlank a)) (both (not (isLetter a)) (both (not (isDigit a)) (not (eqb a quote)))) e in
-    let (r, t) = both_true (not (isLetter a)) (both (not (isDigit a)) (not (eqb a quote))) q in
-    let (u, v) = both_true (not (isDigit a)) (not (eqb a quote)) t in
-    rw (not-true (isBlank a) p, not-true (isLetter a) r, not-true (isDigit a) u, not-true (eqb a quote) v, h)
+    let (p, q) = both_true (not (is_blank a)) (both (not (is_letter a)) (both (not (is_digit a)) (not (eqb a quote)))) e in
+    let (r, t) = both_true (not (is_letter a)) (both (not (is_digit a)) (not (eqb a quote))) q in
+    let (u, v) = both_true (not (is_digit a)) (not (eqb a quote)) t in
+    rw (not-true (is_blank a) p, not-true (is_letter a) r, not-true (is_digit a) u, not-true (eqb a quote) v, h)
 
-no-find : (n : ℕ) → ltb 0 n ≡ false → n ≡ 0
-no-find n e = let h = ltb-false 0 n e in omega arith
+no_find : (n : ℕ) → ltb 0 n ≡ false → n ≡ 0
+no_find n e = let h = ltb-false 0 n e in omega arith
 
--- the second half of `markJoins`, for a mark of one byte
+-- the second half of `mark_joins`, for a mark of one byte
 one-slash : (a c : ℕ) → both (same (a ∷ []) (slash ∷ [])) (eqb c star) ≡ both (eqb a slash) (eqb c star)
 unfolding same
 one-slash a c = go (eqb a slash)
@@ -81,42 +81,42 @@ one-slash a c = go (eqb a slash)
     go true = refl
     go false = refl
 
-mark-front : (x rest : List ℕ) (k : ℕ) → markish x ≡ true → find x marks 1 ≡ suc k → markJoins x (get_or rest 0 0) ≡ false → piece_of (x ++ rest) ≡ Take (suc k) (length x)
+mark-front : (x rest : List ℕ) (k : ℕ) → markish x ≡ true → find x marks 1 ≡ suc k → mark_joins x (get_or rest 0 0) ≡ false → piece_of (x ++ rest) ≡ Take (suc k) (length x)
 unfolding markish
-mark-front [] rest k m e j = absurd (true-false (sym m))
+mark-front [] rest k m e j = absurd (true_false (sym m))
 mark-front (a ∷ []) rest k m e j =
-    let (p, q) = either-false (ltb 0 (find (a ∷ get_or rest 0 0 ∷ []) marks 1)) (both (same (a ∷ []) (slash ∷ [])) (eqb (get_or rest 0 0) star)) j in
+    let (p, q) = either_false (ltb 0 (find (a ∷ get_or rest 0 0 ∷ []) marks 1)) (both (same (a ∷ []) (slash ∷ [])) (eqb (get_or rest 0 0) star)) j in
     fronts-mark a rest m (sym (one-slash a (get_or rest 0 0)) ∙ q)
-    ∙ rw (no-find (find (a ∷ get_or rest 0 0 ∷ []) marks 1) p, e, ne_eqb (suc k) 0 (λ z. omega arith))
+    ∙ rw (no_find (find (a ∷ get_or rest 0 0 ∷ []) marks 1) p, e, ne_eqb (suc k) 0 (λ z. omega arith))
 mark-front (a ∷ c ∷ []) rest k m e j =
     let (p, q) = both_true (fronts a) (not (both (eqb a slash) (eqb c star))) m in
     fronts-mark a (c ∷ rest) p (not-true (both (eqb a slash) (eqb c star)) q) ∙ rw (e, ne_eqb (suc k) 0 (λ z. omega arith))
-mark-front (a ∷ c ∷ d ∷ x) rest k m e j = absurd (true-false (sym m))
+mark-front (a ∷ c ∷ d ∷ x) rest k m e j = absurd (true_false (sym m))
 
 -- ---- THE FRONT, ONE WAY: a spelled token is taken
-pub first_word : (b : ℕ) (s : List ℕ) → isLetter b ≡ true → all isWord s ≡ true → all isWord (b ∷ s) ≡ true
+pub first_word : (b : ℕ) (s : List ℕ) → is_letter b ≡ true → all is_word s ≡ true → all is_word (b ∷ s) ≡ true
 unfolding all
-first_word b s e a = rw (either-last (isDigit b) e, a)
+first_word b s e a = rw (either-last (is_digit b) e, a)
   where
-    either-last : (t : Bool) → isLetter b ≡ true → either t (isLetter b) ≡ true
+    either-last : (t : Bool) → is_letter b ≡ true → either t (is_letter b) ≡ true
     either-last true q = refl
     either-last false q = q
 
-pub first-digit : (b : ℕ) (s : List ℕ) → isDigit b ≡ true → all isDigit s ≡ true → all isDigit (b ∷ s) ≡ true
+pub first-digit : (b : ℕ) (s : List ℕ) → is_digit b ≡ true → all is_digit s ≡ true → all is_digit (b ∷ s) ≡ true
 unfolding all
 first-digit b s e a = rw (e, a)
 
 pub front-taken : {k : ℕ} {x : List ℕ} (rest : List ℕ) → Spelled k x → joins k x (get_or rest 0 0) ≡ false → piece_of (x ++ rest) ≡ Take k (length x)
 unfolding piece_of
 front-taken rest (word {b = b} {s = s} l a h) j =
-    let n : span isWord (b ∷ s ++ rest) ≡ length (b ∷ s) = span-whole isWord (b ∷ s) rest (first_word b s l a) (sym (joins-word (b ∷ s) (b ∷ s) (get_or rest 0 0)) ∙ j) in
-    rw (letter-blank b l, l, n, le-ltb wordMost (suc (length s)) h, take-append_seam s rest)
+    let n : span is_word (b ∷ s ++ rest) ≡ length (b ∷ s) = span-whole is_word (b ∷ s) rest (first_word b s l a) (sym (joins-word (b ∷ s) (b ∷ s) (get_or rest 0 0)) ∙ j) in
+    rw (letter_blank b l, l, n, le-ltb word_most (suc (length s)) h, take-append_seam s rest)
 front-taken rest (digits {b = b} {s = s} d a h) j =
-    let n : span isDigit (b ∷ s ++ rest) ≡ length (b ∷ s) = span-whole isDigit (b ∷ s) rest (first-digit b s d a) j in
-    rw (digit-blank b d, digit-letter b d, d, n, take-append_seam s rest, le-ltb numberMost (decimal (b ∷ s)) h)
+    let n : span is_digit (b ∷ s ++ rest) ≡ length (b ∷ s) = span-whole is_digit (b ∷ s) rest (first-digit b s d a) j in
+    rw (digit-blank b d, digit_letter b d, d, n, take-append_seam s rest, le-ltb number_most (decimal (b ∷ s)) h)
 front-taken rest (string {s = s} b h) j =
-    rw (append_assoc s (quote ∷ []) rest, quoted-whole rest b, le-ltb (stringMost + 1) (length s + 1) (omega arith))
-    (ap (Take string-kind) (omega (arith, length-append s (quote ∷ []))))
+    rw (append_assoc s (quote ∷ []) rest, quoted-whole rest b, le-ltb (string_most + 1) (length s + 1) (omega arith))
+    (ap (Take string_kind) (omega (arith, length-append s (quote ∷ []))))
 front-taken rest (mark {k = k} {x = x} e) j = mark-front x rest k (mark-passes x k e) e (sym (joins-mark k x (get_or rest 0 0) e) ∙ j)
 
 -- ---- THE FRONT, THE OTHER WAY: what is taken is a spelled token, and the longest
@@ -137,24 +137,24 @@ not_stopped e = absurd (let z : ◌≡◌ {A = ℕ} 0 1 = cc in omega arith)
 -- a run: its bytes, and what lies behind
 split-run : (p : ℕ → Bool) (b : ℕ) (s : List ℕ) → p b ≡ true → (m : ℕ) × (span p (b ∷ s) ≡ suc m) × (take (suc m) (b ∷ s) ≡ b ∷ take m s) × (all p (take m s) ≡ true) × (m ≤ length s)
 unfolding span
-split-run p b s e = (span p s, rw e, refl, span-all p s, span-le p s)
+split-run p b s e = (span p s, rw e, refl, span-all p s, span_le p s)
 
-word-taken : (b : ℕ) (s : List ℕ) (k n : ℕ) → isLetter b ≡ true → word_of (b ∷ s) (span isWord (b ∷ s)) ≡ Take k n → FrontToken (b ∷ s) k n
-word-taken b s k n l e = go (split-run isWord b s (first l))
+word-taken : (b : ℕ) (s : List ℕ) (k n : ℕ) → is_letter b ≡ true → word_of (b ∷ s) (span is_word (b ∷ s)) ≡ Take k n → FrontToken (b ∷ s) k n
+word-taken b s k n l e = go (split-run is_word b s (first l))
   where
-    first : isLetter b ≡ true → isWord b ≡ true
-    first q = rw q (last (isDigit b))
+    first : is_letter b ≡ true → is_word b ≡ true
+    first q = rw q (last (is_digit b))
       where
         last : (t : Bool) → either t true ≡ true
         last true = refl
         last false = refl
 
-    go : (m : ℕ) × (span isWord (b ∷ s) ≡ suc m) × (take (suc m) (b ∷ s) ≡ b ∷ take m s) × (all isWord (take m s) ≡ true) × (m ≤ length s) → FrontToken (b ∷ s) k n
-    go (m, u, v, a, h) = by-test (λ (p : Piece). p ≡ Take k n → FrontToken (b ∷ s) k n) (ltb wordMost (suc m)) (λ _ q. not_stopped q) taken (rw u at e)
+    go : (m : ℕ) × (span is_word (b ∷ s) ≡ suc m) × (take (suc m) (b ∷ s) ≡ b ∷ take m s) × (all is_word (take m s) ≡ true) × (m ≤ length s) → FrontToken (b ∷ s) k n
+    go (m, u, v, a, h) = by_test (λ (p : Piece). p ≡ Take k n → FrontToken (b ∷ s) k n) (ltb word_most (suc m)) (λ _ q. not_stopped q) taken (rw u at e)
       where
-        taken : ltb wordMost (suc m) ≡ false → Take (wordKind (b ∷ take m s)) (suc m) ≡ Take k n → FrontToken (b ∷ s) k n
+        taken : ltb word_most (suc m) ≡ false → Take (word_kind (b ∷ take m s)) (suc m) ≡ Take k n → FrontToken (b ∷ s) k n
         taken f q =
-            let kk : wordKind (b ∷ take m s) ≡ k = cc in
+            let kk : word_kind (b ∷ take m s) ≡ k = cc in
             let nn : suc m ≡ n = cc in
             let sz : length (take m s) ≡ m = length-take-le m s h in
             rw (← kk)
@@ -163,19 +163,19 @@ word-taken b s k n l e = go (split-run isWord b s (first l))
               rest = drop m s;
               whole = ap (b ∷◌) (sym (take-append-drop m s));
               size = ap suc sz ∙ nn;
-              spelled = word {b = b} {s = take m s} l a (omega (arith, ltb-false wordMost (suc m) f));
-              longest = joins-word (b ∷ take m s) (b ∷ take m s) (get_or (drop m s) 0 0) ∙ (rw u at (span-stops isWord refl (b ∷ s)));
+              spelled = word {b = b} {s = take m s} l a (omega (arith, ltb-false word_most (suc m) f));
+              longest = joins-word (b ∷ take m s) (b ∷ take m s) (get_or (drop m s) 0 0) ∙ (rw u at (span_stops is_word refl (b ∷ s)));
             })
 
-number-taken : (b : ℕ) (s : List ℕ) (k n : ℕ) → isDigit b ≡ true → number_of (b ∷ s) (span isDigit (b ∷ s)) ≡ Take k n → FrontToken (b ∷ s) k n
-number-taken b s k n d e = go (split-run isDigit b s d)
+number-taken : (b : ℕ) (s : List ℕ) (k n : ℕ) → is_digit b ≡ true → number_of (b ∷ s) (span is_digit (b ∷ s)) ≡ Take k n → FrontToken (b ∷ s) k n
+number-taken b s k n d e = go (split-run is_digit b s d)
   where
-    go : (m : ℕ) × (span isDigit (b ∷ s) ≡ suc m) × (take (suc m) (b ∷ s) ≡ b ∷ take m s) × (all isDigit (take m s) ≡ true) × (m ≤ length s) → FrontToken (b ∷ s) k n
-    go (m, u, v, a, h) = by-test (λ (p : Piece). p ≡ Take k n → FrontToken (b ∷ s) k n) (ltb numberMost (decimal (b ∷ take m s))) (λ _ q. not_stopped q) taken (rw u at e)
+    go : (m : ℕ) × (span is_digit (b ∷ s) ≡ suc m) × (take (suc m) (b ∷ s) ≡ b ∷ take m s) × (all is_digit (take m s) ≡ true) × (m ≤ length s) → FrontToken (b ∷ s) k n
+    go (m, u, v, a, h) = by_test (λ (p : Piece). p ≡ Take k n → FrontToken (b ∷ s) k n) (ltb number_most (decimal (b ∷ take m s))) (λ _ q. not_stopped q) taken (rw u at e)
       where
-        taken : ltb numberMost (decimal (b ∷ take m s)) ≡ false → Take number-kind (suc m) ≡ Take k n → FrontToken (b ∷ s) k n
+        taken : ltb number_most (decimal (b ∷ take m s)) ≡ false → Take number_kind (suc m) ≡ Take k n → FrontToken (b ∷ s) k n
         taken f q =
-            let kk : number-kind ≡ k = cc in
+            let kk : number_kind ≡ k = cc in
             let nn : suc m ≡ n = cc in
             let sz : length (take m s) ≡ m = length-take-le m s h in
             rw (← kk)
@@ -184,16 +184,16 @@ number-taken b s k n d e = go (split-run isDigit b s d)
               rest = drop m s;
               whole = ap (b ∷◌) (sym (take-append-drop m s));
               size = ap suc sz ∙ nn;
-              spelled = digits d a (ltb-false numberMost (decimal (b ∷ take m s)) f);
-              longest = rw u at (span-stops isDigit refl (b ∷ s));
+              spelled = digits d a (ltb-false number_most (decimal (b ∷ take m s)) f);
+              longest = rw u at (span_stops is_digit refl (b ∷ s));
             })
 
-string-taken : (s : List ℕ) (k n : ℕ) (y : Quoted) → quoted false s ≡ y → stringOf y (length s) ≡ Take k n → FrontToken (quote ∷ s) k n
-string-taken s k n (Closed m) g e = by-test (λ (p : Piece). p ≡ Take k n → FrontToken (quote ∷ s) k n) (ltb (stringMost + 1) m) (λ _ q. not_stopped q) taken e
+string_taken : (s : List ℕ) (k n : ℕ) (y : Quoted) → quoted false s ≡ y → string_of y (length s) ≡ Take k n → FrontToken (quote ∷ s) k n
+string_taken s k n (Closed m) g e = by_test (λ (p : Piece). p ≡ Take k n → FrontToken (quote ∷ s) k n) (ltb (string_most + 1) m) (λ _ q. not_stopped q) taken e
   where
-    taken : ltb (stringMost + 1) m ≡ false → Take string-kind (m + 1) ≡ Take k n → FrontToken (quote ∷ s) k n
+    taken : ltb (string_most + 1) m ≡ false → Take string_kind (m + 1) ≡ Take k n → FrontToken (quote ∷ s) k n
     taken f q =
-        let kk : string-kind ≡ k = cc in
+        let kk : string_kind ≡ k = cc in
         let nn : m + 1 ≡ n = cc in
         let z = quoted-ends s m g in
         rw (← kk)
@@ -202,11 +202,11 @@ string-taken s k n (Closed m) g e = by-test (λ (p : Piece). p ≡ Take k n → 
           rest = z.rest;
           whole = ap (quote ∷◌) (z.whole ∙ sym (append_assoc z.inside (quote ∷ []) z.rest));
           size = omega (arith, length-append z.inside (quote ∷ []), z.size);
-          spelled = string z.between (omega (arith, ltb-false (stringMost + 1) m f, z.size));
+          spelled = string z.between (omega (arith, ltb-false (string_most + 1) m f, z.size));
           longest = refl;
         })
-string-taken s k n (Spoiled m) g e = not_stopped e
-string-taken s k n Unclosed g e = not_stopped e
+string_taken s k n (Spoiled m) g e = not_stopped e
+string_taken s k n Unclosed g e = not_stopped e
 
 -- no mark has three bytes
 unfoldable pub short : List ℕ → Bool
@@ -215,9 +215,9 @@ short (a ∷ []) = true
 short (a ∷ b ∷ []) = true
 short (a ∷ b ∷ c ∷ x) = false
 
-no_third : (b a c : ℕ) → markJoins (b ∷ a ∷ []) c ≡ false
+no_third : (b a c : ℕ) → mark_joins (b ∷ a ∷ []) c ≡ false
 unfolding short
-no_third b a c = rw (fails-unfound short (b ∷ a ∷ c ∷ []) marks 1 refl refl, two-one b a slash)
+no_third b a c = rw (fails_unfound short (b ∷ a ∷ c ∷ []) marks 1 refl refl, two-one b a slash)
 
 module _ (b : ℕ) where
   two-taken : (s : List ℕ) (j : ℕ) → find (b ∷ get_or s 0 0 ∷ []) marks 1 ≡ suc j → FrontToken (b ∷ s) (suc j) 2
@@ -260,19 +260,19 @@ mark-taken b s k n c e = go (find (b ∷ get_or s 0 0 ∷ []) marks 1) refl (fin
     go zero p (suc j) q e = same-take (rw (some j) at e) (one-taken b s j c p q)
     go (suc j) p y q e = same-take (rw (some j) at e) (two-taken b s j p)
 
-not-commented : {X : Type 0} (x : Close) (m k n : ℕ) → commentOf x m ≡ Take k n → X
-not-commented (After i) m k n e = not_taken e
-not-commented Never m k n e = not_stopped e
+not_commented : {X : Type 0} (x : Close) (m k n : ℕ) → comment_of x m ≡ Take k n → X
+not_commented (After i) m k n e = not_taken e
+not_commented Never m k n e = not_stopped e
 
 pub front-sound : (b : ℕ) (s : List ℕ) (k n : ℕ) → piece_of (b ∷ s) ≡ Take k n → FrontToken (b ∷ s) k n
 unfolding piece_of
 front-sound b s k n =
     let P : Piece → Type 0 = λ p. p ≡ Take k n → FrontToken (b ∷ s) k n in
-    by-test P (isBlank b) (λ _ e. not_taken e)
-    (λ _. by-test P (isLetter b) (λ l. word-taken b s k n l)
-    (λ _. by-test P (isDigit b) (λ d. number-taken b s k n d)
-    (λ _. by-test P (eqb b quote) (λ q e. subst (λ (a : ℕ). FrontToken (a ∷ s) k n) (sym (eqb-true b quote q)) (string-taken s k n (quoted false s) refl e))
-    (λ _. by-test P (both (eqb b slash) (eqb (get_or s 0 0) star)) (λ _. not-commented (closing false (drop 1 s)) (length (drop 1 s)) k n)
+    by_test P (is_blank b) (λ _ e. not_taken e)
+    (λ _. by_test P (is_letter b) (λ l. word-taken b s k n l)
+    (λ _. by_test P (is_digit b) (λ d. number-taken b s k n d)
+    (λ _. by_test P (eqb b quote) (λ q e. subst (λ (a : ℕ). FrontToken (a ∷ s) k n) (sym (eqb-true b quote q)) (string_taken s k n (quoted false s) refl e))
+    (λ _. by_test P (both (eqb b slash) (eqb (get_or s 0 0) star)) (λ _. not_commented (closing false (drop 1 s)) (length (drop 1 s)) k n)
     (λ c. mark-taken b s k n c)))))
 
 -- ---- gaps: a piece that is skipped
@@ -284,20 +284,20 @@ pub record Skipped (s : List ℕ) (n : ℕ) : Type 0 where
   pub size : length g ≡ n
   pub gap : (h : List ℕ) → Gap h → Gap (g ++ h)
 
-not-skipped : {X : Type 0} {k m n : ℕ} → Take k m ≡ Skip n → X
-not-skipped e = absurd (let z : ◌≡◌ {A = ℕ} 0 1 = cc in omega arith)
+not_skipped : {X : Type 0} {k m n : ℕ} → Take k m ≡ Skip n → X
+not_skipped e = absurd (let z : ◌≡◌ {A = ℕ} 0 1 = cc in omega arith)
 
 not-passed : {X : Type 0} {i m n : ℕ} → Stop i m ≡ Skip n → X
 not-passed e = absurd (let z : ◌≡◌ {A = ℕ} 0 1 = cc in omega arith)
 
-no-string : {X : Type 0} (y : Quoted) (m n : ℕ) → stringOf y m ≡ Skip n → X
-no-string {X} (Closed i) m n e = by-test (λ (p : Piece). p ≡ Skip n → X) (ltb (stringMost + 1) i) (λ _ q. not-passed q) (λ _ q. not-skipped q) e
-no-string (Spoiled i) m n e = not-passed e
-no-string Unclosed m n e = not-passed e
+no_string : {X : Type 0} (y : Quoted) (m n : ℕ) → string_of y m ≡ Skip n → X
+no_string {X} (Closed i) m n e = by_test (λ (p : Piece). p ≡ Skip n → X) (ltb (string_most + 1) i) (λ _ q. not-passed q) (λ _ q. not_skipped q) e
+no_string (Spoiled i) m n e = not-passed e
+no_string Unclosed m n e = not-passed e
 
-comment-skipped : (s : List ℕ) (m n : ℕ) (y : Close) → closing false s ≡ y → commentOf y m ≡ Skip n → Skipped (slash ∷ star ∷ s) n
-comment-skipped s m n (After j) q e =
-    let z = comment-ends s j q in
+comment_skipped : (s : List ℕ) (m n : ℕ) (y : Close) → closing false s ≡ y → comment_of y m ≡ Skip n → Skipped (slash ∷ star ∷ s) n
+comment_skipped s m n (After j) q e =
+    let z = comment_ends s j q in
     let l : j + 2 ≡ n = cc in
     record {
       g = slash ∷ star ∷ z.inside ++ star ∷ slash ∷ [];
@@ -306,27 +306,27 @@ comment-skipped s m n (After j) q e =
       size = omega (arith, length-append z.inside (star ∷ slash ∷ []), z.size);
       gap = λ h G. rw (append_assoc z.inside (star ∷ slash ∷ []) h) (comment z.inside ((closing-next z.inside).0 z.alone) G);
     }
-comment-skipped s m n Never q e = not-passed e
+comment_skipped s m n Never q e = not-passed e
 
-starred : (b : ℕ) (s : List ℕ) (n : ℕ) → b ≡ slash → get_or s 0 0 ≡ star → commentOf (closing false (drop 1 s)) (length (drop 1 s)) ≡ Skip n → Skipped (b ∷ s) n
+starred : (b : ℕ) (s : List ℕ) (n : ℕ) → b ≡ slash → get_or s 0 0 ≡ star → comment_of (closing false (drop 1 s)) (length (drop 1 s)) ≡ Skip n → Skipped (b ∷ s) n
 starred b [] n p q e = absurd (omega arith)
-starred b (a ∷ s) n p q e = rw (p, q) (comment-skipped s (length s) n (closing false s) refl e)
+starred b (a ∷ s) n p q e = rw (p, q) (comment_skipped s (length s) n (closing false s) refl e)
 
-pub skip-sound : (b : ℕ) (s : List ℕ) (n : ℕ) → piece_of (b ∷ s) ≡ Skip n → Skipped (b ∷ s) n
+pub skip_sound : (b : ℕ) (s : List ℕ) (n : ℕ) → piece_of (b ∷ s) ≡ Skip n → Skipped (b ∷ s) n
 unfolding piece_of
-skip-sound b s n =
+skip_sound b s n =
     let P : Piece → Type 0 = λ p. p ≡ Skip n → Skipped (b ∷ s) n in
-    by-test P (isBlank b) (λ h e. record { g = b ∷ []; rest = s; whole = refl; size = cc; gap = λ _ G. blank h G })
-    (λ _. by-test P (isLetter b) (λ _. by-test P (ltb wordMost (span isWord (b ∷ s))) (λ _ e. not-passed e) (λ _ e. not-skipped e))
-    (λ _. by-test P (isDigit b) (λ _. by-test P (ltb numberMost (decimal (take (span isDigit (b ∷ s)) (b ∷ s)))) (λ _ e. not-passed e) (λ _ e. not-skipped e))
-    (λ _. by-test P (eqb b quote) (λ _. no-string (quoted false s) (length s) n)
-    (λ _. by-test P (both (eqb b slash) (eqb (get_or s 0 0) star))
+    by_test P (is_blank b) (λ h e. record { g = b ∷ []; rest = s; whole = refl; size = cc; gap = λ _ G. blank h G })
+    (λ _. by_test P (is_letter b) (λ _. by_test P (ltb word_most (span is_word (b ∷ s))) (λ _ e. not-passed e) (λ _ e. not_skipped e))
+    (λ _. by_test P (is_digit b) (λ _. by_test P (ltb number_most (decimal (take (span is_digit (b ∷ s)) (b ∷ s)))) (λ _ e. not-passed e) (λ _ e. not_skipped e))
+    (λ _. by_test P (eqb b quote) (λ _. no_string (quoted false s) (length s) n)
+    (λ _. by_test P (both (eqb b slash) (eqb (get_or s 0 0) star))
     (λ c. let (u, v) = both_true (eqb b slash) (eqb (get_or s 0 0) star) c in starred b s n (eqb-true b slash u) (eqb-true (get_or s 0 0) star v))
-    (λ _. by-test P (eqb (find (b ∷ get_or s 0 0 ∷ []) marks 1) 0) (λ _. by-test P (eqb (find (b ∷ []) marks 1) 0) (λ _ e. not-passed e) (λ _ e. not-skipped e)) (λ _ e. not-skipped e))))))
+    (λ _. by_test P (eqb (find (b ∷ get_or s 0 0 ∷ []) marks 1) 0) (λ _. by_test P (eqb (find (b ∷ []) marks 1) 0) (λ _ e. not-passed e) (λ _ e. not_skipped e)) (λ _ e. not_skipped e))))))
 
 markish-some : (x : List ℕ) → markish x ≡ true → 0 < length x
 unfolding markish
-markish-some [] m = absurd (true-false (sym m))
+markish-some [] m = absurd (true_false (sym m))
 markish-some (a ∷ x) m = omega arith
 
 -- every spelled token has a byte

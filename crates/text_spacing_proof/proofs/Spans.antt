@@ -9,9 +9,9 @@ use borrow.Author.Tests.{eqb-true}
 use lib.Dec.{eqb}
 use lib.ListN.{length, get_or, take, drop, length-append}
 use Rattle.base_bytes.specs.Choice.{pick, both}
-use Rattle.base_bytes.proofs.Tests.{both_true, true-false}
-use Rattle.spec_text.specs.Bytes.{is_plain, isEscape, quote, backslash, slash, star}
-use Rattle.text_pieces.specs.Spans.{span, closing, oneMore, quoted, move_of, moved, further}
+use Rattle.base_bytes.proofs.Tests.{both_true, true_false}
+use Rattle.spec_text.specs.Bytes.{is_plain, is_escape, quote, backslash, slash, star}
+use Rattle.text_pieces.specs.Spans.{span, closing, one_more, quoted, move_of, moved, further}
 use Rattle.text_pieces.specs.declared.Close.{Close}
 use Rattle.text_pieces.specs.declared.Close.TheVariants.{After, Never}
 use Rattle.text_pieces.specs.declared.Quoted.{Quoted}
@@ -36,10 +36,10 @@ module _ (p : ℕ → Bool) where
       go true e r = rw (e, r)
       go false e r = refl
 
-  pub span-stops : p 0 ≡ false → (s : List ℕ) → p (get_or (drop (span p s) s) 0 0) ≡ false
+  pub span_stops : p 0 ≡ false → (s : List ℕ) → p (get_or (drop (span p s) s) 0 0) ≡ false
   unfolding span
-  span-stops z [] = z
-  span-stops z (b ∷ s) = go (p b) refl (span-stops z s)
+  span_stops z [] = z
+  span_stops z (b ∷ s) = go (p b) refl (span_stops z s)
     where
       go : (t : Bool) → p b ≡ t → p (get_or (drop (span p s) s) 0 0) ≡ false → p (get_or (drop (pick t (suc (span p s)) 0) (b ∷ s)) 0 0) ≡ false
       go true e r = r
@@ -60,47 +60,47 @@ pub record Ends (s : List ℕ) (n : ℕ) : Type 0 where
   pub whole : s ≡ inside ++ quote ∷ rest
   pub size : length inside + 1 ≡ n
 
-no-close : {X : Type 0} {n : ℕ} → Unclosed ≡ Closed n → X
-no-close e = absurd (let z : ◌≡◌ {A = ℕ} 0 1 = cc in omega arith)
+no_close : {X : Type 0} {n : ℕ} → Unclosed ≡ Closed n → X
+no_close e = absurd (let z : ◌≡◌ {A = ℕ} 0 1 = cc in omega arith)
 
-no-spoil : {X : Type 0} {m n : ℕ} → Spoiled m ≡ Closed n → X
-no-spoil e = absurd (let z : ◌≡◌ {A = ℕ} 0 1 = cc in omega arith)
+no_spoil : {X : Type 0} {m n : ℕ} → Spoiled m ≡ Closed n → X
+no_spoil e = absurd (let z : ◌≡◌ {A = ℕ} 0 1 = cc in omega arith)
 
 -- one byte more in front
-further-out : (x : Quoted) (n : ℕ) → further x ≡ Closed n → (m : ℕ) × (x ≡ Closed m) × (m + 1 ≡ n)
-further-out (Closed m) n e = (m, refl, cc)
-further-out (Spoiled m) n e = no-spoil e
-further-out Unclosed n e = no-close e
+further_out : (x : Quoted) (n : ℕ) → further x ≡ Closed n → (m : ℕ) × (x ≡ Closed m) × (m + 1 ≡ n)
+further_out (Closed m) n e = (m, refl, cc)
+further_out (Spoiled m) n e = no_spoil e
+further_out Unclosed n e = no_close e
 
 pub quoted-ends : (s : List ℕ) (n : ℕ) → quoted false s ≡ Closed n → Ends s n
 unfolding quoted
-quoted-ends [] n e = no-close e
+quoted-ends [] n e = no_close e
 quoted-ends (b ∷ []) n e = go (eqb b quote) refl (eqb b backslash) (is_plain b) e
   where
     go : (q : Bool) → eqb b quote ≡ q → (k p : Bool) → moved (pick q End (pick k (On true) (pick p (On false) Bad))) (λ x. Unclosed) ≡ Closed n → Ends (b ∷ []) n
     go true f k p e = record { inside = []; rest = []; between = empty; whole = ap (◌∷ []) (eqb-true b quote f); size = cc }
-    go false f true p e = no-close e
-    go false f false true e = no-close e
-    go false f false false e = no-spoil e
+    go false f true p e = no_close e
+    go false f false true e = no_close e
+    go false f false false e = no_spoil e
 quoted-ends (b ∷ c ∷ s) n e = go (eqb b quote) refl (eqb b backslash) refl (is_plain b) refl e (quoted-ends (c ∷ s)) (quoted-ends s)
   where
-    escaped : (x : Bool) → isEscape c ≡ x → b ≡ backslash → ((m : ℕ) → quoted false s ≡ Closed m → Ends s m) → further (moved (pick x (On false) Bad) (λ y. quoted y s)) ≡ Closed n → Ends (b ∷ c ∷ s) n
+    escaped : (x : Bool) → is_escape c ≡ x → b ≡ backslash → ((m : ℕ) → quoted false s ≡ Closed m → Ends s m) → further (moved (pick x (On false) Bad) (λ y. quoted y s)) ≡ Closed n → Ends (b ∷ c ∷ s) n
     escaped true f h r e =
-        let (m, u, v) = further-out (further (quoted false s)) n e in
-        let (l, w, z) = further-out (quoted false s) m u in
+        let (m, u, v) = further_out (further (quoted false s)) n e in
+        let (l, w, z) = further_out (quoted false s) m u in
         let y = r l w in
         record { inside = backslash ∷ c ∷ y.inside; rest = y.rest; between = escape f y.between; whole = rw h (ap (λ (a : List ℕ). backslash ∷ c ∷ a) y.whole); size = omega (arith, y.size) }
-    escaped false f h r e = no-spoil e
+    escaped false f h r e = no_spoil e
 
     go : (q : Bool) → eqb b quote ≡ q → (k : Bool) → eqb b backslash ≡ k → (p : Bool) → is_plain b ≡ p → moved (pick q End (pick k (On true) (pick p (On false) Bad))) (λ x. quoted x (c ∷ s)) ≡ Closed n →
         ((m : ℕ) → quoted false (c ∷ s) ≡ Closed m → Ends (c ∷ s) m) → ((m : ℕ) → quoted false s ≡ Closed m → Ends s m) → Ends (b ∷ c ∷ s) n
     go true f k g p h e r t = record { inside = []; rest = c ∷ s; between = empty; whole = ap (◌∷ (c ∷ s)) (eqb-true b quote f); size = cc }
-    go false f true g p h e r t = escaped (isEscape c) refl (eqb-true b backslash g) t e
+    go false f true g p h e r t = escaped (is_escape c) refl (eqb-true b backslash g) t e
     go false f false g true h e r t =
-        let (m, u, v) = further-out (quoted false (c ∷ s)) n e in
+        let (m, u, v) = further_out (quoted false (c ∷ s)) n e in
         let y = r m u in
         record { inside = b ∷ y.inside; rest = y.rest; between = plain h f g y.between; whole = ap (b ∷◌) y.whole; size = omega (arith, y.size) }
-    go false f false g false h e r t = no-spoil e
+    go false f false g false h e r t = no_spoil e
 
 -- ---- comments
 -- what closes a text closes it with more behind
@@ -109,26 +109,26 @@ unfolding closing
 closing-more starred [] g n e = absurd (let z : ◌≡◌ {A = ℕ} 0 1 = cc in omega arith)
 closing-more starred (b ∷ x) g n e = go (both starred (eqb b slash)) (closing (eqb b star) x) refl e (closing-more (eqb b star) x g)
   where
-    go : (t : Bool) (y : Close) → closing (eqb b star) x ≡ y → pick t (After 1) (oneMore y) ≡ After n → ((m : ℕ) → closing (eqb b star) x ≡ After m → closing (eqb b star) (x ++ g) ≡ After m) →
-        pick t (After 1) (oneMore (closing (eqb b star) (x ++ g))) ≡ After n
+    go : (t : Bool) (y : Close) → closing (eqb b star) x ≡ y → pick t (After 1) (one_more y) ≡ After n → ((m : ℕ) → closing (eqb b star) x ≡ After m → closing (eqb b star) (x ++ g) ≡ After m) →
+        pick t (After 1) (one_more (closing (eqb b star) (x ++ g))) ≡ After n
     go true y q e r = e
     go false (After m) q e r = rw (r m q) e
     go false Never q e r = absurd (let z : ◌≡◌ {A = ℕ} 0 1 = cc in omega arith)
 
 -- is the last byte a star, or the one before where there is none?
-abbrev endsStarred : Bool → List ℕ → Bool
-endsStarred starred [] = starred
-endsStarred starred (b ∷ d) = endsStarred (eqb b star) d
+abbrev ends_starred : Bool → List ℕ → Bool
+ends_starred starred [] = starred
+ends_starred starred (b ∷ d) = ends_starred (eqb b star) d
 
 record Shut (starred : Bool) (s : List ℕ) (n : ℕ) : Type 0 where
   inside : List ℕ
   rest : List ℕ
   whole : s ≡ inside ++ slash ∷ rest
   size : length inside + 1 ≡ n
-  last : endsStarred starred inside ≡ true
+  last : ends_starred starred inside ≡ true
   alone : closing starred (inside ++ slash ∷ []) ≡ After n
 
-one_out : (x : Close) (n : ℕ) → oneMore x ≡ After n → (m : ℕ) × (x ≡ After m) × (m + 1 ≡ n)
+one_out : (x : Close) (n : ℕ) → one_more x ≡ After n → (m : ℕ) × (x ≡ After m) × (m + 1 ≡ n)
 one_out (After m) n e = (m, refl, cc)
 one_out Never n e = absurd (let z : ◌≡◌ {A = ℕ} 0 1 = cc in omega arith)
 
@@ -137,7 +137,7 @@ unfolding closing
 shut starred [] n e = absurd (let z : ◌≡◌ {A = ℕ} 0 1 = cc in omega arith)
 shut starred (b ∷ s) n e = go (both starred (eqb b slash)) refl e (shut (eqb b star) s)
   where
-    go : (t : Bool) → both starred (eqb b slash) ≡ t → pick t (After 1) (oneMore (closing (eqb b star) s)) ≡ After n → ((m : ℕ) → closing (eqb b star) s ≡ After m → Shut (eqb b star) s m) → Shut starred (b ∷ s) n
+    go : (t : Bool) → both starred (eqb b slash) ≡ t → pick t (After 1) (one_more (closing (eqb b star) s)) ≡ After n → ((m : ℕ) → closing (eqb b star) s ≡ After m → Shut (eqb b star) s m) → Shut starred (b ∷ s) n
     go true f e r =
         let (u, v) = both_true starred (eqb b slash) f in
         record { inside = []; rest = s; whole = ap (◌∷ s) (eqb-true b slash v); size = cc; last = u; alone = rw u e }
@@ -147,8 +147,8 @@ shut starred (b ∷ s) n e = go (both starred (eqb b slash)) refl e (shut (eqb b
         record { inside = b ∷ y.inside; rest = y.rest; whole = ap (b ∷◌) y.whole; size = omega (arith, y.size); last = y.last; alone = rw (f, y.alone) (ap After v) }
 
 -- a list whose last is a star
-star-last : (d : List ℕ) → endsStarred false d ≡ true → (c : List ℕ) × (d ≡ c ++ star ∷ [])
-star-last [] e = absurd (true-false (sym e))
+star-last : (d : List ℕ) → ends_starred false d ≡ true → (c : List ℕ) × (d ≡ c ++ star ∷ [])
+star-last [] e = absurd (true_false (sym e))
 star-last (b ∷ []) e = ([], ap (◌∷ []) (eqb-true b star e))
 star-last (b ∷ a ∷ d) e = let (c, q) = star-last (a ∷ d) e in (b ∷ c, ap (b ∷◌) q)
 
@@ -171,8 +171,8 @@ parts s d rest c n w l a q =
       alone = rw k (rw (q, append_assoc c (star ∷ []) (slash ∷ [])) at a);
     }
 
-pub comment-ends : (s : List ℕ) (n : ℕ) → closing false s ≡ After n → Comment s n
-comment-ends s n e =
+pub comment_ends : (s : List ℕ) (n : ℕ) → closing false s ≡ After n → Comment s n
+comment_ends s n e =
     let z = shut false s n e in
     let (c, q) = star-last z.inside z.last in
     parts s z.inside z.rest c n z.whole z.size z.alone q

@@ -1,17 +1,17 @@
--- Mechanism, held to the specification by `reading-exact` (proofs/Exact.antt): tokens that a text can hold, and texts whose tokens lie apart.
+-- Mechanism, held to the specification by `reading_exact` (proofs/Exact.antt): tokens that a text can hold, and texts whose tokens lie apart.
 use Rattle.std.specs.Prelude.{◌≡◌, true, List, [], ◌∷◌, ℕ, ◌≤◌, ◌<◌}
-use Rattle.base_ceilings.specs.Ceilings.{numberMost}
-use Rattle.base_kinds.specs.Kinds.{Token, sym, name, number, text, name-kind, string-kind}
+use Rattle.base_ceilings.specs.Ceilings.{number_most}
+use Rattle.base_kinds.specs.Kinds.{Token, sym, name, number, text, name_kind, string_kind}
 use Rattle.spec_text.specs.Placed.{Placed}
 use Rattle.spec_text.specs.Spelled.{Spelled}
-use Rattle.spec_text.specs.Writing.{spell, tokenIn, apart}
+use Rattle.spec_text.specs.Writing.{spell, token_in, apart}
 
 -- a token that a text can hold
 abbrev pub Sound : Token → Type 0
 Sound (sym k) = Spelled k (spell (sym k))
-Sound (name w) = Spelled name-kind w
-Sound (number n) = n ≤ numberMost
-Sound (text w) = Spelled string-kind (spell (text w))
+Sound (name w) = Spelled name_kind w
+Sound (number n) = n ≤ number_most
+Sound (text w) = Spelled string_kind (spell (text w))
 
 abbrev pub AllSound : List Token → Type 0
 AllSound [] = Unit {0}
@@ -26,4 +26,4 @@ Ordered i e (p ∷ ps) = (i ≤ p.start) × (p.start < p.end) × Ordered p.end e
 abbrev pub Spaced : List ℕ → List Placed → Type 0
 Spaced t [] = Unit {0}
 Spaced t (p ∷ []) = Unit {0}
-Spaced t (p ∷ q ∷ ps) = (apart (tokenIn t p) (tokenIn t q) ≡ true → p.end < q.start) × Spaced t (q ∷ ps)
+Spaced t (p ∷ q ∷ ps) = (apart (token_in t p) (token_in t q) ≡ true → p.end < q.start) × Spaced t (q ∷ ps)

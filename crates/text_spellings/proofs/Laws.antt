@@ -10,10 +10,10 @@ use lib.Dec.{eqb, ltb}
 use lib.ListN.{length, get_or}
 use Rattle.base_bytes.specs.Choice.{pick, both}
 use Rattle.base_bytes.specs.Lists.{same}
-use Rattle.base_bytes.proofs.Lists.{same-eq, same-differ}
-use Rattle.base_bytes.proofs.Tests.{both_true, true-false}
+use Rattle.base_bytes.proofs.Lists.{same_eq, same-differ}
+use Rattle.base_bytes.proofs.Tests.{both_true, true_false}
 use Rattle.base_kinds.specs.Kinds.{keywords}
-use Rattle.spec_text.specs.Find.{find, keywordOf}
+use Rattle.spec_text.specs.Find.{find, keyword_of}
 use Rattle.text_spellings.specs.First.{among}
 
 -- a word and a spelling that differ in something are not the same
@@ -21,11 +21,11 @@ pub unlike : (f : List ℕ → ℕ) (w x : List ℕ) → (f w ≡ f x → ⊥) �
 unlike f w x h = go (same w x) refl
   where
     go : (t : Bool) → same w x ≡ t → same w x ≡ false
-    go true e = absurd (h (ap f (same-eq w x e)))
+    go true e = absurd (h (ap f (same_eq w x e)))
     go false e = e
 
 pub told-apart : (f : List ℕ → ℕ) (w x : List ℕ) {n : ℕ} → f w ≡ n → eqb n (f x) ≡ false → same w x ≡ false
-told-apart f w x {n} d e = unlike f w x (λ h. true-false (sym (eq-eqb n (f x) (sym d ∙ h)) ∙ e))
+told-apart f w x {n} d e = unlike f w x (λ h. true_false (sym (eq-eqb n (f x) (sym d ∙ h)) ∙ e))
 
 abbrev pub second : List ℕ → ℕ
 second w = get_or w 1 0
@@ -40,7 +40,7 @@ find-among w (x ∷ xs) k = go (ℕ_discrete (get_or w 0 0) (get_or x 0 0)) (fin
     go (yes p) e = rw (eq-eqb (get_or w 0 0) (get_or x 0 0) p, e) refl
     go (no p) e = rw (ne_eqb (get_or w 0 0) (get_or x 0 0) p, unlike (λ z. get_or z 0 0) w x p) e
 
-pub by_first : (w : List ℕ) {b a : ℕ} → b ≡ a → b ≡ get_or w 0 0 → among a w keywords 38 ≡ keywordOf w
+pub by_first : (w : List ℕ) {b a : ℕ} → b ≡ a → b ≡ get_or w 0 0 → among a w keywords 38 ≡ keyword_of w
 by_first w d e = rw (← d, e) (sym (find-among w keywords 38))
 
 -- a word that is shorter than every spelling
@@ -55,7 +55,7 @@ shorter w (x ∷ xs) k h e =
     let (p, q) = both_true (ltb 1 (length x)) (longer xs) e in
     rw (same-differ w x (λ d. omega (arith, ltb-true 1 (length x) p))) (shorter w xs (k + 1) h q)
 
-pub too_short : (w : List ℕ) → length w < 2 → keywordOf w ≡ 0
+pub too_short : (w : List ℕ) → length w < 2 → keyword_of w ≡ 0
 unfolding longer
 too_short w h = shorter w keywords 38 h refl
 

@@ -3,7 +3,7 @@ ghost use Rattle.std.specs.Prelude.{◌≡◌, [], ◌∷◌};
 ghost use Rattle.base_bytes.specs.Choice.{pick};
 ghost use Rattle.base_bytes.specs.Lists.{same};
 ghost use Rattle.base_kinds.specs.Kinds.{marks, keywords};
-ghost use Rattle.spec_text.specs.Find.{find, keywordOf};
+ghost use Rattle.spec_text.specs.Find.{find, keyword_of};
 ghost use Rattle.text_spellings.specs.First.{among};
 
 // A word that may be one keyword: its kind, 0 where it is spelled otherwise.
@@ -201,7 +201,7 @@ fn from_u(w: &[u8]) -> u8
 
 // The kind of a word that is a keyword, or 0: by its first letter, then by its length.
 pub fn keyword(w: &[u8]) -> u8
-    ensures { result ≡ keywordOf w.now }
+    ensures { result ≡ keyword_of w.now }
 {
     if w.len() < 2 {
         return 0;

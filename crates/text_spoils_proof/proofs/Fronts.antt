@@ -10,12 +10,12 @@ use lib.ListN.{length, get_or, take, drop, length-append, take-append-drop}
 use lib.Seq.{take-append_seam, length-take-le}
 use Rattle.base_bytes.specs.Choice.{pick, both, either}
 use Rattle.base_bytes.specs.Lists.{same}
-use Rattle.base_bytes.proofs.Tests.{both_true, either-false, true-false}
+use Rattle.base_bytes.proofs.Tests.{both_true, either_false, true_false}
 use Rattle.base_kinds.specs.Kinds.{marks}
 use Rattle.spec_text.specs.Find.{find}
-use Rattle.spec_text.specs.Bytes.{isBlank, isLetter, isDigit, isWord, is_plain, isEscape, quote, backslash, slash, star}
+use Rattle.spec_text.specs.Bytes.{is_blank, is_letter, is_digit, is_word, is_plain, is_escape, quote, backslash, slash, star}
 use Rattle.text_pieces.specs.Spans.{span, closing, quoted, moved, further}
-use Rattle.text_pieces.specs.Pieces.{word_of, number_of, stringOf, commentOf, piece_of}
+use Rattle.text_pieces.specs.Pieces.{word_of, number_of, string_of, comment_of, piece_of}
 use Rattle.text_pieces.specs.declared.Piece.{Piece}
 use Rattle.text_pieces.specs.declared.Piece.TheVariants.{Skip, Take, Stop}
 use Rattle.text_pieces.specs.declared.Close.{Close}
@@ -23,24 +23,24 @@ use Rattle.text_pieces.specs.declared.Close.TheVariants.{After, Never}
 use Rattle.text_pieces.specs.declared.Quoted.{Quoted}
 use Rattle.text_pieces.specs.declared.Quoted.TheVariants.{Closed, Spoiled, Unclosed}
 use Rattle.text_pieces.specs.declared.Move.TheVariants.{On, End, Bad}
-use Rattle.text_pieces.proofs.Laws.{span-le}
-use Rattle.text_pieces.proofs.Sizes.{by-test}
-use Rattle.base_ceilings.specs.Ceilings.{numberMost, stringMost, wordMost}
+use Rattle.text_pieces.proofs.Laws.{span_le}
+use Rattle.text_pieces.proofs.Sizes.{by_test}
+use Rattle.base_ceilings.specs.Ceilings.{number_most, string_most, word_most}
 use Rattle.spec_text.specs.Digits.{decimal}
 use Rattle.spec_text.specs.Spelled.{all, Between, empty, plain, escape}
-use Rattle.text_spacing_proof.proofs.Classes.{digit-letter, digit-blank, letter-blank}
-use Rattle.text_spacing_proof.proofs.Tables.{every, fails-unfound}
-use Rattle.text_spacing_proof.proofs.Spans.{span-whole, span-all, span-stops, quoted-whole}
-use Rattle.spec_text.specs.Spoils.{Wrong, stray, bad-byte, bad-escape, unclosed-string, unclosed-escape, unclosed-comment, long-word, large-number, long-string}
-use Rattle.text_spacing_proof.proofs.Comments.{never-unended}
+use Rattle.text_spacing_proof.proofs.Classes.{digit_letter, digit-blank, letter_blank}
+use Rattle.text_spacing_proof.proofs.Tables.{every, fails_unfound}
+use Rattle.text_spacing_proof.proofs.Spans.{span-whole, span-all, span_stops, quoted-whole}
+use Rattle.spec_text.specs.Spoils.{Wrong, stray, bad_byte, bad_escape, unclosed_string, unclosed_escape, unclosed_comment, long_word, large_number, long_string}
+use Rattle.text_spacing_proof.proofs.Comments.{never_unended}
 use Rattle.text_spacing_proof.proofs.Fronts.{first_word, first-digit}
-use Rattle.text_spacing_proof.proofs.Longest.{word-longest, longest-word, number-longest, longest-number}
+use Rattle.text_spacing_proof.proofs.Longest.{word_longest, longest_word, number_longest, longest_number}
 
 -- ---- strings: what a text is behind an opening quote, and what is seen of it
 data Quote : List ℕ → Quoted → Type 0 where
   closed : {x : List ℕ} (n : ℕ) (s : List ℕ) → Between x → length x + 1 ≡ n → Quote (x ++ quote ∷ s) (Closed n)
   spoiled : {x : List ℕ} (n b : ℕ) (s : List ℕ) → Between x → length x + 1 ≡ n → is_plain b ≡ false → Quote (x ++ b ∷ s) (Spoiled n)
-  misescaped : {x : List ℕ} (n b : ℕ) (s : List ℕ) → Between x → length x + 2 ≡ n → isEscape b ≡ false → Quote (x ++ backslash ∷ b ∷ s) (Spoiled n)
+  misescaped : {x : List ℕ} (n b : ℕ) (s : List ℕ) → Between x → length x + 2 ≡ n → is_escape b ≡ false → Quote (x ++ backslash ∷ b ∷ s) (Spoiled n)
   unclosed : {x : List ℕ} → Between x → Quote x Unclosed
   escaping : {x : List ℕ} → Between x → Quote (x ++ backslash ∷ []) Unclosed
 
@@ -52,33 +52,33 @@ module _ (b : ℕ) where
   plain_more p q r (unclosed z) = unclosed (plain p q r z)
   plain_more p q r (escaping z) = escaping (plain p q r z)
 
-  escape-more : {s : List ℕ} {q : Quoted} → isEscape b ≡ true → Quote s q → Quote (backslash ∷ b ∷ s) (further (further q))
-  escape-more p (closed n s z e) = closed (n + 1 + 1) s (escape {b = b} p z) (omega (arith, e))
-  escape-more p (spoiled n c s z e h) = spoiled (n + 1 + 1) c s (escape {b = b} p z) (omega (arith, e)) h
-  escape-more p (misescaped n c s z e h) = misescaped (n + 1 + 1) c s (escape {b = b} p z) (omega (arith, e)) h
-  escape-more p (unclosed z) = unclosed (escape p z)
-  escape-more p (escaping z) = escaping (escape p z)
+  escape_more : {s : List ℕ} {q : Quoted} → is_escape b ≡ true → Quote s q → Quote (backslash ∷ b ∷ s) (further (further q))
+  escape_more p (closed n s z e) = closed (n + 1 + 1) s (escape {b = b} p z) (omega (arith, e))
+  escape_more p (spoiled n c s z e h) = spoiled (n + 1 + 1) c s (escape {b = b} p z) (omega (arith, e)) h
+  escape_more p (misescaped n c s z e h) = misescaped (n + 1 + 1) c s (escape {b = b} p z) (omega (arith, e)) h
+  escape_more p (unclosed z) = unclosed (escape p z)
+  escape_more p (escaping z) = escaping (escape p z)
 
-quote-of : (s : List ℕ) → Quote s (quoted false s)
+quote_of : (s : List ℕ) → Quote s (quoted false s)
 unfolding quoted
-quote-of [] = unclosed empty
-quote-of (b ∷ []) = go (eqb b quote) refl (eqb b backslash) refl (is_plain b) refl
+quote_of [] = unclosed empty
+quote_of (b ∷ []) = go (eqb b quote) refl (eqb b backslash) refl (is_plain b) refl
   where
     go : (q : Bool) → eqb b quote ≡ q → (k : Bool) → eqb b backslash ≡ k → (p : Bool) → is_plain b ≡ p → Quote (b ∷ []) (moved (pick q End (pick k (On true) (pick p (On false) Bad))) (λ x. Unclosed))
     go true f k g p h = rw (eqb-true b quote f) (closed 1 [] empty refl)
     go false f true g p h = rw (eqb-true b backslash g) (escaping empty)
     go false f false g true h = unclosed (plain h f g empty)
     go false f false g false h = spoiled 1 b [] empty refl h
-quote-of (b ∷ c ∷ s) = go (eqb b quote) refl (eqb b backslash) refl (is_plain b) refl (quote-of (c ∷ s)) (quote-of s)
+quote_of (b ∷ c ∷ s) = go (eqb b quote) refl (eqb b backslash) refl (is_plain b) refl (quote_of (c ∷ s)) (quote_of s)
   where
-    escaped : (x : Bool) → isEscape c ≡ x → Quote s (quoted false s) → Quote (backslash ∷ c ∷ s) (further (moved (pick x (On false) Bad) (λ y. quoted y s)))
-    escaped true f r = escape-more c f r
+    escaped : (x : Bool) → is_escape c ≡ x → Quote s (quoted false s) → Quote (backslash ∷ c ∷ s) (further (moved (pick x (On false) Bad) (λ y. quoted y s)))
+    escaped true f r = escape_more c f r
     escaped false f r = misescaped 2 c s empty refl f
 
     go : (q : Bool) → eqb b quote ≡ q → (k : Bool) → eqb b backslash ≡ k → (p : Bool) → is_plain b ≡ p → Quote (c ∷ s) (quoted false (c ∷ s)) → Quote s (quoted false s)
         → Quote (b ∷ c ∷ s) (moved (pick q End (pick k (On true) (pick p (On false) Bad))) (λ x. quoted x (c ∷ s)))
     go true f k g p h r t = rw (eqb-true b quote f) (closed 1 (c ∷ s) empty refl)
-    go false f true g p h r t = rw (eqb-true b backslash g) (escaped (isEscape c) refl t)
+    go false f true g p h r t = rw (eqb-true b backslash g) (escaped (is_escape c) refl t)
     go false f false g true h r t = plain_more b h f g r
     go false f false g false h r t = spoiled 1 b (c ∷ s) empty refl h
 
@@ -114,63 +114,63 @@ all-fronted : every fronted marks ≡ true
 unfolding find same
 all-fronted = refl
 
-no-two : (b c : ℕ) → find (b ∷ []) marks 1 ≡ 0 → find (b ∷ c ∷ []) marks 1 ≡ 0
-no-two b c e = fails-unfound fronted (b ∷ c ∷ []) marks 1 all-fronted (rw e)
+no_two : (b c : ℕ) → find (b ∷ []) marks 1 ≡ 0 → find (b ∷ c ∷ []) marks 1 ≡ 0
+no_two b c e = fails_unfound fronted (b ∷ c ∷ []) marks 1 all-fronted (rw e)
 
 no_slash : (b : ℕ) → find (b ∷ []) marks 1 ≡ 0 → eqb b slash ≡ false
 unfolding find same
 no_slash b e = ne_eqb b slash (λ q. absurd (let z : find (slash ∷ []) marks 1 ≡ 0 = rw q at e in omega arith))
 
 -- ---- THE FRONT, ONE WAY: what can be no token and no gap stops the reading
-string-stops : (s : List ℕ) (q : Quoted) → quoted false s ≡ q → (x n : ℕ) → stringOf q (length s) ≡ Stop x n → piece_of (quote ∷ s) ≡ Stop x n
+string_stops : (s : List ℕ) (q : Quoted) → quoted false s ≡ q → (x n : ℕ) → string_of q (length s) ≡ Stop x n → piece_of (quote ∷ s) ≡ Stop x n
 unfolding piece_of
-string-stops s q e x n h = rw e h
+string_stops s q e x n h = rw e h
 
-bad-stops : (b : ℕ) (s : List ℕ) → is_plain b ≡ false → quoted false (b ∷ s) ≡ Spoiled 1
+bad_stops : (b : ℕ) (s : List ℕ) → is_plain b ≡ false → quoted false (b ∷ s) ≡ Spoiled 1
 unfolding quoted
-bad-stops b s h = rw (other quote refl, other backslash refl, h)
+bad_stops b s h = rw (other quote refl, other backslash refl, h)
   where
     other : (c : ℕ) → is_plain c ≡ true → eqb b c ≡ false
-    other c p = ne_eqb b c (λ e. true-false (sym p ∙ (rw e at h)))
+    other c p = ne_eqb b c (λ e. true_false (sym p ∙ (rw e at h)))
 
-escape-stops : (b : ℕ) (s : List ℕ) → isEscape b ≡ false → quoted false (backslash ∷ b ∷ s) ≡ Spoiled 2
+escape_stops : (b : ℕ) (s : List ℕ) → is_escape b ≡ false → quoted false (backslash ∷ b ∷ s) ≡ Spoiled 2
 unfolding quoted
-escape-stops b s h = rw h
+escape_stops b s h = rw h
 
 ends-quoted : quoted false [] ≡ Unclosed
 unfolding quoted
 ends-quoted = refl
 
-ends-escaping : quoted false (backslash ∷ []) ≡ Unclosed
+ends_escaping : quoted false (backslash ∷ []) ≡ Unclosed
 unfolding quoted
-ends-escaping = refl
+ends_escaping = refl
 
-pub wrong-stops : {s : List ℕ} {x n : ℕ} → Wrong s x n → piece_of s ≡ Stop x n
+pub wrong_stops : {s : List ℕ} {x n : ℕ} → Wrong s x n → piece_of s ≡ Stop x n
 unfolding piece_of
-wrong-stops (stray b s l w q m) =
-    let (d, a) = either-false (isDigit b) (isLetter b) w in
-    rw (l, a, d, q, no_slash b m, no-two b (get_or s 0 0) m, m)
-wrong-stops (bad-byte {x = x} b s z h) =
-    string-stops (x ++ b ∷ s) (Spoiled (length x + 1)) (past (b ∷ s) z ∙ ap (later (length x)) (bad-stops b s h)) 1 (length x + 2) (ap (Stop 1) (omega arith))
-wrong-stops (bad-escape {x = x} b s z h) =
-    string-stops (x ++ backslash ∷ b ∷ s) (Spoiled (length x + 2)) (past (backslash ∷ b ∷ s) z ∙ ap (later (length x)) (escape-stops b s h)) 1 (length x + 3) (ap (Stop 1) (omega arith))
-wrong-stops (unclosed-string {x = x} z) =
-    string-stops x Unclosed (ap (quoted false) (sym (append-nil x)) ∙ (past [] z ∙ ap (later (length x)) ends-quoted)) 1 (length x + 1) refl
-wrong-stops (unclosed-escape {x = x} z) =
-    string-stops (x ++ backslash ∷ []) Unclosed (past (backslash ∷ []) z ∙ ap (later (length x)) ends-escaping) 1 (length x + 2) (ap (Stop 1) (omega (arith, length-append x (backslash ∷ []))))
-wrong-stops (unclosed-comment c u) = rw ((never-unended c).1 u)
-wrong-stops (long-word b x s l a j h) =
-    let n : span isWord (b ∷ x ++ s) ≡ length (b ∷ x) = span-whole isWord (b ∷ x) s (first_word b x l a) (longest-word b x s l a j) in
-    rw (letter-blank b l, l, n, lt-ltb wordMost (suc (length x)) h)
-wrong-stops (large-number b x s d a j h) =
-    let n : span isDigit (b ∷ x ++ s) ≡ length (b ∷ x) = span-whole isDigit (b ∷ x) s (first-digit b x d a) (longest-number b x s d a j) in
-    rw (digit-blank b d, digit-letter b d, d, n, take-append_seam x s, lt-ltb numberMost (decimal (b ∷ x)) h)
-wrong-stops (long-string {x = x} s z h) =
-    string-stops (x ++ quote ∷ s) (Closed (length x + 1)) (quoted-whole s z) 2 (length x + 2) (rw (lt-ltb (stringMost + 1) (length x + 1) (omega arith)) (ap (Stop 2) (omega arith)))
+wrong_stops (stray b s l w q m) =
+    let (d, a) = either_false (is_digit b) (is_letter b) w in
+    rw (l, a, d, q, no_slash b m, no_two b (get_or s 0 0) m, m)
+wrong_stops (bad_byte {x = x} b s z h) =
+    string_stops (x ++ b ∷ s) (Spoiled (length x + 1)) (past (b ∷ s) z ∙ ap (later (length x)) (bad_stops b s h)) 1 (length x + 2) (ap (Stop 1) (omega arith))
+wrong_stops (bad_escape {x = x} b s z h) =
+    string_stops (x ++ backslash ∷ b ∷ s) (Spoiled (length x + 2)) (past (backslash ∷ b ∷ s) z ∙ ap (later (length x)) (escape_stops b s h)) 1 (length x + 3) (ap (Stop 1) (omega arith))
+wrong_stops (unclosed_string {x = x} z) =
+    string_stops x Unclosed (ap (quoted false) (sym (append-nil x)) ∙ (past [] z ∙ ap (later (length x)) ends-quoted)) 1 (length x + 1) refl
+wrong_stops (unclosed_escape {x = x} z) =
+    string_stops (x ++ backslash ∷ []) Unclosed (past (backslash ∷ []) z ∙ ap (later (length x)) ends_escaping) 1 (length x + 2) (ap (Stop 1) (omega (arith, length-append x (backslash ∷ []))))
+wrong_stops (unclosed_comment c u) = rw ((never_unended c).1 u)
+wrong_stops (long_word b x s l a j h) =
+    let n : span is_word (b ∷ x ++ s) ≡ length (b ∷ x) = span-whole is_word (b ∷ x) s (first_word b x l a) (longest_word b x s l a j) in
+    rw (letter_blank b l, l, n, lt-ltb word_most (suc (length x)) h)
+wrong_stops (large_number b x s d a j h) =
+    let n : span is_digit (b ∷ x ++ s) ≡ length (b ∷ x) = span-whole is_digit (b ∷ x) s (first-digit b x d a) (longest_number b x s d a j) in
+    rw (digit-blank b d, digit_letter b d, d, n, take-append_seam x s, lt-ltb number_most (decimal (b ∷ x)) h)
+wrong_stops (long_string {x = x} s z h) =
+    string_stops (x ++ quote ∷ s) (Closed (length x + 1)) (quoted-whole s z) 2 (length x + 2) (rw (lt-ltb (string_most + 1) (length x + 1) (omega arith)) (ap (Stop 2) (omega arith)))
 
 -- ---- THE FRONT, THE OTHER WAY: what stops the reading can be no token and no gap
-not-skipped : {X : Type 0} {m x n : ℕ} → Skip m ≡ Stop x n → X
-not-skipped e = absurd (let z : ◌≡◌ {A = ℕ} 0 1 = cc in omega arith)
+not_skipped : {X : Type 0} {m x n : ℕ} → Skip m ≡ Stop x n → X
+not_skipped e = absurd (let z : ◌≡◌ {A = ℕ} 0 1 = cc in omega arith)
 
 not_taken : {X : Type 0} {k m x n : ℕ} → Take k m ≡ Stop x n → X
 not_taken e = absurd (let z : ◌≡◌ {A = ℕ} 0 1 = cc in omega arith)
@@ -182,23 +182,23 @@ alike {s} {x} {n} {y} {m} e w =
     let q : n ≡ m = cc in
     rw (← p, ← q) w
 
-string-wrong : {s : List ℕ} {q : Quoted} (x n : ℕ) → Quote s q → stringOf q (length s) ≡ Stop x n → Wrong (quote ∷ s) x n
-string-wrong x n (closed {x = y} m s z e) h = by-test (λ (p : Piece). p ≡ Stop x n → Wrong (quote ∷ y ++ quote ∷ s) x n) (ltb (stringMost + 1) m) long (λ _ f. not_taken f) h
+string_wrong : {s : List ℕ} {q : Quoted} (x n : ℕ) → Quote s q → string_of q (length s) ≡ Stop x n → Wrong (quote ∷ s) x n
+string_wrong x n (closed {x = y} m s z e) h = by_test (λ (p : Piece). p ≡ Stop x n → Wrong (quote ∷ y ++ quote ∷ s) x n) (ltb (string_most + 1) m) long (λ _ f. not_taken f) h
   where
-    long : ltb (stringMost + 1) m ≡ true → Stop 2 (m + 1) ≡ Stop x n → Wrong (quote ∷ y ++ quote ∷ s) x n
-    long t f = alike (ap (Stop 2) (omega (arith, e)) ∙ f) (long-string s z (omega (arith, ltb-true (stringMost + 1) m t, e)))
-string-wrong x n (spoiled {x = y} m b s z e g) h = alike (ap (Stop 1) (omega (arith, e)) ∙ h) (bad-byte b s z g)
-string-wrong x n (misescaped {x = y} m b s z e g) h = alike (ap (Stop 1) (omega (arith, e)) ∙ h) (bad-escape b s z g)
-string-wrong x n (unclosed z) h = alike h (unclosed-string z)
-string-wrong x n (escaping {x = y} z) h = alike (ap (Stop 1) (omega (arith, length-append y (backslash ∷ []))) ∙ h) (unclosed-escape z)
+    long : ltb (string_most + 1) m ≡ true → Stop 2 (m + 1) ≡ Stop x n → Wrong (quote ∷ y ++ quote ∷ s) x n
+    long t f = alike (ap (Stop 2) (omega (arith, e)) ∙ f) (long_string s z (omega (arith, ltb-true (string_most + 1) m t, e)))
+string_wrong x n (spoiled {x = y} m b s z e g) h = alike (ap (Stop 1) (omega (arith, e)) ∙ h) (bad_byte b s z g)
+string_wrong x n (misescaped {x = y} m b s z e g) h = alike (ap (Stop 1) (omega (arith, e)) ∙ h) (bad_escape b s z g)
+string_wrong x n (unclosed z) h = alike h (unclosed_string z)
+string_wrong x n (escaping {x = y} z) h = alike (ap (Stop 1) (omega (arith, length-append y (backslash ∷ []))) ∙ h) (unclosed_escape z)
 
-comment-wrong : (s : List ℕ) (k : Close) → closing false s ≡ k → (x n : ℕ) → commentOf k (length s) ≡ Stop x n → Wrong (slash ∷ star ∷ s) x n
-comment-wrong s (After m) e x n h = not-skipped h
-comment-wrong s Never e x n h = alike h (unclosed-comment s ((never-unended s).0 e))
+comment_wrong : (s : List ℕ) (k : Close) → closing false s ≡ k → (x n : ℕ) → comment_of k (length s) ≡ Stop x n → Wrong (slash ∷ star ∷ s) x n
+comment_wrong s (After m) e x n h = not_skipped h
+comment_wrong s Never e x n h = alike h (unclosed_comment s ((never_unended s).0 e))
 
-starred : (b : ℕ) (s : List ℕ) (x n : ℕ) → b ≡ slash → get_or s 0 0 ≡ star → commentOf (closing false (drop 1 s)) (length (drop 1 s)) ≡ Stop x n → Wrong (b ∷ s) x n
+starred : (b : ℕ) (s : List ℕ) (x n : ℕ) → b ≡ slash → get_or s 0 0 ≡ star → comment_of (closing false (drop 1 s)) (length (drop 1 s)) ≡ Stop x n → Wrong (b ∷ s) x n
 starred b [] x n p q e = absurd (omega arith)
-starred b (a ∷ s) x n p q e = rw (p, q) (comment-wrong s (closing false s) refl x n e)
+starred b (a ∷ s) x n p q e = rw (p, q) (comment_wrong s (closing false s) refl x n e)
 
 -- a run that stops the reading: its bytes, and what lies behind
 record Run (p : ℕ → Bool) (b : ℕ) (s : List ℕ) : Type 0 where
@@ -213,7 +213,7 @@ record Run (p : ℕ → Bool) (b : ℕ) (s : List ℕ) : Type 0 where
 run_of : (p : ℕ → Bool) (b : ℕ) (s : List ℕ) → p b ≡ true → p 0 ≡ false → Run p b s
 unfolding span
 run_of p b s e z =
-    let l : length (take (span p s) s) ≡ span p s = length-take-le (span p s) s (span-le p s) in
+    let l : length (take (span p s) s) ≡ span p s = length-take-le (span p s) s (span_le p s) in
     record {
       more = take (span p s) s;
       rest = drop (span p s) s;
@@ -221,45 +221,45 @@ run_of p b s e z =
       size = rw e (ap suc (sym l));
       cut = rw e;
       pass = span-all p s;
-      stop = span-stops p z s;
+      stop = span_stops p z s;
     }
 
-letter-word : (b : ℕ) → isLetter b ≡ true → isWord b ≡ true
-letter-word b e = rw e (go (isDigit b))
+letter_word : (b : ℕ) → is_letter b ≡ true → is_word b ≡ true
+letter_word b e = rw e (go (is_digit b))
   where
     go : (t : Bool) → either t true ≡ true
     go true = refl
     go false = refl
 
-word-wrong : (b : ℕ) (s : List ℕ) (x n : ℕ) → isLetter b ≡ true → word_of (b ∷ s) (span isWord (b ∷ s)) ≡ Stop x n → Wrong (b ∷ s) x n
-word-wrong b s x n l e =
-    let r = run_of isWord b s (letter-word b l) refl in
+word_wrong : (b : ℕ) (s : List ℕ) (x n : ℕ) → is_letter b ≡ true → word_of (b ∷ s) (span is_word (b ∷ s)) ≡ Stop x n → Wrong (b ∷ s) x n
+word_wrong b s x n l e =
+    let r = run_of is_word b s (letter_word b l) refl in
     let h : Wrong (b ∷ (r.more ++ r.rest)) x n =
-    by-test (λ (p : Piece). p ≡ Stop x n → Wrong (b ∷ (r.more ++ r.rest)) x n) (ltb wordMost (span isWord (b ∷ s)))
-    (λ t q. alike (ap (Stop 2) (sym r.size) ∙ q) (long-word b r.more r.rest l r.pass (word-longest b r.more r.rest l r.stop) (omega (arith, ltb-true wordMost (span isWord (b ∷ s)) t, r.size))))
+    by_test (λ (p : Piece). p ≡ Stop x n → Wrong (b ∷ (r.more ++ r.rest)) x n) (ltb word_most (span is_word (b ∷ s)))
+    (λ t q. alike (ap (Stop 2) (sym r.size) ∙ q) (long_word b r.more r.rest l r.pass (word_longest b r.more r.rest l r.stop) (omega (arith, ltb-true word_most (span is_word (b ∷ s)) t, r.size))))
     (λ _ q. not_taken q) e in
     subst (λ (y : List ℕ). Wrong y x n) (sym r.whole) h
 
-number-wrong : (b : ℕ) (s : List ℕ) (x n : ℕ) → isDigit b ≡ true → number_of (b ∷ s) (span isDigit (b ∷ s)) ≡ Stop x n → Wrong (b ∷ s) x n
-number-wrong b s x n d e =
-    let r = run_of isDigit b s d refl in
+number_wrong : (b : ℕ) (s : List ℕ) (x n : ℕ) → is_digit b ≡ true → number_of (b ∷ s) (span is_digit (b ∷ s)) ≡ Stop x n → Wrong (b ∷ s) x n
+number_wrong b s x n d e =
+    let r = run_of is_digit b s d refl in
     let h : Wrong (b ∷ (r.more ++ r.rest)) x n =
-    by-test (λ (p : Piece). p ≡ Stop x n → Wrong (b ∷ (r.more ++ r.rest)) x n) (ltb numberMost (decimal (take (span isDigit (b ∷ s)) (b ∷ s))))
+    by_test (λ (p : Piece). p ≡ Stop x n → Wrong (b ∷ (r.more ++ r.rest)) x n) (ltb number_most (decimal (take (span is_digit (b ∷ s)) (b ∷ s))))
     (λ t q. alike (ap (Stop 2) (sym r.size) ∙ q)
-    (large-number b r.more r.rest d r.pass (number-longest b r.more r.rest d r.stop) (omega (arith, ltb-true numberMost (decimal (take (span isDigit (b ∷ s)) (b ∷ s))) t, ap decimal r.cut))))
+    (large_number b r.more r.rest d r.pass (number_longest b r.more r.rest d r.stop) (omega (arith, ltb-true number_most (decimal (take (span is_digit (b ∷ s)) (b ∷ s))) t, ap decimal r.cut))))
     (λ _ q. not_taken q) e in
     subst (λ (y : List ℕ). Wrong y x n) (sym r.whole) h
 
-pub stops-wrong : (b : ℕ) (s : List ℕ) (x n : ℕ) → piece_of (b ∷ s) ≡ Stop x n → Wrong (b ∷ s) x n
+pub stops_wrong : (b : ℕ) (s : List ℕ) (x n : ℕ) → piece_of (b ∷ s) ≡ Stop x n → Wrong (b ∷ s) x n
 unfolding piece_of
-stops-wrong b s x n =
+stops_wrong b s x n =
     let P : Piece → Type 0 = λ p. p ≡ Stop x n → Wrong (b ∷ s) x n in
-    by-test P (isBlank b) (λ _ e. not-skipped e)
-    (λ l. by-test P (isLetter b) (λ a. word-wrong b s x n a)
-    (λ a. by-test P (isDigit b) (λ d. number-wrong b s x n d)
-    (λ d. by-test P (eqb b quote) (λ q e. subst (λ (c : ℕ). Wrong (c ∷ s) x n) (sym (eqb-true b quote q)) (string-wrong x n (quote-of s) e))
-    (λ q. by-test P (both (eqb b slash) (eqb (get_or s 0 0) star))
+    by_test P (is_blank b) (λ _ e. not_skipped e)
+    (λ l. by_test P (is_letter b) (λ a. word_wrong b s x n a)
+    (λ a. by_test P (is_digit b) (λ d. number_wrong b s x n d)
+    (λ d. by_test P (eqb b quote) (λ q e. subst (λ (c : ℕ). Wrong (c ∷ s) x n) (sym (eqb-true b quote q)) (string_wrong x n (quote_of s) e))
+    (λ q. by_test P (both (eqb b slash) (eqb (get_or s 0 0) star))
     (λ c. let (u, v) = both_true (eqb b slash) (eqb (get_or s 0 0) star) c in starred b s x n (eqb-true b slash u) (eqb-true (get_or s 0 0) star v))
-    (λ _. by-test P (eqb (find (b ∷ get_or s 0 0 ∷ []) marks 1) 0)
-    (λ _. by-test P (eqb (find (b ∷ []) marks 1) 0) (λ m e. alike e (stray b s l (rw (d, a)) q (eqb-true (find (b ∷ []) marks 1) 0 m))) (λ _ e. not_taken e))
+    (λ _. by_test P (eqb (find (b ∷ get_or s 0 0 ∷ []) marks 1) 0)
+    (λ _. by_test P (eqb (find (b ∷ []) marks 1) 0) (λ m e. alike e (stray b s l (rw (d, a)) q (eqb-true (find (b ∷ []) marks 1) 0 m))) (λ _ e. not_taken e))
     (λ _ e. not_taken e))))))

@@ -1,7 +1,7 @@
--- Mechanism, of contracts alone: no theorem holds it to the specification; `reading`, which it cites, is held by `reading-exact` (crate `text_spacing_proof`).
+-- Mechanism, of contracts alone: no theorem holds it to the specification; `reading`, which it cites, is held by `reading_exact` (crate `text_spacing_proof`).
 -- What the entry answers, and what stays behind: document 01, "What is answered, and what stays behind".
 use Rattle.std.specs.Prelude.{◌≡◌, Bool, List, ◌++◌, map, ℕ, leb, length, drop}
-use Rattle.base_ceilings.specs.Ceilings.{tokensMost}
+use Rattle.base_ceilings.specs.Ceilings.{tokens_most}
 use Rattle.base_bytes.specs.Choice.{pick, both}
 use Rattle.text_tokens.specs.Reading.{Reading, tokens, refused, reading}
 use Rattle.spec_text.specs.Placed.{Placed}
@@ -19,7 +19,7 @@ left_in f (tokens ps) old = map f ps ++ drop (length ps) old
 left_in f (refused x i n) old = old
 
 abbrev pub roomy : List ℕ → Bool
-roomy old = leb tokensMost (length old)
+roomy old = leb tokens_most (length old)
 
 -- refusal 7 comes first, where a lent array has no room for every token that may come
 abbrev pub lexing : List ℕ → List ℕ → List ℕ → List ℕ → Reading

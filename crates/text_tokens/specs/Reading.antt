@@ -1,8 +1,8 @@
--- Mechanism, held to the specification by `reading-exact` (crate `text_spacing_proof`) and `reading-spoils` (crate `text_spoils_proof`).
+-- Mechanism, held to the specification by `reading_exact` (crate `text_spacing_proof`) and `reading_spoils` (crate `text_spoils_proof`).
 -- The tokens of a whole text, or its refusal: document 01, "The edition we read", Bytes; "Ceilings"; rows 1 and 2 of "What is answered".
 -- The text is read from its front, piece by piece, so that the first refusal met is the one of the smallest place.
 use Rattle.std.specs.Prelude.{List, [], ◌∷◌, ℕ, zero, suc, ◌+◌, ◌-◌, ltb, length}
-use Rattle.base_ceilings.specs.Ceilings.{textMost, tokensMost}
+use Rattle.base_ceilings.specs.Ceilings.{text_most, tokens_most}
 use Rattle.base_bytes.specs.Choice.{pick}
 use Rattle.spec_text.specs.Placed.{Placed, placed}
 use Rattle.text_pieces.specs.Pieces.{piece_of}
@@ -26,11 +26,11 @@ follow (Take k n) i zero rest = refused 2 i n
 follow (Take k n) i (suc left) rest = before (placed k i n) (rest n left)
 
 -- the text from place i on, whose first `passed` bytes belong to the piece before
-unfoldable pub readFrom : ℕ → ℕ → ℕ → List ℕ → Reading
-readFrom i left passed [] = tokens []
-readFrom i left (suc m) (b ∷ s) = readFrom (i + 1) left m s
-readFrom i left zero (b ∷ s) = follow (piece_of (b ∷ s)) i left (λ n l. readFrom (i + 1) l (n - 1) s)
+unfoldable pub read_from : ℕ → ℕ → ℕ → List ℕ → Reading
+read_from i left passed [] = tokens []
+read_from i left (suc m) (b ∷ s) = read_from (i + 1) left m s
+read_from i left zero (b ∷ s) = follow (piece_of (b ∷ s)) i left (λ n l. read_from (i + 1) l (n - 1) s)
 
 -- the whole text; "texts up to 65,536 bytes" (request One), and the place of a longer one is 0
 abbrev pub reading : List ℕ → Reading
-reading t = pick (ltb textMost (length t)) (refused 2 0 0) (readFrom 0 tokensMost 0 t)
+reading t = pick (ltb text_most (length t)) (refused 2 0 0) (read_from 0 tokens_most 0 t)

@@ -1,7 +1,7 @@
 // Bytes to tokens: the whole text in one pass (document 01, "The edition we read", Bytes), and places as lines and columns.
 ghost use Rattle.std.specs.Prelude.{◌≡◌, ◌≤◌, length};
-ghost use Rattle.base_ceilings.specs.Ceilings.{textMost, tokensMost};
-ghost use Rattle.text_tokens.specs.Reading.{readFrom};
+ghost use Rattle.base_ceilings.specs.Ceilings.{text_most, tokens_most};
+ghost use Rattle.text_tokens.specs.Reading.{read_from};
 ghost use Rattle.text_tokens.specs.Answers.{lexing, Answered};
 ghost use Rattle.text_tokens.specs.Lines.{position_of};
 ghost use Rattle.text_tokens.specs.Scans.{Scanned};
@@ -24,8 +24,8 @@ pub struct Position {
 
 // The pass itself, over arrays of its caller's own that have room for every token.
 fn scan(text: &[u8], kinds: &mut [u8], starts: &mut [u32], ends: &mut [u32]) -> Lexed
-    requires { (length text.now ≤ textMost) × (length kinds.old ≡ tokensMost) × (length starts.old ≡ tokensMost) × (length ends.old ≡ tokensMost) }
-    ensures { Scanned (readFrom 0 tokensMost 0 text.now) result kinds.new starts.new ends.new }
+    requires { (length text.now ≤ text_most) × (length kinds.old ≡ tokens_most) × (length starts.old ≡ tokens_most) × (length ends.old ≡ tokens_most) }
+    ensures { Scanned (read_from 0 tokens_most 0 text.now) result kinds.new starts.new ends.new }
 {
     let mut i: usize = 0;
     let mut n: usize = 0;

@@ -1,12 +1,12 @@
--- Mechanism, held to the specification by `form-exact` (crate `trail_form`), `demand2` (crate `demands`), but for `answer_of`, of contracts alone.
+-- Mechanism, held to the specification by `form_exact` (crate `trail_form`), `demand2` (crate `demands`), but for `answer_of`, of contracts alone.
 -- The form of a whole trail: document 01, "Trail lines", "Ceilings" ("Trail 32,768 bytes and 2,048 steps") and the order of replay's refusals
 -- ("length, .. form (10, or 2 at the first well-formed step record past 2,048, the smaller line first)").
 use Rattle.std.specs.Prelude.{Bool, List, [], ◌∷◌, ℕ, zero, suc, ◌+◌, ◌-◌, eqb, ltb, length, take, drop}
-use Rattle.base_ceilings.specs.Ceilings.{stepsMost, trailMost}
+use Rattle.base_ceilings.specs.Ceilings.{steps_most, trail_most}
 use Rattle.base_bytes.specs.Choice.{pick}
-use Rattle.spec_trails.specs.Trails.{Recorded, line-end}
+use Rattle.spec_trails.specs.Trails.{Recorded, line_end}
 use Rattle.text_pieces.specs.Spans.{span}
-use Rattle.trail_form.specs.Records.{isNot, recordOf}
+use Rattle.trail_form.specs.Records.{is_not, record_of}
 use Rattle.trail_form.specs.declared.Record.{Record}
 use Rattle.trail_form.specs.declared.Record.TheVariants.{Step, Claim, Malformed}
 use Rattle.trail_form.specs.declared.Formed.{Formed}
@@ -23,7 +23,7 @@ before a (spoiled x l) = spoiled x l
 
 -- how many bytes a line has before its line end, or before the end of the trail
 abbrev pub line_of : List ℕ → ℕ
-line_of s = span (isNot line-end) s
+line_of s = span (is_not line_end) s
 
 -- what a record on a line leads to, where `left` steps more may come and m bytes are left behind it
 abbrev pub follow : Record → ℕ → ℕ → ℕ → (ℕ → Form) → Form
@@ -33,17 +33,17 @@ follow (Step p k) line zero m rest = spoiled 2 line
 follow (Step p k) line (suc left) m rest = before (record { process = p; choice = k }) (rest left)
 
 -- the trail from a line on, whose first `passed` bytes belong to the line before: a line with no end, or none at all, is refused at itself
-unfoldable pub formFrom : ℕ → ℕ → ℕ → List ℕ → Form
-formFrom line left passed [] = spoiled 10 line
-formFrom line left (suc n) (b ∷ s) = formFrom line left n s
-formFrom line left zero (b ∷ s) =
+unfoldable pub form_from : ℕ → ℕ → ℕ → List ℕ → Form
+form_from line left passed [] = spoiled 10 line
+form_from line left (suc n) (b ∷ s) = form_from line left n s
+form_from line left zero (b ∷ s) =
     pick (ltb (line_of (b ∷ s)) (length (b ∷ s)))
-    (follow (recordOf (take (line_of (b ∷ s)) (b ∷ s))) line left (length (b ∷ s) - (line_of (b ∷ s) + 1)) (λ l. formFrom (line + 1) l (line_of (b ∷ s)) s))
+    (follow (record_of (take (line_of (b ∷ s)) (b ∷ s))) line left (length (b ∷ s) - (line_of (b ∷ s) + 1)) (λ l. form_from (line + 1) l (line_of (b ∷ s)) s))
     (spoiled 10 line)
 
 -- the whole trail; "Length before form", whose line is 0
 abbrev pub form_of : List ℕ → Form
-form_of t = pick (ltb trailMost (length t)) (spoiled 2 0) (formFrom 1 stepsMost 0 t)
+form_of t = pick (ltb trail_most (length t)) (spoiled 2 0) (form_from 1 steps_most 0 t)
 
 -- the answer: how many steps and which verdict, or the refusal
 abbrev pub answer_of : Form → Formed

@@ -1,10 +1,10 @@
 // The records of a trail, and the form of a whole one (document 01, "Trail lines").
 ghost use Rattle.std.specs.Prelude.{◌≡◌, not, [], ◌∷◌, ◌+◌, ◌≤◌, min, get_or, take, eqb};
-ghost use Rattle.base_ceilings.specs.Ceilings.{numberMost};
+ghost use Rattle.base_ceilings.specs.Ceilings.{number_most};
 ghost use Rattle.base_bytes.specs.Choice.{both};
 ghost use Rattle.text_pieces.specs.Spans.{span};
 ghost use Rattle.spec_text.specs.Digits.{decimal};
-ghost use Rattle.trail_form.specs.Records.{wellFormed, isNot, step_of, claim_of, recordOf};
+ghost use Rattle.trail_form.specs.Records.{well_formed, is_not, step_of, claim_of, record_of};
 ghost use Rattle.spec_trails.specs.Trails.{tab};
 ghost use Rattle.trail_form.specs.Forms.{form_of, answer_of, line_of};
 
@@ -49,7 +49,7 @@ const SHORT_LINE: usize = 8;
 
 // How many bytes at the front are not this one.
 fn up_to(s: &[u8], c: u8) -> usize
-    ensures { result ≡ span (isNot c) s.now }
+    ensures { result ≡ span (is_not c) s.now }
 {
     let mut i: usize = 0;
     while i < s.len() {
@@ -63,7 +63,7 @@ fn up_to(s: &[u8], c: u8) -> usize
 
 // Are these 1 to 5 digits, with no zero in front of others?
 fn is_number(x: &[u8]) -> bool
-    ensures { result ≡ wellFormed x.now }
+    ensures { result ≡ well_formed x.now }
 {
     if text_pieces::digits(x) != x.len() {
         return false;
@@ -82,7 +82,7 @@ fn is_number(x: &[u8]) -> bool
 
 // The number that a few digits write.
 fn small(x: &[u8]) -> u32
-    ensures { result ≡ min (numberMost + 1) (decimal x.now) }
+    ensures { result ≡ min (number_most + 1) (decimal x.now) }
 {
     text_pieces::value(x) as u32
 }
@@ -136,7 +136,7 @@ fn begins(x: &[u8], letter: u8) -> bool
 
 // The record of a line without its line end.
 pub fn record_of(x: &[u8]) -> Record
-    ensures { result ≡ recordOf x.now }
+    ensures { result ≡ record_of x.now }
 {
     if begins(x, b'S') {
         return step_of(&x[2..]);
@@ -150,7 +150,7 @@ pub fn record_of(x: &[u8]) -> Record
 // The number of one or two digits that these two bytes begin with.
 fn short_number(a: u8, b: u8) -> Number
     ensures count_bound { result.count ≤ 2 }
-    ensures count_value { not (eqb result.count 0) ≡ wellFormed (take result.count (a ∷ b ∷ [])) }
+    ensures count_value { not (eqb result.count 0) ≡ well_formed (take result.count (a ∷ b ∷ [])) }
     ensures value_value { result.value ≡ decimal (take result.count (a ∷ b ∷ [])) }
 {
     if !text_pieces::is_digit(a) {
@@ -175,7 +175,7 @@ fn short_number(a: u8, b: u8) -> Number
 // The line at the front, whatever it is.
 fn any_line(s: &[u8]) -> Line
     ensures length_value { result.length ≡ line_of s.now }
-    ensures record_value { result.record ≡ recordOf (take (line_of s.now) s.now) }
+    ensures record_value { result.record ≡ record_of (take (line_of s.now) s.now) }
 {
     let n = up_to(s, b'\n');
     Line {
@@ -187,7 +187,7 @@ fn any_line(s: &[u8]) -> Line
 // The line at the front; a step with numbers of one or two digits, which nearly every line is, in one pass over its bytes.
 pub fn line_of(s: &[u8]) -> Line
     ensures length_value { result.length ≡ line_of s.now }
-    ensures record_value { result.record ≡ recordOf (take (line_of s.now) s.now) }
+    ensures record_value { result.record ≡ record_of (take (line_of s.now) s.now) }
 {
     if s.len() < SHORT_LINE {
         return any_line(s);

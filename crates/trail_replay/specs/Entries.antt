@@ -4,20 +4,20 @@
 use Rattle.std.specs.Prelude.{ℕ, List, ℤ, eqb, ltb, length}
 use Rattle.base_bytes.specs.Choice.{pick}
 use Rattle.read_genuine.specs.Genuine.{written}
-use Rattle.state_start.specs.Starting.{initialOf}
-use Rattle.step_entry.specs.Entries.{foreignOf}
+use Rattle.state_start.specs.Starting.{initial_of}
+use Rattle.step_entry.specs.Entries.{foreign_of}
 use Rattle.trail_form.specs.Forms.{Form, form, spoiled, form_of}
-use Rattle.trail_replay.specs.Replay.{Replay, replayIn}
+use Rattle.trail_replay.specs.Replay.{Replay, replay_in}
 use Rattle.trail_replay.specs.declared.Replayed.TheVariants.{Refused}
-use Rattle.base_ceilings.specs.Ceilings.{trailMost}
+use Rattle.base_ceilings.specs.Ceilings.{trail_most}
 
 -- a trail that has its form is replayed from the initial state on; one that has not changes nothing
-abbrev pub replayedBy : Form → List ℕ → List ℤ → Replay
-replayedBy (form steps claim) w s = replayIn w (form steps claim) (initialOf w s)
-replayedBy (spoiled x line) w s = (Refused x line, s)
+abbrev pub replayed_by : Form → List ℕ → List ℤ → Replay
+replayed_by (form steps claim) w s = replay_in w (form steps claim) (initial_of w s)
+replayed_by (spoiled x line) w s = (Refused x line, s)
 
-unfoldable pub replayedOf : List ℕ → List ℕ → List ℤ → Replay
-replayedOf ts trail s =
-    pick (eqb (foreignOf ts s) 7) (Refused 7 0, s)
-    (pick (ltb trailMost (length trail)) (Refused 2 0, s)
-    (pick (eqb (foreignOf ts s) 0) (replayedBy (form_of trail) (written ts) s) (Refused 8 0, s)))
+unfoldable pub replayed_of : List ℕ → List ℕ → List ℤ → Replay
+replayed_of ts trail s =
+    pick (eqb (foreign_of ts s) 7) (Refused 7 0, s)
+    (pick (ltb trail_most (length trail)) (Refused 2 0, s)
+    (pick (eqb (foreign_of ts s) 0) (replayed_by (form_of trail) (written ts) s) (Refused 8 0, s)))

@@ -18,7 +18,7 @@ pub enum Replayed {
 
 // The k-th offered step of a process is taken; idle where there is no such step.
 fn take_recorded(t: &[u32], s: &mut [i32], process: u32, k: u32) -> Taken
-    ensures { (result, s.new) ≡ replay.recordedIn t.now process k s.old }
+    ensures { (result, s.new) ≡ replay.recorded_in t.now process k s.old }
 {
     let o = step_all::step_at(t, s, process, k);
     match o {
@@ -29,7 +29,7 @@ fn take_recorded(t: &[u32], s: &mut [i32], process: u32, k: u32) -> Taken
 
 // How a recorded step failed: by its assertion 1, by a fault 2; 0 where it did not, 3 where there is none.
 fn failure_of(x: Taken) -> u8
-    ensures { result ≡ replay.failureOf x }
+    ensures { result ≡ replay.failure_of x }
 {
     match x {
         Taken::Done => 0,
@@ -52,7 +52,7 @@ fn number_of(v: Verdict) -> u8
 
 // The verdict that is reached in a state, behind a step that failed so, or 0.
 fn reached(t: &[u32], s: &[i32], failed: u8) -> u8
-    ensures { result ≡ replay.reachedOf t.now failed s.now }
+    ensures { result ≡ replay.reached_of t.now failed s.now }
 {
     if failed == 0 {
         number_of(step_all::verdict_of(t, s))
@@ -74,7 +74,7 @@ fn judge(claim: u8, reached: u8, line: usize) -> Replayed
 // The records of a trail that has its form, n steps and a claim, from a state on.
 fn follow(t: &[u32], s: &mut [i32], trail: &[u8], n: usize, claim: u8) -> Replayed
     requires { answer_of (form_of trail.now) ≡ Well n claim }
-    ensures { (result, s.new) ≡ replay.replayIn t.now (form_of trail.now) s.old }
+    ensures { (result, s.new) ≡ replay.replay_in t.now (form_of trail.now) s.old }
 {
     let mut failed: u8 = 0;
     let mut at: usize = 0;
@@ -109,7 +109,7 @@ fn follow(t: &[u32], s: &mut [i32], trail: &[u8], n: usize, claim: u8) -> Replay
 
 // A trail from the initial state on, which the lent state becomes before the first step.
 pub fn replay(tables: &[u32], trail: &[u8], state: &mut [i32]) -> Replayed
-    ensures { (result, state.new) ≡ entries.replayedOf tables.now trail.now state.old }
+    ensures { (result, state.new) ≡ entries.replayed_of tables.now trail.now state.old }
 {
     let x = step_entry::foreign(tables, state);
     if x == 7 {

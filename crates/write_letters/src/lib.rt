@@ -4,7 +4,7 @@ ghost use Rattle.base_bytes.specs.Choice.{pick};
 ghost use Rattle.base_pens.specs.Pen.{pen, puts};
 ghost use Rattle.base_kinds.specs.Kinds.{kind_of};
 ghost use Rattle.spec_text.specs.Writing.{spell, write};
-ghost use Rattle.write_letters.specs.Tokens.{spelled, held_of, tokenBy, behind};
+ghost use Rattle.write_letters.specs.Tokens.{spelled, held_of, token_by, behind};
 
 // Writes the bytes of the name or string that item i is.
 pub fn put_name(t: &[u32], i: usize, out: &mut [u8], p: usize) -> usize
@@ -45,7 +45,7 @@ fn item_of(v: u32) -> usize
 
 // Writes the token of number v.
 fn put_spelling(t: &[u32], v: u32, out: &mut [u8], p: usize) -> usize
-    ensures { pen out.new result ≡ puts (spell (tokenBy t.now v)) (pen out.old p) }
+    ensures { pen out.new result ≡ puts (spell (token_by t.now v)) (pen out.old p) }
 {
     if v < 70 {
         return text_pens::put_fixed(v as u8, out, p);
@@ -55,7 +55,7 @@ fn put_spelling(t: &[u32], v: u32, out: &mut [u8], p: usize) -> usize
 
 // Its kind.
 pub fn kind_by(t: &[u32], v: u32) -> u8
-    ensures { result ≡ kind_of (tokenBy t.now v) }
+    ensures { result ≡ kind_of (token_by t.now v) }
 {
     if v < 70 {
         return v as u8;
@@ -75,7 +75,7 @@ fn space_if(b: bool, out: &mut [u8], p: usize) -> usize
 
 // Writes the token of number v behind a token of kind k. No token is longer than 129 bytes.
 pub fn put_token(t: &[u32], k: u8, v: u32, out: &mut [u8], p: usize) -> usize
-    ensures { pen out.new result ≡ puts (behind k (tokenBy t.now v)) (pen out.old p) }
+    ensures { pen out.new result ≡ puts (behind k (token_by t.now v)) (pen out.old p) }
 {
     let mut buffer = [0u8; 160];
     let n = put_spelling(t, v, &mut buffer, 0);
@@ -86,7 +86,7 @@ pub fn put_token(t: &[u32], k: u8, v: u32, out: &mut [u8], p: usize) -> usize
 
 // Writes the tokens of these numbers, one after the other.
 pub fn put_tokens(t: &[u32], toks: &[u32], out: &mut [u8], p: usize) -> usize
-    ensures { pen out.new result ≡ puts (write (map (tokenBy t.now) toks.now)) (pen out.old p) }
+    ensures { pen out.new result ≡ puts (write (map (token_by t.now) toks.now)) (pen out.old p) }
 {
     let mut k: u8 = 72;
     let mut q = p;

@@ -1,7 +1,7 @@
 // Tokens laid out in lines, by their kinds alone: the printed edition of a model.
 ghost use Rattle.std.specs.Prelude.{◌≡◌, map, ◌+◌, ◌<◌, ◌≤◌, ◌^◌};
 ghost use Rattle.base_pens.specs.Pen.{pen, puts};
-ghost use Rattle.write_letters.specs.Tokens.{tokenBy};
+ghost use Rattle.write_letters.specs.Tokens.{token_by};
 ghost use Rattle.write_lines.specs.Lines as spec;
 
 // Places: before all units, among units that have no body, in a body, in a head; and LIST more in a list in braces there.
@@ -16,7 +16,7 @@ const HEAD: u8 = 3;
 const LIST: u8 = 4;
 
 fn begins_head(k: u8) -> bool
-    ensures { result ≡ spec.beginsHead k }
+    ensures { result ≡ spec.begins_head k }
 {
     base_bytes::either(
         k == base_kinds::ACTIVE,
@@ -25,7 +25,7 @@ fn begins_head(k: u8) -> bool
 }
 
 fn begins_unit(k: u8) -> bool
-    ensures { result ≡ spec.beginsUnit k }
+    ensures { result ≡ spec.begins_unit k }
 {
     base_bytes::either(
         base_bytes::both(base_kinds::BIT <= k, k <= base_kinds::INT),
@@ -35,7 +35,7 @@ fn begins_unit(k: u8) -> bool
 
 // The place behind a token of kind k.
 fn place_behind(p: u8, k: u8) -> u8
-    ensures { result ≡ spec.placeBehind p k }
+    ensures { result ≡ spec.place_behind p k }
 {
     if LIST <= p {
         if k == base_kinds::CLOSE_BRACE {
@@ -94,7 +94,7 @@ fn closes(k: u8) -> bool
 // How many selections are open behind a token of kind k.
 fn open_behind(k: u8, s: usize) -> usize
     requires { s < 2 ^ 61 }
-    ensures value { result ≡ spec.openBehind k s }
+    ensures value { result ≡ spec.open_behind k s }
     ensures upper_bound { result ≤ s + 1 }
 {
     if opens(k) {
@@ -109,7 +109,7 @@ fn open_behind(k: u8, s: usize) -> usize
 
 // Does a line begin with a token of kind k?
 fn starts_line(p: u8, k: u8) -> bool
-    ensures { result ≡ spec.startsLine p k }
+    ensures { result ≡ spec.starts_line p k }
 {
     let unit = base_bytes::both(p == UNIT, begins_unit(k));
     let left = base_bytes::both(p == HEAD, k == base_kinds::OPEN_BRACE);
@@ -123,7 +123,7 @@ fn starts_line(p: u8, k: u8) -> bool
 
 // Does a line end with it?
 fn ends_line(p: u8, k: u8) -> bool
-    ensures { result ≡ spec.endsLine p k }
+    ensures { result ≡ spec.ends_line p k }
 {
     let left = base_bytes::both(p == HEAD, k == base_kinds::OPEN_BRACE);
     let semicolon = base_bytes::both(p == BODY, k == base_kinds::SEMICOLON);
@@ -134,7 +134,7 @@ fn ends_line(p: u8, k: u8) -> bool
 // The line end and the margin before a token that begins a line.
 fn put_margin(b: bool, d: usize, out: &mut [u8], p: usize) -> usize
     requires { d ≤ 2 ^ 61 }
-    ensures { pen out.new result ≡ puts (spec.marginIf b d) (pen out.old p) }
+    ensures { pen out.new result ≡ puts (spec.margin_if b d) (pen out.old p) }
 {
     if b {
         let q = text_pens::put(out, p, b'\n');
@@ -145,7 +145,7 @@ fn put_margin(b: bool, d: usize, out: &mut [u8], p: usize) -> usize
 
 // The kind before a token on its line: behind a string nothing joins.
 fn kind_before(b: bool, k: u8) -> u8
-    ensures { result ≡ spec.kindBefore b k }
+    ensures { result ≡ spec.kind_before b k }
 {
     if b { base_kinds::STRING } else { k }
 }
@@ -163,7 +163,7 @@ fn put_next(
     q: usize,
 ) -> usize
     requires { s < 2 ^ 61 }
-    ensures { pen out.new result ≡ puts (spec.laidNext new k p s b (tokenBy t.now v)) (pen out.old q) }
+    ensures { pen out.new result ≡ puts (spec.laid_next new k p s b (token_by t.now v)) (pen out.old q) }
 {
     let d = base_bytes::least(s, open_behind(b, s))
         + base_bytes::least(bodies(p), bodies(place_behind(p, b)));
@@ -173,7 +173,7 @@ fn put_next(
 
 // Writes the tokens of these numbers in lines. No more selections are open than tokens stand before, and a slice has fewer than 2 ^ 61.
 pub fn put_lines(t: &[u32], toks: &[u32], out: &mut [u8], p: usize) -> usize
-    ensures { pen out.new result ≡ puts (spec.layAll (map (tokenBy t.now) toks.now)) (pen out.old p) }
+    ensures { pen out.new result ≡ puts (spec.lay_all (map (token_by t.now) toks.now)) (pen out.old p) }
 {
     let mut k: u8 = base_kinds::STRING;
     let mut place: u8 = START;

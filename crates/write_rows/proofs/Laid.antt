@@ -4,12 +4,12 @@ use mathlib.Core.Path.{◌≡◌, refl}
 use mathlib.Core.List.{List}
 use lib.ListN.{length}
 use Rattle.base_bytes.specs.Lists.{pasted}
-use Rattle.base_bytes.proofs.Lists.{paste-whole}
+use Rattle.base_bytes.proofs.Lists.{paste_whole}
 use Rattle.write_rows.specs.Rules.{rows, cells}
 
-cells-long : length cells ≡ 1340
+cells_long : length cells ≡ 1340
 unfolding cells rows
-cells-long = refl
+cells_long = refl
 
 pub cells-laid : (ys : List ℕ) → length ys ≡ 1340 → pasted 1340 cells ys ≡ cells
-cells-laid ys e = paste-whole 1340 cells ys cells-long e
+cells-laid ys e = paste_whole 1340 cells ys cells_long e

@@ -8,9 +8,9 @@
 --   137        a declaration's names, one is behind                138        the options of a selection
 --   139        what a body belongs to                              140 141    parameters, groups: one is behind
 --   142        an mtype list, one name is behind                   143        units: always at the bottom
--- A row says what a symbol becomes at an item of a code. `c-end-closed` is an `end` whose arguments stand in parentheses. No row: the symbol goes, and nothing is written.
+-- A row says what a symbol becomes at an item of a code. `c_end_closed` is an `end` whose arguments stand in parentheses. No row: the symbol goes, and nothing is written.
 use Rattle.std.specs.Prelude.{List, [], ◌∷◌, ◌++◌, ℕ}
-use Rattle.base_codes.specs.Codes.{c-active, c-active-many, c-argument, c-assert, c-assign, c-bit, c-body, c-bool, c-break, c-byte, c-chan, c-channel, c-choice, c-complement, c-constant, c-declared, c-decrement, c-do, c-else, c-end, c-end-body, c-end-closed, c-end-option, c-equal, c-express, c-false, c-fi, c-field, c-global, c-goto, c-group, c-if, c-increment, c-index, c-init, c-int, c-into, c-label, c_len, c-local, c-message, c-minus, c-mtype, c-mtypes, c-name, c-named, c-negate, c-not, c-number, c-od, c-option, c-otherwise, c-parameter, c-pid, c-plain, c-proctype, c-receive, c-run, c-send, c-set-run, c-short, c-size, c-skip, c-target, c-text, c-timeout, c-true, c-value}
+use Rattle.base_codes.specs.Codes.{c_active, c_active_many, c_argument, c_assert, c_assign, c_bit, c_body, c_bool, c_break, c_byte, c_chan, c_channel, c_choice, c_complement, c_constant, c_declared, c_decrement, c_do, c_else, c_end, c_end_body, c_end_closed, c_end_option, c_equal, c_express, c_false, c_fi, c_field, c_global, c_goto, c_group, c_if, c_increment, c_index, c_init, c_int, c_into, c_label, c_len, c_local, c_message, c_minus, c_mtype, c_mtypes, c_name, c_named, c_negate, c_not, c_number, c_od, c_option, c_otherwise, c_parameter, c_pid, c_plain, c_proctype, c_receive, c_run, c_send, c_set_run, c_short, c_size, c_skip, c_target, c_text, c_timeout, c_true, c_value}
 use Rattle.text_pens.specs.Sheet.{flat}
 use Rattle.text_pens.specs.Sheet.{padded}
 
@@ -21,53 +21,53 @@ row s c xs = s ∷ c ∷ padded 8 xs
 -- expressions; the binary operators have no row
 abbrev pub expressions : List (List ℕ)
 expressions =
-    row 101 c-number (99 ∷ []) ∷ row 101 c-true (65 ∷ []) ∷ row 101 c-false (52 ∷ []) ∷ row 101 c-plain (120 ∷ []) ∷ row 101 c-index (24 ∷ 101 ∷ 23 ∷ 120 ∷ []) ∷
-    row 101 c_len (22 ∷ 112 ∷ 21 ∷ 57 ∷ []) ∷ row 101 c-negate (111 ∷ 15 ∷ []) ∷ row 101 c-not (111 ∷ 19 ∷ []) ∷ row 101 c-complement (111 ∷ 20 ∷ []) ∷
-    row 101 c-choice (22 ∷ 101 ∷ 123 ∷ 101 ∷ 31 ∷ 101 ∷ 21 ∷ []) ∷ row 120 c-name (99 ∷ []) ∷ row 120 c-number (99 ∷ []) ∷ row 121 c-target (112 ∷ []) ∷ row 123 c-otherwise (29 ∷ []) ∷
+    row 101 c_number (99 ∷ []) ∷ row 101 c_true (65 ∷ []) ∷ row 101 c_false (52 ∷ []) ∷ row 101 c_plain (120 ∷ []) ∷ row 101 c_index (24 ∷ 101 ∷ 23 ∷ 120 ∷ []) ∷
+    row 101 c_len (22 ∷ 112 ∷ 21 ∷ 57 ∷ []) ∷ row 101 c_negate (111 ∷ 15 ∷ []) ∷ row 101 c_not (111 ∷ 19 ∷ []) ∷ row 101 c_complement (111 ∷ 20 ∷ []) ∷
+    row 101 c_choice (22 ∷ 101 ∷ 123 ∷ 101 ∷ 31 ∷ 101 ∷ 21 ∷ []) ∷ row 120 c_name (99 ∷ []) ∷ row 120 c_number (99 ∷ []) ∷ row 121 c_target (112 ∷ []) ∷ row 123 c_otherwise (29 ∷ []) ∷
     []
 
 -- what stands before a value, a size and a declared name, by the mark at its end
 abbrev pub variables : ℕ → List ℕ → List ℕ → List (List ℕ)
 variables s before after =
-    row s c-value (before ++ 101 ∷ 32 ∷ 135 ∷ after) ∷ row s c-minus (before ++ 120 ∷ 15 ∷ 32 ∷ 135 ∷ after) ∷ row s c-named (before ++ 120 ∷ 32 ∷ 135 ∷ after) ∷
-    row s c-channel (before ++ 26 ∷ 25 ∷ 59 ∷ 24 ∷ 124 ∷ after) ∷ row s c-field (before ++ 26 ∷ 122 ∷ 134 ∷ after) ∷ row s c-size (before ++ 24 ∷ 120 ∷ 23 ∷ 136 ∷ after) ∷
-    row s c-declared (before ++ 120 ∷ after) ∷ []
+    row s c_value (before ++ 101 ∷ 32 ∷ 135 ∷ after) ∷ row s c_minus (before ++ 120 ∷ 15 ∷ 32 ∷ 135 ∷ after) ∷ row s c_named (before ++ 120 ∷ 32 ∷ 135 ∷ after) ∷
+    row s c_channel (before ++ 26 ∷ 25 ∷ 59 ∷ 24 ∷ 124 ∷ after) ∷ row s c_field (before ++ 26 ∷ 122 ∷ 134 ∷ after) ∷ row s c_size (before ++ 24 ∷ 120 ∷ 23 ∷ 136 ∷ after) ∷
+    row s c_declared (before ++ 120 ∷ after) ∷ []
 
 abbrev pub declarations : List (List ℕ)
 declarations =
-    row 134 c-field (27 ∷ 122 ∷ 134 ∷ []) ∷ row 134 c-channel (25 ∷ 59 ∷ 24 ∷ 124 ∷ []) ∷ row 124 c-number (99 ∷ 23 ∷ 32 ∷ 135 ∷ []) ∷
-    row 135 c-size (24 ∷ 120 ∷ 23 ∷ 136 ∷ []) ∷ row 135 c-declared (120 ∷ []) ∷ row 136 c-declared (120 ∷ []) ∷ row 137 c-local (122 ∷ []) ∷ row 137 c-global (122 ∷ []) ∷
-    row 122 c-bit (38 ∷ []) ∷ row 122 c-bool (39 ∷ []) ∷ row 122 c-byte (40 ∷ []) ∷ row 122 c-mtype (41 ∷ []) ∷ row 122 c-pid (42 ∷ []) ∷ row 122 c-chan (43 ∷ []) ∷
-    row 122 c-short (44 ∷ []) ∷ row 122 c-int (45 ∷ []) ∷
+    row 134 c_field (27 ∷ 122 ∷ 134 ∷ []) ∷ row 134 c_channel (25 ∷ 59 ∷ 24 ∷ 124 ∷ []) ∷ row 124 c_number (99 ∷ 23 ∷ 32 ∷ 135 ∷ []) ∷
+    row 135 c_size (24 ∷ 120 ∷ 23 ∷ 136 ∷ []) ∷ row 135 c_declared (120 ∷ []) ∷ row 136 c_declared (120 ∷ []) ∷ row 137 c_local (122 ∷ []) ∷ row 137 c_global (122 ∷ []) ∷
+    row 122 c_bit (38 ∷ []) ∷ row 122 c_bool (39 ∷ []) ∷ row 122 c_byte (40 ∷ []) ∷ row 122 c_mtype (41 ∷ []) ∷ row 122 c_pid (42 ∷ []) ∷ row 122 c_chan (43 ∷ []) ∷
+    row 122 c_short (44 ∷ []) ∷ row 122 c_int (45 ∷ []) ∷
     []
 
 -- statements, with what stands behind them: nothing, or `;`
 abbrev pub statements : ℕ → List ℕ → List (List ℕ)
 statements s behind =
-    row s c-express (behind ++ 101 ∷ 131 ∷ []) ∷ row s c-assign (behind ++ 101 ∷ 32 ∷ 121 ∷ 131 ∷ []) ∷ row s c-increment (behind ++ 33 ∷ 112 ∷ 131 ∷ []) ∷ row s c-decrement (behind ++ 34 ∷ 112 ∷ 131 ∷ []) ∷
-    row s c-end (behind ++ 132 ∷ 131 ∷ []) ∷ row s c-end-closed (behind ++ 22 ∷ 132 ∷ 131 ∷ []) ∷ row s c-assert (behind ++ 22 ∷ 101 ∷ 21 ∷ 47 ∷ 131 ∷ []) ∷ row s c-skip (behind ++ 63 ∷ 131 ∷ []) ∷
-    row s c-goto (behind ++ 120 ∷ 54 ∷ 131 ∷ []) ∷ row s c-break (behind ++ 48 ∷ 131 ∷ []) ∷ row s c-timeout (behind ++ 64 ∷ 131 ∷ []) ∷ row s c-else (behind ++ 50 ∷ 131 ∷ []) ∷
-    row s c-fi (behind ++ 53 ∷ 138 ∷ 131 ∷ []) ∷ row s c-od (behind ++ 58 ∷ 138 ∷ 131 ∷ []) ∷ row s c-label (29 ∷ 120 ∷ 131 ∷ []) ∷ row s c-option (30 ∷ []) ∷ row s c-body (25 ∷ []) ∷
-    row s c-local (28 ∷ 122 ∷ 131 ∷ []) ∷ []
+    row s c_express (behind ++ 101 ∷ 131 ∷ []) ∷ row s c_assign (behind ++ 101 ∷ 32 ∷ 121 ∷ 131 ∷ []) ∷ row s c_increment (behind ++ 33 ∷ 112 ∷ 131 ∷ []) ∷ row s c_decrement (behind ++ 34 ∷ 112 ∷ 131 ∷ []) ∷
+    row s c_end (behind ++ 132 ∷ 131 ∷ []) ∷ row s c_end_closed (behind ++ 22 ∷ 132 ∷ 131 ∷ []) ∷ row s c_assert (behind ++ 22 ∷ 101 ∷ 21 ∷ 47 ∷ 131 ∷ []) ∷ row s c_skip (behind ++ 63 ∷ 131 ∷ []) ∷
+    row s c_goto (behind ++ 120 ∷ 54 ∷ 131 ∷ []) ∷ row s c_break (behind ++ 48 ∷ 131 ∷ []) ∷ row s c_timeout (behind ++ 64 ∷ 131 ∷ []) ∷ row s c_else (behind ++ 50 ∷ 131 ∷ []) ∷
+    row s c_fi (behind ++ 53 ∷ 138 ∷ 131 ∷ []) ∷ row s c_od (behind ++ 58 ∷ 138 ∷ 131 ∷ []) ∷ row s c_label (29 ∷ 120 ∷ 131 ∷ []) ∷ row s c_option (30 ∷ []) ∷ row s c_body (25 ∷ []) ∷
+    row s c_local (28 ∷ 122 ∷ 131 ∷ []) ∷ []
 
 -- arguments, with what stands behind them: nothing, or a comma; and what they are arguments of
 abbrev pub arguments : ℕ → List ℕ → List (List ℕ)
 arguments s behind =
-    row s c-argument (behind ++ 101 ∷ 133 ∷ []) ∷ row s c-into (behind ++ 112 ∷ 133 ∷ []) ∷ row s c-equal (behind ++ 22 ∷ 101 ∷ 21 ∷ 51 ∷ 133 ∷ []) ∷ row s c-constant (behind ++ 101 ∷ 133 ∷ []) ∷
-    row s c-send (19 ∷ 112 ∷ []) ∷ row s c-receive (35 ∷ 112 ∷ []) ∷ row s c-text (behind ++ 99 ∷ 21 ∷ 60 ∷ []) ∷ row s c-run (21 ∷ 120 ∷ 62 ∷ []) ∷ row s c-set-run (21 ∷ 120 ∷ 62 ∷ 32 ∷ 121 ∷ []) ∷ []
+    row s c_argument (behind ++ 101 ∷ 133 ∷ []) ∷ row s c_into (behind ++ 112 ∷ 133 ∷ []) ∷ row s c_equal (behind ++ 22 ∷ 101 ∷ 21 ∷ 51 ∷ 133 ∷ []) ∷ row s c_constant (behind ++ 101 ∷ 133 ∷ []) ∷
+    row s c_send (19 ∷ 112 ∷ []) ∷ row s c_receive (35 ∷ 112 ∷ []) ∷ row s c_text (behind ++ 99 ∷ 21 ∷ 60 ∷ []) ∷ row s c_run (21 ∷ 120 ∷ 62 ∷ []) ∷ row s c_set_run (21 ∷ 120 ∷ 62 ∷ 32 ∷ 121 ∷ []) ∷ []
 
 -- what a body belongs to: a process with its parameters, or `init`; behind them stands `)` or nothing
 abbrev pub heads : ℕ → List ℕ → List (List ℕ)
 heads s behind =
-    row s c-proctype (behind ++ 21 ∷ 120 ∷ 61 ∷ []) ∷ row s c-active (behind ++ 21 ∷ 120 ∷ 61 ∷ 46 ∷ []) ∷ row s c-active-many (behind ++ 21 ∷ 120 ∷ 61 ∷ 24 ∷ 120 ∷ 23 ∷ 46 ∷ []) ∷ []
+    row s c_proctype (behind ++ 21 ∷ 120 ∷ 61 ∷ []) ∷ row s c_active (behind ++ 21 ∷ 120 ∷ 61 ∷ 46 ∷ []) ∷ row s c_active_many (behind ++ 21 ∷ 120 ∷ 61 ∷ 24 ∷ 120 ∷ 23 ∷ 46 ∷ []) ∷ []
 
 abbrev pub units : List (List ℕ)
 units =
-    row 138 c-end-option (130 ∷ 138 ∷ []) ∷ row 138 c-if (55 ∷ []) ∷ row 138 c-do (49 ∷ []) ∷
-    row 139 c-init (56 ∷ []) ∷ row 139 c-parameter (22 ∷ 120 ∷ 140 ∷ []) ∷ row 139 c-group (22 ∷ 122 ∷ 141 ∷ []) ∷
-    row 140 c-parameter (27 ∷ 120 ∷ 140 ∷ []) ∷ row 140 c-group (122 ∷ 141 ∷ []) ∷ row 141 c-parameter (28 ∷ 120 ∷ 140 ∷ []) ∷ row 141 c-group (28 ∷ 122 ∷ 141 ∷ []) ∷
-    row 142 c-message (27 ∷ 120 ∷ 142 ∷ []) ∷ row 142 c-mtypes (25 ∷ 32 ∷ 41 ∷ []) ∷
-    row 143 c-end-body (26 ∷ 130 ∷ 139 ∷ 143 ∷ []) ∷ row 143 c-message (26 ∷ 120 ∷ 142 ∷ 143 ∷ []) ∷ row 143 c-mtypes (26 ∷ 25 ∷ 32 ∷ 41 ∷ 143 ∷ []) ∷ row 143 c-global (122 ∷ 143 ∷ []) ∷
+    row 138 c_end_option (130 ∷ 138 ∷ []) ∷ row 138 c_if (55 ∷ []) ∷ row 138 c_do (49 ∷ []) ∷
+    row 139 c_init (56 ∷ []) ∷ row 139 c_parameter (22 ∷ 120 ∷ 140 ∷ []) ∷ row 139 c_group (22 ∷ 122 ∷ 141 ∷ []) ∷
+    row 140 c_parameter (27 ∷ 120 ∷ 140 ∷ []) ∷ row 140 c_group (122 ∷ 141 ∷ []) ∷ row 141 c_parameter (28 ∷ 120 ∷ 140 ∷ []) ∷ row 141 c_group (28 ∷ 122 ∷ 141 ∷ []) ∷
+    row 142 c_message (27 ∷ 120 ∷ 142 ∷ []) ∷ row 142 c_mtypes (25 ∷ 32 ∷ 41 ∷ []) ∷
+    row 143 c_end_body (26 ∷ 130 ∷ 139 ∷ 143 ∷ []) ∷ row 143 c_message (26 ∷ 120 ∷ 142 ∷ 143 ∷ []) ∷ row 143 c_mtypes (26 ∷ 25 ∷ 32 ∷ 41 ∷ 143 ∷ []) ∷ row 143 c_global (122 ∷ 143 ∷ []) ∷
     []
 
 unfoldable pub rows : List (List ℕ)

@@ -10,24 +10,24 @@ use lib.Seq.{take-suc-set, append_snoc, take_at, take_all, drop-cons}
 use lib.Dec.{eqb, ltb}
 use native.Mathlib.Decide.{dec_lt}
 use borrow.Author.Tests.{lt-ltb, le-ltb, eq-eqb, ne_eqb}
-use Rattle.base_ceilings.specs.Ceilings.{itemsMost}
+use Rattle.base_ceilings.specs.Ceilings.{items_most}
 use Rattle.base_bytes.specs.Choice.{pick}
 use Rattle.base_kinds.specs.Kinds.{Token, sym as symbol, name, number, text, kind_of}
 use Rattle.spec_text.specs.Bytes.{quote}
 use Rattle.spec_text.specs.Writing.{spell, write}
-use Rattle.spec_text.specs.Formats.{digitsBy}
+use Rattle.spec_text.specs.Formats.{digits_by}
 use Rattle.base_pens.specs.Pen.{Pen, pen, write as write-one, puts}
-use Rattle.base_pens.proofs.Pen.{puts-append, puts-fit}
-use Rattle.text_pens.specs.Sheet.{spelledBy}
-use Rattle.text_pens.specs.After.{joinsBy, writeAfter}
+use Rattle.base_pens.proofs.Pen.{puts-append, puts_fit}
+use Rattle.text_pens.specs.Sheet.{spelled_by}
+use Rattle.text_pens.specs.After.{joins_by, write_after}
 use Rattle.text_pens.proofs.After.{write-after}
 use Rattle.text_pens.proofs.Sheet.{spelled-short}
-use Rattle.table_layout.specs.Access.{items_of, code_of, number_of, nameLength, nameByte}
+use Rattle.table_layout.specs.Access.{items_of, code_of, number_of, name_length, name_byte}
 use Rattle.table_layout.specs.Back.{upto}
-use Rattle.write_texts.specs.Turning.{unless-none, isToken, turned, kept, told, walk, wholeBy, marked, after, marks, blanked, turnRoom}
-use Rattle.write_letters.specs.Tokens.{tokenBy}
-use Rattle.write_lines.specs.Lines.{layAll}
-use Rattle.write_texts.specs.Normal.{codesIn, tokensOf, normalOf, layout_of, codesBetween, tokensBetween}
+use Rattle.write_texts.specs.Turning.{unless_none, is_token, turned, kept, told, walk, whole_by, marked, after, marks, blanked, turn_room}
+use Rattle.write_letters.specs.Tokens.{token_by}
+use Rattle.write_lines.specs.Lines.{lay_all}
+use Rattle.write_texts.specs.Normal.{codes_in, tokens_of, normal_of, layout_of, codes_between, tokens_between}
 
 -- ---- the marked codes
 blanked-none : (k : ℕ) → blanked k [] ≡ []
@@ -61,9 +61,9 @@ mark-more t codes b d from i n c u v h l e f x g =
     rw q (ap (◌++ rest) (ap (λ (k : ℕ). take k (set codes i v)) (add-one i) ∙ take-suc-set codes i v l)
     ∙ append_snoc (take i codes) v rest ∙ ap (take i codes ++◌) (sym (blanked-more from i u v (marks d (code_of t) (i + 1) (n - (i + 1))) x) ∙ rw (f, g, e)))
 
-pub mark-end : (t codes : List ℕ) (b : Bool) (from i n : ℕ) (x : List ℕ) → i ≡ n → take i codes ++ blanked (from - i) (marks b (code_of t) i (n - i)) ≡ x → take n codes ≡ x
+pub mark_end : (t codes : List ℕ) (b : Bool) (from i n : ℕ) (x : List ℕ) → i ≡ n → take i codes ++ blanked (from - i) (marks b (code_of t) i (n - i)) ≡ x → take n codes ≡ x
 unfolding marks
-mark-end t codes b from i n x e h =
+mark_end t codes b from i n x e h =
     let q : n - i ≡ 0 = omega arith in
     let g : take i codes ++ blanked (from - i) [] ≡ x = rw q at h in
     ap (λ (k : ℕ). take k codes) (sym e) ∙ sym (append-nil (take i codes)) ∙ ap (take i codes ++◌) (sym (blanked-none (from - i))) ∙ g
@@ -72,7 +72,7 @@ mark-end t codes b from i n x e h =
 told-map : {A : Type 0} (f : ℕ → A) (st out : List ℕ) → map f (told (λ (v : ℕ). v) st out) ≡ told f st (map f out)
 unfolding told
 told-map f [] out = refl
-told-map f (v ∷ st) out = go (isToken v) (told-map f st (v ∷ out))
+told-map f (v ∷ st) out = go (is_token v) (told-map f st (v ∷ out))
   where
     go : (b : Bool) → map f (told (λ (v : ℕ). v) st (v ∷ out)) ≡ told f st (map f (v ∷ out)) → map f (pick b (told (λ (v : ℕ). v) st (v ∷ out)) out) ≡ pick b (told f st (f v ∷ map f out)) (map f out)
     go true e = e
@@ -86,33 +86,33 @@ walk-map f cs (suc i) st out =
     ∙ ap (walk f cs i (turned (get_or (kept st) 0 0) (get_or cs i 0) i (drop 1 (kept st)))) (told-map f st out)
 
 -- ---- the whole
-pub numbers-are : (t codes cs x : List ℕ) (asked from to all n : ℕ) → all ≡ min itemsMost (items_of t) → n ≡ min to all → take n codes ≡ blanked from (marks false (code_of t) 0 n) → cs ≡ take (n - 0) codes
-    → x ≡ wholeBy asked (λ (v : ℕ). v) cs → x ≡ wholeBy asked (λ (v : ℕ). v) (codesBetween t from to)
-unfolding codesBetween
-numbers-are t codes cs x asked from to all n a a' b c d =
+pub numbers_are : (t codes cs x : List ℕ) (asked from to all n : ℕ) → all ≡ min items_most (items_of t) → n ≡ min to all → take n codes ≡ blanked from (marks false (code_of t) 0 n) → cs ≡ take (n - 0) codes
+    → x ≡ whole_by asked (λ (v : ℕ). v) cs → x ≡ whole_by asked (λ (v : ℕ). v) (codes_between t from to)
+unfolding codes_between
+numbers_are t codes cs x asked from to all n a a' b c d =
     let z : n - 0 ≡ n = omega arith in
-    d ∙ ap (wholeBy asked (λ (v : ℕ). v)) (c ∙ ap (λ (k : ℕ). take k codes) z ∙ b ∙ ap (λ (k : ℕ). blanked from (marks false (code_of t) 0 k)) (a' ∙ ap (min to) a))
+    d ∙ ap (whole_by asked (λ (v : ℕ). v)) (c ∙ ap (λ (k : ℕ). take k codes) z ∙ b ∙ ap (λ (k : ℕ). blanked from (marks false (code_of t) 0 k)) (a' ∙ ap (min to) a))
 
-module _ (t toks : List ℕ) (asked from to first : ℕ) (e : drop first toks ≡ wholeBy asked (λ (v : ℕ). v) (codesBetween t from to)) (l : length toks ≡ turnRoom) where
-  tokens-are : map (tokenBy t) (take (turnRoom - first) (drop first toks)) ≡ tokensBetween t asked from to
-  unfolding tokensBetween
-  tokens-are =
-      ap (map (tokenBy t)) (take_all (turnRoom - first) (drop first toks) (omega (arith, length-drop first toks)) ∙ e)
-      ∙ walk-map (tokenBy t) (codesBetween t from to) (length (codesBetween t from to)) (unless-none asked []) []
+module _ (t toks : List ℕ) (asked from to first : ℕ) (e : drop first toks ≡ whole_by asked (λ (v : ℕ). v) (codes_between t from to)) (l : length toks ≡ turn_room) where
+  tokens_are : map (token_by t) (take (turn_room - first) (drop first toks)) ≡ tokens_between t asked from to
+  unfolding tokens_between
+  tokens_are =
+      ap (map (token_by t)) (take_all (turn_room - first) (drop first toks) (omega (arith, length-drop first toks)) ∙ e)
+      ∙ walk-map (token_by t) (codes_between t from to) (length (codes_between t from to)) (unless_none asked []) []
 
-  pub tokens-written : (w x : Pen) → x ≡ puts (write (map (tokenBy t) (take (turnRoom - first) (drop first toks)))) w → x ≡ puts (write (tokensBetween t asked from to)) w
-  tokens-written w x f = f ∙ ap (λ (z : List Token). puts (write z) w) tokens-are
+  pub tokens-written : (w x : Pen) → x ≡ puts (write (map (token_by t) (take (turn_room - first) (drop first toks)))) w → x ≡ puts (write (tokens_between t asked from to)) w
+  tokens-written w x f = f ∙ ap (λ (z : List Token). puts (write z) w) tokens_are
 
-  pub tokens-laid : (w x : Pen) → x ≡ puts (layAll (map (tokenBy t) (take (turnRoom - first) (drop first toks)))) w → x ≡ puts (layAll (tokensBetween t asked from to)) w
-  tokens-laid w x f = f ∙ ap (λ (z : List Token). puts (layAll z) w) tokens-are
+  pub tokens-laid : (w x : Pen) → x ≡ puts (lay_all (map (token_by t) (take (turn_room - first) (drop first toks)))) w → x ≡ puts (lay_all (tokens_between t asked from to)) w
+  tokens-laid w x f = f ∙ ap (λ (z : List Token). puts (lay_all z) w) tokens_are
 
 -- all of them
-pub tokens-all : (t : List ℕ) (n : ℕ) → n ≡ items_of t → tokensBetween t 143 0 n ≡ tokensOf t
-unfolding tokensBetween codesBetween tokensOf codesIn blanked
-tokens-all t n e = let q : min n (min itemsMost (items_of t)) ≡ min itemsMost (items_of t) = omega arith in rw q refl
+pub tokens-all : (t : List ℕ) (n : ℕ) → n ≡ items_of t → tokens_between t 143 0 n ≡ tokens_of t
+unfolding tokens_between codes_between tokens_of codes_in blanked
+tokens-all t n e = let q : min n (min items_most (items_of t)) ≡ min items_most (items_of t) = omega arith in rw q refl
 
-pub normal-is : (t : List ℕ) (n : ℕ) (w x : Pen) → n ≡ items_of t → x ≡ puts (write (tokensBetween t 143 0 n)) w → x ≡ puts (normalOf t) w
-normal-is t n w x e f = f ∙ ap (λ (z : List Token). puts (write z) w) (tokens-all t n e)
+pub normal_is : (t : List ℕ) (n : ℕ) (w x : Pen) → n ≡ items_of t → x ≡ puts (write (tokens_between t 143 0 n)) w → x ≡ puts (normal_of t) w
+normal_is t n w x e f = f ∙ ap (λ (z : List Token). puts (write z) w) (tokens-all t n e)
 
-pub layout_is : (t : List ℕ) (n : ℕ) (w x : Pen) → n ≡ items_of t → x ≡ puts (layAll (tokensBetween t 143 0 n)) w → x ≡ puts (layout_of t) w
-layout_is t n w x e f = f ∙ ap (λ (z : List Token). puts (layAll z) w) (tokens-all t n e)
+pub layout_is : (t : List ℕ) (n : ℕ) (w x : Pen) → n ≡ items_of t → x ≡ puts (lay_all (tokens_between t 143 0 n)) w → x ≡ puts (layout_of t) w
+layout_is t n w x e f = f ∙ ap (λ (z : List Token). puts (lay_all z) w) (tokens-all t n e)

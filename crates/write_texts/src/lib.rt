@@ -1,14 +1,14 @@
 // The normal text of tables, and their layout: items, read from the back, become tokens by the rows of a table; tokens are written with one space where two would read otherwise, or in lines.
 ghost use Rattle.std.specs.Prelude.{◌≡◌, false, ◌+◌, ◌-◌, ◌≤◌, ◌<◌, ◌*◌, min, length, get_or, drop, take, ltb};
-ghost use Rattle.base_ceilings.specs.Ceilings.{itemsMost};
+ghost use Rattle.base_ceilings.specs.Ceilings.{items_most};
 ghost use Rattle.base_pens.specs.Pen.{pen, puts};
 ghost use Rattle.spec_text.specs.Writing.{write};
 ghost use Rattle.table_layout.specs.Access.{code_of};
 ghost use Rattle.write_rows.specs.Rules.{cells};
 ghost use Rattle.write_texts.specs.Turning as turning;
 ghost use Rattle.base_bytes.specs.Choice.{pick};
-ghost use Rattle.write_texts.specs.Turning.{row_of, unless-none, laid, operated, isBinary, turned, wholeBy, marks, blanked, turnRoom};
-ghost use Rattle.write_texts.specs.Normal.{codesBetween, tokensBetween, normalOf, layout_of};
+ghost use Rattle.write_texts.specs.Turning.{row_of, unless_none, laid, operated, is_binary, turned, whole_by, marks, blanked, turn_room};
+ghost use Rattle.write_texts.specs.Normal.{codes_between, tokens_between, normal_of, layout_of};
 ghost use Rattle.write_texts.specs.Places.{Pushed, Flushed};
 
 // How many rows there are (specs/Rules.antt of `write_rows`).
@@ -81,7 +81,7 @@ fn row_of(rows: &[u8], s: u32, c: u8) -> usize
 // Puts a symbol on the stack, unless it is 0.
 fn push(stack: &mut [u32], sp: usize, v: u32) -> usize
     requires { (0 < sp) × (sp ≤ length stack.old) }
-    ensures { Pushed stack.old sp stack.new result (unless-none v (drop sp stack.old)) 1 }
+    ensures { Pushed stack.old sp stack.new result (unless_none v (drop sp stack.old)) 1 }
 {
     if v == 0 {
         sp
@@ -93,7 +93,7 @@ fn push(stack: &mut [u32], sp: usize, v: u32) -> usize
 
 // 99 stands for item i.
 fn said(i: usize, v: u32) -> u32
-    requires { i < itemsMost }
+    requires { i < items_most }
     ensures { result ≡ turning.said i v }
 {
     if v == 99 { 256 + i as u32 } else { v }
@@ -101,7 +101,7 @@ fn said(i: usize, v: u32) -> u32
 
 // Puts the symbols of row r on the stack, for item i.
 fn lay(rows: &[u8], stack: &mut [u32], sp: usize, r: usize, i: usize) -> usize
-    requires { (rows.now ≡ cells) × (8 ≤ sp) × (sp ≤ length stack.old) × (r ≤ 134) × (i < itemsMost) }
+    requires { (rows.now ≡ cells) × (8 ≤ sp) × (sp ≤ length stack.old) × (r ≤ 134) × (i < items_most) }
     ensures { Pushed stack.old sp stack.new result (laid r i 8 (drop sp stack.old)) 8 }
 {
     let mut p = sp;
@@ -136,7 +136,7 @@ fn operate(stack: &mut [u32], sp: usize, s: u32, o: u8) -> usize
 
 // Is an expression asked for, and the code a binary operator's?
 fn is_binary(s: u32, c: u8) -> bool
-    ensures { result ≡ isBinary s c }
+    ensures { result ≡ is_binary s c }
 {
     if shared(s) != 101 {
         return false;
@@ -156,7 +156,7 @@ fn operator(c: u8) -> u8
 
 // What the symbol s becomes at item i of code c. No row has code 0.
 fn step(rows: &[u8], stack: &mut [u32], sp: usize, s: u32, c: u8, i: usize) -> usize
-    requires { (rows.now ≡ cells) × (8 ≤ sp) × (sp ≤ length stack.old) × (i < itemsMost) }
+    requires { (rows.now ≡ cells) × (8 ≤ sp) × (sp ≤ length stack.old) × (i < items_most) }
     ensures { Pushed stack.old sp stack.new result (turned s c i (drop sp stack.old)) 8 }
 {
     if c == 0 {
@@ -170,7 +170,7 @@ fn step(rows: &[u8], stack: &mut [u32], sp: usize, s: u32, c: u8, i: usize) -> u
 }
 
 fn is_token(v: u32) -> bool
-    ensures { result ≡ turning.isToken v }
+    ensures { result ≡ turning.is_token v }
 {
     if v < 70 { true } else { 255 < v }
 }
@@ -217,8 +217,8 @@ fn next(n: usize, p: usize) -> usize
 
 // Items turned into tokens, from the back, where at first the symbol is asked for: the tokens stand from the answer on.
 fn turn(rows: &[u8], codes: &[u8], symbol: u32, stack: &mut [u32], toks: &mut [u32]) -> usize
-    requires { (rows.now ≡ cells) × (length codes.now ≤ itemsMost) × (length stack.old ≡ turnRoom) × (length toks.old ≡ turnRoom) }
-    ensures { (result ≤ turnRoom) × (drop result toks.new ≡ wholeBy symbol (λ v. v) codes.now) }
+    requires { (rows.now ≡ cells) × (length codes.now ≤ items_most) × (length stack.old ≡ turn_room) × (length toks.old ≡ turn_room) }
+    ensures { (result ≤ turn_room) × (drop result toks.new ≡ whole_by symbol (λ v. v) codes.now) }
 {
     let mut sp = push(stack, ROOM, symbol);
     let mut tp = ROOM;
@@ -288,8 +288,8 @@ fn mark(t: &[u32], codes: &mut [u8], from: usize, n: usize)
 
 // The numbers of the tokens that the items from `from` to before `to` become where the symbol is asked for: they stand from the answer on.
 fn tokens_of(t: &[u32], symbol: u32, from: usize, to: usize, toks: &mut [u32]) -> usize
-    requires { length toks.old ≡ turnRoom }
-    ensures { (result ≤ turnRoom) × (drop result toks.new ≡ wholeBy symbol (λ v. v) (codesBetween t.now from to)) }
+    requires { length toks.old ≡ turn_room }
+    ensures { (result ≤ turn_room) × (drop result toks.new ≡ whole_by symbol (λ v. v) (codes_between t.now from to)) }
 {
     let all = base_bytes::least(base_ceilings::ITEMS_MOST, table_layout::items(t));
     let n = base_bytes::least(to, all);
@@ -310,7 +310,7 @@ pub fn write_tokens(
     out: &mut [u8],
     p: usize,
 ) -> usize
-    ensures { pen out.new result ≡ puts (write (tokensBetween t.now symbol from to)) (pen out.old p) }
+    ensures { pen out.new result ≡ puts (write (tokens_between t.now symbol from to)) (pen out.old p) }
 {
     let mut toks = [0u32; ROOM];
     let first = tokens_of(t, symbol, from, to, &mut toks);
@@ -319,7 +319,7 @@ pub fn write_tokens(
 
 // Writes the normal text of the tables t at the front of out, as far as it reaches: the answer is the text's length, or one more than out's where it does not fit.
 pub fn write_normal(t: &[u32], out: &mut [u8]) -> usize
-    ensures { pen out.new result ≡ puts (normalOf t.now) (pen out.old 0) }
+    ensures { pen out.new result ≡ puts (normal_of t.now) (pen out.old 0) }
 {
     write_tokens(t, 143, 0, table_layout::items(t), out, 0)
 }

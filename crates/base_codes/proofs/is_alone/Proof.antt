@@ -1,10 +1,10 @@
 use borrow.Author.Rules.{rules}
-use Rattle.base_codes.specs.Sets.{isAlone}
+use Rattle.base_codes.specs.Sets.{is_alone}
 use Rattle.base_codes.proofs.is_alone.Statement.{statement}
 use Rattle.base_codes.proofs.is_alone.Tie as tie
 
 returns : tie.Need-returns
-unfolding isAlone
+unfolding is_alone
 returns c = rw (c.either4.ensures, c.before.either3.ensures, c.before.before.either2.ensures, c.before.before.before.within.ensures, c.before.before.before.before.either.ensures)
 
 pub is-alone-spec : {M : Type 1} → statement M

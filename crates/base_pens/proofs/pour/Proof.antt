@@ -25,7 +25,7 @@ same_length : tie.Need-same-length invariant-loop decreases-loop
 same_length c = c.before.loop.invariant.0
 
 returns : tie.Need-returns invariant-loop decreases-loop
-returns c = sym (laws.pour-end c.before.before.before.before.args.s.now c.before.loop.k (omega arith)) ∙ c.before.loop.invariant.1
+returns c = sym (laws.pour_end c.before.before.before.before.args.s.now c.before.loop.k (omega arith)) ∙ c.before.loop.invariant.1
 
 pub pour-spec : {M : Type 1} → statement M
 pour-spec =

@@ -1,4 +1,4 @@
-use Rattle.base_values.proofs.Wrapping.{under-fits, under-narrows, under-read}
+use Rattle.base_values.proofs.Wrapping.{under-fits, under_narrows, under-read}
 use Rattle.std.proofs.Common.{rules}
 use Rattle.base_values.proofs.value_of.Statement.{statement}
 use Rattle.base_values.proofs.value_of.Tie as tie
@@ -7,7 +7,7 @@ sub-result : tie.Need-overflow-sub-result
 sub-result c = under-fits c.before.args.u (search rules) (search rules)
 
 cast-result-3 : tie.Need-overflow-cast-result-3
-cast-result-3 c = under-narrows c.before.args.u (search rules) (search rules)
+cast-result-3 c = under_narrows c.before.args.u (search rules) (search rules)
 
 returns-2 : tie.Need-returns-2
 returns-2 c = under-read c.before.args.u (search rules) (search rules)

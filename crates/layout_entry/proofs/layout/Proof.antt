@@ -13,7 +13,7 @@ returns : tie.Need-returns
 returns c = laws.text-written c.before.before.before.before.before.before.before.before.before.before.before.before.before.args.text.now _ _ c.before.before.before.before.before.before.before.before.before.read.result refl c.before.before.before.before.before.before.before.before.before.read.ensures.0 c.before.before.before.before.before.before.before.before.before.read.ensures.1 layout_of _ c.before.before.before.before.before.before.before.before.before.before.before.before.before.args.out.now _ c.before.before.lay.result c.before.before.before.before.before.before.enum_told.given.1 c.before.before.before.before.written.ensures c.before.before.lay.ensures.0 c.before.before.lay.ensures.1
 
 returns-2 : tie.Need-returns-2
-returns-2 c = laws.text-refused c.before.before.before.before.before.before.before.before.args.text.now _ _ c.before.before.before.before.read.result refl c.before.before.before.before.read.ensures.0 c.before.before.before.before.read.ensures.1 layout_of _ _ _ c.before.before.before.before.before.before.before.before.args.out.now c.before.j.given.1
+returns-2 c = laws.text_refused c.before.before.before.before.before.before.before.before.args.text.now _ _ c.before.before.before.before.read.result refl c.before.before.before.before.read.ensures.0 c.before.before.before.before.read.ensures.1 layout_of _ _ _ c.before.before.before.before.before.before.before.before.args.out.now c.before.j.given.1
 
 pub layout-spec : {M : Type 1} → statement M
 layout-spec =

@@ -16,7 +16,7 @@ returns-2 : tie.Need-returns-2
 returns-2 c = laws.tables-written layout_of c.before.before.before.before.before.before.before.before.before.before.args.tables.now c.before.before.before.before.before.before.before.before.before.before.args.out.now c.before.before.before.before.before.before.is-genuine.result _ _ c.before.before.lay.result (omega arith) c.before.before.before.before.before.before.is-genuine.ensures c.before.before.before.before.before.if2.true c.before.before.before.before.written.ensures c.before.before.lay.ensures.0 c.before.before.lay.ensures.1
 
 returns-3 : tie.Need-returns-3
-returns-3 c = laws.tables-foreign layout_of c.before.before.before.before.before.args.tables.now c.before.before.before.before.before.args.out.now c.before.is-genuine.result (omega arith) c.before.is-genuine.ensures c.if2.false
+returns-3 c = laws.tables_foreign layout_of c.before.before.before.before.before.args.tables.now c.before.before.before.before.before.args.out.now c.before.is-genuine.result (omega arith) c.before.is-genuine.ensures c.if2.false
 
 pub layout-of-spec : {M : Type 1} → statement M
 layout-of-spec =

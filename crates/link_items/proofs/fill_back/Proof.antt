@@ -1,4 +1,4 @@
-use Rattle.link_items.specs.Links.{filledBack}
+use Rattle.link_items.specs.Links.{filled_back}
 use Rattle.link_items.proofs.Fills as fills
 use lib.ListN.{length}
 use Prim.Native.Nat.{◌-◌, ◌≤◌}
@@ -9,7 +9,7 @@ use Rattle.link_items.proofs.fill_back.Statement.{statement}
 use Rattle.link_items.proofs.fill_back.Tie as tie
 
 abbrev invariant-loop : tie.invariant-loop
-invariant-loop codes args homes chain starts links₀ j₀ links j = (j ≤ length codes) × (length links ≡ length links₀) × (filledBack codes args homes starts j links ≡ filledBack codes args homes starts (length codes) links₀)
+invariant-loop codes args homes chain starts links₀ j₀ links j = (j ≤ length codes) × (length links ≡ length links₀) × (filled_back codes args homes starts j links ≡ filled_back codes args homes starts (length codes) links₀)
 
 abbrev decreases-loop : tie.decreases-loop
 decreases-loop codes args homes chain starts links₀ j₀ links j = j

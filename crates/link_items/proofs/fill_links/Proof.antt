@@ -6,7 +6,7 @@ use Rattle.link_items.proofs.fill_links.Statement.{statement}
 use Rattle.link_items.proofs.fill_links.Tie as tie
 
 returns : tie.Need-returns
-returns c = fills.links-long c.before.before.before.before.args.codes.now c.before.before.before.before.args.args.now c.before.before.before.before.args.links.now (omega arith)
+returns c = fills.links_long c.before.before.before.before.args.codes.now c.before.before.before.before.args.args.now c.before.before.before.before.args.links.now (omega arith)
 
 fill-back-requires : tie.Need-fill-back-requires
 fill-back-requires c κs = (omega arith, rw c.before.before.before.before.before.fill-chain.ensures (chained c.before.before.before.before.before.before.before.before.before.before.before.before.before.before.before.before.before.args.codes.now c.before.before.before.before.before.before.before.before.before.before.before.before.before.before.before.before.before.args.args.now))

@@ -1,10 +1,10 @@
-use Rattle.link_places.specs.Places.{pastLoop}
+use Rattle.link_places.specs.Places.{past_loop}
 use borrow.Author.Rules.{rules}
 use Rattle.link_places.proofs.past_loop.Statement.{statement}
 use Rattle.link_places.proofs.past_loop.Tie as tie
 
 returns : tie.Need-returns
-unfolding pastLoop
+unfolding past_loop
 returns c = rw (← c.before.close_of.ensures) c.word_at.ensures.0
 
 pub past-loop-spec : {M : Type 1} → statement M

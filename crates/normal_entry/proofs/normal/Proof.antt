@@ -1,4 +1,4 @@
-use Rattle.write_texts.specs.Normal.{normalOf}
+use Rattle.write_texts.specs.Normal.{normal_of}
 use mathlib.Core.Path.{refl}
 use Rattle.normal_entry.proofs.Laws as laws
 use borrow.Author.Rules.{rules}
@@ -9,10 +9,10 @@ lay-requires : tie.Need-lay-requires
 lay-requires c κs = laws.text-room c.before.before.before.before.before.before.before.before.before.before.args.text.now _ _ c.before.before.before.before.before.before.read.result refl c.before.before.before.before.before.before.read.ensures.0 c.before.before.before.before.before.before.read.ensures.1 _ c.before.before.before.enum_told.given.1 c.before.written.ensures
 
 returns : tie.Need-returns
-returns c = laws.text-written c.before.before.before.before.before.before.before.before.before.before.before.before.before.args.text.now _ _ c.before.before.before.before.before.before.before.before.before.read.result refl c.before.before.before.before.before.before.before.before.before.read.ensures.0 c.before.before.before.before.before.before.before.before.before.read.ensures.1 normalOf _ c.before.before.before.before.before.before.before.before.before.before.before.before.before.args.out.now _ c.before.before.lay.result c.before.before.before.before.before.before.enum_told.given.1 c.before.before.before.before.written.ensures c.before.before.lay.ensures.0 c.before.before.lay.ensures.1
+returns c = laws.text-written c.before.before.before.before.before.before.before.before.before.before.before.before.before.args.text.now _ _ c.before.before.before.before.before.before.before.before.before.read.result refl c.before.before.before.before.before.before.before.before.before.read.ensures.0 c.before.before.before.before.before.before.before.before.before.read.ensures.1 normal_of _ c.before.before.before.before.before.before.before.before.before.before.before.before.before.args.out.now _ c.before.before.lay.result c.before.before.before.before.before.before.enum_told.given.1 c.before.before.before.before.written.ensures c.before.before.lay.ensures.0 c.before.before.lay.ensures.1
 
 returns-2 : tie.Need-returns-2
-returns-2 c = laws.text-refused c.before.before.before.before.before.before.before.before.args.text.now _ _ c.before.before.before.before.read.result refl c.before.before.before.before.read.ensures.0 c.before.before.before.before.read.ensures.1 normalOf _ _ _ c.before.before.before.before.before.before.before.before.args.out.now c.before.j.given.1
+returns-2 c = laws.text_refused c.before.before.before.before.before.before.before.before.args.text.now _ _ c.before.before.before.before.read.result refl c.before.before.before.before.read.ensures.0 c.before.before.before.before.read.ensures.1 normal_of _ _ _ c.before.before.before.before.before.before.before.before.args.out.now c.before.j.given.1
 
 pub normal-spec : {M : Type 1} → statement M
 normal-spec =

@@ -1,4 +1,4 @@
-use Rattle.write_texts.specs.Normal.{normalOf}
+use Rattle.write_texts.specs.Normal.{normal_of}
 use native.Mathlib.Omega.{arith}
 use Rattle.normal_entry.proofs.Laws as laws
 use borrow.Author.Rules.{rules}
@@ -6,16 +6,16 @@ use Rattle.normal_entry.proofs.normal_of.Statement.{statement}
 use Rattle.normal_entry.proofs.normal_of.Tie as tie
 
 returns : tie.Need-returns
-returns c = laws.tables-short normalOf c.before.before.before.args.tables.now c.before.before.before.args.out.now (omega arith)
+returns c = laws.tables-short normal_of c.before.before.before.args.tables.now c.before.before.before.args.out.now (omega arith)
 
 lay-requires : tie.Need-lay-requires
 lay-requires c κs = laws.genuine-short c.before.before.before.before.before.before.before.args.tables.now c.before.before.before.is-genuine.result _ c.before.before.before.is-genuine.ensures c.before.before.if2.true c.before.written.ensures
 
 returns-2 : tie.Need-returns-2
-returns-2 c = laws.tables-written normalOf c.before.before.before.before.before.before.before.before.before.before.args.tables.now c.before.before.before.before.before.before.before.before.before.before.args.out.now c.before.before.before.before.before.before.is-genuine.result _ _ c.before.before.lay.result (omega arith) c.before.before.before.before.before.before.is-genuine.ensures c.before.before.before.before.before.if2.true c.before.before.before.before.written.ensures c.before.before.lay.ensures.0 c.before.before.lay.ensures.1
+returns-2 c = laws.tables-written normal_of c.before.before.before.before.before.before.before.before.before.before.args.tables.now c.before.before.before.before.before.before.before.before.before.before.args.out.now c.before.before.before.before.before.before.is-genuine.result _ _ c.before.before.lay.result (omega arith) c.before.before.before.before.before.before.is-genuine.ensures c.before.before.before.before.before.if2.true c.before.before.before.before.written.ensures c.before.before.lay.ensures.0 c.before.before.lay.ensures.1
 
 returns-3 : tie.Need-returns-3
-returns-3 c = laws.tables-foreign normalOf c.before.before.before.before.before.args.tables.now c.before.before.before.before.before.args.out.now c.before.is-genuine.result (omega arith) c.before.is-genuine.ensures c.if2.false
+returns-3 c = laws.tables_foreign normal_of c.before.before.before.before.before.args.tables.now c.before.before.before.before.before.args.out.now c.before.is-genuine.result (omega arith) c.before.is-genuine.ensures c.if2.false
 
 pub normal-of-spec : {M : Type 1} → statement M
 normal-of-spec =

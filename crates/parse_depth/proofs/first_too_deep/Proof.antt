@@ -1,15 +1,15 @@
 use Prim.Native.Nat.{◌≤◌, ◌-◌}
 use mathlib.Core.Path.{◌≡◌, refl}
 use lib.ListN.{length, drop}
-use Rattle.base_ceilings.specs.Ceilings.{bracketsMost, selectionsMost}
-use Rattle.parse_machine.specs.Depth.{deep, too-deep}
+use Rattle.base_ceilings.specs.Ceilings.{brackets_most, selections_most}
+use Rattle.parse_machine.specs.Depth.{deep, too_deep}
 use Rattle.parse_depth.proofs.Laws.{many-brackets, many-selections, none_yet, none_deep}
 use borrow.Author.Rules.{rules}
 use Rattle.parse_depth.proofs.first_too_deep.Statement.{statement}
 use Rattle.parse_depth.proofs.first_too_deep.Tie as tie
 
 abbrev invariant-loop : tie.invariant-loop
-invariant-loop kinds b₀ s₀ i₀ b s i = (i ≤ length kinds) × (b ≤ bracketsMost) × (s ≤ selectionsMost) × (too-deep kinds ≡ deep (drop i kinds) b s i)
+invariant-loop kinds b₀ s₀ i₀ b s i = (i ≤ length kinds) × (b ≤ brackets_most) × (s ≤ selections_most) × (too_deep kinds ≡ deep (drop i kinds) b s i)
 
 abbrev decreases-loop : tie.decreases-loop
 decreases-loop kinds b₀ s₀ i₀ b s i = length kinds - i

@@ -1,4 +1,4 @@
-use Rattle.parse_items.proofs.Laws.{mark-now, mark-then}
+use Rattle.parse_items.proofs.Laws.{mark-now, mark_then}
 use native.Mathlib.Omega.{arith}
 use borrow.Author.Rules.{rules}
 use Rattle.parse_items.proofs.mark_of.Statement.{statement}
@@ -8,7 +8,7 @@ returns : tie.Need-returns
 returns c = (mark-now c.before.args.v c.before.args.pos c.before.args.n c.if1.true, omega arith)
 
 returns-2 : tie.Need-returns-2
-returns-2 c = (mark-then c.before.args.v c.before.args.pos c.before.args.n c.if1.false, omega arith)
+returns-2 c = (mark_then c.before.args.v c.before.args.pos c.before.args.n c.if1.false, omega arith)
 
 pub mark-of-spec : {M : Type 1} → statement M
 mark-of-spec =

@@ -9,7 +9,7 @@ returns : tie.Need-returns
 returns c =
     let t = c.before.before.before.before.before.before.args.text.now in
     let q = laws.whole_room t _ _ refl c.before.before.before.read.ensures.0 in
-    (laws.part-is t _ _ _ _ q c.before.named.ensures, laws.part_lies (length t) _ _ _ _ _ _ q c.before.named.ensures)
+    (laws.part_is t _ _ _ _ q c.before.named.ensures, laws.part_lies (length t) _ _ _ _ _ _ q c.before.named.ensures)
 
 pub refused-part-spec : {M : Type 1} → statement M
 refused-part-spec =

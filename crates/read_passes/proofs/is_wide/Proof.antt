@@ -7,7 +7,7 @@ returns : tie.Need-returns
 returns c = laws.short-text _ c.if1.true
 
 returns-2 : tie.Need-returns-2
-returns-2 c = laws.long-text _ _ c.before.if1.false c.writes-wide.ensures
+returns-2 c = laws.long_text _ _ c.before.if1.false c.writes-wide.ensures
 
 pub is-wide-spec : {M : Type 1} → statement M
 is-wide-spec = tie.close (tie.spec returns (λ c κs. search rules) returns-2)

@@ -11,7 +11,7 @@ returns : tie.Need-returns
 returns c = laws.let_through c.before.before.before.before.before.before.before.before.before.before.before.args.text.now _ _ _ _ _ _ c.before.before.before.before.before.before.before.before.through.ensures.0 c.before.before.before.before.before.enum_told.given.1 refl c.before.before.before.before.before.before.before.before.through.ensures.1 c.before.before.before.length-of.ensures c.before.before.least.ensures c.is-overlong.ensures
 
 returns-2 : tie.Need-returns-2
-returns-2 c = laws.not-let-through c.before.before.before.before.before.before.args.text.now _ _ _ _ c.before.before.before.through.ensures.0 c.enum-told2.given.1
+returns-2 c = laws.not_let_through c.before.before.before.before.before.before.args.text.now _ _ _ _ c.before.before.before.through.ensures.0 c.enum-told2.given.1
 
 pub writes-wide-spec : {M : Type 1} → statement M
 writes-wide-spec =

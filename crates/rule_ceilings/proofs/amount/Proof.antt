@@ -5,15 +5,15 @@ use Rattle.rule_ceilings.proofs.amount.Statement.{statement}
 use Rattle.rule_ceilings.proofs.amount.Tie as tie
 
 returns : tie.Need-returns
-unfolding tops.amountOf
+unfolding tops.amount_of
 returns c = simp (lt-ltb _ _ c.if1.true)
 
 returns-2 : tie.Need-returns-2
-unfolding tops.amountOf
+unfolding tops.amount_of
 returns-2 c = simp (le-ltb _ _ c.before.before.before.before.before.before.if1.false, eq-eqb c.before.before.before.before.before.before.before.before.before.args.which 0 c.before.before.if2.true) (rw (c.numbers.ensures, c.before.before.before.before.fill-homes.ensures))
 
 returns-3 : tie.Need-returns-3
-unfolding tops.amountOf
+unfolding tops.amount_of
 returns-3 c = simp (le-ltb _ _ c.before.before.before.before.before.before.if1.false, ne_eqb c.before.before.before.before.before.before.before.before.before.args.which 0 c.before.before.if2.false) (rw (c.total.ensures, c.before.before.before.before.fill-homes.ensures))
 
 pub amount-spec : {M : Type 1} → statement M

@@ -17,7 +17,7 @@ decreases-loop codes args homes which n₀ j₀ n j = length codes - j
 
 loop-holds : tie.Need-loop-init invariant-loop decreases-loop
 unfolding tops.total
-loop-holds c = (omega arith, omega arith, laws.sum-from-start (tops.weight c.before.before.before.args.codes.now c.before.before.before.args.args.now c.before.before.before.args.homes.now c.before.before.before.args.which) (length c.before.before.before.args.codes.now))
+loop-holds c = (omega arith, omega arith, laws.sum_from_start (tops.weight c.before.before.before.args.codes.now c.before.before.before.args.args.now c.before.before.before.args.homes.now c.before.before.before.args.which) (length c.before.before.before.args.codes.now))
 
 add-n : tie.Need-overflow-add-n invariant-loop decreases-loop
 add-n c = omega (arith, c.weight.ensures.1)
@@ -26,7 +26,7 @@ loop-again : tie.Need-loop-preserved invariant-loop decreases-loop
 loop-again c = (omega arith, omega (arith, c.weight.ensures.1), laws.sum_more (tops.weight c.before.before.before.before.before.before.args.codes.now c.before.before.before.before.before.before.args.args.now c.before.before.before.before.before.before.args.homes.now c.before.before.before.before.before.before.args.which) c.before.before.loop.j (length c.before.before.before.before.before.before.args.codes.now) c.before.before.loop.n (omega arith) c.weight.ensures.0 ∙ c.before.before.loop.invariant.2)
 
 returns : tie.Need-returns invariant-loop decreases-loop
-returns c = laws.sum-end (tops.weight c.before.before.before.before.before.args.codes.now c.before.before.before.before.before.args.args.now c.before.before.before.before.before.args.homes.now c.before.before.before.before.before.args.which) c.before.loop.j (length c.before.before.before.before.before.args.codes.now) c.before.loop.n (omega arith) ∙ c.before.loop.invariant.2
+returns c = laws.sum_end (tops.weight c.before.before.before.before.before.args.codes.now c.before.before.before.before.before.args.args.now c.before.before.before.before.before.args.homes.now c.before.before.before.before.before.args.which) c.before.loop.j (length c.before.before.before.before.before.args.codes.now) c.before.loop.n (omega arith) ∙ c.before.loop.invariant.2
 
 pub total-spec : {M : Type 1} → statement M
 total-spec =

@@ -4,7 +4,7 @@ use Rattle.rule_item.proofs.bad_break.Statement.{statement}
 use Rattle.rule_item.proofs.bad_break.Tie as tie
 
 returns : tie.Need-returns
-unfolding rules.badBreak
+unfolding rules.bad_break
 returns c = rw (c.choose.ensures, c.before.count2.ensures, c.before.before.count.ensures, c.before.before.before.word_at.ensures.0)
 
 pub bad-break-spec : {M : Type 1} → statement M

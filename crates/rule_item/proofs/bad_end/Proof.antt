@@ -4,7 +4,7 @@ use Rattle.rule_item.proofs.bad_end.Statement.{statement}
 use Rattle.rule_item.proofs.bad_end.Tie as tie
 
 returns : tie.Need-returns
-unfolding rules.badEnd
+unfolding rules.bad_end
 returns c = λ k. rw (c.bad-count.ensures k, c.before.count.ensures, c.before.before.before.opener.ensures, c.before.before.word_at.ensures.0)
 
 pub bad-end-spec : {M : Type 1} → statement M

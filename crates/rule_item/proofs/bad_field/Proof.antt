@@ -4,7 +4,7 @@ use Rattle.rule_item.proofs.bad_field.Statement.{statement}
 use Rattle.rule_item.proofs.bad_field.Tie as tie
 
 returns : tie.Need-returns
-unfolding rules.badField
+unfolding rules.bad_field
 returns c = rw (c.choose.ensures, c.before.minus.ensures, c.before.before.after.ensures)
 
 pub bad-field-spec : {M : Type 1} → statement M

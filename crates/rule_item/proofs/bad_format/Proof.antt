@@ -4,7 +4,7 @@ use Rattle.rule_item.proofs.bad_format.Statement.{statement}
 use Rattle.rule_item.proofs.bad_format.Tie as tie
 
 returns : tie.Need-returns
-unfolding rules.badFormat
+unfolding rules.bad_format
 returns c = rw (c.choose.ensures, c.before.word_at.ensures.0)
 
 pub bad-format-spec : {M : Type 1} → statement M

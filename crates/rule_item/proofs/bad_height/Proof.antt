@@ -4,7 +4,7 @@ use Rattle.rule_item.proofs.bad_height.Statement.{statement}
 use Rattle.rule_item.proofs.bad_height.Tie as tie
 
 returns : tie.Need-returns
-unfolding rules.badHeight
+unfolding rules.bad_height
 returns c = rw (c.choose.ensures, c.before.word_at.ensures.0, c.before.before.minus.ensures)
 
 pub bad-height-spec : {M : Type 1} → statement M

@@ -5,7 +5,7 @@ use Rattle.rule_item.proofs.bad_run.Statement.{statement}
 use Rattle.rule_item.proofs.bad_run.Tie as tie
 
 returns : tie.Need-returns
-unfolding rules.badRun
+unfolding rules.bad_run
 returns c = λ k. rw (c.choose2.ensures, c.before.choose.ensures, c.before.before.among.ensures, c.before.before.before.byte_at.ensures, c.before.before.before.before.global.ensures k, c.before.before.before.before.before.find.ensures k (omega arith), c.before.before.before.before.before.before.word-at2.ensures.0, c.before.before.before.before.before.before.before.word_at.ensures.0, c.before.before.before.before.before.before.before.before.minus.ensures)
 
 pub bad-run-spec : {M : Type 1} → statement M

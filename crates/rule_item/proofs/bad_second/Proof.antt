@@ -4,7 +4,7 @@ use Rattle.rule_item.proofs.bad_second.Statement.{statement}
 use Rattle.rule_item.proofs.bad_second.Tie as tie
 
 returns : tie.Need-returns
-unfolding rules.badSecond
+unfolding rules.bad_second
 returns c = rw (c.choose.ensures, c.before.count.ensures)
 
 pub bad-second-spec : {M : Type 1} → statement M

@@ -4,7 +4,7 @@ use Rattle.rule_item.proofs.bad_size.Statement.{statement}
 use Rattle.rule_item.proofs.bad_size.Tie as tie
 
 returns : tie.Need-returns
-unfolding rules.badSize
+unfolding rules.bad_size
 returns c = rw (c.choose.ensures, c.before.both.ensures, c.before.before.word_at.ensures.0, c.before.before.before.minus.ensures)
 
 pub bad-size-spec : {M : Type 1} → statement M

@@ -4,7 +4,7 @@ use Rattle.rule_item.proofs.bad_twice.Statement.{statement}
 use Rattle.rule_item.proofs.bad_twice.Tie as tie
 
 returns : tie.Need-returns
-unfolding rules.badTwice
+unfolding rules.bad_twice
 returns c = λ k s. rw (c.choose.ensures, c.before.either.ensures, c.before.before.find.ensures k s, c.before.before.before.word-at2.ensures.0, c.before.before.before.before.word_at.ensures.0, c.before.before.before.before.before.minus.ensures)
 
 pub bad-twice-spec : {M : Type 1} → statement M

@@ -4,7 +4,7 @@ use Rattle.rule_item.proofs.bad_variable.Statement.{statement}
 use Rattle.rule_item.proofs.bad_variable.Tie as tie
 
 returns : tie.Need-returns
-unfolding rules.badVariable
+unfolding rules.bad_variable
 returns c = rw (c.choose5.ensures, c.before.choose4.ensures, c.before.before.before.choose3.ensures, c.before.before.before.before.choose2.ensures, c.before.before.before.before.before.choose.ensures, c.before.before.is-chan.ensures, c.before.before.before.before.before.before.is-array.ensures)
 
 pub bad-variable-spec : {M : Type 1} → statement M

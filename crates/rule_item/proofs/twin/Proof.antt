@@ -23,7 +23,7 @@ loop-again : tie.Need-loop-preserved invariant-loop decreases-loop
 loop-again c = (omega arith, omega (arith, c.depth-on.ensures.1), twins.twin-more c.before.before.before.before.before.before.args.codes.now c.before.before.before.before.loop.k (c.before.before.before.before.loop.k - 1) c.before.before.before.before.loop.d (omega arith) c.before.before.twin-at.ensures c.before.if1.false c.depth-on.ensures.0 ∙ c.before.before.before.before.loop.invariant.2)
 
 returns-2 : tie.Need-returns-2 invariant-loop decreases-loop
-returns-2 c = twins.twin-end c.before.before.before.args.codes.now c.before.loop.k c.before.loop.d (omega arith) ∙ c.before.loop.invariant.2
+returns-2 c = twins.twin_end c.before.before.before.args.codes.now c.before.loop.k c.before.loop.d (omega arith) ∙ c.before.loop.invariant.2
 
 pub twin-spec : {M : Type 1} → statement M
 twin-spec =

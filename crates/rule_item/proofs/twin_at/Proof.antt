@@ -4,7 +4,7 @@ use Rattle.rule_item.proofs.twin_at.Statement.{statement}
 use Rattle.rule_item.proofs.twin_at.Tie as tie
 
 returns : tie.Need-returns
-unfolding rules.twinAt
+unfolding rules.twin_at
 returns c = rw (c.both2.ensures, c.before.both.ensures, c.before.before.byte-on.ensures, c.before.before.before.byte_at.ensures)
 
 pub twin-at-spec : {M : Type 1} → statement M

@@ -9,7 +9,7 @@ use Rattle.rule_least.proofs.least_fault.Statement.{statement}
 use Rattle.rule_least.proofs.least_fault.Tie as tie
 
 abbrev invariant-loop : tie.invariant-loop
-invariant-loop codes args homes chain starts heights toks best₀ j₀ best j = (j ≤ length codes) × (best ≡ faults.leastFrom codes args homes starts heights toks j (length codes - j))
+invariant-loop codes args homes chain starts heights toks best₀ j₀ best j = (j ≤ length codes) × (best ≡ faults.least_from codes args homes starts heights toks j (length codes - j))
 
 abbrev decreases-loop : tie.decreases-loop
 decreases-loop codes args homes chain starts heights toks best₀ j₀ best j = j

@@ -27,7 +27,7 @@ loop-again : tie.Need-loop-preserved invariant-loop decreases-loop
 loop-again c = laws.after_more (λ i. sets.among c.before.before.before.before.before.before.args.set (get_or c.before.before.before.before.before.before.args.codes.now i 0)) c.before.before.before.before.loop.k (c.before.before.before.before.loop.k - 1) (omega arith) (c.before.among.ensures ∙ ap (sets.among c.before.before.before.before.before.before.args.set) c.before.before.byte_at.ensures) c.if1.false ∙ c.before.before.before.before.loop.invariant
 
 returns-2 : tie.Need-returns-2 invariant-loop decreases-loop
-returns-2 c = laws.after-end (λ i. sets.among c.before.before.before.args.set (get_or c.before.before.before.args.codes.now i 0)) c.before.loop.k (omega arith) ∙ c.before.loop.invariant
+returns-2 c = laws.after_end (λ i. sets.among c.before.before.before.args.set (get_or c.before.before.before.args.codes.now i 0)) c.before.loop.k (omega arith) ∙ c.before.loop.invariant
 
 pub after-spec : {M : Type 1} → statement M
 after-spec =

@@ -24,7 +24,7 @@ same_length : tie.Need-same-length invariant-loop decreases-loop
 same_length c = c.before.loop.invariant.1
 
 returns : tie.Need-returns invariant-loop decreases-loop
-returns c = laws.filled-end (λ l v. c.before.before.before.args.n) c.before.loop.w c.before.before.before.args.n c.before.loop.chain (omega arith) ∙ c.before.loop.invariant.2
+returns c = laws.filled_end (λ l v. c.before.before.before.args.n) c.before.loop.w c.before.before.before.args.n c.before.loop.chain (omega arith) ∙ c.before.loop.invariant.2
 
 pub clear_spec : {M : Type 1} → statement M
 clear_spec =

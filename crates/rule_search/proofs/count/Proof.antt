@@ -22,7 +22,7 @@ loop-again : tie.Need-loop-preserved invariant-loop decreases-loop
 loop-again c = (omega (arith, c.one.ensures.1), laws.sum_more (finding.one c.before.before.before.before.before.args.codes.now c.before.before.before.before.before.args.homes.now c.before.before.before.before.before.args.set c.before.before.before.before.before.args.h) c.before.before.loop.j c.before.before.before.before.before.args.to c.before.before.loop.n (omega arith) c.one.ensures.0 ∙ c.before.before.loop.invariant.1)
 
 returns : tie.Need-returns invariant-loop decreases-loop
-returns c = laws.sum-end (finding.one c.before.before.before.before.args.codes.now c.before.before.before.before.args.homes.now c.before.before.before.before.args.set c.before.before.before.before.args.h) c.before.loop.j c.before.before.before.before.args.to c.before.loop.n (omega arith) ∙ c.before.loop.invariant.1
+returns c = laws.sum_end (finding.one c.before.before.before.before.args.codes.now c.before.before.before.before.args.homes.now c.before.before.before.before.args.set c.before.before.before.before.args.h) c.before.loop.j c.before.before.before.before.args.to c.before.loop.n (omega arith) ∙ c.before.loop.invariant.1
 
 pub count_spec : {M : Type 1} → statement M
 count_spec =

@@ -2,7 +2,7 @@ use borrow.Author.Tests.{eq-eqb}
 use mathlib.Core.Path.{◌≡◌, ◌∙◌}
 use Prim.Native.Nat.{◌-◌, ◌<◌}
 use Rattle.rule_search.proofs.Chain.{head-start, go_on}
-use Rattle.rule_search.proofs.Rest.{rest, rest-stop, rest_end}
+use Rattle.rule_search.proofs.Rest.{rest, rest_stop, rest_end}
 use Rattle.rule_search.specs.Chain.{Chained}
 use Rattle.rule_search.specs.Search as finding
 use borrow.Author.Rules.{rules}
@@ -23,7 +23,7 @@ loop-holds : tie.Need-loop-init invariant-loop decreases-loop
 loop-holds c = λ k s. head-start c.before.before.before.before.before.before.args.codes.now c.before.before.before.before.before.before.args.args.now c.before.before.before.before.before.before.args.homes.now c.before.before.before.before.before.before.args.chain.now c.before.before.before.before.before.before.args.set c.before.before.before.before.before.before.args.w c.before.before.before.before.before.before.args.h c.before.before.before.before.before.before.args.to k s c.before.if1.false c.head.ensures
 
 returns-2 : tie.Need-returns-2 invariant-loop decreases-loop
-returns-2 c = λ k s. rest-stop (finding.declares c.before.before.before.before.before.before.before.before.before.before.args.codes.now c.before.before.before.before.before.before.before.before.before.before.args.args.now c.before.before.before.before.before.before.before.before.before.before.args.homes.now c.before.before.before.before.before.before.before.before.before.before.args.set c.before.before.before.before.before.before.before.before.before.before.args.w c.before.before.before.before.before.before.before.before.before.before.args.h) c.before.before.before.loop.d c.before.before.before.before.before.before.before.before.before.before.args.to c.before.before.loop-test.true c.before.declares.ensures c.if2.true ∙ c.before.before.before.loop.invariant k s
+returns-2 c = λ k s. rest_stop (finding.declares c.before.before.before.before.before.before.before.before.before.before.args.codes.now c.before.before.before.before.before.before.before.before.before.before.args.args.now c.before.before.before.before.before.before.before.before.before.before.args.homes.now c.before.before.before.before.before.before.before.before.before.before.args.set c.before.before.before.before.before.before.before.before.before.before.args.w c.before.before.before.before.before.before.before.before.before.before.args.h) c.before.before.before.loop.d c.before.before.before.before.before.before.before.before.before.before.args.to c.before.before.loop-test.true c.before.declares.ensures c.if2.true ∙ c.before.before.before.loop.invariant k s
 
 loop-again : tie.Need-loop-preserved invariant-loop decreases-loop
 loop-again c = λ k s. go_on c.before.before.before.before.before.before.before.before.before.before.before.args.codes.now c.before.before.before.before.before.before.before.before.before.before.before.args.args.now c.before.before.before.before.before.before.before.before.before.before.before.args.homes.now c.before.before.before.before.before.before.before.before.before.before.before.args.chain.now c.before.before.before.before.before.before.before.before.before.before.before.args.set c.before.before.before.before.before.before.before.before.before.before.before.args.w c.before.before.before.before.before.before.before.before.before.before.before.args.h c.before.before.before.before.before.before.before.before.before.before.before.args.to k s c.before.before.before.before.loop.d c.past.ensures.1 c.past.ensures.0 c.before.before.declares.ensures c.before.if2.false ∙ c.before.before.before.before.loop.invariant k s

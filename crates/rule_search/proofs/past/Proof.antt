@@ -1,6 +1,6 @@
 use lib.Dec.{eqb}
 use native.Mathlib.Omega.{arith}
-use Rattle.rule_search.proofs.Chain.{both-less}
+use Rattle.rule_search.proofs.Chain.{both_less}
 use Rattle.rule_search.specs.Chain.{next_of}
 use borrow.Author.Rules.{rules}
 use Rattle.rule_search.proofs.past.Statement.{statement}
@@ -8,7 +8,7 @@ use Rattle.rule_search.proofs.past.Tie as tie
 
 returns : tie.Need-returns
 unfolding next_of
-returns c = (rw (← c.before.before.before.before.word_on.ensures.0, ← c.before.before.before.minus.ensures, ← c.before.before.word_at.ensures.0, ← c.before.both.ensures, c.if1.true), both-less (eqb c.before.before.word_at.result c.before.before.before.before.before.before.before.args.w) c.before.before.before.before.before.before.before.args.d c.before.before.before.before.word_on.result c.before.both.ensures c.if1.true)
+returns c = (rw (← c.before.before.before.before.word_on.ensures.0, ← c.before.before.before.minus.ensures, ← c.before.before.word_at.ensures.0, ← c.before.both.ensures, c.if1.true), both_less (eqb c.before.before.word_at.result c.before.before.before.before.before.before.before.args.w) c.before.before.before.before.before.before.before.args.d c.before.before.before.before.word_on.result c.before.both.ensures c.if1.true)
 
 returns-2 : tie.Need-returns-2
 unfolding next_of

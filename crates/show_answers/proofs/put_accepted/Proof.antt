@@ -11,7 +11,7 @@ use Rattle.show_answers.proofs.put_accepted.Tie as tie
 
 returns : tie.Need-returns
 unfolding acceptedLine
-returns c = pens.then-puts (bytes "accepted ") _ _ _ _ c.before.before.before.before.before.before.before.before.before.before.put_all.ensures (pens.then-puts (get_or verdicts (c.before.before.before.before.before.before.before.before.before.before.before.before.before.before.args.v - 1) []) _ _ _ _ c.before.before.before.before.before.before.put-verdict.ensures (pens.one-put 10 _ _ c.before.before.put.ensures))
+returns c = pens.then_puts (bytes "accepted ") _ _ _ _ c.before.before.before.before.before.before.before.before.before.before.put_all.ensures (pens.then_puts (get_or verdicts (c.before.before.before.before.before.before.before.before.before.before.before.before.before.before.args.v - 1) []) _ _ _ _ c.before.before.before.before.before.before.put-verdict.ensures (pens.one-put 10 _ _ c.before.before.put.ensures))
 
 pub put-accepted-spec : {M : Type 1} → statement M
 put-accepted-spec =

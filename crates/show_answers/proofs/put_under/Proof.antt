@@ -19,7 +19,7 @@ loop-again : tie.Need-loop-preserved invariant-loop decreases-loop
 loop-again c = (omega (arith, c.before.before.put-times.auto.1.1.0, c.before.before.before.before.before.before.before.loop.invariant.0), laws.under_more c.before.before.before.before.before.before.before.before.before.before.args.s.now c.before.before.before.before.before.before.before.loop.k c.before.before.before.before.before.before.before.before.before.before.args.mark _ _ _ c.before.before.before.before.before.before.loop-test.true c.before.before.before.before.width.ensures c.before.before.put-times.ensures ∙ c.before.before.before.before.before.before.before.loop.invariant.1)
 
 returns : tie.Need-returns invariant-loop decreases-loop
-returns c = sym (laws.under-end c.before.before.before.before.args.s.now c.before.loop.k c.before.before.before.before.args.mark _ (omega arith)) ∙ c.before.loop.invariant.1
+returns c = sym (laws.under_end c.before.before.before.before.args.s.now c.before.loop.k c.before.before.before.before.args.mark _ (omega arith)) ∙ c.before.loop.invariant.1
 
 pub put-under-spec : {M : Type 1} → statement M
 put-under-spec =

@@ -20,13 +20,13 @@ loop-holds : tie.Need-loop-init invariant-loop decreases-loop
 loop-holds c = (omega (arith, c.least.ensures), omega (arith, c.least.ensures), ap (λ k. first (λ n. eqb (get_or c.before.before.args.line.now n 0) c.before.before.args.b) k (length c.before.before.args.line.now - k)) c.least.ensures)
 
 returns : tie.Need-returns invariant-loop decreases-loop
-returns c = (c.before.before.before.loop.invariant.0, c.before.before.before.loop.invariant.1, laws.first-stop (λ n. eqb (get_or c.before.before.before.before.before.before.args.line.now n 0) c.before.before.before.before.before.before.args.b) c.before.before.before.loop.k (length c.before.before.before.before.before.before.args.line.now - c.before.before.before.loop.k) (omega arith) refl (eq-eqb (get_or c.before.before.before.before.before.before.args.line.now c.before.before.before.loop.k 0) c.before.before.before.before.before.before.args.b c.if1.true) ∙ c.before.before.before.loop.invariant.2)
+returns c = (c.before.before.before.loop.invariant.0, c.before.before.before.loop.invariant.1, laws.first_stop (λ n. eqb (get_or c.before.before.before.before.before.before.args.line.now n 0) c.before.before.before.before.before.before.args.b) c.before.before.before.loop.k (length c.before.before.before.before.before.before.args.line.now - c.before.before.before.loop.k) (omega arith) refl (eq-eqb (get_or c.before.before.before.before.before.before.args.line.now c.before.before.before.loop.k 0) c.before.before.before.before.before.before.args.b c.if1.true) ∙ c.before.before.before.loop.invariant.2)
 
 loop-again : tie.Need-loop-preserved invariant-loop decreases-loop
 loop-again c = (let a = c.before.before.before.loop.invariant.0 in omega arith, let a = c.before.before.before.loop.invariant.1 in omega arith, laws.first_more (λ n. eqb (get_or c.before.before.before.before.before.before.args.line.now n 0) c.before.before.before.before.before.before.args.b) c.before.before.before.loop.k (length c.before.before.before.before.before.before.args.line.now) (omega arith) refl (ne_eqb (get_or c.before.before.before.before.before.before.args.line.now c.before.before.before.loop.k 0) c.before.before.before.before.before.before.args.b c.if1.false) ∙ c.before.before.before.loop.invariant.2)
 
 returns-2 : tie.Need-returns-2 invariant-loop decreases-loop
-returns-2 c = (c.before.loop.invariant.0, c.before.loop.invariant.1, laws.first-end (λ n. eqb (get_or c.before.before.before.before.args.line.now n 0) c.before.before.before.before.args.b) c.before.loop.k (length c.before.before.before.before.args.line.now - c.before.loop.k) (omega arith) ∙ c.before.loop.invariant.2)
+returns-2 c = (c.before.loop.invariant.0, c.before.loop.invariant.1, laws.first_end (λ n. eqb (get_or c.before.before.before.before.args.line.now n 0) c.before.before.before.before.args.b) c.before.loop.k (length c.before.before.before.before.args.line.now - c.before.loop.k) (omega arith) ∙ c.before.loop.invariant.2)
 
 pub seek-spec : {M : Type 1} → statement M
 seek-spec =

@@ -1,5 +1,5 @@
-use Rattle.base_ceilings.specs.Ceilings.{normalMost}
-use Rattle.show_steps.specs.Steps.{listedMost}
+use Rattle.base_ceilings.specs.Ceilings.{normal_most}
+use Rattle.show_steps.specs.Steps.{listed_most}
 use lib.ListN.{length}
 use mathlib.Core.Path.{◌≡◌}
 use Prim.Native.Nat.{◌-◌, ◌≤◌, ◌+◌, ◌*◌}
@@ -8,10 +8,10 @@ use Rattle.show_commands.proofs.list_offers.Statement.{statement}
 use Rattle.show_commands.proofs.list_offers.Tie as tie
 
 abbrev invariant-loop : tie.invariant-loop
-invariant-loop t s out₀ n₀ out n = (length out ≡ 4 * normalMost + 128) × (n ≤ listedMost)
+invariant-loop t s out₀ n₀ out n = (length out ≡ 4 * normal_most + 128) × (n ≤ listed_most)
 
 abbrev decreases-loop : tie.decreases-loop
-decreases-loop t s out₀ n₀ out n = listedMost - n
+decreases-loop t s out₀ n₀ out n = listed_most - n
 
 pub list-offers-spec : {M : Type 1} → statement M
 list-offers-spec =

@@ -7,7 +7,7 @@ use Rattle.show_commands.proofs.run.Tie as tie
 
 returns : tie.Need-returns
 unfolding cleared
-returns c = laws.run-status _ _ _ _ c.before.before.before.before.before.before.before.before.before.before.before.before.written.ensures refl c.before.before.before.before.before.before.before.before.before.before.start.ensures _ _ _ _ c.before.before.before.before.before.before.run.ensures c.answer-run.ensures
+returns c = laws.run_status_lem _ _ _ _ c.before.before.before.before.before.before.before.before.before.before.before.before.written.ensures refl c.before.before.before.before.before.before.before.before.before.before.start.ensures _ _ _ _ c.before.before.before.before.before.before.run.ensures c.answer-run.ensures
 
 pub run_spec : {M : Type 1} → statement M
 run_spec =

@@ -7,7 +7,7 @@ use Rattle.show_commands.proofs.start.Tie as tie
 
 returns : tie.Need-returns
 unfolding cleared
-returns c = laws.start-status _ _ _ _ c.before.before.before.before.before.before.before.before.written.ensures refl c.before.before.before.before.before.before.start.ensures _ _ c.before.verdict-of.ensures c.answer-verdict.ensures
+returns c = laws.start_status_lem _ _ _ _ c.before.before.before.before.before.before.before.before.written.ensures refl c.before.before.before.before.before.before.start.ensures _ _ c.before.verdict-of.ensures c.answer-verdict.ensures
 
 pub start_spec : {M : Type 1} → statement M
 start_spec =

@@ -39,7 +39,7 @@ module _ (t : ℕ) where
   returns c = laws.targets-none c.before.before.before.args.t.now c.before.before.before.args.before.now c.before.before.before.args.after.now c.before.before.before.args.p c.before.before.before.args.n c.before.before.before.args.a _ c.if1.true
 
   returns-2 : put-targets-lts.Need-returns-2 Callees Own put-targets.Post
-  returns-2 c = laws.targets-end c.before.before.before.before.before.args.t.now c.before.before.before.before.before.args.before.now c.before.before.before.before.before.args.after.now c.before.before.before.before.before.args.p c.before.before.before.before.before.args.n c.before.before.before.before.before.args.a _ c.before.before.if1.false c.before.code.ensures c.if2.true
+  returns-2 c = laws.targets_end c.before.before.before.before.before.args.t.now c.before.before.before.before.before.args.before.now c.before.before.before.before.before.args.after.now c.before.before.before.before.before.args.p c.before.before.before.before.before.args.n c.before.before.before.before.before.args.a _ c.before.before.if1.false c.before.code.ensures c.if2.true
 
   returns-3 : put-targets-lts.Need-returns-3 Callees Own put-targets.Post
   returns-3 c = laws.targets-more c.before.before.before.before.before.before.before.before.before.before.before.before.before.before.args.t.now c.before.before.before.before.before.before.before.before.before.before.before.before.before.before.args.before.now c.before.before.before.before.before.before.before.before.before.before.before.before.before.before.args.after.now c.before.before.before.before.before.before.before.before.before.before.before.before.before.before.args.p c.before.before.before.before.before.before.before.before.before.before.before.before.before.before.args.n c.before.before.before.before.before.before.before.before.before.before.before.before.before.before.args.a _ _ _ c.before.before.before.before.before.before.before.before.before.before.before.if1.false c.before.before.before.before.before.before.before.before.before.before.code.ensures c.before.before.before.before.before.before.before.before.before.if2.false c.before.before.before.before.before.before.before.before.link.ensures.0 c.before.before.before.before.before.before.put-target.ensures refl refl c.before.before.put-targets.ensures

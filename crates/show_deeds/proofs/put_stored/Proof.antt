@@ -4,10 +4,10 @@ use Rattle.show_deeds.proofs.put_stored.Statement.{statement}
 use Rattle.show_deeds.proofs.put_stored.Tie as tie
 
 returns : tie.Need-returns
-returns c = laws.stored-at c.before.before.before.before.before.before.before.before.before.before.args.t.now c.before.before.before.before.before.before.before.before.before.before.args.before.now c.before.before.before.before.before.before.before.before.before.before.args.after.now c.before.before.before.before.before.before.before.before.before.before.args.p c.before.before.before.before.before.before.before.before.before.before.args.from c.before.before.before.before.before.before.before.before.before.before.args.m _ _ c.before.before.before.before.before.before.before.locate.ensures c.before.before.before.before.before.x.given.1 c.before.before.put-store.ensures
+returns c = laws.stored_at_lem c.before.before.before.before.before.before.before.before.before.before.args.t.now c.before.before.before.before.before.before.before.before.before.before.args.before.now c.before.before.before.before.before.before.before.before.before.before.args.after.now c.before.before.before.before.before.before.before.before.before.before.args.p c.before.before.before.before.before.before.before.before.before.before.args.from c.before.before.before.before.before.before.before.before.before.before.args.m _ _ c.before.before.before.before.before.before.before.locate.ensures c.before.before.before.before.before.x.given.1 c.before.before.put-store.ensures
 
 returns-2 : tie.Need-returns-2
-returns-2 c = laws.stored-astray c.before.before.before.before.before.args.t.now c.before.before.before.before.before.args.before.now c.before.before.before.before.before.args.after.now c.before.before.before.before.before.args.p c.before.before.before.before.before.args.from c.before.before.before.before.before.args.m _ c.before.before.locate.ensures c.enum_told.given.1
+returns-2 c = laws.stored_astray c.before.before.before.before.before.args.t.now c.before.before.before.before.before.args.before.now c.before.before.before.before.before.args.after.now c.before.before.before.before.before.args.p c.before.before.before.before.before.args.from c.before.before.before.before.before.args.m _ c.before.before.locate.ensures c.enum_told.given.1
 
 pub put-stored-spec : {M : Type 1} → statement M
 put-stored-spec =

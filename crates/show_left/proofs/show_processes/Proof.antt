@@ -1,4 +1,4 @@
-use Rattle.base_ceilings.specs.Ceilings.{normalMost}
+use Rattle.base_ceilings.specs.Ceilings.{normal_most}
 use lib.ListN.{length}
 use mathlib.Core.Path.{◌≡◌}
 use Prim.Native.Nat.{◌-◌, ◌≤◌, ◌*◌}
@@ -7,7 +7,7 @@ use Rattle.show_left.proofs.show_processes.Statement.{statement}
 use Rattle.show_left.proofs.show_processes.Tie as tie
 
 abbrev invariant-loop : tie.invariant-loop
-invariant-loop t s n out₀ p₀ out p = (length out ≡ 5 * normalMost) × (n ≤ 16)
+invariant-loop t s n out₀ p₀ out p = (length out ≡ 5 * normal_most) × (n ≤ 16)
 
 abbrev decreases-loop : tie.decreases-loop
 decreases-loop t s n out₀ p₀ out p = n - p

@@ -7,7 +7,7 @@ use Rattle.show_left.proofs.state.Tie as tie
 
 returns : tie.Need-returns
 unfolding cleared
-returns c = laws.replay-status _ _ _ _ _ _ refl c.before.before.before.before.replay.ensures c.answer-replay.ensures
+returns c = laws.replay_status_lem _ _ _ _ _ _ refl c.before.before.before.before.replay.ensures c.answer-replay.ensures
 
 pub state-spec : {M : Type 1} → statement M
 state-spec =

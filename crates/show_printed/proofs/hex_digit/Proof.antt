@@ -1,15 +1,15 @@
-use Rattle.spec_account.specs.Bytes.{hexDigit}
+use Rattle.spec_account.specs.Bytes.{hex_digit}
 use borrow.Author.Tests.{lt-ltb, le-ltb}
 use borrow.Author.Rules.{rules}
 use Rattle.show_printed.proofs.hex_digit.Statement.{statement}
 use Rattle.show_printed.proofs.hex_digit.Tie as tie
 
 returns : tie.Need-returns
-unfolding hexDigit
+unfolding hex_digit
 returns c = rw (lt-ltb _ _ c.if1.true)
 
 returns-2 : tie.Need-returns-2
-unfolding hexDigit
+unfolding hex_digit
 returns-2 c = rw (le-ltb _ _ c.if1.false)
 
 pub hex-digit-spec : {M : Type 1} → statement M

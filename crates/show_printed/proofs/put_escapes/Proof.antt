@@ -1,5 +1,5 @@
 use Rattle.show_printed.proofs.Laws as laws
-use Rattle.spec_account.specs.Bytes.{eachEscaped}
+use Rattle.spec_account.specs.Bytes.{each_escaped}
 use Rattle.base_pens.specs.Pen.{pen, puts}
 use lib.ListN.{length, drop}
 use mathlib.Core.Path.{sym, ◌∙◌, ◌≡◌}
@@ -10,16 +10,16 @@ use Rattle.show_printed.proofs.put_escapes.Statement.{statement}
 use Rattle.show_printed.proofs.put_escapes.Tie as tie
 
 abbrev invariant-loop : tie.invariant-loop
-invariant-loop text out₀ p q₀ k₀ out q k = (length out ≡ length out₀) × (puts (eachEscaped (drop k text)) (pen out q) ≡ puts (eachEscaped text) (pen out₀ q₀))
+invariant-loop text out₀ p q₀ k₀ out q k = (length out ≡ length out₀) × (puts (each_escaped (drop k text)) (pen out q) ≡ puts (each_escaped text) (pen out₀ q₀))
 
 abbrev decreases-loop : tie.decreases-loop
 decreases-loop text out₀ p q₀ k₀ out q k = length text - k
 
 loop-again : tie.Need-loop-preserved invariant-loop decreases-loop
-loop-again c = (omega (arith, c.before.before.put-escaped.auto.1.0, c.before.before.before.before.before.before.loop.invariant.0), sym (laws.escapes-more c.before.before.before.before.before.before.before.before.before.args.text.now c.before.before.before.before.before.before.loop.k _ _ (omega arith) c.before.before.put-escaped.ensures) ∙ c.before.before.before.before.before.before.loop.invariant.1)
+loop-again c = (omega (arith, c.before.before.put-escaped.auto.1.0, c.before.before.before.before.before.before.loop.invariant.0), sym (laws.escapes_more c.before.before.before.before.before.before.before.before.before.args.text.now c.before.before.before.before.before.before.loop.k _ _ (omega arith) c.before.before.put-escaped.ensures) ∙ c.before.before.before.before.before.before.loop.invariant.1)
 
 returns : tie.Need-returns invariant-loop decreases-loop
-returns c = sym (laws.escapes-end c.before.before.before.before.args.text.now c.before.loop.k _ (omega arith)) ∙ c.before.loop.invariant.1
+returns c = sym (laws.escapes_end c.before.before.before.before.args.text.now c.before.loop.k _ (omega arith)) ∙ c.before.loop.invariant.1
 
 pub put-escapes-spec : {M : Type 1} → statement M
 put-escapes-spec =

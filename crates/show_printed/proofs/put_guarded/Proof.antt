@@ -20,7 +20,7 @@ loop-again : tie.Need-loop-preserved invariant-loop decreases-loop
 loop-again c = (omega (arith, c.before.before.put-guard.auto.1.1.0, c.before.before.before.before.before.before.loop.invariant.0), sym (laws.guard-more c.before.before.before.before.before.before.before.before.before.args.text.now c.before.before.before.before.before.before.loop.k c.before.before.before.before.before.before.loop.f _ _ _ (omega arith) refl c.before.before.put-guard.ensures) ∙ c.before.before.before.before.before.before.loop.invariant.1)
 
 returns : tie.Need-returns invariant-loop decreases-loop
-returns c = sym (laws.guard-end c.before.before.before.before.args.text.now c.before.loop.k c.before.loop.f _ (omega arith)) ∙ c.before.loop.invariant.1
+returns c = sym (laws.guard_end c.before.before.before.before.args.text.now c.before.loop.k c.before.loop.f _ (omega arith)) ∙ c.before.loop.invariant.1
 
 pub put-guarded-spec : {M : Type 1} → statement M
 put-guarded-spec =

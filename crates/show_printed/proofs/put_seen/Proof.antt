@@ -5,10 +5,10 @@ use Rattle.show_printed.proofs.put_seen.Statement.{statement}
 use Rattle.show_printed.proofs.put_seen.Tie as tie
 
 returns : tie.Need-returns
-returns c = laws.seen-put _ _ _ (sym c.before.before.before.before.if1.true ∙ c.before.before.before.before.before.is-visible.ensures) c.before.before.put.ensures
+returns c = laws.seen_put _ _ _ (sym c.before.before.before.before.if1.true ∙ c.before.before.before.before.before.is-visible.ensures) c.before.before.put.ensures
 
 returns-2 : tie.Need-returns-2
-returns-2 c = laws.unseen-put _ _ _ (sym c.before.before.before.before.if1.false ∙ c.before.before.before.before.before.is-visible.ensures) c.before.before.put-coded.ensures
+returns-2 c = laws.unseen_put _ _ _ (sym c.before.before.before.before.if1.false ∙ c.before.before.before.before.before.is-visible.ensures) c.before.before.put-coded.ensures
 
 pub put-seen-spec : {M : Type 1} → statement M
 put-seen-spec =

@@ -19,7 +19,7 @@ loop-again : tie.Need-loop-preserved invariant-loop decreases-loop
 loop-again c = (omega (arith, c.before.before.put_byte.auto.1.1.0, c.before.before.before.before.before.before.loop.invariant.0), sym (laws.shown-more c.before.before.before.before.before.before.before.before.before.args.text.now c.before.before.before.before.before.before.loop.k c.before.before.before.before.before.before.loop.f _ _ _ (omega arith) refl c.before.before.put_byte.ensures) ∙ c.before.before.before.before.before.before.loop.invariant.1)
 
 returns : tie.Need-returns invariant-loop decreases-loop
-returns c = sym (laws.shown-end c.before.before.before.before.args.text.now c.before.loop.k c.before.loop.f _ (omega arith)) ∙ c.before.loop.invariant.1
+returns c = sym (laws.shown_end c.before.before.before.before.args.text.now c.before.loop.k c.before.loop.f _ (omega arith)) ∙ c.before.loop.invariant.1
 
 pub put-text-spec : {M : Type 1} → statement M
 put-text-spec =

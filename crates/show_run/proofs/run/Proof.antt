@@ -1,5 +1,5 @@
 use Rattle.run_entry.proofs.Laws as laws
-use Rattle.run_entry.specs.Runs.{runIn}
+use Rattle.run_entry.specs.Runs.{run_in}
 use native.Mathlib.Omega.{arith}
 use Prim.Native.Nat.{◌≤◌, ◌-◌}
 use mathlib.Core.Path.{◌≡◌, refl}
@@ -9,7 +9,7 @@ use Rattle.show_run.proofs.run.Statement.{statement}
 use Rattle.show_run.proofs.run.Tie as tie
 
 abbrev invariant-loop : tie.invariant-loop
-invariant-loop t s₀ limit line₀ n₀ s line n = (n ≤ limit) × ((length s ≡ length s₀) × ((length line ≡ length line₀) × (laws.behind n (runIn t (limit - n) s) ≡ runIn t limit s₀)))
+invariant-loop t s₀ limit line₀ n₀ s line n = (n ≤ limit) × ((length s ≡ length s₀) × ((length line ≡ length line₀) × (laws.behind n (run_in t (limit - n) s) ≡ run_in t limit s₀)))
 
 abbrev decreases-loop : tie.decreases-loop
 decreases-loop t s₀ limit line₀ n₀ s line n = limit - n

@@ -7,7 +7,7 @@ returns : tie.Need-returns
 returns c = laws.turn_step c.before.before.before.before.before.before.before.before.before.before.before.before.before.before.before.before.before.before.before.args.t.now c.before.before.before.before.before.before.before.before.before.before.before.before.before.before.before.before.before.before.before.args.s.now c.before.before.before.before.before.before.before.before.before.before.before.before.before.before.before.nth.ensures _ c.before.before.before.before.before.before.before.before.before.before.before.before.before.o.given.1 c.before.advance.ensures
 
 returns-2 : tie.Need-returns-2
-returns-2 c = laws.turn-none c.before.before.before.before.before.before.args.t.now c.before.before.before.before.before.before.args.s.now c.before.before.nth.ensures _ c.enum_told.given.1
+returns-2 c = laws.turn_none c.before.before.before.before.before.before.args.t.now c.before.before.before.before.before.before.args.s.now c.before.before.nth.ensures _ c.enum_told.given.1
 
 pub turn_spec : {M : Type 1} → statement M
 turn_spec =

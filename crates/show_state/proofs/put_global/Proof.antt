@@ -8,10 +8,10 @@ use Rattle.show_state.proofs.put_global.Statement.{statement}
 use Rattle.show_state.proofs.put_global.Tie as tie
 
 returns : tie.Need-returns
-returns c = laws.said (fits.isGlobal c.before.before.before.before.before.before.before.before.before.args.t.now c.before.before.before.before.before.before.before.before.before.args.j) (listing.variableIn c.before.before.before.before.before.before.before.before.before.args.t.now c.before.before.before.before.before.before.before.before.before.args.s.now (bytes "global ") 0 c.before.before.before.before.before.before.before.before.before.args.j) _ _ (sym c.before.before.before.before.before.before.is-global.ensures ∙ c.before.before.before.before.before.if1.true) c.before.before.put-variable.ensures
+returns c = laws.said (fits.is_global c.before.before.before.before.before.before.before.before.before.args.t.now c.before.before.before.before.before.before.before.before.before.args.j) (listing.variable_in c.before.before.before.before.before.before.before.before.before.args.t.now c.before.before.before.before.before.before.before.before.before.args.s.now (bytes "global ") 0 c.before.before.before.before.before.before.before.before.before.args.j) _ _ (sym c.before.before.before.before.before.before.is-global.ensures ∙ c.before.before.before.before.before.if1.true) c.before.before.put-variable.ensures
 
 returns-2 : tie.Need-returns-2
-returns-2 c = laws.unsaid (fits.isGlobal c.before.before.before.before.args.t.now c.before.before.before.before.args.j) (listing.variableIn c.before.before.before.before.args.t.now c.before.before.before.before.args.s.now (bytes "global ") 0 c.before.before.before.before.args.j) _ (sym c.before.is-global.ensures ∙ c.if1.false)
+returns-2 c = laws.unsaid (fits.is_global c.before.before.before.before.args.t.now c.before.before.before.before.args.j) (listing.variable_in c.before.before.before.before.args.t.now c.before.before.before.before.args.s.now (bytes "global ") 0 c.before.before.before.before.args.j) _ (sym c.before.is-global.ensures ∙ c.if1.false)
 
 pub put-global-spec : {M : Type 1} → statement M
 put-global-spec =

@@ -10,22 +10,22 @@ use Rattle.show_state.proofs.put_globals.Statement.{statement}
 use Rattle.show_state.proofs.put_globals.Tie as tie
 
 abbrev invariant-loop : tie.invariant-loop
-invariant-loop t s out₀ p n q₀ j₀ out q j = (length out ≡ length out₀) × (puts (listing.along (listing.globalIn t s) j (n - j)) (pen out q) ≡ puts (listing.globalsIn t s) (pen out₀ q₀))
+invariant-loop t s out₀ p n q₀ j₀ out q j = (length out ≡ length out₀) × (puts (listing.along (listing.global_in t s) j (n - j)) (pen out q) ≡ puts (listing.globals_in t s) (pen out₀ q₀))
 
 abbrev decreases-loop : tie.decreases-loop
 decreases-loop t s out₀ p n q₀ j₀ out q j = n - j
 
 loop-holds : tie.Need-loop-init invariant-loop decreases-loop
-loop-holds c = (refl, laws.along-start (listing.globalIn c.before.before.before.args.t.now c.before.before.before.args.s.now) c.items.result _ _ c.items.ensures.0)
+loop-holds c = (refl, laws.along-start (listing.global_in c.before.before.before.args.t.now c.before.before.before.args.s.now) c.items.result _ _ c.items.ensures.0)
 
 loop-again : tie.Need-loop-preserved invariant-loop decreases-loop
-loop-again c = (omega (arith, c.before.before.put-global.auto.1.1.1.0, c.before.before.before.before.before.loop.invariant.0), laws.along-more (listing.globalIn c.before.before.before.before.before.before.before.before.before.args.t.now c.before.before.before.before.before.before.before.before.before.args.s.now) c.before.before.before.before.before.loop.j c.before.before.before.before.before.before.items.result _ _ c.before.before.before.before.loop-test.true c.before.before.put-global.ensures ∙ c.before.before.before.before.before.loop.invariant.1)
+loop-again c = (omega (arith, c.before.before.put-global.auto.1.1.1.0, c.before.before.before.before.before.loop.invariant.0), laws.along-more (listing.global_in c.before.before.before.before.before.before.before.before.before.args.t.now c.before.before.before.before.before.before.before.before.before.args.s.now) c.before.before.before.before.before.loop.j c.before.before.before.before.before.before.items.result _ _ c.before.before.before.before.loop-test.true c.before.before.put-global.ensures ∙ c.before.before.before.before.before.loop.invariant.1)
 
 same_length : tie.Need-same-length invariant-loop decreases-loop
 same_length c = c.before.loop.invariant.0
 
 returns : tie.Need-returns invariant-loop decreases-loop
-returns c = sym (laws.along-end (listing.globalIn c.before.before.before.before.before.args.t.now c.before.before.before.before.before.args.s.now) c.before.loop.j c.before.before.items.result _ c.loop-test.false) ∙ c.before.loop.invariant.1
+returns c = sym (laws.along_end (listing.global_in c.before.before.before.before.before.args.t.now c.before.before.before.before.before.args.s.now) c.before.loop.j c.before.before.items.result _ c.loop-test.false) ∙ c.before.loop.invariant.1
 
 pub put-globals-spec : {M : Type 1} → statement M
 put-globals-spec =

@@ -8,10 +8,10 @@ use Rattle.show_state.proofs.put_local.Statement.{statement}
 use Rattle.show_state.proofs.put_local.Tie as tie
 
 returns : tie.Need-returns
-returns c = laws.said (fits.is_local c.before.before.before.before.before.before.before.before.before.args.t.now c.before.before.before.before.before.before.before.before.before.args.j) (listing.variableIn c.before.before.before.before.before.before.before.before.before.args.t.now c.before.before.before.before.before.before.before.before.before.args.s.now (bytes "local ") c.before.before.before.before.before.before.before.before.before.args.x c.before.before.before.before.before.before.before.before.before.args.j) _ _ (sym c.before.before.before.before.before.before.is-local.ensures ∙ c.before.before.before.before.before.if1.true) c.before.before.put-variable.ensures
+returns c = laws.said (fits.is_local c.before.before.before.before.before.before.before.before.before.args.t.now c.before.before.before.before.before.before.before.before.before.args.j) (listing.variable_in c.before.before.before.before.before.before.before.before.before.args.t.now c.before.before.before.before.before.before.before.before.before.args.s.now (bytes "local ") c.before.before.before.before.before.before.before.before.before.args.x c.before.before.before.before.before.before.before.before.before.args.j) _ _ (sym c.before.before.before.before.before.before.is-local.ensures ∙ c.before.before.before.before.before.if1.true) c.before.before.put-variable.ensures
 
 returns-2 : tie.Need-returns-2
-returns-2 c = laws.unsaid (fits.is_local c.before.before.before.before.args.t.now c.before.before.before.before.args.j) (listing.variableIn c.before.before.before.before.args.t.now c.before.before.before.before.args.s.now (bytes "local ") c.before.before.before.before.args.x c.before.before.before.before.args.j) _ (sym c.before.is-local.ensures ∙ c.if1.false)
+returns-2 c = laws.unsaid (fits.is_local c.before.before.before.before.args.t.now c.before.before.before.before.args.j) (listing.variable_in c.before.before.before.before.args.t.now c.before.before.before.before.args.s.now (bytes "local ") c.before.before.before.before.args.x c.before.before.before.before.args.j) _ (sym c.before.is-local.ensures ∙ c.if1.false)
 
 pub put-local-spec : {M : Type 1} → statement M
 put-local-spec =

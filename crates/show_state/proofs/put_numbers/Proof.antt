@@ -1,4 +1,4 @@
-use Rattle.spec_account.specs.States.{valuesText}
+use Rattle.spec_account.specs.States.{values_text}
 use Prim.Native.Nat.{◌-◌}
 use native.Mathlib.Omega.{arith}
 use mathlib.Core.Path.{sym, refl, ◌∙◌, ◌≡◌}
@@ -11,7 +11,7 @@ use Rattle.show_state.proofs.put_numbers.Statement.{statement}
 use Rattle.show_state.proofs.put_numbers.Tie as tie
 
 abbrev invariant-loop : tie.invariant-loop
-invariant-loop s l x out₀ p n q₀ k₀ out q k = (length out ≡ length out₀) × (puts (valuesText (listing.numbersFrom s l x k (n - k))) (pen out q) ≡ puts (valuesText (listing.numbersIn s l x)) (pen out₀ q₀))
+invariant-loop s l x out₀ p n q₀ k₀ out q k = (length out ≡ length out₀) × (puts (values_text (listing.numbers_from s l x k (n - k))) (pen out q) ≡ puts (values_text (listing.numbers_in s l x)) (pen out₀ q₀))
 
 abbrev decreases-loop : tie.decreases-loop
 decreases-loop s l x out₀ p n q₀ k₀ out q k = n - k
@@ -26,7 +26,7 @@ same_length : tie.Need-same-length invariant-loop decreases-loop
 same_length c = c.before.loop.invariant.0
 
 returns : tie.Need-returns invariant-loop decreases-loop
-returns c = sym (laws.numbers-end c.before.before.before.before.args.s.now c.before.before.before.before.args.l c.before.before.before.before.args.x c.before.loop.k c.before.before.type_size.result _ c.loop-test.false) ∙ c.before.loop.invariant.1
+returns c = sym (laws.numbers_end c.before.before.before.before.args.s.now c.before.before.before.before.args.l c.before.before.before.before.args.x c.before.loop.k c.before.before.type_size.result _ c.loop-test.false) ∙ c.before.loop.invariant.1
 
 pub put-numbers-spec : {M : Type 1} → statement M
 put-numbers-spec =

@@ -1,10 +1,10 @@
-use Rattle.show_statement.specs.Statements.{isBranching}
+use Rattle.show_statement.specs.Statements.{is_branching}
 use borrow.Author.Rules.{rules}
 use Rattle.show_statement.proofs.is_branching.Statement.{statement}
 use Rattle.show_statement.proofs.is_branching.Tie as tie
 
 returns : tie.Need-returns
-unfolding isBranching
+unfolding is_branching
 returns c = c.either.ensures
 
 pub is-branching-spec : {M : Type 1} → statement M

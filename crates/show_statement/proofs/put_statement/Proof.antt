@@ -4,7 +4,7 @@ use Rattle.show_statement.proofs.put_statement.Statement.{statement}
 use Rattle.show_statement.proofs.put_statement.Tie as tie
 
 returns : tie.Need-returns
-returns c = laws.statement-put c.before.before.before.before.before.before.before.before.args.t.now c.before.before.before.before.before.before.before.before.args.q _ _ _ _ c.before.before.before.before.before.last_of.ensures c.before.before.before.before.least.ensures c.before.before.write-tokens.ensures
+returns c = laws.statement_put c.before.before.before.before.before.before.before.before.args.t.now c.before.before.before.before.before.before.before.before.args.q _ _ _ _ c.before.before.before.before.before.last_of.ensures c.before.before.before.before.least.ensures c.before.before.write-tokens.ensures
 
 pub put-statement-spec : {M : Type 1} → statement M
 put-statement-spec =

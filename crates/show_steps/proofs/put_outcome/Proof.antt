@@ -4,7 +4,7 @@ use Rattle.show_steps.proofs.put_outcome.Statement.{statement}
 use Rattle.show_steps.proofs.put_outcome.Tie as tie
 
 returns : tie.Need-returns
-returns c = rw c.before.before.before.before.before.before.before.before.enum_told.given.1 (pens.then-puts _ _ _ _ _ c.before.before.before.before.before.before.put-deeds.ensures c.before.before.put-printed.ensures)
+returns c = rw c.before.before.before.before.before.before.before.before.enum_told.given.1 (pens.then_puts _ _ _ _ _ c.before.before.before.before.before.before.put-deeds.ensures c.before.before.put-printed.ensures)
 
 returns-2 : tie.Need-returns-2
 returns-2 c = rw c.before.before.before.before.before.enum-told2.given.1 c.before.before.put_all.ensures

@@ -9,7 +9,7 @@ returns : tie.Need-returns
 returns c = laws.ended-put _ _ _ _ _ c.before.before.before.before.before.before.code.ensures c.before.before.before.before.before.if1.true c.before.before.put_all.ensures
 
 returns-2 : tie.Need-returns-2
-returns-2 c = laws.at-put _ _ _ _ _ c.before.before.before.before.before.before.before.before.before.before.code.ensures c.before.before.before.before.before.before.before.before.before.if1.false (pens.then-puts (bytes " at ") _ _ _ _ c.before.before.before.before.before.before.put-all2.ensures c.before.before.put-seen.ensures)
+returns-2 c = laws.at_put _ _ _ _ _ c.before.before.before.before.before.before.before.before.before.before.code.ensures c.before.before.before.before.before.before.before.before.before.if1.false (pens.then_puts (bytes " at ") _ _ _ _ c.before.before.before.before.before.before.put-all2.ensures c.before.before.put-seen.ensures)
 
 pub put-standing-spec : {M : Type 1} → statement M
 put-standing-spec =

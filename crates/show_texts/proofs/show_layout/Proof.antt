@@ -5,10 +5,10 @@ use Rattle.show_texts.proofs.show_layout.Statement.{statement}
 use Rattle.show_texts.proofs.show_layout.Tie as tie
 
 returns : tie.Need-returns
-returns c = laws.layout-text _ _ _ refl c.before.before.before.before.before.before.before.before.layout.ensures.0 _ _ c.before.before.before.before.before.w.given.1 c.status.ensures
+returns c = laws.layout_text_lem _ _ _ refl c.before.before.before.before.before.before.before.before.layout.ensures.0 _ _ c.before.before.before.before.before.w.given.1 c.status.ensures
 
 returns-2 : tie.Need-returns-2
-returns-2 c = laws.layout-refused _ _ _ refl c.before.before.before.before.before.before.layout.ensures.0 _ _ _ _ c.before.before.before.w2.given.1 c.status2.ensures
+returns-2 c = laws.layout_refused _ _ _ refl c.before.before.before.before.before.before.layout.ensures.0 _ _ _ _ c.before.before.before.w2.given.1 c.status2.ensures
 
 pub show-layout-spec : {M : Type 1} → statement M
 show-layout-spec =

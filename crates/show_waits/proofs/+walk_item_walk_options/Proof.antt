@@ -1,7 +1,7 @@
 use borrow.Author.Tests.{not-true, not-false}
-use Rattle.show_waits.specs.Waits.{stuckFrom}
-use Rattle.show_waits.proofs.Laws.{stuck-none, item-stuck, item-not, item-options}
-use Rattle.step_offers.proofs.Laws.{one_less, option-below, options-none, options-over, options-found, options-left}
+use Rattle.show_waits.specs.Waits.{stuck_from}
+use Rattle.show_waits.proofs.Laws.{stuck_none, item_stuck, item-not, item_options}
+use Rattle.step_offers.proofs.Laws.{one_less, option_below, options_none, options_over, options_found, options_left}
 use borrow.Author.Rules.{rules}
 use Prim.Native.Nat.{ℕ, ◌<◌, ◌*◌, ◌+◌}
 use borrow.Fn.Kinds.{In}
@@ -59,13 +59,13 @@ module _ (t : ℕ) where
   )
 
   walk-item-returns : walk-item-lts.Need-returns walk-item-callees walk-item-at walk-item.Post
-  walk-item-returns c = stuck-none c.before.before.args.t.now c.before.before.args.s.now c.before.before.args.q c.before.before.args.stop c.before.before.args.k c.if1.true
+  walk-item-returns c = stuck_none c.before.before.args.t.now c.before.before.args.s.now c.before.before.args.q c.before.before.args.stop c.before.before.args.k c.if1.true
 
   walk-item-returns-2 : walk-item-lts.Need-returns-2 walk-item-callees walk-item-at walk-item.Post
-  walk-item-returns-2 c = item-options c.before.before.before.before.before.before.before.args.t.now c.before.before.before.before.before.before.before.args.s.now c.before.before.before.before.before.before.before.args.q c.before.before.before.before.before.before.before.args.stop c.before.before.before.before.before.before.before.args.k (one_less c.before.before.before.before.before.if1.false) c.before.before.before.before.is-selection.ensures c.before.before.before.if2.true c.before.before.link.ensures.0 c.before.least.ensures c.walk-options.ensures
+  walk-item-returns-2 c = item_options c.before.before.before.before.before.before.before.args.t.now c.before.before.before.before.before.before.before.args.s.now c.before.before.before.before.before.before.before.args.q c.before.before.before.before.before.before.before.args.stop c.before.before.before.before.before.before.before.args.k (one_less c.before.before.before.before.before.if1.false) c.before.before.before.before.is-selection.ensures c.before.before.before.if2.true c.before.before.link.ensures.0 c.before.least.ensures c.walk-options.ensures
 
   walk-item-returns-3 : walk-item-lts.Need-returns-3 walk-item-callees walk-item-at walk-item.Post
-  walk-item-returns-3 c = item-stuck c.before.before.before.before.before.before.before.args.t.now c.before.before.before.before.before.before.before.args.s.now c.before.before.before.before.before.before.before.args.q c.before.before.before.before.before.before.before.args.stop c.before.before.before.before.before.before.before.args.k (one_less c.before.before.before.before.before.if1.false) c.before.before.before.before.is-selection.ensures c.before.before.before.if2.false c.before.before.is_stuck.ensures c.before.if3.true c.pick-one.ensures
+  walk-item-returns-3 c = item_stuck c.before.before.before.before.before.before.before.args.t.now c.before.before.before.before.before.before.before.args.s.now c.before.before.before.before.before.before.before.args.q c.before.before.before.before.before.before.before.args.stop c.before.before.before.before.before.before.before.args.k (one_less c.before.before.before.before.before.if1.false) c.before.before.before.before.is-selection.ensures c.before.before.before.if2.false c.before.before.is_stuck.ensures c.before.if3.true c.pick-one.ensures
 
   walk-item-returns-4 : walk-item-lts.Need-returns-4 walk-item-callees walk-item-at walk-item.Post
   walk-item-returns-4 c = item-not c.before.before.before.before.before.before.args.t.now c.before.before.before.before.before.before.args.s.now c.before.before.before.before.before.before.args.q c.before.before.before.before.before.before.args.stop c.before.before.before.before.before.before.args.k (one_less c.before.before.before.before.if1.false) c.before.before.before.is-selection.ensures c.before.before.if2.false c.before.is_stuck.ensures c.if3.false
@@ -85,19 +85,19 @@ module _ (t : ℕ) where
   )
 
   walk-options-returns : walk-options-lts.Need-returns walk-options-callees walk-options-at walk-options.Post
-  walk-options-returns c = options-none c.before.before.args.t.now (λ x y. stuckFrom c.before.before.args.t.now c.before.before.args.s.now c.before.before.args.d x y) c.before.before.args.m c.before.before.args.stop c.before.before.args.k c.if1.true
+  walk-options-returns c = options_none c.before.before.args.t.now (λ x y. stuck_from c.before.before.args.t.now c.before.before.args.s.now c.before.before.args.d x y) c.before.before.args.m c.before.before.args.stop c.before.before.args.k c.if1.true
 
   walk-options-returns-2 : walk-options-lts.Need-returns-2 walk-options-callees walk-options-at walk-options.Post
-  walk-options-returns-2 c = options-over c.before.before.before.before.args.t.now (λ x y. stuckFrom c.before.before.before.before.args.t.now c.before.before.before.before.args.s.now c.before.before.before.before.args.d x y) c.before.before.before.before.args.m c.before.before.before.before.args.stop c.before.before.before.before.args.k (one_less c.before.before.if1.false) c.before.is-option.ensures (not-true _ c.if2.true)
+  walk-options-returns-2 c = options_over c.before.before.before.before.args.t.now (λ x y. stuck_from c.before.before.before.before.args.t.now c.before.before.before.before.args.s.now c.before.before.before.before.args.d x y) c.before.before.before.before.args.m c.before.before.before.before.args.stop c.before.before.before.before.args.k (one_less c.before.before.if1.false) c.before.is-option.ensures (not-true _ c.if2.true)
 
   walk-options-end-of-requires : walk-options-lts.Need-end-of-requires walk-options-callees walk-options-at walk-options.Post
-  walk-options-end-of-requires c κs = (option-below c.before.before.before.before.args.t.now c.before.before.before.before.args.m c.before.before.before.before.args.stop c.before.is-option.ensures (not-false _ c.if2.false), c.before.before.before.before.requires.1)
+  walk-options-end-of-requires c κs = (option_below c.before.before.before.before.args.t.now c.before.before.before.before.args.m c.before.before.before.before.args.stop c.before.is-option.ensures (not-false _ c.if2.false), c.before.before.before.before.requires.1)
 
   walk-options-returns-3 : walk-options-lts.Need-returns-3 walk-options-callees walk-options-at walk-options.Post
-  walk-options-returns-3 c = options-found c.before.before.before.before.before.before.before.before.before.before.args.t.now (λ x y. stuckFrom c.before.before.before.before.before.before.before.before.before.before.args.t.now c.before.before.before.before.before.before.before.before.before.before.args.s.now c.before.before.before.before.before.before.before.before.before.before.args.d x y) c.before.before.before.before.before.before.before.before.before.before.args.m c.before.before.before.before.before.before.before.before.before.before.args.stop c.before.before.before.before.before.before.before.before.before.before.args.k (one_less c.before.before.before.before.before.before.before.before.if1.false) c.before.before.before.before.before.before.before.is-option.ensures (not-false _ c.before.before.before.before.before.before.if2.false) c.before.before.before.before.before.end_of_lem.ensures.0 c.before.before.before.before.first_of.ensures.0 c.before.before.before.walk-item.ensures c.before.w.given.1
+  walk-options-returns-3 c = options_found c.before.before.before.before.before.before.before.before.before.before.args.t.now (λ x y. stuck_from c.before.before.before.before.before.before.before.before.before.before.args.t.now c.before.before.before.before.before.before.before.before.before.before.args.s.now c.before.before.before.before.before.before.before.before.before.before.args.d x y) c.before.before.before.before.before.before.before.before.before.before.args.m c.before.before.before.before.before.before.before.before.before.before.args.stop c.before.before.before.before.before.before.before.before.before.before.args.k (one_less c.before.before.before.before.before.before.before.before.if1.false) c.before.before.before.before.before.before.before.is-option.ensures (not-false _ c.before.before.before.before.before.before.if2.false) c.before.before.before.before.before.end_of_lem.ensures.0 c.before.before.before.before.first_of.ensures.0 c.before.before.before.walk-item.ensures c.before.w.given.1
 
   walk-options-returns-4 : walk-options-lts.Need-returns-4 walk-options-callees walk-options-at walk-options.Post
-  walk-options-returns-4 c = options-left c.before.before.before.before.before.before.before.before.before.before.before.args.t.now (λ x y. stuckFrom c.before.before.before.before.before.before.before.before.before.before.before.args.t.now c.before.before.before.before.before.before.before.before.before.before.before.args.s.now c.before.before.before.before.before.before.before.before.before.before.before.args.d x y) c.before.before.before.before.before.before.before.before.before.before.before.args.m c.before.before.before.before.before.before.before.before.before.before.before.args.stop c.before.before.before.before.before.before.before.before.before.before.before.args.k (one_less c.before.before.before.before.before.before.before.before.before.if1.false) c.before.before.before.before.before.before.before.before.is-option.ensures (not-false _ c.before.before.before.before.before.before.before.if2.false) c.before.before.before.before.before.before.end_of_lem.ensures.0 c.before.before.before.before.before.first_of.ensures.0 c.before.before.before.before.walk-item.ensures c.before.before.w2.given.1 c.walk-options.ensures
+  walk-options-returns-4 c = options_left c.before.before.before.before.before.before.before.before.before.before.before.args.t.now (λ x y. stuck_from c.before.before.before.before.before.before.before.before.before.before.before.args.t.now c.before.before.before.before.before.before.before.before.before.before.before.args.s.now c.before.before.before.before.before.before.before.before.before.before.before.args.d x y) c.before.before.before.before.before.before.before.before.before.before.before.args.m c.before.before.before.before.before.before.before.before.before.before.before.args.stop c.before.before.before.before.before.before.before.before.before.before.before.args.k (one_less c.before.before.before.before.before.before.before.before.before.if1.false) c.before.before.before.before.before.before.before.before.is-option.ensures (not-false _ c.before.before.before.before.before.before.before.if2.false) c.before.before.before.before.before.before.end_of_lem.ensures.0 c.before.before.before.before.before.first_of.ensures.0 c.before.before.before.before.walk-item.ensures c.before.before.w2.given.1 c.walk-options.ensures
 
 pub +walk-item-walk-options-spec : {M : Type 1} → statement M
 +walk-item-walk-options-spec =

@@ -27,7 +27,7 @@ same_length : tie.Need-same-length invariant-loop decreases-loop
 same_length c = c.before.loop.invariant.0 ∙ c.before.before.before.before.put-value.auto.1.0
 
 returns-2 : tie.Need-returns-2 invariant-loop decreases-loop
-returns-2 c = sym (laws.fields-end c.before.before.before.before.before.before.before.before.before.args.s.now c.before.before.before.before.before.before.before.before.before.args.c c.before.before.before.before.before.before.before.before.before.args.m c.before.loop.f c.before.before.before.before.before.before.before.before.before.args.n _ c.loop-test.false) ∙ c.before.loop.invariant.1 ∙ laws.fields-first c.before.before.before.before.before.before.before.before.before.args.s.now c.before.before.before.before.before.before.before.before.before.args.c c.before.before.before.before.before.before.before.before.before.args.m c.before.before.before.before.before.before.before.before.before.args.n _ _ _ c.before.before.before.before.before.before.before.if1.false c.before.before.before.before.before.before.field_of.type-inv c.before.before.before.before.before.before.field_of.ensures c.before.before.before.before.put-value.ensures
+returns-2 c = sym (laws.fields_end c.before.before.before.before.before.before.before.before.before.args.s.now c.before.before.before.before.before.before.before.before.before.args.c c.before.before.before.before.before.before.before.before.before.args.m c.before.loop.f c.before.before.before.before.before.before.before.before.before.args.n _ c.loop-test.false) ∙ c.before.loop.invariant.1 ∙ laws.fields-first c.before.before.before.before.before.before.before.before.before.args.s.now c.before.before.before.before.before.before.before.before.before.args.c c.before.before.before.before.before.before.before.before.before.args.m c.before.before.before.before.before.before.before.before.before.args.n _ _ _ c.before.before.before.before.before.before.before.if1.false c.before.before.before.before.before.before.field_of.type-inv c.before.before.before.before.before.before.field_of.ensures c.before.before.before.before.put-value.ensures
 
 pub put-fields-spec : {M : Type 1} → statement M
 put-fields-spec =

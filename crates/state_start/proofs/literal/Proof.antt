@@ -1,16 +1,16 @@
-use Rattle.state_start.proofs.Laws.{literal-number, literal-true, literal-none}
+use Rattle.state_start.proofs.Laws.{literal_number, literal_true, literal_none}
 use borrow.Author.Rules.{rules}
 use Rattle.state_start.proofs.literal.Statement.{statement}
 use Rattle.state_start.proofs.literal.Tie as tie
 
 returns : tie.Need-returns
-returns c = literal-number c.before.before.before.before.before.args.t.now c.before.before.before.before.before.args.k c.before.before.before.code.ensures c.before.before.match.keys1 c.before.number.ensures.0 c.kept.type-inv c.kept.ensures
+returns c = literal_number c.before.before.before.before.before.args.t.now c.before.before.before.before.before.args.k c.before.before.before.code.ensures c.before.before.match.keys1 c.before.number.ensures.0 c.kept.type-inv c.kept.ensures
 
 returns-2 : tie.Need-returns-2
-returns-2 c = literal-true c.before.before.before.args.t.now c.before.before.before.args.k c.before.code.ensures c.match.keys2
+returns-2 c = literal_true c.before.before.before.args.t.now c.before.before.before.args.k c.before.code.ensures c.match.keys2
 
 returns-3 : tie.Need-returns-3
-returns-3 c = literal-none c.before.before.before.args.t.now c.before.before.before.args.k c.before.code.ensures c.match.rest.0.1 c.match.rest.1
+returns-3 c = literal_none c.before.before.before.args.t.now c.before.before.before.args.k c.before.code.ensures c.match.rest.0.1 c.match.rest.1
 
 pub literal-spec : {M : Type 1} → statement M
 literal-spec =

@@ -1,4 +1,4 @@
-use Rattle.state_start.specs.Starting.{unitStarted}
+use Rattle.state_start.specs.Starting.{unit_started}
 use Rattle.state_layout.proofs.Walks.{walk_start, walk_more, walk_end}
 use Rattle.state_layout.specs.Walks.{walk}
 use lib.ListN.{length}
@@ -10,19 +10,19 @@ use Rattle.state_start.proofs.start_units.Statement.{statement}
 use Rattle.state_start.proofs.start_units.Tie as tie
 
 abbrev invariant-loop : tie.invariant-loop
-invariant-loop t s₀ n j₀ s j = (j ≤ n) × (length s ≡ length s₀) × (walk (unitStarted t) j (n - j) s ≡ walk (unitStarted t) 0 n s₀)
+invariant-loop t s₀ n j₀ s j = (j ≤ n) × (length s ≡ length s₀) × (walk (unit_started t) j (n - j) s ≡ walk (unit_started t) 0 n s₀)
 
 abbrev decreases-loop : tie.decreases-loop
 decreases-loop t s₀ n j₀ s j = n - j
 
 loop-holds : tie.Need-loop-init invariant-loop decreases-loop
-loop-holds c = (omega arith, refl, walk_start (unitStarted c.before.args.t.now) c.before.args.n c.before.args.s.now)
+loop-holds c = (omega arith, refl, walk_start (unit_started c.before.args.t.now) c.before.args.n c.before.args.s.now)
 
 loop-again : tie.Need-loop-preserved invariant-loop decreases-loop
-loop-again c = (omega arith, omega (arith, c.before.start-unit.auto.1.0, c.before.before.before.before.loop.invariant.1), walk_more (unitStarted c.before.before.before.before.before.before.args.t.now) c.before.before.before.before.loop.j c.before.before.before.before.before.before.args.n c.before.before.before.loop-test.true c.before.start-unit.ensures ∙ c.before.before.before.before.loop.invariant.2)
+loop-again c = (omega arith, omega (arith, c.before.start-unit.auto.1.0, c.before.before.before.before.loop.invariant.1), walk_more (unit_started c.before.before.before.before.before.before.args.t.now) c.before.before.before.before.loop.j c.before.before.before.before.before.before.args.n c.before.before.before.loop-test.true c.before.start-unit.ensures ∙ c.before.before.before.before.loop.invariant.2)
 
 returns : tie.Need-returns invariant-loop decreases-loop
-returns c = walk_end (unitStarted c.before.before.before.args.t.now) c.before.loop.j c.before.before.before.args.n c.before.loop.s c.loop-test.false ∙ c.before.loop.invariant.2
+returns c = walk_end (unit_started c.before.before.before.args.t.now) c.before.loop.j c.before.before.before.args.n c.before.loop.s c.loop-test.false ∙ c.before.loop.invariant.2
 
 pub start-units-spec : {M : Type 1} → statement M
 start-units-spec =

@@ -1,5 +1,5 @@
 use mathlib.Core.List.{[]}
-use Rattle.state_start.proofs.Laws.{starts-one, starts-many, starts-init, starts_none}
+use Rattle.state_start.proofs.Laws.{starts-one, starts-many, starts_init, starts_none}
 use borrow.Author.Rules.{rules}
 use Rattle.state_start.proofs.starts_of.Statement.{statement}
 use Rattle.state_start.proofs.starts_of.Tie as tie
@@ -11,7 +11,7 @@ returns-2 : tie.Need-returns-2
 returns-2 c = starts-many c.before.before.before.before.before.args.t.now [] c.before.before.before.before.before.args.j c.before.before.before.code.ensures c.before.before.match.keys2 c.before.minus-two.ensures c.number.ensures.0
 
 returns-3 : tie.Need-returns-3
-returns-3 c = starts-init c.before.before.before.args.t.now [] c.before.before.before.args.j c.before.code.ensures c.match.keys3
+returns-3 c = starts_init c.before.before.before.args.t.now [] c.before.before.before.args.j c.before.code.ensures c.match.keys3
 
 returns-4 : tie.Need-returns-4
 returns-4 c = starts_none c.before.before.before.args.t.now [] c.before.before.before.args.j c.before.code.ensures c.match.rest.0.0.1 c.match.rest.0.1 c.match.rest.1

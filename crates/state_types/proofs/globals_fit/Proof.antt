@@ -2,29 +2,29 @@ use Prim.Native.Nat.{◌≤◌, ◌-◌}
 use mathlib.Core.Path.{◌≡◌, ◌∙◌}
 use native.Mathlib.Omega.{arith}
 use borrow.Author.Tests.{not-true, not-false}
-use Rattle.state_types.specs.Fits.{every, globalFits}
-use Rattle.state_types.proofs.Laws.{every-start, every_more, every-stop, every-end}
+use Rattle.state_types.specs.Fits.{every, global_fits}
+use Rattle.state_types.proofs.Laws.{every-start, every_more, every_stop, every_end}
 use borrow.Author.Rules.{rules}
 use Rattle.state_types.proofs.globals_fit.Statement.{statement}
 use Rattle.state_types.proofs.globals_fit.Tie as tie
 
 abbrev invariant-loop : tie.invariant-loop
-invariant-loop t s n j₀ j = (j ≤ n) × (every (globalFits t s) j (n - j) ≡ every (globalFits t s) 0 n)
+invariant-loop t s n j₀ j = (j ≤ n) × (every (global_fits t s) j (n - j) ≡ every (global_fits t s) 0 n)
 
 abbrev decreases-loop : tie.decreases-loop
 decreases-loop t s n j₀ j = n - j
 
 loop-holds : tie.Need-loop-init invariant-loop decreases-loop
-loop-holds c = (omega arith, every-start (globalFits c.before.args.t.now c.before.args.s.now) c.before.args.n)
+loop-holds c = (omega arith, every-start (global_fits c.before.args.t.now c.before.args.s.now) c.before.args.n)
 
 returns : tie.Need-returns invariant-loop decreases-loop
-returns c = every-stop (globalFits c.before.before.before.before.before.args.t.now c.before.before.before.before.before.args.s.now) c.before.before.before.loop.j c.before.before.before.before.before.args.n c.before.before.loop-test.true c.before.global-fits.ensures (not-true _ c.if1.true) ∙ c.before.before.before.loop.invariant.1
+returns c = every_stop (global_fits c.before.before.before.before.before.args.t.now c.before.before.before.before.before.args.s.now) c.before.before.before.loop.j c.before.before.before.before.before.args.n c.before.before.loop-test.true c.before.global-fits.ensures (not-true _ c.if1.true) ∙ c.before.before.before.loop.invariant.1
 
 loop-again : tie.Need-loop-preserved invariant-loop decreases-loop
-loop-again c = (omega arith, every_more (globalFits c.before.before.before.before.before.args.t.now c.before.before.before.before.before.args.s.now) c.before.before.before.loop.j c.before.before.before.before.before.args.n c.before.before.loop-test.true c.before.global-fits.ensures (not-false _ c.if1.false) ∙ c.before.before.before.loop.invariant.1)
+loop-again c = (omega arith, every_more (global_fits c.before.before.before.before.before.args.t.now c.before.before.before.before.before.args.s.now) c.before.before.before.loop.j c.before.before.before.before.before.args.n c.before.before.loop-test.true c.before.global-fits.ensures (not-false _ c.if1.false) ∙ c.before.before.before.loop.invariant.1)
 
 returns-2 : tie.Need-returns-2 invariant-loop decreases-loop
-returns-2 c = every-end (globalFits c.before.before.before.args.t.now c.before.before.before.args.s.now) c.before.loop.j c.before.before.before.args.n c.loop-test.false ∙ c.before.loop.invariant.1
+returns-2 c = every_end (global_fits c.before.before.before.args.t.now c.before.before.before.args.s.now) c.before.loop.j c.before.before.before.args.n c.loop-test.false ∙ c.before.loop.invariant.1
 
 pub globals-fit-spec : {M : Type 1} → statement M
 globals-fit-spec =

@@ -1,10 +1,10 @@
-use Rattle.state_types.proofs.Laws.{local_fits, local_free}
+use Rattle.state_types.proofs.Laws.{local_fits_lem, local_free}
 use borrow.Author.Rules.{rules}
 use Rattle.state_types.proofs.local_fits.Statement.{statement}
 use Rattle.state_types.proofs.local_fits.Tie as tie
 
 returns : tie.Need-returns
-returns c = local_fits c.before.before.before.before.before.args.t.now c.before.before.before.before.before.args.s.now c.before.before.before.before.before.args.j c.before.before.before.before.before.args.p c.before.before.before.is-local.ensures c.before.before.if1.true c.before.link.ensures.0 c.variable-fits.ensures
+returns c = local_fits_lem c.before.before.before.before.before.args.t.now c.before.before.before.before.before.args.s.now c.before.before.before.before.before.args.j c.before.before.before.before.before.args.p c.before.before.before.is-local.ensures c.before.before.if1.true c.before.link.ensures.0 c.variable-fits.ensures
 
 returns-2 : tie.Need-returns-2
 returns-2 c = local_free c.before.before.before.args.t.now c.before.before.before.args.s.now c.before.before.before.args.j c.before.before.before.args.p c.before.is-local.ensures c.if1.false

@@ -2,29 +2,29 @@ use Prim.Native.Nat.{◌≤◌, ◌-◌}
 use mathlib.Core.Path.{◌≡◌, ◌∙◌}
 use native.Mathlib.Omega.{arith}
 use borrow.Author.Tests.{not-true, not-false}
-use Rattle.state_types.specs.Fits.{every, messageFits}
-use Rattle.state_types.proofs.Laws.{every-start, every_more, every-stop, every-end}
+use Rattle.state_types.specs.Fits.{every, message_fits}
+use Rattle.state_types.proofs.Laws.{every-start, every_more, every_stop, every_end}
 use borrow.Author.Rules.{rules}
 use Rattle.state_types.proofs.messages_fit.Statement.{statement}
 use Rattle.state_types.proofs.messages_fit.Tie as tie
 
 abbrev invariant-loop : tie.invariant-loop
-invariant-loop t s c d n m₀ m = (m ≤ n) × (every (messageFits t s c d) m (n - m) ≡ every (messageFits t s c d) 0 n)
+invariant-loop t s c d n m₀ m = (m ≤ n) × (every (message_fits t s c d) m (n - m) ≡ every (message_fits t s c d) 0 n)
 
 abbrev decreases-loop : tie.decreases-loop
 decreases-loop t s c d n m₀ m = n - m
 
 loop-holds : tie.Need-loop-init invariant-loop decreases-loop
-loop-holds c = (omega arith, every-start (messageFits c.before.args.t.now c.before.args.s.now c.before.args.c c.before.args.d) c.before.args.n)
+loop-holds c = (omega arith, every-start (message_fits c.before.args.t.now c.before.args.s.now c.before.args.c c.before.args.d) c.before.args.n)
 
 returns : tie.Need-returns invariant-loop decreases-loop
-returns c = every-stop (messageFits c.before.before.before.before.before.args.t.now c.before.before.before.before.before.args.s.now c.before.before.before.before.before.args.c c.before.before.before.before.before.args.d) c.before.before.before.loop.m c.before.before.before.before.before.args.n c.before.before.loop-test.true c.before.message-fits.ensures (not-true _ c.if1.true) ∙ c.before.before.before.loop.invariant.1
+returns c = every_stop (message_fits c.before.before.before.before.before.args.t.now c.before.before.before.before.before.args.s.now c.before.before.before.before.before.args.c c.before.before.before.before.before.args.d) c.before.before.before.loop.m c.before.before.before.before.before.args.n c.before.before.loop-test.true c.before.message-fits.ensures (not-true _ c.if1.true) ∙ c.before.before.before.loop.invariant.1
 
 loop-again : tie.Need-loop-preserved invariant-loop decreases-loop
-loop-again c = (omega arith, every_more (messageFits c.before.before.before.before.before.args.t.now c.before.before.before.before.before.args.s.now c.before.before.before.before.before.args.c c.before.before.before.before.before.args.d) c.before.before.before.loop.m c.before.before.before.before.before.args.n c.before.before.loop-test.true c.before.message-fits.ensures (not-false _ c.if1.false) ∙ c.before.before.before.loop.invariant.1)
+loop-again c = (omega arith, every_more (message_fits c.before.before.before.before.before.args.t.now c.before.before.before.before.before.args.s.now c.before.before.before.before.before.args.c c.before.before.before.before.before.args.d) c.before.before.before.loop.m c.before.before.before.before.before.args.n c.before.before.loop-test.true c.before.message-fits.ensures (not-false _ c.if1.false) ∙ c.before.before.before.loop.invariant.1)
 
 returns-2 : tie.Need-returns-2 invariant-loop decreases-loop
-returns-2 c = every-end (messageFits c.before.before.before.args.t.now c.before.before.before.args.s.now c.before.before.before.args.c c.before.before.before.args.d) c.before.loop.m c.before.before.before.args.n c.loop-test.false ∙ c.before.loop.invariant.1
+returns-2 c = every_end (message_fits c.before.before.before.args.t.now c.before.before.before.args.s.now c.before.before.before.args.c c.before.before.before.args.d) c.before.loop.m c.before.before.before.args.n c.loop-test.false ∙ c.before.loop.invariant.1
 
 pub messages-fit-spec : {M : Type 1} → statement M
 messages-fit-spec =

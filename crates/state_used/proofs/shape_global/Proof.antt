@@ -1,4 +1,4 @@
-use Rattle.state_used.proofs.Laws.{global-here, global-other}
+use Rattle.state_used.proofs.Laws.{global-here, global_other}
 use borrow.Author.Rules.{rules}
 use Rattle.state_used.proofs.shape_global.Statement.{statement}
 use Rattle.state_used.proofs.shape_global.Tie as tie
@@ -7,7 +7,7 @@ returns : tie.Need-returns
 returns c = global-here c.before.before.before.before.before.before.before.args.t.now c.before.before.before.before.before.before.before.args.s.now c.before.before.before.before.before.before.before.args.x.now c.before.before.before.before.before.before.before.args.j c.before.before.before.before.before.is-global.ensures c.before.before.before.before.if1.true c.before.before.link.ensures.0 c.before.shape-variable.ensures
 
 returns-2 : tie.Need-returns-2
-returns-2 c = global-other c.before.before.before.args.t.now c.before.before.before.args.s.now c.before.before.before.args.x.now c.before.before.before.args.j c.before.is-global.ensures c.if1.false
+returns-2 c = global_other c.before.before.before.args.t.now c.before.before.before.args.s.now c.before.before.before.args.x.now c.before.before.before.args.j c.before.is-global.ensures c.if1.false
 
 pub shape-global-spec : {M : Type 1} → statement M
 shape-global-spec =

@@ -1,4 +1,4 @@
-use Rattle.state_used.specs.Shapes.{globalShaped}
+use Rattle.state_used.specs.Shapes.{global_shaped}
 use Prim.Native.Nat.{◌≤◌, ◌-◌}
 use mathlib.Core.Path.{◌≡◌, refl, ◌∙◌}
 use native.Mathlib.Omega.{arith}
@@ -10,19 +10,19 @@ use Rattle.state_used.proofs.shape_globals.Statement.{statement}
 use Rattle.state_used.proofs.shape_globals.Tie as tie
 
 abbrev invariant-loop : tie.invariant-loop
-invariant-loop t s x₀ n j₀ x j = (j ≤ n) × (length x ≡ length x₀) × (walk (globalShaped t s) j (n - j) x ≡ walk (globalShaped t s) 0 n x₀)
+invariant-loop t s x₀ n j₀ x j = (j ≤ n) × (length x ≡ length x₀) × (walk (global_shaped t s) j (n - j) x ≡ walk (global_shaped t s) 0 n x₀)
 
 abbrev decreases-loop : tie.decreases-loop
 decreases-loop t s x₀ n j₀ x j = n - j
 
 loop-holds : tie.Need-loop-init invariant-loop decreases-loop
-loop-holds c = (omega arith, refl, walk_start (globalShaped c.before.args.t.now c.before.args.s.now) c.before.args.n c.before.args.x.now)
+loop-holds c = (omega arith, refl, walk_start (global_shaped c.before.args.t.now c.before.args.s.now) c.before.args.n c.before.args.x.now)
 
 loop-again : tie.Need-loop-preserved invariant-loop decreases-loop
-loop-again c = (omega arith, omega (arith, c.before.shape-global.auto.1.1.0, c.before.before.before.before.loop.invariant.1), walk_more (globalShaped c.before.before.before.before.before.before.args.t.now c.before.before.before.before.before.before.args.s.now) c.before.before.before.before.loop.j c.before.before.before.before.before.before.args.n c.before.before.before.loop-test.true c.before.shape-global.ensures ∙ c.before.before.before.before.loop.invariant.2)
+loop-again c = (omega arith, omega (arith, c.before.shape-global.auto.1.1.0, c.before.before.before.before.loop.invariant.1), walk_more (global_shaped c.before.before.before.before.before.before.args.t.now c.before.before.before.before.before.before.args.s.now) c.before.before.before.before.loop.j c.before.before.before.before.before.before.args.n c.before.before.before.loop-test.true c.before.shape-global.ensures ∙ c.before.before.before.before.loop.invariant.2)
 
 returns : tie.Need-returns invariant-loop decreases-loop
-returns c = walk_end (globalShaped c.before.before.before.args.t.now c.before.before.before.args.s.now) c.before.loop.j c.before.before.before.args.n c.before.loop.x c.loop-test.false ∙ c.before.loop.invariant.2
+returns c = walk_end (global_shaped c.before.before.before.args.t.now c.before.before.before.args.s.now) c.before.loop.j c.before.before.before.args.n c.before.loop.x c.loop-test.false ∙ c.before.loop.invariant.2
 
 pub shape-globals-spec : {M : Type 1} → statement M
 shape-globals-spec =

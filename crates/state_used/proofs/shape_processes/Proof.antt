@@ -1,4 +1,4 @@
-use Rattle.state_used.specs.Shapes.{processShaped}
+use Rattle.state_used.specs.Shapes.{process_shaped}
 use Prim.Native.Nat.{◌≤◌, ◌-◌}
 use mathlib.Core.Path.{◌≡◌, refl, ◌∙◌}
 use native.Mathlib.Omega.{arith}
@@ -10,19 +10,19 @@ use Rattle.state_used.proofs.shape_processes.Statement.{statement}
 use Rattle.state_used.proofs.shape_processes.Tie as tie
 
 abbrev invariant-loop : tie.invariant-loop
-invariant-loop t s x₀ n p₀ x p = (p ≤ n) × (length x ≡ length x₀) × (walk (processShaped t s) p (n - p) x ≡ walk (processShaped t s) 0 n x₀)
+invariant-loop t s x₀ n p₀ x p = (p ≤ n) × (length x ≡ length x₀) × (walk (process_shaped t s) p (n - p) x ≡ walk (process_shaped t s) 0 n x₀)
 
 abbrev decreases-loop : tie.decreases-loop
 decreases-loop t s x₀ n p₀ x p = n - p
 
 loop-holds : tie.Need-loop-init invariant-loop decreases-loop
-loop-holds c = (omega arith, refl, walk_start (processShaped c.before.args.t.now c.before.args.s.now) c.before.args.n c.before.args.x.now)
+loop-holds c = (omega arith, refl, walk_start (process_shaped c.before.args.t.now c.before.args.s.now) c.before.args.n c.before.args.x.now)
 
 loop-again : tie.Need-loop-preserved invariant-loop decreases-loop
-loop-again c = (omega arith, omega (arith, c.before.shape-process.auto.1.1.0, c.before.before.before.before.loop.invariant.1), walk_more (processShaped c.before.before.before.before.before.before.args.t.now c.before.before.before.before.before.before.args.s.now) c.before.before.before.before.loop.p c.before.before.before.before.before.before.args.n c.before.before.before.loop-test.true c.before.shape-process.ensures ∙ c.before.before.before.before.loop.invariant.2)
+loop-again c = (omega arith, omega (arith, c.before.shape-process.auto.1.1.0, c.before.before.before.before.loop.invariant.1), walk_more (process_shaped c.before.before.before.before.before.before.args.t.now c.before.before.before.before.before.before.args.s.now) c.before.before.before.before.loop.p c.before.before.before.before.before.before.args.n c.before.before.before.loop-test.true c.before.shape-process.ensures ∙ c.before.before.before.before.loop.invariant.2)
 
 returns : tie.Need-returns invariant-loop decreases-loop
-returns c = walk_end (processShaped c.before.before.before.args.t.now c.before.before.before.args.s.now) c.before.loop.p c.before.before.before.args.n c.before.loop.x c.loop-test.false ∙ c.before.loop.invariant.2
+returns c = walk_end (process_shaped c.before.before.before.args.t.now c.before.before.before.args.s.now) c.before.loop.p c.before.before.before.args.n c.before.loop.x c.loop-test.false ∙ c.before.loop.invariant.2
 
 pub shape-processes-spec : {M : Type 1} → statement M
 shape-processes-spec =

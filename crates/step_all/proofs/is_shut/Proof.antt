@@ -1,7 +1,7 @@
 use native.Mathlib.Omega.{arith}
 use mathlib.Core.Path.{refl, ap}
 use Rattle.base_values.specs.declared.Answer.TheVariants.{Value}
-use Rattle.step_eval.proofs.Laws.{holds-value}
+use Rattle.step_eval.proofs.Laws.{holds_value}
 use Rattle.step_all.proofs.Shut.{not-told, shut}
 use borrow.Author.Rules.{rules}
 use Rattle.step_all.proofs.is_shut.Statement.{statement}
@@ -29,7 +29,7 @@ returns-7 : tie.Need-returns-7
 returns-7 c = not-told c.before.before.before.before.before.before.before.before.before.before.before.before.before.before.before.args.t.now c.before.before.before.before.before.before.before.before.before.before.before.before.before.before.before.args.s.now c.before.before.before.before.before.before.before.before.before.before.before.before.before.before.before.args.q
 
 returns-8 : tie.Need-returns-8
-returns-8 c = shut c.before.before.before.before.before.before.before.before.before.before.before.before.before.before.before.before.before.args.t.now c.before.before.before.before.before.before.before.before.before.before.before.before.before.before.before.before.before.args.s.now c.before.before.before.before.before.before.before.before.before.before.before.before.before.before.before.before.before.args.q _ c.before.before.before.before.before.before.before.before.before.before.before.before.before.before.before.code.ensures c.before.before.before.before.before.before.before.before.before.before.before.before.before.before.if1.false c.before.before.before.before.before.before.before.before.before.before.before.before.before.link.ensures.0 (omega arith) c.before.before.before.before.before.before.before.before.before.before.before.code2.ensures c.before.before.before.before.before.before.before.before.before.before.if3.false c.before.before.before.before.before.before.before.before.before.code3.ensures c.before.before.before.before.before.before.before.before.if4.false c.before.before.before.before.before.before.before.link2.ensures.0 c.before.before.before.before.before.before.code4.ensures c.before.before.before.before.before.if5.false c.before.before.before.before.if6.false c.before.before.before.link3.ensures.0 c.before.before.if7.false c.before.slot.ensures (ap Value c.cell.ensures) (holds-value {x = Value c.cell.result} refl c.cell.type-inv)
+returns-8 c = shut c.before.before.before.before.before.before.before.before.before.before.before.before.before.before.before.before.before.args.t.now c.before.before.before.before.before.before.before.before.before.before.before.before.before.before.before.before.before.args.s.now c.before.before.before.before.before.before.before.before.before.before.before.before.before.before.before.before.before.args.q _ c.before.before.before.before.before.before.before.before.before.before.before.before.before.before.before.code.ensures c.before.before.before.before.before.before.before.before.before.before.before.before.before.before.if1.false c.before.before.before.before.before.before.before.before.before.before.before.before.before.link.ensures.0 (omega arith) c.before.before.before.before.before.before.before.before.before.before.before.code2.ensures c.before.before.before.before.before.before.before.before.before.before.if3.false c.before.before.before.before.before.before.before.before.before.code3.ensures c.before.before.before.before.before.before.before.before.if4.false c.before.before.before.before.before.before.before.link2.ensures.0 c.before.before.before.before.before.before.code4.ensures c.before.before.before.before.before.if5.false c.before.before.before.before.if6.false c.before.before.before.link3.ensures.0 c.before.before.if7.false c.before.slot.ensures (ap Value c.cell.ensures) (holds_value {x = Value c.cell.result} refl c.cell.type-inv)
 
 pub is-shut-spec : {M : Type 1} → statement M
 is-shut-spec =

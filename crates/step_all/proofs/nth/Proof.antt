@@ -4,7 +4,7 @@ use Rattle.step_all.proofs.nth.Statement.{statement}
 use Rattle.step_all.proofs.nth.Tie as tie
 
 returns : tie.Need-returns
-returns c = laws.nth-found-off c.before.before.before.before.before.args.t.now c.before.before.before.before.before.args.s.now c.before.before.before.before.before.args.n c.before.before.before.nth-by.ensures _ c.before.o.given.1
+returns c = laws.nth_found_off c.before.before.before.before.before.args.t.now c.before.before.before.before.before.args.s.now c.before.before.before.before.before.args.n c.before.before.before.nth-by.ensures _ c.before.o.given.1
 
 returns-2 : tie.Need-returns-2
 returns-2 c = laws.nth-late c.before.before.before.before.before.before.before.args.t.now c.before.before.before.before.before.before.before.args.s.now c.before.before.before.before.before.before.before.args.n c.before.before.before.before.before.nth-by.ensures _ c.before.before.before.o2.given.1 c.before.if1.true c.nth-by2.ensures

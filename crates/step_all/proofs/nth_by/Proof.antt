@@ -1,9 +1,9 @@
 use mathlib.Core.Path.{◌≡◌, refl, ◌∙◌}
 use native.Mathlib.Omega.{arith}
 use Rattle.spec_machine.specs.Machine.{list_from}
-use Rattle.step_all.specs.Moving.{processes, machineIn, nthIn}
+use Rattle.step_all.specs.Moving.{processes, machine_in, nth_in}
 use Prim.Native.Nat.{◌≤◌, ◌-◌}
-use Rattle.base_ceilings.specs.Ceilings.{processesMost}
+use Rattle.base_ceilings.specs.Ceilings.{processes_most}
 use Rattle.step_all.proofs.Shut.{Known, known-none, known-told, nth-known}
 use Rattle.step_all.proofs.Laws as laws
 use borrow.Author.Rules.{rules}
@@ -11,7 +11,7 @@ use Rattle.step_all.proofs.nth_by.Statement.{statement}
 use Rattle.step_all.proofs.nth_by.Tie as tie
 
 abbrev invariant-loop : tie.invariant-loop
-invariant-loop t s late n count shut₀ left₀ p₀ shut left p = (p ≤ count) × ((count ≤ processesMost) × (Known t s shut × (nthIn left (list_from (machineIn t) s late p (count - p)) ≡ nthIn n (list_from (machineIn t) s late 0 (processes s)))))
+invariant-loop t s late n count shut₀ left₀ p₀ shut left p = (p ≤ count) × ((count ≤ processes_most) × (Known t s shut × (nth_in left (list_from (machine_in t) s late p (count - p)) ≡ nth_in n (list_from (machine_in t) s late 0 (processes s)))))
 
 abbrev decreases-loop : tie.decreases-loop
 decreases-loop t s late n count shut₀ left₀ p₀ shut left p = count - p
@@ -26,7 +26,7 @@ loop-again-2 : tie.Need-loop-preserved-2 invariant-loop decreases-loop
 loop-again-2 c = let w = known-told c.before.before.before.before.before.before.before.before.args.t.now c.before.before.before.before.before.before.before.before.args.s.now c.before.before.before.place-of.result c.before.is-shut.ensures c.if2.true in (omega arith, (omega arith, (w, nth-known c.before.before.before.before.before.before.before.before.args.t.now c.before.before.before.before.before.before.before.before.args.s.now c.before.before.before.before.before.before.before.before.args.late c.before.before.before.before.before.loop.p c.before.before.before.before.before.before.processes.result c.before.before.before.before.before.loop.left (omega arith) c.before.before.before.place-of.ensures.0 c.before.before.before.place-of.ensures.1 refl w ∙ c.before.before.before.before.before.loop.invariant.1.1.1)))
 
 add-offer-of : tie.Need-overflow-add-offer-of invariant-loop decreases-loop
-add-offer-of c = omega (arith, laws.found-few c.before.before.before.before.before.before.before.before.before.before.before.args.t.now c.before.before.before.before.before.before.before.before.before.before.before.args.s.now c.before.before.before.before.before.before.before.before.before.before.before.args.late c.before.before.before.before.before.before.before.before.loop.p c.before.before.before.before.before.before.before.before.before.processes.result c.before.before.before.before.before.before.before.before.loop.left (omega arith) c.before.before.offered.ensures c.enum_told.given.0.0 c.enum_told.given.1)
+add-offer-of c = omega (arith, laws.found_few c.before.before.before.before.before.before.before.before.before.before.before.args.t.now c.before.before.before.before.before.before.before.before.before.before.before.args.s.now c.before.before.before.before.before.before.before.before.before.before.before.args.late c.before.before.before.before.before.before.before.before.loop.p c.before.before.before.before.before.before.before.before.before.processes.result c.before.before.before.before.before.before.before.before.loop.left (omega arith) c.before.before.offered.ensures c.enum_told.given.0.0 c.enum_told.given.1)
 
 returns : tie.Need-returns invariant-loop decreases-loop
 returns c = laws.nth_here c.before.before.before.before.before.before.before.before.before.before.before.before.args.t.now c.before.before.before.before.before.before.before.before.before.before.before.before.args.s.now c.before.before.before.before.before.before.before.before.before.before.before.before.args.late c.before.before.before.before.before.before.before.before.before.loop.p c.before.before.before.before.before.before.before.before.before.before.processes.result c.before.before.before.before.before.before.before.before.before.loop.left (omega arith) c.before.before.before.offered.ensures c.before.enum_told.given.0.0 c.before.enum_told.given.1 c.offer-of.ensures ∙ c.before.before.before.before.before.before.before.before.before.loop.invariant.1.1.1

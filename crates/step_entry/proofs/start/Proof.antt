@@ -4,7 +4,7 @@ use Rattle.step_entry.proofs.start.Statement.{statement}
 use Rattle.step_entry.proofs.start.Tie as tie
 
 returns : tie.Need-returns
-returns c = (c.before.foreign.ensures, laws.start-refused c.before.before.before.before.args.tables.now c.before.before.before.before.args.state.now c.before.foreign.ensures c.if1.true)
+returns c = (c.before.foreign.ensures, laws.start_refused c.before.before.before.before.args.tables.now c.before.before.before.before.args.state.now c.before.foreign.ensures c.if1.true)
 
 returns-2 : tie.Need-returns-2
 returns-2 c = laws.started c.before.before.before.before.before.before.before.before.args.tables.now c.before.before.before.before.before.before.before.before.args.state.now c.before.before.before.before.before.foreign.ensures c.before.before.before.before.if1.false c.before.before.before.written.ensures c.before.start.ensures

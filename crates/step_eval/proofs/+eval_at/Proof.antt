@@ -1,4 +1,4 @@
-use Rattle.step_eval.proofs.Laws.{too-high, nothing, number-arm, true-arm, false-arm, other_arm, plain-arm, index-arm, length-arm, unary-arm, decided-arm, lazy-arm, binary-arm, fault-arm, middle-arm, last_arm}
+use Rattle.step_eval.proofs.Laws.{too_high, nothing, number_arm, true_arm, false_arm, other_arm, plain_arm, index_arm, length_arm, unary_arm, decided_arm, lazy_arm, binary_arm, fault_arm, middle_arm, last_arm}
 use borrow.Author.Rules.{rules}
 use Prim.Native.Nat.{ℕ, ◌<◌}
 use borrow.Fn.Kinds.{In}
@@ -83,46 +83,46 @@ module _ (t : ℕ) where
   )
 
   returns : eval-at-lts.Need-returns Callees Own eval-at.Post
-  returns c = too-high c.before.before.args.t.now c.before.before.args.s.now c.before.before.args.p c.before.before.args.h c.before.before.args.from c.before.before.args.to c.if1.true
+  returns c = too_high c.before.before.args.t.now c.before.before.args.s.now c.before.before.args.p c.before.before.args.h c.before.before.args.from c.before.before.args.to c.if1.true
 
   returns-2 : eval-at-lts.Need-returns-2 Callees Own eval-at.Post
   returns-2 c = nothing c.before.before.before.args.t.now c.before.before.before.args.s.now c.before.before.before.args.p c.before.before.before.args.h c.before.before.before.args.from c.before.before.before.args.to c.if2.true
 
   returns-3 : eval-at-lts.Need-returns-3 Callees Own eval-at.Post
-  returns-3 c = decided-arm c.before.before.before.before.before.before.before.before.before.before.before.before.before.args.t.now c.before.before.before.before.before.before.before.before.before.before.before.before.before.args.s.now c.before.before.before.before.before.before.before.before.before.before.before.before.before.args.p c.before.before.before.before.before.before.before.before.before.before.before.before.before.args.h c.before.before.before.before.before.before.before.before.before.before.before.before.before.args.from c.before.before.before.before.before.before.before.before.before.before.before.before.before.args.to c.before.before.before.before.before.before.before.before.before.before.before.if1.false c.before.before.before.before.before.before.before.before.before.before.if2.false c.before.before.before.before.before.before.before.before.before.code.ensures c.before.before.before.before.before.before.before.before.node_of.ensures c.before.before.before.before.start.ensures c.before.before.before.eval-at4.ensures c.before.before.before.before.before.before.n2.given.1 c.before.before.decided.ensures c.before.if3.true c.truth.ensures
+  returns-3 c = decided_arm c.before.before.before.before.before.before.before.before.before.before.before.before.before.args.t.now c.before.before.before.before.before.before.before.before.before.before.before.before.before.args.s.now c.before.before.before.before.before.before.before.before.before.before.before.before.before.args.p c.before.before.before.before.before.before.before.before.before.before.before.before.before.args.h c.before.before.before.before.before.before.before.before.before.before.before.before.before.args.from c.before.before.before.before.before.before.before.before.before.before.before.before.before.args.to c.before.before.before.before.before.before.before.before.before.before.before.if1.false c.before.before.before.before.before.before.before.before.before.before.if2.false c.before.before.before.before.before.before.before.before.before.code.ensures c.before.before.before.before.before.before.before.before.node_of.ensures c.before.before.before.before.start.ensures c.before.before.before.eval-at4.ensures c.before.before.before.before.before.before.n2.given.1 c.before.before.decided.ensures c.before.if3.true c.truth.ensures
 
   returns-4 : eval-at-lts.Need-returns-4 Callees Own eval-at.Post
-  returns-4 c = fault-arm c.before.before.before.before.before.before.before.before.before.before.before.before.before.args.t.now c.before.before.before.before.before.before.before.before.before.before.before.before.before.args.s.now c.before.before.before.before.before.before.before.before.before.before.before.before.before.args.p c.before.before.before.before.before.before.before.before.before.before.before.before.before.args.h c.before.before.before.before.before.before.before.before.before.before.before.before.before.args.from c.before.before.before.before.before.before.before.before.before.before.before.before.before.args.to c.before.before.before.before.before.before.before.before.before.before.before.if1.false c.before.before.before.before.before.before.before.before.before.before.if2.false c.before.before.before.before.before.before.before.before.before.code.ensures c.before.before.before.before.before.before.before.before.node_of.ensures c.before.before.before.before.before.before.enum-told7.given.1 c.before.before.before.before.before.start3.ensures c.before.before.before.before.minus_one.ensures c.before.before.before.start4.ensures c.before.before.eval-at8.ensures c.before.is-fault.ensures c.if4.true
+  returns-4 c = fault_arm c.before.before.before.before.before.before.before.before.before.before.before.before.before.args.t.now c.before.before.before.before.before.before.before.before.before.before.before.before.before.args.s.now c.before.before.before.before.before.before.before.before.before.before.before.before.before.args.p c.before.before.before.before.before.before.before.before.before.before.before.before.before.args.h c.before.before.before.before.before.before.before.before.before.before.before.before.before.args.from c.before.before.before.before.before.before.before.before.before.before.before.before.before.args.to c.before.before.before.before.before.before.before.before.before.before.before.if1.false c.before.before.before.before.before.before.before.before.before.before.if2.false c.before.before.before.before.before.before.before.before.before.code.ensures c.before.before.before.before.before.before.before.before.node_of.ensures c.before.before.before.before.before.before.enum-told7.given.1 c.before.before.before.before.before.start3.ensures c.before.before.before.before.minus_one.ensures c.before.before.before.start4.ensures c.before.before.eval-at8.ensures c.before.is-fault.ensures c.if4.true
 
   returns-5 : eval-at-lts.Need-returns-5 Callees Own eval-at.Post
-  returns-5 c = number-arm c.before.before.before.before.before.before.before.before.before.args.t.now c.before.before.before.before.before.before.before.before.before.args.s.now c.before.before.before.before.before.before.before.before.before.args.p c.before.before.before.before.before.before.before.before.before.args.h c.before.before.before.before.before.before.before.before.before.args.from c.before.before.before.before.before.before.before.before.before.args.to c.before.before.before.before.before.before.before.if1.false c.before.before.before.before.before.before.if2.false c.before.before.before.before.before.code.ensures c.before.before.before.before.node_of.ensures c.before.before.enum_told.given.1 c.before.number.ensures.0 c.kept.type-inv c.kept.ensures
+  returns-5 c = number_arm c.before.before.before.before.before.before.before.before.before.args.t.now c.before.before.before.before.before.before.before.before.before.args.s.now c.before.before.before.before.before.before.before.before.before.args.p c.before.before.before.before.before.before.before.before.before.args.h c.before.before.before.before.before.before.before.before.before.args.from c.before.before.before.before.before.before.before.before.before.args.to c.before.before.before.before.before.before.before.if1.false c.before.before.before.before.before.before.if2.false c.before.before.before.before.before.code.ensures c.before.before.before.before.node_of.ensures c.before.before.enum_told.given.1 c.before.number.ensures.0 c.kept.type-inv c.kept.ensures
 
   returns-6 : eval-at-lts.Need-returns-6 Callees Own eval-at.Post
-  returns-6 c = true-arm c.before.before.before.before.before.before.before.args.t.now c.before.before.before.before.before.before.before.args.s.now c.before.before.before.before.before.before.before.args.p c.before.before.before.before.before.before.before.args.h c.before.before.before.before.before.before.before.args.from c.before.before.before.before.before.before.before.args.to c.before.before.before.before.before.if1.false c.before.before.before.before.if2.false c.before.before.before.code.ensures c.before.before.node_of.ensures c.enum-told2.given.1
+  returns-6 c = true_arm c.before.before.before.before.before.before.before.args.t.now c.before.before.before.before.before.before.before.args.s.now c.before.before.before.before.before.before.before.args.p c.before.before.before.before.before.before.before.args.h c.before.before.before.before.before.before.before.args.from c.before.before.before.before.before.before.before.args.to c.before.before.before.before.before.if1.false c.before.before.before.before.if2.false c.before.before.before.code.ensures c.before.before.node_of.ensures c.enum-told2.given.1
 
   returns-7 : eval-at-lts.Need-returns-7 Callees Own eval-at.Post
-  returns-7 c = false-arm c.before.before.before.before.before.before.before.args.t.now c.before.before.before.before.before.before.before.args.s.now c.before.before.before.before.before.before.before.args.p c.before.before.before.before.before.before.before.args.h c.before.before.before.before.before.before.before.args.from c.before.before.before.before.before.before.before.args.to c.before.before.before.before.before.if1.false c.before.before.before.before.if2.false c.before.before.before.code.ensures c.before.before.node_of.ensures c.enum-told3.given.1
+  returns-7 c = false_arm c.before.before.before.before.before.before.before.args.t.now c.before.before.before.before.before.before.before.args.s.now c.before.before.before.before.before.before.before.args.p c.before.before.before.before.before.before.before.args.h c.before.before.before.before.before.before.before.args.from c.before.before.before.before.before.before.before.args.to c.before.before.before.before.before.if1.false c.before.before.before.before.if2.false c.before.before.before.code.ensures c.before.before.node_of.ensures c.enum-told3.given.1
 
   returns-8 : eval-at-lts.Need-returns-8 Callees Own eval-at.Post
-  returns-8 c = plain-arm c.before.before.before.before.before.before.before.before.before.args.t.now c.before.before.before.before.before.before.before.before.before.args.s.now c.before.before.before.before.before.before.before.before.before.args.p c.before.before.before.before.before.before.before.before.before.args.h c.before.before.before.before.before.before.before.before.before.args.from c.before.before.before.before.before.before.before.before.before.args.to c.before.before.before.before.before.before.before.if1.false c.before.before.before.before.before.before.if2.false c.before.before.before.before.before.code.ensures c.before.before.before.before.node_of.ensures c.before.before.enum-told4.given.1 c.before.link.ensures.0 c.plain.ensures
+  returns-8 c = plain_arm c.before.before.before.before.before.before.before.before.before.args.t.now c.before.before.before.before.before.before.before.before.before.args.s.now c.before.before.before.before.before.before.before.before.before.args.p c.before.before.before.before.before.before.before.before.before.args.h c.before.before.before.before.before.before.before.before.before.args.from c.before.before.before.before.before.before.before.before.before.args.to c.before.before.before.before.before.before.before.if1.false c.before.before.before.before.before.before.if2.false c.before.before.before.before.before.code.ensures c.before.before.before.before.node_of.ensures c.before.before.enum-told4.given.1 c.before.link.ensures.0 c.plain.ensures
 
   returns-9 : eval-at-lts.Need-returns-9 Callees Own eval-at.Post
-  returns-9 c = index-arm c.before.before.before.before.before.before.before.before.before.before.before.args.t.now c.before.before.before.before.before.before.before.before.before.before.before.args.s.now c.before.before.before.before.before.before.before.before.before.before.before.args.p c.before.before.before.before.before.before.before.before.before.before.before.args.h c.before.before.before.before.before.before.before.before.before.before.before.args.from c.before.before.before.before.before.before.before.before.before.before.before.args.to c.before.before.before.before.before.before.before.before.before.if1.false c.before.before.before.before.before.before.before.before.if2.false c.before.before.before.before.before.before.before.code.ensures c.before.before.before.before.before.before.node_of.ensures c.before.before.before.eval-at.ensures c.before.before.before.before.enum-told5.given.1 c.before.before.variable.ensures c.before.element.ensures c.load.ensures
+  returns-9 c = index_arm c.before.before.before.before.before.before.before.before.before.before.before.args.t.now c.before.before.before.before.before.before.before.before.before.before.before.args.s.now c.before.before.before.before.before.before.before.before.before.before.before.args.p c.before.before.before.before.before.before.before.before.before.before.before.args.h c.before.before.before.before.before.before.before.before.before.before.before.args.from c.before.before.before.before.before.before.before.before.before.before.before.args.to c.before.before.before.before.before.before.before.before.before.if1.false c.before.before.before.before.before.before.before.before.if2.false c.before.before.before.before.before.before.before.code.ensures c.before.before.before.before.before.before.node_of.ensures c.before.before.before.eval-at.ensures c.before.before.before.before.enum-told5.given.1 c.before.before.variable.ensures c.before.element.ensures c.load.ensures
 
   returns-10 : eval-at-lts.Need-returns-10 Callees Own eval-at.Post
-  returns-10 c = length-arm c.before.before.before.before.before.before.before.before.before.before.args.t.now c.before.before.before.before.before.before.before.before.before.before.args.s.now c.before.before.before.before.before.before.before.before.before.before.args.p c.before.before.before.before.before.before.before.before.before.before.args.h c.before.before.before.before.before.before.before.before.before.before.args.from c.before.before.before.before.before.before.before.before.before.before.args.to c.before.before.before.before.before.before.before.before.if1.false c.before.before.before.before.before.before.before.if2.false c.before.before.before.before.before.before.code.ensures c.before.before.before.before.before.node_of.ensures c.before.before.eval-at2.ensures c.before.before.before.enum-told6.given.1 c.before.channel.ensures c.length.ensures
+  returns-10 c = length_arm c.before.before.before.before.before.before.before.before.before.before.args.t.now c.before.before.before.before.before.before.before.before.before.before.args.s.now c.before.before.before.before.before.before.before.before.before.before.args.p c.before.before.before.before.before.before.before.before.before.before.args.h c.before.before.before.before.before.before.before.before.before.before.args.from c.before.before.before.before.before.before.before.before.before.before.args.to c.before.before.before.before.before.before.before.before.if1.false c.before.before.before.before.before.before.before.if2.false c.before.before.before.before.before.before.code.ensures c.before.before.before.before.before.node_of.ensures c.before.before.eval-at2.ensures c.before.before.before.enum-told6.given.1 c.before.channel.ensures c.length.ensures
 
   returns-11 : eval-at-lts.Need-returns-11 Callees Own eval-at.Post
-  returns-11 c = unary-arm c.before.before.before.before.before.before.before.before.before.before.args.t.now c.before.before.before.before.before.before.before.before.before.before.args.s.now c.before.before.before.before.before.before.before.before.before.before.args.p c.before.before.before.before.before.before.before.before.before.before.args.h c.before.before.before.before.before.before.before.before.before.before.args.from c.before.before.before.before.before.before.before.before.before.before.args.to c.before.before.before.before.before.before.before.before.if1.false c.before.before.before.before.before.before.before.if2.false c.before.before.before.before.before.before.code.ensures c.before.before.before.before.before.node_of.ensures c.before.eval-at3.ensures c.before.before.before.n.given.1 c.unary.ensures
+  returns-11 c = unary_arm c.before.before.before.before.before.before.before.before.before.before.args.t.now c.before.before.before.before.before.before.before.before.before.before.args.s.now c.before.before.before.before.before.before.before.before.before.before.args.p c.before.before.before.before.before.before.before.before.before.before.args.h c.before.before.before.before.before.before.before.before.before.before.args.from c.before.before.before.before.before.before.before.before.before.before.args.to c.before.before.before.before.before.before.before.before.if1.false c.before.before.before.before.before.before.before.if2.false c.before.before.before.before.before.before.code.ensures c.before.before.before.before.before.node_of.ensures c.before.eval-at3.ensures c.before.before.before.n.given.1 c.unary.ensures
 
   returns-12 : eval-at-lts.Need-returns-12 Callees Own eval-at.Post
-  returns-12 c = lazy-arm c.before.before.before.before.before.before.before.before.before.before.before.before.before.before.args.t.now c.before.before.before.before.before.before.before.before.before.before.before.before.before.before.args.s.now c.before.before.before.before.before.before.before.before.before.before.before.before.before.before.args.p c.before.before.before.before.before.before.before.before.before.before.before.before.before.before.args.h c.before.before.before.before.before.before.before.before.before.before.before.before.before.before.args.from c.before.before.before.before.before.before.before.before.before.before.before.before.before.before.args.to c.before.before.before.before.before.before.before.before.before.before.before.before.if1.false c.before.before.before.before.before.before.before.before.before.before.before.if2.false c.before.before.before.before.before.before.before.before.before.before.code.ensures c.before.before.before.before.before.before.before.before.before.node_of.ensures c.before.before.before.before.before.start.ensures c.before.before.before.before.eval-at4.ensures c.before.eval-at5.ensures c.before.before.before.before.before.before.before.n2.given.1 c.before.before.before.decided.ensures c.before.before.if3.false c.truth2.ensures
+  returns-12 c = lazy_arm c.before.before.before.before.before.before.before.before.before.before.before.before.before.before.args.t.now c.before.before.before.before.before.before.before.before.before.before.before.before.before.before.args.s.now c.before.before.before.before.before.before.before.before.before.before.before.before.before.before.args.p c.before.before.before.before.before.before.before.before.before.before.before.before.before.before.args.h c.before.before.before.before.before.before.before.before.before.before.before.before.before.before.args.from c.before.before.before.before.before.before.before.before.before.before.before.before.before.before.args.to c.before.before.before.before.before.before.before.before.before.before.before.before.if1.false c.before.before.before.before.before.before.before.before.before.before.before.if2.false c.before.before.before.before.before.before.before.before.before.before.code.ensures c.before.before.before.before.before.before.before.before.before.node_of.ensures c.before.before.before.before.before.start.ensures c.before.before.before.before.eval-at4.ensures c.before.eval-at5.ensures c.before.before.before.before.before.before.before.n2.given.1 c.before.before.before.decided.ensures c.before.before.if3.false c.truth2.ensures
 
   returns-13 : eval-at-lts.Need-returns-13 Callees Own eval-at.Post
-  returns-13 c = binary-arm c.before.before.before.before.before.before.before.before.before.before.before.before.args.t.now c.before.before.before.before.before.before.before.before.before.before.before.before.args.s.now c.before.before.before.before.before.before.before.before.before.before.before.before.args.p c.before.before.before.before.before.before.before.before.before.before.before.before.args.h c.before.before.before.before.before.before.before.before.before.before.before.before.args.from c.before.before.before.before.before.before.before.before.before.before.before.before.args.to c.before.before.before.before.before.before.before.before.before.before.if1.false c.before.before.before.before.before.before.before.before.before.if2.false c.before.before.before.before.before.before.before.before.code.ensures c.before.before.before.before.before.before.before.node_of.ensures c.before.before.before.start2.ensures c.before.before.eval-at6.ensures c.before.eval-at7.ensures c.before.before.before.before.before.n3.given.1 c.both.ensures
+  returns-13 c = binary_arm c.before.before.before.before.before.before.before.before.before.before.before.before.args.t.now c.before.before.before.before.before.before.before.before.before.before.before.before.args.s.now c.before.before.before.before.before.before.before.before.before.before.before.before.args.p c.before.before.before.before.before.before.before.before.before.before.before.before.args.h c.before.before.before.before.before.before.before.before.before.before.before.before.args.from c.before.before.before.before.before.before.before.before.before.before.before.before.args.to c.before.before.before.before.before.before.before.before.before.before.if1.false c.before.before.before.before.before.before.before.before.before.if2.false c.before.before.before.before.before.before.before.before.code.ensures c.before.before.before.before.before.before.before.node_of.ensures c.before.before.before.start2.ensures c.before.before.eval-at6.ensures c.before.eval-at7.ensures c.before.before.before.before.before.n3.given.1 c.both.ensures
 
   returns-14 : eval-at-lts.Need-returns-14 Callees Own eval-at.Post
-  returns-14 c = middle-arm c.before.before.before.before.before.before.before.before.before.before.before.before.before.before.before.before.args.t.now c.before.before.before.before.before.before.before.before.before.before.before.before.before.before.before.before.args.s.now c.before.before.before.before.before.before.before.before.before.before.before.before.before.before.before.before.args.p c.before.before.before.before.before.before.before.before.before.before.before.before.before.before.before.before.args.h c.before.before.before.before.before.before.before.before.before.before.before.before.before.before.before.before.args.from c.before.before.before.before.before.before.before.before.before.before.before.before.before.before.before.before.args.to c.before.before.before.before.before.before.before.before.before.before.before.before.before.before.if1.false c.before.before.before.before.before.before.before.before.before.before.before.before.before.if2.false c.before.before.before.before.before.before.before.before.before.before.before.before.code.ensures c.before.before.before.before.before.before.before.before.before.before.before.node_of.ensures c.before.before.before.before.before.before.before.before.before.enum-told7.given.1 c.before.before.before.before.before.before.before.before.start3.ensures c.before.before.before.before.before.before.before.minus_one.ensures c.before.before.before.before.before.before.start4.ensures c.before.before.before.before.before.eval-at8.ensures c.before.before.before.before.is-fault.ensures c.before.before.before.if4.false c.before.before.holds.ensures c.before.if5.true c.eval-at9.ensures
+  returns-14 c = middle_arm c.before.before.before.before.before.before.before.before.before.before.before.before.before.before.before.before.args.t.now c.before.before.before.before.before.before.before.before.before.before.before.before.before.before.before.before.args.s.now c.before.before.before.before.before.before.before.before.before.before.before.before.before.before.before.before.args.p c.before.before.before.before.before.before.before.before.before.before.before.before.before.before.before.before.args.h c.before.before.before.before.before.before.before.before.before.before.before.before.before.before.before.before.args.from c.before.before.before.before.before.before.before.before.before.before.before.before.before.before.before.before.args.to c.before.before.before.before.before.before.before.before.before.before.before.before.before.before.if1.false c.before.before.before.before.before.before.before.before.before.before.before.before.before.if2.false c.before.before.before.before.before.before.before.before.before.before.before.before.code.ensures c.before.before.before.before.before.before.before.before.before.before.before.node_of.ensures c.before.before.before.before.before.before.before.before.before.enum-told7.given.1 c.before.before.before.before.before.before.before.before.start3.ensures c.before.before.before.before.before.before.before.minus_one.ensures c.before.before.before.before.before.before.start4.ensures c.before.before.before.before.before.eval-at8.ensures c.before.before.before.before.is-fault.ensures c.before.before.before.if4.false c.before.before.holds.ensures c.before.if5.true c.eval-at9.ensures
 
   returns-15 : eval-at-lts.Need-returns-15 Callees Own eval-at.Post
   returns-15 c = last_arm c.before.before.before.before.before.before.before.before.before.before.before.before.before.before.before.before.args.t.now c.before.before.before.before.before.before.before.before.before.before.before.before.before.before.before.before.args.s.now c.before.before.before.before.before.before.before.before.before.before.before.before.before.before.before.before.args.p c.before.before.before.before.before.before.before.before.before.before.before.before.before.before.before.before.args.h c.before.before.before.before.before.before.before.before.before.before.before.before.before.before.before.before.args.from c.before.before.before.before.before.before.before.before.before.before.before.before.before.before.before.before.args.to c.before.before.before.before.before.before.before.before.before.before.before.before.before.before.if1.false c.before.before.before.before.before.before.before.before.before.before.before.before.before.if2.false c.before.before.before.before.before.before.before.before.before.before.before.before.code.ensures c.before.before.before.before.before.before.before.before.before.before.before.node_of.ensures c.before.before.before.before.before.before.before.before.before.enum-told7.given.1 c.before.before.before.before.before.before.before.before.start3.ensures c.before.before.before.before.before.before.before.minus_one.ensures c.before.before.before.before.before.before.start4.ensures c.before.before.before.before.before.eval-at8.ensures c.before.before.before.before.is-fault.ensures c.before.before.before.if4.false c.before.before.holds.ensures c.before.if5.false c.eval-at10.ensures

@@ -1,4 +1,4 @@
-use Rattle.step_eval.proofs.Laws.{channel-none, channel-past, channel-made}
+use Rattle.step_eval.proofs.Laws.{channel-none, channel_past, channel-made}
 use borrow.Author.Rules.{rules}
 use Rattle.step_eval.proofs.channel.Statement.{statement}
 use Rattle.step_eval.proofs.channel.Tie as tie
@@ -10,7 +10,7 @@ returns-2 : tie.Need-returns-2
 returns-2 c = channel-made c.before.before.before.before.before.a.given.1 c.before.before.before.before.known-told.given.0.1 c.before.before.before.before.before.before.before.args.s.now c.before.before.before.natural.ensures.0 c.before.before.if1.false c.before.channels.ensures.0 c.if2.true
 
 returns-3 : tie.Need-returns-3
-returns-3 c = channel-past c.before.before.before.before.before.a.given.1 c.before.before.before.before.known-told.given.0.1 c.before.before.before.before.before.before.before.args.s.now c.before.before.before.natural.ensures.0 c.before.before.if1.false c.before.channels.ensures.0 c.if2.false
+returns-3 c = channel_past c.before.before.before.before.before.a.given.1 c.before.before.before.before.known-told.given.0.1 c.before.before.before.before.before.before.before.args.s.now c.before.before.before.natural.ensures.0 c.before.before.if1.false c.before.channels.ensures.0 c.if2.false
 
 returns-4 : tie.Need-returns-4
 returns-4 c = rw c.before.a2.given.1

@@ -1,4 +1,4 @@
-use Rattle.base_codes.specs.Codes.{c-and-then, c-bit-or, c-choice, c-complement, c-false, c-index, c_len, c-negate, c-not, c-number, c-or-else, c-plain, c-remainder, c-true}
+use Rattle.base_codes.specs.Codes.{c_and_then, c_bit_or, c_choice, c_complement, c_false, c_index, c_len, c_negate, c_not, c_number, c_or_else, c_plain, c_remainder, c_true}
 use Rattle.step_eval.specs.Expressions.{node_of}
 use borrow.Author.Tests.{ne_eqb, lt-ltb, le-ltb}
 use borrow.Author.Rules.{rules}
@@ -7,11 +7,11 @@ use Rattle.step_eval.proofs.node_of.Tie as tie
 
 returns : tie.Need-returns
 unfolding node_of
-returns c = simp (ne_eqb c.before.before.args.c c-number c.before.match.rest.0.0.0.0.0.0.0.0.0.0.0.1, ne_eqb c.before.before.args.c c-or-else c.before.match.rest.0.0.0.0.0.0.0.0.0.0.1, ne_eqb c.before.before.args.c c-and-then c.before.match.rest.0.0.0.0.0.0.0.0.0.1, ne_eqb c.before.before.args.c c-negate c.before.match.rest.0.0.0.0.0.0.0.0.1, ne_eqb c.before.before.args.c c-not c.before.match.rest.0.0.0.0.0.0.0.1, ne_eqb c.before.before.args.c c-complement c.before.match.rest.0.0.0.0.0.0.1, ne_eqb c.before.before.args.c c-plain c.before.match.rest.0.0.0.0.0.1, ne_eqb c.before.before.args.c c-index c.before.match.rest.0.0.0.0.1, ne_eqb c.before.before.args.c c-true c.before.match.rest.0.0.0.1, ne_eqb c.before.before.args.c c-false c.before.match.rest.0.0.1, ne_eqb c.before.before.args.c c_len c.before.match.rest.0.1, ne_eqb c.before.before.args.c c-choice c.before.match.rest.1, lt-ltb c.before.before.args.c c-bit-or c.if1.true)
+returns c = simp (ne_eqb c.before.before.args.c c_number c.before.match.rest.0.0.0.0.0.0.0.0.0.0.0.1, ne_eqb c.before.before.args.c c_or_else c.before.match.rest.0.0.0.0.0.0.0.0.0.0.1, ne_eqb c.before.before.args.c c_and_then c.before.match.rest.0.0.0.0.0.0.0.0.0.1, ne_eqb c.before.before.args.c c_negate c.before.match.rest.0.0.0.0.0.0.0.0.1, ne_eqb c.before.before.args.c c_not c.before.match.rest.0.0.0.0.0.0.0.1, ne_eqb c.before.before.args.c c_complement c.before.match.rest.0.0.0.0.0.0.1, ne_eqb c.before.before.args.c c_plain c.before.match.rest.0.0.0.0.0.1, ne_eqb c.before.before.args.c c_index c.before.match.rest.0.0.0.0.1, ne_eqb c.before.before.args.c c_true c.before.match.rest.0.0.0.1, ne_eqb c.before.before.args.c c_false c.before.match.rest.0.0.1, ne_eqb c.before.before.args.c c_len c.before.match.rest.0.1, ne_eqb c.before.before.args.c c_choice c.before.match.rest.1, lt-ltb c.before.before.args.c c_bit_or c.if1.true)
 
 returns-2 : tie.Need-returns-2
 unfolding node_of
-returns-2 c = simp (ne_eqb c.before.before.before.args.c c-number c.before.before.match.rest.0.0.0.0.0.0.0.0.0.0.0.1, ne_eqb c.before.before.before.args.c c-or-else c.before.before.match.rest.0.0.0.0.0.0.0.0.0.0.1, ne_eqb c.before.before.before.args.c c-and-then c.before.before.match.rest.0.0.0.0.0.0.0.0.0.1, ne_eqb c.before.before.before.args.c c-negate c.before.before.match.rest.0.0.0.0.0.0.0.0.1, ne_eqb c.before.before.before.args.c c-not c.before.before.match.rest.0.0.0.0.0.0.0.1, ne_eqb c.before.before.before.args.c c-complement c.before.before.match.rest.0.0.0.0.0.0.1, ne_eqb c.before.before.before.args.c c-plain c.before.before.match.rest.0.0.0.0.0.1, ne_eqb c.before.before.before.args.c c-index c.before.before.match.rest.0.0.0.0.1, ne_eqb c.before.before.before.args.c c-true c.before.before.match.rest.0.0.0.1, ne_eqb c.before.before.before.args.c c-false c.before.before.match.rest.0.0.1, ne_eqb c.before.before.before.args.c c_len c.before.before.match.rest.0.1, ne_eqb c.before.before.before.args.c c-choice c.before.before.match.rest.1, le-ltb c.before.before.before.args.c c-bit-or c.before.if1.false, lt-ltb c-remainder c.before.before.before.args.c c.if2.true)
+returns-2 c = simp (ne_eqb c.before.before.before.args.c c_number c.before.before.match.rest.0.0.0.0.0.0.0.0.0.0.0.1, ne_eqb c.before.before.before.args.c c_or_else c.before.before.match.rest.0.0.0.0.0.0.0.0.0.0.1, ne_eqb c.before.before.before.args.c c_and_then c.before.before.match.rest.0.0.0.0.0.0.0.0.0.1, ne_eqb c.before.before.before.args.c c_negate c.before.before.match.rest.0.0.0.0.0.0.0.0.1, ne_eqb c.before.before.before.args.c c_not c.before.before.match.rest.0.0.0.0.0.0.0.1, ne_eqb c.before.before.before.args.c c_complement c.before.before.match.rest.0.0.0.0.0.0.1, ne_eqb c.before.before.before.args.c c_plain c.before.before.match.rest.0.0.0.0.0.1, ne_eqb c.before.before.before.args.c c_index c.before.before.match.rest.0.0.0.0.1, ne_eqb c.before.before.before.args.c c_true c.before.before.match.rest.0.0.0.1, ne_eqb c.before.before.before.args.c c_false c.before.before.match.rest.0.0.1, ne_eqb c.before.before.before.args.c c_len c.before.before.match.rest.0.1, ne_eqb c.before.before.before.args.c c_choice c.before.before.match.rest.1, le-ltb c.before.before.before.args.c c_bit_or c.before.if1.false, lt-ltb c_remainder c.before.before.before.args.c c.if2.true)
 
 returns-3 : tie.Need-returns-3
 unfolding node_of
@@ -63,7 +63,7 @@ returns-14 c = rw c.match.keys12
 
 returns-15 : tie.Need-returns-15
 unfolding node_of
-returns-15 c = simp (ne_eqb c.before.before.before.args.c c-number c.before.before.match.rest.0.0.0.0.0.0.0.0.0.0.0.1, ne_eqb c.before.before.before.args.c c-or-else c.before.before.match.rest.0.0.0.0.0.0.0.0.0.0.1, ne_eqb c.before.before.before.args.c c-and-then c.before.before.match.rest.0.0.0.0.0.0.0.0.0.1, ne_eqb c.before.before.before.args.c c-negate c.before.before.match.rest.0.0.0.0.0.0.0.0.1, ne_eqb c.before.before.before.args.c c-not c.before.before.match.rest.0.0.0.0.0.0.0.1, ne_eqb c.before.before.before.args.c c-complement c.before.before.match.rest.0.0.0.0.0.0.1, ne_eqb c.before.before.before.args.c c-plain c.before.before.match.rest.0.0.0.0.0.1, ne_eqb c.before.before.before.args.c c-index c.before.before.match.rest.0.0.0.0.1, ne_eqb c.before.before.before.args.c c-true c.before.before.match.rest.0.0.0.1, ne_eqb c.before.before.before.args.c c-false c.before.before.match.rest.0.0.1, ne_eqb c.before.before.before.args.c c_len c.before.before.match.rest.0.1, ne_eqb c.before.before.before.args.c c-choice c.before.before.match.rest.1, le-ltb c.before.before.before.args.c c-bit-or c.before.if1.false, le-ltb c-remainder c.before.before.before.args.c c.if2.false)
+returns-15 c = simp (ne_eqb c.before.before.before.args.c c_number c.before.before.match.rest.0.0.0.0.0.0.0.0.0.0.0.1, ne_eqb c.before.before.before.args.c c_or_else c.before.before.match.rest.0.0.0.0.0.0.0.0.0.0.1, ne_eqb c.before.before.before.args.c c_and_then c.before.before.match.rest.0.0.0.0.0.0.0.0.0.1, ne_eqb c.before.before.before.args.c c_negate c.before.before.match.rest.0.0.0.0.0.0.0.0.1, ne_eqb c.before.before.before.args.c c_not c.before.before.match.rest.0.0.0.0.0.0.0.1, ne_eqb c.before.before.before.args.c c_complement c.before.before.match.rest.0.0.0.0.0.0.1, ne_eqb c.before.before.before.args.c c_plain c.before.before.match.rest.0.0.0.0.0.1, ne_eqb c.before.before.before.args.c c_index c.before.before.match.rest.0.0.0.0.1, ne_eqb c.before.before.before.args.c c_true c.before.before.match.rest.0.0.0.1, ne_eqb c.before.before.before.args.c c_false c.before.before.match.rest.0.0.1, ne_eqb c.before.before.before.args.c c_len c.before.before.match.rest.0.1, ne_eqb c.before.before.before.args.c c_choice c.before.before.match.rest.1, le-ltb c.before.before.before.args.c c_bit_or c.before.if1.false, le-ltb c_remainder c.before.before.before.args.c c.if2.false)
 
 pub node-of-spec : {M : Type 1} → statement M
 node-of-spec =

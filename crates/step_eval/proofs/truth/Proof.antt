@@ -1,10 +1,10 @@
-use Rattle.step_eval.proofs.Laws.{truth-value}
+use Rattle.step_eval.proofs.Laws.{truth_value}
 use borrow.Author.Rules.{rules}
 use Rattle.step_eval.proofs.truth.Statement.{statement}
 use Rattle.step_eval.proofs.truth.Tie as tie
 
 returns : tie.Need-returns
-returns c = truth-value c.before.x.given.1 c.known-told.given.0.1
+returns c = truth_value c.before.x.given.1 c.known-told.given.0.1
 
 returns-2 : tie.Need-returns-2
 returns-2 c = rw c.before.x2.given.1

@@ -1,10 +1,10 @@
-use Rattle.step_eval.proofs.Laws.{unary-value}
+use Rattle.step_eval.proofs.Laws.{unary_value}
 use borrow.Author.Rules.{rules}
 use Rattle.step_eval.proofs.unary.Statement.{statement}
 use Rattle.step_eval.proofs.unary.Tie as tie
 
 returns : tie.Need-returns
-returns c = unary-value c.before.before.x.given.1 c.before.known-told.given.0.1 c.before.before.before.before.args.op c.apply-unary.type-inv c.apply-unary.ensures
+returns c = unary_value c.before.before.x.given.1 c.before.known-told.given.0.1 c.before.before.before.before.args.op c.apply-unary.type-inv c.apply-unary.ensures
 
 returns-2 : tie.Need-returns-2
 returns-2 c = rw c.before.x2.given.1

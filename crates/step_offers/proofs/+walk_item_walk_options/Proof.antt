@@ -1,5 +1,5 @@
-use Rattle.step_offers.proofs.Laws.{one_less, option-below, options-none, options-over, options-found, options-left, offers-none, item-ready, item-not, item-found, item-left, item-else}
-use Rattle.step_offers.specs.Offers.{offersFrom}
+use Rattle.step_offers.proofs.Laws.{one_less, option_below, options_none, options_over, options_found, options_left, offers-none, item-ready, item-not, item_found, item-left, item_else}
+use Rattle.step_offers.specs.Offers.{offers_from}
 use borrow.Author.Tests.{not-true, not-false}
 use borrow.Author.Rules.{rules}
 use Prim.Native.Nat.{ℕ, ◌<◌, ◌*◌, ◌+◌}
@@ -64,10 +64,10 @@ module _ (t : ℕ) where
   walk-item-returns c = offers-none c.before.before.args.t.now c.before.before.args.s.now c.before.before.args.p c.before.before.args.late c.before.before.args.q c.before.before.args.stop c.before.before.args.k c.if1.true
 
   walk-item-returns-2 : walk-item-lts.Need-returns-2 walk-item-callees walk-item-at walk-item.Post
-  walk-item-returns-2 c = item-found c.before.before.before.before.before.before.before.before.before.before.args.t.now c.before.before.before.before.before.before.before.before.before.before.args.s.now c.before.before.before.before.before.before.before.before.before.before.args.p c.before.before.before.before.before.before.before.before.before.before.args.late c.before.before.before.before.before.before.before.before.before.before.args.q c.before.before.before.before.before.before.before.before.before.before.args.stop c.before.before.before.before.before.before.before.before.before.before.args.k (one_less c.before.before.before.before.before.before.before.before.if1.false) c.before.before.before.before.before.before.before.is-selection.ensures c.before.before.before.before.before.before.if2.true c.before.before.before.before.before.link.ensures.0 c.before.before.before.before.least.ensures c.before.before.before.walk-options.ensures c.before.w.given.1
+  walk-item-returns-2 c = item_found c.before.before.before.before.before.before.before.before.before.before.args.t.now c.before.before.before.before.before.before.before.before.before.before.args.s.now c.before.before.before.before.before.before.before.before.before.before.args.p c.before.before.before.before.before.before.before.before.before.before.args.late c.before.before.before.before.before.before.before.before.before.before.args.q c.before.before.before.before.before.before.before.before.before.before.args.stop c.before.before.before.before.before.before.before.before.before.before.args.k (one_less c.before.before.before.before.before.before.before.before.if1.false) c.before.before.before.before.before.before.before.is-selection.ensures c.before.before.before.before.before.before.if2.true c.before.before.before.before.before.link.ensures.0 c.before.before.before.before.least.ensures c.before.before.before.walk-options.ensures c.before.w.given.1
 
   walk-item-returns-3 : walk-item-lts.Need-returns-3 walk-item-callees walk-item-at walk-item.Post
-  walk-item-returns-3 c = item-else c.before.before.before.before.before.before.before.before.before.before.before.before.args.t.now c.before.before.before.before.before.before.before.before.before.before.before.before.args.s.now c.before.before.before.before.before.before.before.before.before.before.before.before.args.p c.before.before.before.before.before.before.before.before.before.before.before.before.args.late c.before.before.before.before.before.before.before.before.before.before.before.before.args.q c.before.before.before.before.before.before.before.before.before.before.before.before.args.stop c.before.before.before.before.before.before.before.before.before.before.before.before.args.k (one_less c.before.before.before.before.before.before.before.before.before.before.if1.false) c.before.before.before.before.before.before.before.before.before.is-selection.ensures c.before.before.before.before.before.before.before.before.if2.true c.before.before.before.before.before.before.before.link.ensures.0 c.before.before.before.before.before.before.least.ensures c.before.before.before.before.before.walk-options.ensures c.before.before.before.w2.given.1 c.before.if3.true c.walk-else.ensures
+  walk-item-returns-3 c = item_else c.before.before.before.before.before.before.before.before.before.before.before.before.args.t.now c.before.before.before.before.before.before.before.before.before.before.before.before.args.s.now c.before.before.before.before.before.before.before.before.before.before.before.before.args.p c.before.before.before.before.before.before.before.before.before.before.before.before.args.late c.before.before.before.before.before.before.before.before.before.before.before.before.args.q c.before.before.before.before.before.before.before.before.before.before.before.before.args.stop c.before.before.before.before.before.before.before.before.before.before.before.before.args.k (one_less c.before.before.before.before.before.before.before.before.before.before.if1.false) c.before.before.before.before.before.before.before.before.before.is-selection.ensures c.before.before.before.before.before.before.before.before.if2.true c.before.before.before.before.before.before.before.link.ensures.0 c.before.before.before.before.before.before.least.ensures c.before.before.before.before.before.walk-options.ensures c.before.before.before.w2.given.1 c.before.if3.true c.walk-else.ensures
 
   walk-item-returns-4 : walk-item-lts.Need-returns-4 walk-item-callees walk-item-at walk-item.Post
   walk-item-returns-4 c = item-left c.before.before.before.before.before.before.before.before.before.before.before.args.t.now c.before.before.before.before.before.before.before.before.before.before.before.args.s.now c.before.before.before.before.before.before.before.before.before.before.before.args.p c.before.before.before.before.before.before.before.before.before.before.before.args.late c.before.before.before.before.before.before.before.before.before.before.before.args.q c.before.before.before.before.before.before.before.before.before.before.before.args.stop c.before.before.before.before.before.before.before.before.before.before.before.args.k (one_less c.before.before.before.before.before.before.before.before.before.if1.false) c.before.before.before.before.before.before.before.before.is-selection.ensures c.before.before.before.before.before.before.before.if2.true c.before.before.before.before.before.before.link.ensures.0 c.before.before.before.before.before.least.ensures c.before.before.before.before.walk-options.ensures c.before.before.w2.given.1 c.if3.false
@@ -93,19 +93,19 @@ module _ (t : ℕ) where
   )
 
   walk-options-returns : walk-options-lts.Need-returns walk-options-callees walk-options-at walk-options.Post
-  walk-options-returns c = options-none c.before.before.args.t.now (λ x y. offersFrom c.before.before.args.t.now c.before.before.args.s.now c.before.before.args.p c.before.before.args.late c.before.before.args.d x y) c.before.before.args.m c.before.before.args.stop c.before.before.args.k c.if1.true
+  walk-options-returns c = options_none c.before.before.args.t.now (λ x y. offers_from c.before.before.args.t.now c.before.before.args.s.now c.before.before.args.p c.before.before.args.late c.before.before.args.d x y) c.before.before.args.m c.before.before.args.stop c.before.before.args.k c.if1.true
 
   walk-options-returns-2 : walk-options-lts.Need-returns-2 walk-options-callees walk-options-at walk-options.Post
-  walk-options-returns-2 c = options-over c.before.before.before.before.args.t.now (λ x y. offersFrom c.before.before.before.before.args.t.now c.before.before.before.before.args.s.now c.before.before.before.before.args.p c.before.before.before.before.args.late c.before.before.before.before.args.d x y) c.before.before.before.before.args.m c.before.before.before.before.args.stop c.before.before.before.before.args.k (one_less c.before.before.if1.false) c.before.is-option.ensures (not-true _ c.if2.true)
+  walk-options-returns-2 c = options_over c.before.before.before.before.args.t.now (λ x y. offers_from c.before.before.before.before.args.t.now c.before.before.before.before.args.s.now c.before.before.before.before.args.p c.before.before.before.before.args.late c.before.before.before.before.args.d x y) c.before.before.before.before.args.m c.before.before.before.before.args.stop c.before.before.before.before.args.k (one_less c.before.before.if1.false) c.before.is-option.ensures (not-true _ c.if2.true)
 
   walk-options-end-of-requires : walk-options-lts.Need-end-of-requires walk-options-callees walk-options-at walk-options.Post
-  walk-options-end-of-requires c κs = (option-below c.before.before.before.before.args.t.now c.before.before.before.before.args.m c.before.before.before.before.args.stop c.before.is-option.ensures (not-false _ c.if2.false), c.before.before.before.before.requires.1)
+  walk-options-end-of-requires c κs = (option_below c.before.before.before.before.args.t.now c.before.before.before.before.args.m c.before.before.before.before.args.stop c.before.is-option.ensures (not-false _ c.if2.false), c.before.before.before.before.requires.1)
 
   walk-options-returns-3 : walk-options-lts.Need-returns-3 walk-options-callees walk-options-at walk-options.Post
-  walk-options-returns-3 c = options-found c.before.before.before.before.before.before.before.before.before.before.args.t.now (λ x y. offersFrom c.before.before.before.before.before.before.before.before.before.before.args.t.now c.before.before.before.before.before.before.before.before.before.before.args.s.now c.before.before.before.before.before.before.before.before.before.before.args.p c.before.before.before.before.before.before.before.before.before.before.args.late c.before.before.before.before.before.before.before.before.before.before.args.d x y) c.before.before.before.before.before.before.before.before.before.before.args.m c.before.before.before.before.before.before.before.before.before.before.args.stop c.before.before.before.before.before.before.before.before.before.before.args.k (one_less c.before.before.before.before.before.before.before.before.if1.false) c.before.before.before.before.before.before.before.is-option.ensures (not-false _ c.before.before.before.before.before.before.if2.false) c.before.before.before.before.before.end_of_lem.ensures.0 c.before.before.before.before.first_of.ensures.0 c.before.before.before.walk-item.ensures c.before.w.given.1
+  walk-options-returns-3 c = options_found c.before.before.before.before.before.before.before.before.before.before.args.t.now (λ x y. offers_from c.before.before.before.before.before.before.before.before.before.before.args.t.now c.before.before.before.before.before.before.before.before.before.before.args.s.now c.before.before.before.before.before.before.before.before.before.before.args.p c.before.before.before.before.before.before.before.before.before.before.args.late c.before.before.before.before.before.before.before.before.before.before.args.d x y) c.before.before.before.before.before.before.before.before.before.before.args.m c.before.before.before.before.before.before.before.before.before.before.args.stop c.before.before.before.before.before.before.before.before.before.before.args.k (one_less c.before.before.before.before.before.before.before.before.if1.false) c.before.before.before.before.before.before.before.is-option.ensures (not-false _ c.before.before.before.before.before.before.if2.false) c.before.before.before.before.before.end_of_lem.ensures.0 c.before.before.before.before.first_of.ensures.0 c.before.before.before.walk-item.ensures c.before.w.given.1
 
   walk-options-returns-4 : walk-options-lts.Need-returns-4 walk-options-callees walk-options-at walk-options.Post
-  walk-options-returns-4 c = options-left c.before.before.before.before.before.before.before.before.before.before.before.args.t.now (λ x y. offersFrom c.before.before.before.before.before.before.before.before.before.before.before.args.t.now c.before.before.before.before.before.before.before.before.before.before.before.args.s.now c.before.before.before.before.before.before.before.before.before.before.before.args.p c.before.before.before.before.before.before.before.before.before.before.before.args.late c.before.before.before.before.before.before.before.before.before.before.before.args.d x y) c.before.before.before.before.before.before.before.before.before.before.before.args.m c.before.before.before.before.before.before.before.before.before.before.before.args.stop c.before.before.before.before.before.before.before.before.before.before.before.args.k (one_less c.before.before.before.before.before.before.before.before.before.if1.false) c.before.before.before.before.before.before.before.before.is-option.ensures (not-false _ c.before.before.before.before.before.before.before.if2.false) c.before.before.before.before.before.before.end_of_lem.ensures.0 c.before.before.before.before.before.first_of.ensures.0 c.before.before.before.before.walk-item.ensures c.before.before.w2.given.1 c.walk-options.ensures
+  walk-options-returns-4 c = options_left c.before.before.before.before.before.before.before.before.before.before.before.args.t.now (λ x y. offers_from c.before.before.before.before.before.before.before.before.before.before.before.args.t.now c.before.before.before.before.before.before.before.before.before.before.before.args.s.now c.before.before.before.before.before.before.before.before.before.before.before.args.p c.before.before.before.before.before.before.before.before.before.before.before.args.late c.before.before.before.before.before.before.before.before.before.before.before.args.d x y) c.before.before.before.before.before.before.before.before.before.before.before.args.m c.before.before.before.before.before.before.before.before.before.before.before.args.stop c.before.before.before.before.before.before.before.before.before.before.before.args.k (one_less c.before.before.before.before.before.before.before.before.before.if1.false) c.before.before.before.before.before.before.before.before.is-option.ensures (not-false _ c.before.before.before.before.before.before.before.if2.false) c.before.before.before.before.before.before.end_of_lem.ensures.0 c.before.before.before.before.before.first_of.ensures.0 c.before.before.before.before.walk-item.ensures c.before.before.w2.given.1 c.walk-options.ensures
 
 pub +walk-item-walk-options-spec : {M : Type 1} → statement M
 +walk-item-walk-options-spec =

@@ -1,10 +1,10 @@
-use Rattle.step_offers.proofs.Picks.{some-found, none_found}
+use Rattle.step_offers.proofs.Picks.{some_found, none_found}
 use borrow.Author.Rules.{rules}
 use Rattle.step_offers.proofs.is_offered.Statement.{statement}
 use Rattle.step_offers.proofs.is_offered.Tie as tie
 
 returns : tie.Need-returns
-returns c = some-found _ c.before.before.offered.ensures c.enum_told.given.1
+returns c = some_found _ c.before.before.offered.ensures c.enum_told.given.1
 
 returns-2 : tie.Need-returns-2
 returns-2 c = none_found _ c.before.before.offered.ensures c.enum-told2.given.1

@@ -26,7 +26,7 @@ loop-again : tie.Need-loop-preserved invariant-loop decreases-loop
 loop-again c = (omega (arith, c.one.ensures.1, c.before.before.before.loop.invariant.0), omega arith, laws.count-more (entry_at c.before.before.before.before.before.before.before.before.before.args.text.now c.before.before.before.before.before.before.before.before.before.args.starts.now c.before.before.before.before.before.before.before.before.before.args.ends.now c.before.before.before.before.before.before.before.before.before.args.codes.now c.before.before.before.before.before.before.before.before.before.args.toks.now) c.before.before.before.loop.i c.before.before.before.loop.sum {k1 = c.before.before.before.before.before.before.before.before.before.args.n - (c.before.before.before.loop.i + 1)} (omega arith) (laws.code_at c.before.before.before.before.before.before.before.before.before.args.text.now c.before.before.before.before.before.before.before.before.before.args.starts.now c.before.before.before.before.before.before.before.before.before.args.ends.now c.before.before.before.before.before.before.before.before.before.args.codes.now c.before.before.before.before.before.before.before.before.before.args.toks.now c.before.before.before.loop.i c.before.byte_at.ensures) c.one.ensures.0 ∙ c.before.before.before.loop.invariant.2)
 
 returns : tie.Need-returns invariant-loop decreases-loop
-returns c = (laws.count-end (entry_at c.before.before.before.before.before.before.before.args.text.now c.before.before.before.before.before.before.before.args.starts.now c.before.before.before.before.before.before.before.args.ends.now c.before.before.before.before.before.before.before.args.codes.now c.before.before.before.before.before.before.before.args.toks.now) c.before.loop.i c.before.loop.sum (omega arith) ∙ c.before.loop.invariant.2, omega (arith, c.before.loop.invariant.0, c.before.loop.invariant.1))
+returns c = (laws.count_end (entry_at c.before.before.before.before.before.before.before.args.text.now c.before.before.before.before.before.before.before.args.starts.now c.before.before.before.before.before.before.before.args.ends.now c.before.before.before.before.before.before.before.args.codes.now c.before.before.before.before.before.before.before.args.toks.now) c.before.loop.i c.before.loop.sum (omega arith) ∙ c.before.loop.invariant.2, omega (arith, c.before.loop.invariant.0, c.before.loop.invariant.1))
 
 pub count-numbers-spec : {M : Type 1} → statement M
 count-numbers-spec =

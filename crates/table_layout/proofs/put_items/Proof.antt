@@ -2,7 +2,7 @@ use lib.ListN.{length}
 use Prim.Native.Nat.{◌-◌, ◌+◌, ◌*◌, ◌≤◌}
 use native.Mathlib.Omega.{arith}
 use mathlib.Core.Path.{◌≡◌, refl, sym, ◌∙◌}
-use Rattle.base_ceilings.specs.Ceilings.{stringMost}
+use Rattle.base_ceilings.specs.Ceilings.{string_most}
 use Rattle.base_pens.specs.Pen.{pen, puts}
 use Rattle.table_entries.specs.Sources.{entry_at}
 use Rattle.table_entries.specs.Entry.{runs}
@@ -13,7 +13,7 @@ use Rattle.table_layout.proofs.put_items.Statement.{statement}
 use Rattle.table_layout.proofs.put_items.Tie as tie
 
 abbrev invariant-loop : tie.invariant-loop
-invariant-loop text starts ends codes toks n out₀ p q₀ o₀ k₀ i₀ out q o k i = (length out ≡ length out₀) × (o ≤ stringMost * i) × (k ≤ i) × (puts (spec.itemWords o k (runs (entry_at text starts ends codes toks) i (n - i))) (pen out q) ≡ puts (spec.itemWords 0 0 (runs (entry_at text starts ends codes toks) 0 n)) (pen out₀ p))
+invariant-loop text starts ends codes toks n out₀ p q₀ o₀ k₀ i₀ out q o k i = (length out ≡ length out₀) × (o ≤ string_most * i) × (k ≤ i) × (puts (spec.item_words o k (runs (entry_at text starts ends codes toks) i (n - i))) (pen out q) ≡ puts (spec.item_words 0 0 (runs (entry_at text starts ends codes toks) 0 n)) (pen out₀ p))
 
 abbrev decreases-loop : tie.decreases-loop
 decreases-loop text starts ends codes toks n out₀ p q₀ o₀ k₀ i₀ out q o k i = n - i
@@ -37,7 +37,7 @@ same_length : tie.Need-same-length invariant-loop decreases-loop
 same_length c = c.before.loop.invariant.0
 
 returns : tie.Need-returns invariant-loop decreases-loop
-returns c = sym (laws.items-end (entry_at c.before.before.before.before.before.before.before.before.args.text.now c.before.before.before.before.before.before.before.before.args.starts.now c.before.before.before.before.before.before.before.before.args.ends.now c.before.before.before.before.before.before.before.before.args.codes.now c.before.before.before.before.before.before.before.before.args.toks.now) c.before.loop.i c.before.loop.o c.before.loop.k (omega arith)) ∙ c.before.loop.invariant.3
+returns c = sym (laws.items_end (entry_at c.before.before.before.before.before.before.before.before.args.text.now c.before.before.before.before.before.before.before.before.args.starts.now c.before.before.before.before.before.before.before.before.args.ends.now c.before.before.before.before.before.before.before.before.args.codes.now c.before.before.before.before.before.before.before.before.args.toks.now) c.before.loop.i c.before.loop.o c.before.loop.k (omega arith)) ∙ c.before.loop.invariant.3
 
 pub put-items-spec : {M : Type 1} → statement M
 put-items-spec =

@@ -28,7 +28,7 @@ same_length : tie.Need-same-length invariant-loop decreases-loop
 same_length c = c.before.loop.invariant.0
 
 returns : tie.Need-returns invariant-loop decreases-loop
-returns c = sym (laws.linked-end c.before.before.before.before.args.links.now c.before.loop.i (omega arith)) ∙ c.before.loop.invariant.1
+returns c = sym (laws.linked_end c.before.before.before.before.args.links.now c.before.loop.i (omega arith)) ∙ c.before.loop.invariant.1
 
 pub put-links-spec : {M : Type 1} → statement M
 put-links-spec =

@@ -27,7 +27,7 @@ same_length : tie.Need-same-length invariant-loop decreases-loop
 same_length c = c.before.loop.invariant.0
 
 returns : tie.Need-returns invariant-loop decreases-loop
-returns c = sym (laws.numbers-end (entry_at c.before.before.before.before.before.before.before.before.args.text.now c.before.before.before.before.before.before.before.before.args.starts.now c.before.before.before.before.before.before.before.before.args.ends.now c.before.before.before.before.before.before.before.before.args.codes.now c.before.before.before.before.before.before.before.before.args.toks.now) c.before.loop.i (omega arith)) ∙ c.before.loop.invariant.1
+returns c = sym (laws.numbers_end (entry_at c.before.before.before.before.before.before.before.before.args.text.now c.before.before.before.before.before.before.before.before.args.starts.now c.before.before.before.before.before.before.before.before.args.ends.now c.before.before.before.before.before.before.before.before.args.codes.now c.before.before.before.before.before.before.before.before.args.toks.now) c.before.loop.i (omega arith)) ∙ c.before.loop.invariant.1
 
 pub put-numbers-spec : {M : Type 1} → statement M
 put-numbers-spec =

@@ -24,7 +24,7 @@ loop-again : tie.Need-loop-preserved invariant-loop decreases-loop
 loop-again c = (omega (arith, c.before.before.pour-at.auto.1.1.1.1.1.1.0, c.before.before.before.before.before.loop.invariant.0), sym (laws.pool-more (entry_at c.before.before.before.before.before.before.before.before.before.before.before.before.args.text.now c.before.before.before.before.before.before.before.before.before.before.before.before.args.starts.now c.before.before.before.before.before.before.before.before.before.before.before.before.args.ends.now c.before.before.before.before.before.before.before.before.before.before.before.before.args.codes.now c.before.before.before.before.before.before.before.before.before.before.before.before.args.toks.now) c.before.before.before.before.before.loop.i {k1 = c.before.before.before.before.before.before.before.before.before.before.before.before.args.n - (c.before.before.before.before.before.loop.i + 1)} (well (pen c.before.before.before.before.before.loop.out c.before.before.before.before.before.loop.w.at) c.before.before.before.before.before.loop.w.held c.before.before.before.before.before.loop.w.a c.before.before.before.before.before.loop.w.b c.before.before.before.before.before.loop.w.c) (omega arith) c.before.before.pour-at.ensures) ∙ c.before.before.before.before.before.loop.invariant.1)
 
 returns : tie.Need-returns invariant-loop decreases-loop
-returns c = laws.pool-put (runs (entry_at c.before.before.before.before.before.before.before.before.before.before.before.before.args.text.now c.before.before.before.before.before.before.before.before.before.before.before.before.args.starts.now c.before.before.before.before.before.before.before.before.before.before.before.before.args.ends.now c.before.before.before.before.before.before.before.before.before.before.before.before.args.codes.now c.before.before.before.before.before.before.before.before.before.before.before.before.args.toks.now) 0 c.before.before.before.before.before.before.before.before.before.before.before.before.args.n) (pen c.before.before.before.before.before.before.before.before.before.before.before.before.args.out.now c.before.before.before.before.before.before.before.before.before.before.before.before.args.p) (sym (laws.pool-end (entry_at c.before.before.before.before.before.before.before.before.before.before.before.before.args.text.now c.before.before.before.before.before.before.before.before.before.before.before.before.args.starts.now c.before.before.before.before.before.before.before.before.before.before.before.before.args.ends.now c.before.before.before.before.before.before.before.before.before.before.before.before.args.codes.now c.before.before.before.before.before.before.before.before.before.before.before.before.args.toks.now) c.before.before.before.before.before.loop.i (omega arith)) ∙ c.before.before.before.before.before.loop.invariant.1) c.before.before.settle.ensures
+returns c = laws.pool-put (runs (entry_at c.before.before.before.before.before.before.before.before.before.before.before.before.args.text.now c.before.before.before.before.before.before.before.before.before.before.before.before.args.starts.now c.before.before.before.before.before.before.before.before.before.before.before.before.args.ends.now c.before.before.before.before.before.before.before.before.before.before.before.before.args.codes.now c.before.before.before.before.before.before.before.before.before.before.before.before.args.toks.now) 0 c.before.before.before.before.before.before.before.before.before.before.before.before.args.n) (pen c.before.before.before.before.before.before.before.before.before.before.before.before.args.out.now c.before.before.before.before.before.before.before.before.before.before.before.before.args.p) (sym (laws.pool_end (entry_at c.before.before.before.before.before.before.before.before.before.before.before.before.args.text.now c.before.before.before.before.before.before.before.before.before.before.before.before.args.starts.now c.before.before.before.before.before.before.before.before.before.before.before.before.args.ends.now c.before.before.before.before.before.before.before.before.before.before.before.before.args.codes.now c.before.before.before.before.before.before.before.before.before.before.before.before.args.toks.now) c.before.before.before.before.before.loop.i (omega arith)) ∙ c.before.before.before.before.before.loop.invariant.1) c.before.before.settle.ensures
 
 pub put-pool-spec : {M : Type 1} → statement M
 put-pool-spec =

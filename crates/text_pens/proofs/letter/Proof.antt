@@ -5,10 +5,10 @@ use Rattle.text_pens.proofs.letter.Statement.{statement}
 use Rattle.text_pens.proofs.letter.Tie as tie
 
 returns : tie.Need-returns
-returns c = laws.letter-in c.before.before.before.args.k c.before.before.before.args.j _ _ _ c.before.before.if1.true c.before.before2.ensures refl c.sheet-at.ensures
+returns c = laws.letter_in c.before.before.before.args.k c.before.before.before.args.j _ _ _ c.before.before.if1.true c.before.before2.ensures refl c.sheet-at.ensures
 
 returns-2 : tie.Need-returns-2
-returns-2 c = laws.letter-out c.before.args.k c.before.args.j c.if1.false
+returns-2 c = laws.letter_out c.before.args.k c.before.args.j c.if1.false
 
 pub letter-spec : {M : Type 1} → statement M
 letter-spec =

@@ -4,10 +4,10 @@ use Rattle.text_pens.proofs.put.Statement.{statement}
 use Rattle.text_pens.proofs.put.Tie as tie
 
 returns : tie.Need-returns
-returns c = laws.write-in c.before.args.out.now c.before.args.p c.before.args.v c.if1.true
+returns c = laws.write_in c.before.args.out.now c.before.args.p c.before.args.v c.if1.true
 
 returns-2 : tie.Need-returns-2
-returns-2 c = laws.write-out c.before.args.out.now c.before.args.p c.before.args.v c.if1.false
+returns-2 c = laws.write_out c.before.args.out.now c.before.args.p c.before.args.v c.if1.false
 
 pub put_spec : {M : Type 1} → statement M
 put_spec =

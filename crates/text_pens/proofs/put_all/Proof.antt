@@ -24,7 +24,7 @@ same_length : tie.Need-same-length invariant-loop decreases-loop
 same_length c = c.before.loop.invariant.0
 
 returns : tie.Need-returns invariant-loop decreases-loop
-returns c = sym (laws.puts-end c.before.before.before.before.args.s.now c.before.loop.k _ (omega arith)) ∙ c.before.loop.invariant.1
+returns c = sym (laws.puts_end c.before.before.before.before.args.s.now c.before.loop.k _ (omega arith)) ∙ c.before.loop.invariant.1
 
 pub put-all-spec : {M : Type 1} → statement M
 put-all-spec =

@@ -21,7 +21,7 @@ loop-again : tie.Need-loop-preserved invariant-loop decreases-loop
 loop-again c = (omega (arith, c.before.before.put.auto.0, c.before.before.before.before.before.loop.invariant.0), laws.times_more c.before.before.before.before.before.before.before.args.n c.before.before.before.before.before.loop.k c.before.before.before.before.before.before.before.args.b _ _ c.before.before.before.before.loop-test.true c.before.before.put.ensures ∙ c.before.before.before.before.before.loop.invariant.1)
 
 returns : tie.Need-returns invariant-loop decreases-loop
-returns c = sym (laws.times-end c.before.before.before.args.n c.before.loop.k c.before.before.before.args.b _ (omega arith)) ∙ c.before.loop.invariant.1
+returns c = sym (laws.times_end c.before.before.before.args.n c.before.loop.k c.before.before.before.args.b _ (omega arith)) ∙ c.before.loop.invariant.1
 
 pub put-times-spec : {M : Type 1} → statement M
 put-times-spec =

@@ -1,5 +1,5 @@
 use lib.ListN.{take}
-use Rattle.base_ceilings.specs.Ceilings.{numberMost}
+use Rattle.base_ceilings.specs.Ceilings.{number_most}
 use Rattle.spec_text.specs.Digits.{decimal}
 use native.Mathlib.Omega.{arith}
 use lib.Seq.{length-take-le}
@@ -13,10 +13,10 @@ slice-aggregate-value : tie.Need-slice-aggregate-value
 slice-aggregate-value c = sym (length-take-le c.before.before.args.n c.before.before.args.s.now c.before.before.requires)
 
 returns : tie.Need-returns
-returns c = rw (lt-ltb numberMost (decimal (take c.before.before.before.before.args.n c.before.before.before.before.args.s.now)) (omega (arith, c.before.value.ensures, c.if1.true)))
+returns c = rw (lt-ltb number_most (decimal (take c.before.before.before.before.args.n c.before.before.before.before.args.s.now)) (omega (arith, c.before.value.ensures, c.if1.true)))
 
 returns-2 : tie.Need-returns-2
-returns-2 c = rw (le-ltb numberMost (decimal (take c.before.before.before.before.args.n c.before.before.before.before.args.s.now)) (omega (arith, c.before.value.ensures, c.if1.false)))
+returns-2 c = rw (le-ltb number_most (decimal (take c.before.before.before.before.args.n c.before.before.before.before.args.s.now)) (omega (arith, c.before.value.ensures, c.if1.false)))
 
 pub number-spec : {M : Type 1} → statement M
 number-spec = tie.close (tie.spec slice-aggregate-value (λ c κs. search rules) returns returns-2)

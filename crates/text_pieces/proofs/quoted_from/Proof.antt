@@ -21,13 +21,13 @@ returns : tie.Need-returns invariant-loop decreases-loop
 returns c = sym (laws.quoted-closed c.before.before.before.before.before.loop.escaped c.before.before.before.before.before.before.before.args.s.now c.before.before.before.before.before.loop.i (search rules) (sym c.before.before.move-on.ensures ∙ c.enum_told.given.1)) ∙ c.before.before.before.before.before.loop.invariant.1
 
 returns-2 : tie.Need-returns-2 invariant-loop decreases-loop
-returns-2 c = sym (laws.quoted-spoiled c.before.before.before.before.before.loop.escaped c.before.before.before.before.before.before.before.args.s.now c.before.before.before.before.before.loop.i (search rules) (sym c.before.before.move-on.ensures ∙ c.enum-told2.given.1)) ∙ c.before.before.before.before.before.loop.invariant.1
+returns-2 c = sym (laws.quoted_spoiled c.before.before.before.before.before.loop.escaped c.before.before.before.before.before.before.before.args.s.now c.before.before.before.before.before.loop.i (search rules) (sym c.before.before.move-on.ensures ∙ c.enum-told2.given.1)) ∙ c.before.before.before.before.before.loop.invariant.1
 
 loop-again : tie.Need-loop-preserved invariant-loop decreases-loop
-loop-again c = (search rules, sym (laws.quoted-on c.before.before.before.before.before.before.loop.escaped c.before.m.given.0.0 c.before.before.before.before.before.before.before.before.args.s.now c.before.before.before.before.before.before.loop.i (search rules) (sym c.before.before.before.move-on.ensures ∙ c.before.m.given.1)) ∙ c.before.before.before.before.before.before.loop.invariant.1)
+loop-again c = (search rules, sym (laws.quoted_on c.before.before.before.before.before.before.loop.escaped c.before.m.given.0.0 c.before.before.before.before.before.before.before.before.args.s.now c.before.before.before.before.before.before.loop.i (search rules) (sym c.before.before.before.move-on.ensures ∙ c.before.m.given.1)) ∙ c.before.before.before.before.before.before.loop.invariant.1)
 
 returns-3 : tie.Need-returns-3 invariant-loop decreases-loop
-returns-3 c = sym (laws.quoted-end c.before.loop.escaped c.before.before.before.args.s.now c.before.loop.i (search rules)) ∙ c.before.loop.invariant.1
+returns-3 c = sym (laws.quoted_end c.before.loop.escaped c.before.before.before.args.s.now c.before.loop.i (search rules)) ∙ c.before.loop.invariant.1
 
 pub quoted-from-spec : {M : Type 1} → statement M
 quoted-from-spec =

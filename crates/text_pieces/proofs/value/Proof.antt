@@ -1,5 +1,5 @@
-use Rattle.base_ceilings.specs.Ceilings.{numberMost}
-use Rattle.spec_text.specs.Digits.{decimalFrom}
+use Rattle.base_ceilings.specs.Ceilings.{number_most}
+use Rattle.spec_text.specs.Digits.{decimal_from}
 use Rattle.text_pieces.proofs.Laws as laws
 use native.Mathlib.Omega.{arith}
 use lib.ListN.{length, drop}
@@ -10,7 +10,7 @@ use Rattle.text_pieces.proofs.value.Statement.{statement}
 use Rattle.text_pieces.proofs.value.Tie as tie
 
 abbrev invariant-loop : tie.invariant-loop
-invariant-loop s v₀ i₀ v i = (i ≤ length s) × (v ≤ numberMost + 1) × (min (numberMost + 1) (decimalFrom v (drop i s)) ≡ min (numberMost + 1) (decimalFrom 0 s))
+invariant-loop s v₀ i₀ v i = (i ≤ length s) × (v ≤ number_most + 1) × (min (number_most + 1) (decimal_from v (drop i s)) ≡ min (number_most + 1) (decimal_from 0 s))
 
 abbrev decreases-loop : tie.decreases-loop
 decreases-loop s v₀ i₀ v i = length s - i
@@ -22,10 +22,10 @@ add-lesser-2 : tie.Need-overflow-add-lesser-2 invariant-loop decreases-loop
 add-lesser-2 c = omega (arith, c.before.before.before.loop.invariant.1, c.digit.ensures, c.before.shared-slice-known2.given c.before.before.before.loop.i)
 
 loop-again : tie.Need-loop-preserved invariant-loop decreases-loop
-loop-again c = (search rules, omega arith, rw (c.lesser.ensures, c.before.digit.ensures) (laws.cut-more (numberMost + 1) c.before.before.before.before.before.before.args.s.now c.before.before.before.before.loop.i c.before.before.before.before.loop.v (search rules) ∙ c.before.before.before.before.loop.invariant.2))
+loop-again c = (search rules, omega arith, rw (c.lesser.ensures, c.before.digit.ensures) (laws.cut_more (number_most + 1) c.before.before.before.before.before.before.args.s.now c.before.before.before.before.loop.i c.before.before.before.before.loop.v (search rules) ∙ c.before.before.before.before.loop.invariant.2))
 
 returns : tie.Need-returns invariant-loop decreases-loop
-returns c = laws.cut-end (numberMost + 1) c.before.before.before.args.s.now c.before.loop.i c.before.loop.v (search rules) (search rules) ∙ c.before.loop.invariant.2
+returns c = laws.cut_end (number_most + 1) c.before.before.before.args.s.now c.before.loop.i c.before.loop.v (search rules) (search rules) ∙ c.before.loop.invariant.2
 
 pub value_spec : {M : Type 1} → statement M
 value_spec =

@@ -16,7 +16,7 @@ abbrev decreases-loop : tie.decreases-loop
 decreases-loop text kinds₀ starts₀ ends₀ i₀ n₀ kinds starts ends i n = length text - i
 
 loop-holds : tie.Need-loop-init invariant-loop decreases-loop
-loop-holds c = laws.at-start c.before.before.before.before.args.text.now c.before.before.before.before.args.kinds.now c.before.before.before.before.args.starts.now c.before.before.before.before.args.ends.now c.before.before.before.before.requires.1 c.before.before.before.before.requires.2 c.before.before.before.before.requires.3
+loop-holds c = laws.at_start c.before.before.before.before.args.text.now c.before.before.before.before.args.kinds.now c.before.before.before.before.args.starts.now c.before.before.before.before.args.ends.now c.before.before.before.before.requires.1 c.before.before.before.before.requires.2 c.before.before.before.before.requires.3
 
 add-i : tie.Need-overflow-add-i invariant-loop decreases-loop
 add-i c = let w = laws.within c.before.before.before.before.before.before.before.before.before.before.before.args.text.now c.before.before.before.before.before.before.loop.i c.before.before.before.front.result c.before.before.before.front.ensures (search rules) in let e = ap size c.before.p.given.1 in omega arith
@@ -43,7 +43,7 @@ loop-less-2 : tie.Need-loop-smaller-2 invariant-loop decreases-loop
 loop-less-2 c = let w = laws.within c.before.before.before.before.before.before.before.before.before.before.before.before.args.text.now c.before.before.before.before.before.before.before.loop.i c.before.before.before.before.front.result c.before.before.before.before.front.ensures (search rules) in let e = ap size c.before.before.p2.given.1 in omega arith
 
 loop-again-2 : tie.Need-loop-preserved-2 invariant-loop decreases-loop
-loop-again-2 c = laws.past-take c.before.before.before.before.before.before.before.loop.invariant c.before.before.p2.given.0.0 c.before.before.p2.given.0.1.0 (search rules) c.if1.false (laws.seen c.before.before.before.before.before.before.before.before.before.before.before.before.args.text.now c.before.before.before.before.before.before.before.loop.i c.before.before.before.before.front.result (Take c.before.before.p2.given.0.0 c.before.before.p2.given.0.1.0) c.before.before.before.before.front.ensures c.before.before.p2.given.1)
+loop-again-2 c = laws.past_take c.before.before.before.before.before.before.before.loop.invariant c.before.before.p2.given.0.0 c.before.before.p2.given.0.1.0 (search rules) c.if1.false (laws.seen c.before.before.before.before.before.before.before.before.before.before.before.before.args.text.now c.before.before.before.before.before.before.before.loop.i c.before.before.before.before.front.result (Take c.before.before.p2.given.0.0 c.before.before.p2.given.0.1.0) c.before.before.before.before.front.ensures c.before.before.p2.given.1)
 
 returns-2 : tie.Need-returns-2 invariant-loop decreases-loop
 returns-2 c = laws.stopped c.before.before.before.before.before.before.loop.invariant c.before.p3.given.0.0 c.before.p3.given.0.1.0 (search rules) (laws.seen c.before.before.before.before.before.before.before.before.before.before.before.args.text.now c.before.before.before.before.before.before.loop.i c.before.before.before.front.result (Stop c.before.p3.given.0.0 c.before.p3.given.0.1.0) c.before.before.before.front.ensures c.before.p3.given.1)

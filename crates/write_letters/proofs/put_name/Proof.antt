@@ -1,6 +1,6 @@
 use Rattle.write_letters.proofs.Tokens as laws
 use Rattle.table_layout.specs.Back.{upto}
-use Rattle.table_layout.specs.Access.{nameLength, nameByte}
+use Rattle.table_layout.specs.Access.{name_length, name_byte}
 use Rattle.base_pens.specs.Pen.{pen, puts}
 use lib.ListN.{length}
 use mathlib.Core.Path.{sym, refl, ◌∙◌, ◌≡◌}
@@ -11,7 +11,7 @@ use Rattle.write_letters.proofs.put_name.Statement.{statement}
 use Rattle.write_letters.proofs.put_name.Tie as tie
 
 abbrev invariant-loop : tie.invariant-loop
-invariant-loop t i out₀ p n q₀ k₀ out q k = (length out ≡ length out₀) × (puts (upto (nameByte t i) k (n - k)) (pen out q) ≡ puts (upto (nameByte t i) 0 (nameLength t i)) (pen out₀ q₀))
+invariant-loop t i out₀ p n q₀ k₀ out q k = (length out ≡ length out₀) × (puts (upto (name_byte t i) k (n - k)) (pen out q) ≡ puts (upto (name_byte t i) 0 (name_length t i)) (pen out₀ q₀))
 
 abbrev decreases-loop : tie.decreases-loop
 decreases-loop t i out₀ p n q₀ k₀ out q k = n - k
@@ -26,7 +26,7 @@ same_length : tie.Need-same-length invariant-loop decreases-loop
 same_length c = c.before.loop.invariant.0
 
 returns : tie.Need-returns invariant-loop decreases-loop
-returns c = sym (laws.name-end c.before.before.before.before.before.args.t.now c.before.before.before.before.before.args.i c.before.loop.k c.before.before.name-length.result _ c.loop-test.false) ∙ c.before.loop.invariant.1
+returns c = sym (laws.name_end c.before.before.before.before.before.args.t.now c.before.before.before.before.before.args.i c.before.loop.k c.before.before.name-length.result _ c.loop-test.false) ∙ c.before.loop.invariant.1
 
 pub put-name-spec : {M : Type 1} → statement M
 put-name-spec =

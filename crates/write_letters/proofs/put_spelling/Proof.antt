@@ -4,7 +4,7 @@ use Rattle.write_letters.proofs.put_spelling.Statement.{statement}
 use Rattle.write_letters.proofs.put_spelling.Tie as tie
 
 returns : tie.Need-returns
-returns c = laws.fixed-spelled c.before.before.before.before.before.before.before.args.t.now c.before.before.before.before.before.before.before.args.v _ _ c.before.before.before.before.if1.true c.before.before.put-fixed.ensures
+returns c = laws.fixed_spelled c.before.before.before.before.before.before.before.args.t.now c.before.before.before.before.before.before.before.args.v _ _ c.before.before.before.before.if1.true c.before.before.put-fixed.ensures
 
 returns-2 : tie.Need-returns-2
 returns-2 c = laws.held-spelled c.before.before.before.before.before.before.before.before.args.t.now c.before.before.before.before.before.before.before.before.args.v _ _ _ c.before.before.before.before.before.if1.false c.before.before.before.before.item_of.ensures c.before.before.put-held.ensures

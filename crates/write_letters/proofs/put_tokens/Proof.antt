@@ -1,6 +1,6 @@
 use Rattle.write_letters.proofs.Tokens as laws
-use Rattle.write_letters.specs.Tokens.{tokenBy}
-use Rattle.text_pens.specs.After.{writeAfter}
+use Rattle.write_letters.specs.Tokens.{token_by}
+use Rattle.text_pens.specs.After.{write_after}
 use Rattle.spec_text.specs.Writing.{write}
 use Rattle.base_pens.specs.Pen.{pen, puts}
 use lib.ListN.{length, drop}
@@ -13,7 +13,7 @@ use Rattle.write_letters.proofs.put_tokens.Statement.{statement}
 use Rattle.write_letters.proofs.put_tokens.Tie as tie
 
 abbrev invariant-loop : tie.invariant-loop
-invariant-loop t toks out₀ p k₀ q₀ j₀ out k q j = (length out ≡ length out₀) × (puts (writeAfter k (map (tokenBy t) (drop j toks))) (pen out q) ≡ puts (write (map (tokenBy t) toks)) (pen out₀ p))
+invariant-loop t toks out₀ p k₀ q₀ j₀ out k q j = (length out ≡ length out₀) × (puts (write_after k (map (token_by t) (drop j toks))) (pen out q) ≡ puts (write (map (token_by t) toks)) (pen out₀ p))
 
 abbrev decreases-loop : tie.decreases-loop
 decreases-loop t toks out₀ p k₀ q₀ j₀ out k q j = length toks - j
@@ -28,7 +28,7 @@ same_length : tie.Need-same-length invariant-loop decreases-loop
 same_length c = c.before.loop.invariant.0
 
 returns : tie.Need-returns invariant-loop decreases-loop
-returns c = sym (laws.tokens-end c.before.before.before.before.before.args.t.now c.before.before.before.before.before.args.toks.now c.before.loop.j c.before.loop.k _ c.loop-test.false) ∙ c.before.loop.invariant.1
+returns c = sym (laws.tokens_end c.before.before.before.before.before.args.t.now c.before.before.before.before.before.args.toks.now c.before.loop.j c.before.loop.k _ c.loop-test.false) ∙ c.before.loop.invariant.1
 
 pub put-tokens-spec : {M : Type 1} → statement M
 put-tokens-spec =

@@ -4,15 +4,15 @@ use mathlib.Core.Path.{refl, ◌∙◌, ◌≡◌}
 use mathlib.Core.List.{map}
 use lib.ListN.{length, drop}
 use Rattle.base_pens.specs.Pen.{pen, puts}
-use Rattle.write_letters.specs.Tokens.{tokenBy}
-use Rattle.write_lines.specs.Lines.{layAfter, layAll}
+use Rattle.write_letters.specs.Tokens.{token_by}
+use Rattle.write_lines.specs.Lines.{lay_after, lay_all}
 use Rattle.write_lines.proofs.Lines as laws
 use borrow.Author.Rules.{rules}
 use Rattle.write_lines.proofs.put_lines.Statement.{statement}
 use Rattle.write_lines.proofs.put_lines.Tie as tie
 
 abbrev invariant-loop : tie.invariant-loop
-invariant-loop t toks out₀ p k₀ place₀ open₀ ended₀ q₀ j₀ out k place «open» ended q j = (length out ≡ length out₀) × («open» ≤ j) × (puts (layAfter k place «open» ended (map (tokenBy t) (drop j toks))) (pen out q) ≡ puts (layAll (map (tokenBy t) toks)) (pen out₀ p))
+invariant-loop t toks out₀ p k₀ place₀ open₀ ended₀ q₀ j₀ out k place «open» ended q j = (length out ≡ length out₀) × («open» ≤ j) × (puts (lay_after k place «open» ended (map (token_by t) (drop j toks))) (pen out q) ≡ puts (lay_all (map (token_by t) toks)) (pen out₀ p))
 
 abbrev decreases-loop : tie.decreases-loop
 decreases-loop t toks out₀ p k₀ place₀ open₀ ended₀ q₀ j₀ out k place «open» ended q j = length toks - j

@@ -13,7 +13,7 @@ abbrev decreases-loop : tie.decreases-loop
 decreases-loop rows stack₀ sp r i p₀ k₀ stack p k = k
 
 loop-holds : tie.Need-loop-init invariant-loop decreases-loop
-loop-holds c = laws.lay-start c.before.before.args.stack.now c.before.before.args.sp c.before.before.args.r c.before.before.args.i
+loop-holds c = laws.lay_start c.before.before.args.stack.now c.before.before.args.sp c.before.before.args.r c.before.before.args.i
 
 add-cell : tie.Need-overflow-add-cell invariant-loop decreases-loop
 add-cell c = omega (arith, c.before.before.loop.invariant.most)
@@ -25,13 +25,13 @@ push-requires : tie.Need-push-requires invariant-loop decreases-loop
 push-requires c κs = (omega (arith, c.before.before.before.before.loop.invariant.low, c.before.before.before.before.loop.invariant.most), omega (arith, c.before.before.before.before.loop.invariant.high, c.before.before.before.before.loop.invariant.size))
 
 loop-again : tie.Need-loop-preserved invariant-loop decreases-loop
-loop-again c = laws.lay-more c.before.before.before.before.before.before.before.before.before.before.args.stack.now c.before.before.before.before.before.before.before.loop.stack c.before.before.before.before.before.before.before.before.before.before.args.sp c.before.before.before.before.before.before.before.before.before.before.args.r c.before.before.before.before.before.before.before.before.before.before.args.i c.before.before.before.before.before.before.before.loop.p c.before.before.before.before.before.before.before.loop.k _ _ _ _ _ refl c.before.before.before.before.before.before.loop-test.true c.before.before.before.before.before.before.before.loop.invariant c.before.before.before.before.cell.ensures.0 c.before.before.before.said.ensures c.before.before.push.ensures
+loop-again c = laws.lay_more c.before.before.before.before.before.before.before.before.before.before.args.stack.now c.before.before.before.before.before.before.before.loop.stack c.before.before.before.before.before.before.before.before.before.before.args.sp c.before.before.before.before.before.before.before.before.before.before.args.r c.before.before.before.before.before.before.before.before.before.before.args.i c.before.before.before.before.before.before.before.loop.p c.before.before.before.before.before.before.before.loop.k _ _ _ _ _ refl c.before.before.before.before.before.before.loop-test.true c.before.before.before.before.before.before.before.loop.invariant c.before.before.before.before.cell.ensures.0 c.before.before.before.said.ensures c.before.before.push.ensures
 
 same_length : tie.Need-same-length invariant-loop decreases-loop
 same_length c = c.before.loop.invariant.size
 
 returns : tie.Need-returns invariant-loop decreases-loop
-returns c = laws.lay-end c.before.before.before.before.args.stack.now c.before.loop.stack c.before.before.before.before.args.sp c.before.before.before.before.args.r c.before.before.before.before.args.i c.before.loop.p c.before.loop.k c.loop-test.false c.before.loop.invariant
+returns c = laws.lay_end c.before.before.before.before.args.stack.now c.before.loop.stack c.before.before.before.before.args.sp c.before.before.before.before.args.r c.before.before.before.before.args.i c.before.loop.p c.before.loop.k c.loop-test.false c.before.loop.invariant
 
 pub lay-spec : {M : Type 1} → statement M
 lay-spec =

@@ -30,7 +30,7 @@ same_length : tie.Need-same-length invariant-loop decreases-loop
 same_length c = c.before.loop.invariant.0
 
 returns : tie.Need-returns invariant-loop decreases-loop
-returns c = laws.mark-end c.before.before.before.before.args.t.now c.before.loop.codes c.before.loop.b c.before.before.before.before.args.from c.before.loop.i c.before.before.before.before.args.n _ (omega (arith, c.before.loop.invariant.1)) c.before.loop.invariant.2
+returns c = laws.mark_end c.before.before.before.before.args.t.now c.before.loop.codes c.before.loop.b c.before.before.before.before.args.from c.before.loop.i c.before.before.before.before.args.n _ (omega (arith, c.before.loop.invariant.1)) c.before.loop.invariant.2
 
 pub mark_spec : {M : Type 1} → statement M
 mark_spec =

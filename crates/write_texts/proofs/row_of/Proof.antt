@@ -4,14 +4,14 @@ use native.Mathlib.Omega.{arith}
 use mathlib.Core.Path.{◌≡◌, ◌∙◌}
 use lib.ListN.{length}
 use Rattle.write_rows.specs.Rules.{rows}
-use Rattle.write_texts.specs.Turning.{rowFrom}
+use Rattle.write_texts.specs.Turning.{row_from}
 use Rattle.write_texts.proofs.Rows as laws
 use borrow.Author.Rules.{rules}
 use Rattle.write_texts.proofs.row_of.Statement.{statement}
 use Rattle.write_texts.proofs.row_of.Tie as tie
 
 abbrev invariant-loop : tie.invariant-loop
-invariant-loop rows s c a r₀ r = (r ≤ 134) × (rowFrom a c r (134 - r) ≡ rowFrom a c 0 (length rules.rows))
+invariant-loop rows s c a r₀ r = (r ≤ 134) × (row_from a c r (134 - r) ≡ row_from a c 0 (length rules.rows))
 
 abbrev decreases-loop : tie.decreases-loop
 decreases-loop rows s c a r₀ r = 134 - r
@@ -20,7 +20,7 @@ loop-holds : tie.Need-loop-init invariant-loop decreases-loop
 loop-holds c = (omega arith, laws.row-start c.shared.result c.before.before.args.c)
 
 returns : tie.Need-returns invariant-loop decreases-loop
-returns c = (laws.row_is c.before.before.before.before.before.before.args.s c.before.before.before.before.before.before.args.c c.before.before.before.before.shared.result c.before.before.before.loop.r c.before.before.before.before.shared.ensures (laws.row-found c.before.before.before.before.shared.result c.before.before.before.before.before.before.args.c c.before.before.before.loop.r _ c.before.before.loop-test.true c.before.is-row.ensures c.if1.true ∙ c.before.before.before.loop.invariant.1), omega arith)
+returns c = (laws.row_is c.before.before.before.before.before.before.args.s c.before.before.before.before.before.before.args.c c.before.before.before.before.shared.result c.before.before.before.loop.r c.before.before.before.before.shared.ensures (laws.row_found c.before.before.before.before.shared.result c.before.before.before.before.before.before.args.c c.before.before.before.loop.r _ c.before.before.loop-test.true c.before.is-row.ensures c.if1.true ∙ c.before.before.before.loop.invariant.1), omega arith)
 
 loop-again : tie.Need-loop-preserved invariant-loop decreases-loop
 loop-again c = (omega arith, laws.row_more c.before.before.before.before.shared.result c.before.before.before.before.before.before.args.c c.before.before.before.loop.r _ c.before.before.loop-test.true c.before.is-row.ensures c.if1.false ∙ c.before.before.before.loop.invariant.1)

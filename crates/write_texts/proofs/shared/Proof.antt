@@ -6,7 +6,7 @@ returns : tie.Need-returns
 returns c = laws.shared-low c.before.args.s c.if1.true
 
 returns-2 : tie.Need-returns-2
-returns-2 c = laws.shared-mid c.before.before.args.s c.before.if1.false c.if2.true
+returns-2 c = laws.shared_mid c.before.before.args.s c.before.if1.false c.if2.true
 
 returns-3 : tie.Need-returns-3
 returns-3 c = laws.shared-high c.before.before.args.s c.before.if1.false c.if2.false

@@ -7,7 +7,7 @@ returns : tie.Need-returns
 returns c = laws.step-none c.before.before.before.args.stack.now c.before.before.before.args.sp c.before.before.before.args.s c.before.before.before.args.c c.before.before.before.args.i c.if1.true
 
 returns-2 : tie.Need-returns-2
-returns-2 c = laws.step-binary c.before.before.before.before.before.before.before.before.before.before.args.stack.now _ c.before.before.before.before.before.before.before.before.before.before.args.sp _ c.before.before.before.before.before.before.before.before.before.before.args.s c.before.before.before.before.before.before.before.before.before.before.args.c c.before.before.before.before.before.before.before.before.before.before.args.i _ _ c.before.before.before.before.before.before.is-binary.ensures c.before.before.before.before.before.if2.true c.before.before.before.operator.ensures c.before.before.operate.ensures
+returns-2 c = laws.step_binary c.before.before.before.before.before.before.before.before.before.before.args.stack.now _ c.before.before.before.before.before.before.before.before.before.before.args.sp _ c.before.before.before.before.before.before.before.before.before.before.args.s c.before.before.before.before.before.before.before.before.before.before.args.c c.before.before.before.before.before.before.before.before.before.before.args.i _ _ c.before.before.before.before.before.before.is-binary.ensures c.before.before.before.before.before.if2.true c.before.before.before.operator.ensures c.before.before.operate.ensures
 
 returns-3 : tie.Need-returns-3
 returns-3 c = laws.step_row c.before.before.before.before.before.before.before.before.before.before.args.stack.now _ c.before.before.before.before.before.before.before.before.before.before.args.sp _ c.before.before.before.before.before.before.before.before.before.before.args.s c.before.before.before.before.before.before.before.before.before.before.args.c c.before.before.before.before.before.before.before.before.before.before.args.i _ _ c.before.before.before.before.before.before.is-binary.ensures c.before.before.before.before.before.if2.false c.before.before.before.row_of.ensures.0 c.before.before.lay.ensures

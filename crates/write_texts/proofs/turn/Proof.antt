@@ -12,7 +12,7 @@ abbrev decreases-loop : tie.decreases-loop
 decreases-loop rows codes symbol stack₀ toks₀ sp₀ tp₀ i₀ stack toks sp tp i = i
 
 loop-holds : tie.Need-loop-init invariant-loop decreases-loop
-loop-holds c = laws.turn-start c.before.before.before.before.before.before.before.before.args.symbol c.before.before.before.before.before.before.before.before.args.codes.now c.before.before.before.before.before.before.before.before.args.stack.now _ c.before.before.before.before.before.before.before.before.args.toks.now _ c.before.before.before.before.before.before.before.before.requires.2 c.before.before.before.before.before.before.before.before.requires.3 c.before.before.push.ensures
+loop-holds c = laws.turn_start c.before.before.before.before.before.before.before.before.args.symbol c.before.before.before.before.before.before.before.before.args.codes.now c.before.before.before.before.before.before.before.before.args.stack.now _ c.before.before.before.before.before.before.before.before.args.toks.now _ c.before.before.before.before.before.before.before.before.requires.2 c.before.before.before.before.before.before.before.before.requires.3 c.before.before.push.ensures
 
 loop-again : tie.Need-loop-preserved invariant-loop decreases-loop
 loop-again c = laws.turn_more c.before.before.before.before.before.before.before.before.before.before.before.before.before.before.before.before.before.before.before.before.before.before.before.args.symbol c.before.before.before.before.before.before.before.before.before.before.before.before.before.before.before.before.before.before.before.before.before.before.before.args.codes.now c.before.before.before.before.before.before.before.before.before.before.before.before.before.before.loop.stack c.before.before.before.before.before.before.before.before.before.before.before.before.before.before.loop.toks _ _ c.before.before.before.before.before.before.before.before.before.before.before.before.before.before.loop.sp c.before.before.before.before.before.before.before.before.before.before.before.before.before.before.loop.tp c.before.before.before.before.before.before.before.before.before.before.before.before.before.before.loop.i _ _ _ _ _ _ _ c.before.before.before.before.before.before.before.before.before.before.before.before.before.before.loop.invariant c.before.before.before.before.before.before.before.before.before.before.before.before.before.loop-test.true refl c.before.before.before.before.before.before.before.before.before.before.flush.ensures c.before.before.before.before.before.before.word_at.ensures c.before.before.before.before.next.ensures refl c.before.before.step.ensures

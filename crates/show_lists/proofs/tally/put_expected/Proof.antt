@@ -10,7 +10,7 @@ returns-2 : tie.Need-returns-2
 returns-2 c = laws.any-put c.before.before.before.before.args.x _ _ c.before.before.if1.false c.enum_told.given.1
 
 returns-3 : tie.Need-returns-3
-returns-3 c = laws.exactly-put c.before.before.before.before.before.before.before.before.before.args.x _ _ _ _ c.before.before.before.before.before.before.before.if1.false c.before.before.before.before.before.x.given.1 c.before.before.put_other.ensures
+returns-3 c = laws.exactly_put c.before.before.before.before.before.before.before.before.before.args.x _ _ _ _ c.before.before.before.before.before.before.before.if1.false c.before.before.before.before.before.x.given.1 c.before.before.put_other.ensures
 
 pub put-expected-spec : {M : Type 1} → statement M
 put-expected-spec =

@@ -1,4 +1,4 @@
-use Rattle.spec_text.specs.Formats.{digitsOf}
+use Rattle.spec_text.specs.Formats.{digits_of}
 use Rattle.base_kinds.specs.Kinds.{bytes}
 use Rattle.base_pens.proofs.Pen as pens
 use Rattle.show_lists.proofs.Laws as laws
@@ -7,10 +7,10 @@ use Rattle.show_lists.proofs.tally.put_further.Statement.{statement}
 use Rattle.show_lists.proofs.tally.put_further.Tie as tie
 
 returns : tie.Need-returns
-returns c = laws.no-further _ _ c.if1.true
+returns c = laws.no_further _ _ c.if1.true
 
 returns-2 : tie.Need-returns-2
-returns-2 c = laws.further-put _ _ _ c.before.before.before.before.before.before.before.before.before.before.before.before.before.before.if1.false (pens.then-puts (bytes " and ") _ _ _ _ c.before.before.before.before.before.before.before.before.before.before.before.put_all.ensures (pens.then-puts (digitsOf c.before.before.before.before.before.before.before.before.before.before.before.before.before.before.before.before.args.n) (bytes " more") _ _ _ c.before.before.before.before.before.before.before.put-number.ensures c.before.before.put-all2.ensures))
+returns-2 c = laws.further-put _ _ _ c.before.before.before.before.before.before.before.before.before.before.before.before.before.before.if1.false (pens.then_puts (bytes " and ") _ _ _ _ c.before.before.before.before.before.before.before.before.before.before.before.put_all.ensures (pens.then_puts (digits_of c.before.before.before.before.before.before.before.before.before.before.before.before.before.before.before.before.args.n) (bytes " more") _ _ _ c.before.before.before.before.before.before.before.put-number.ensures c.before.before.put-all2.ensures))
 
 pub put-further-spec : {M : Type 1} → statement M
 put-further-spec =

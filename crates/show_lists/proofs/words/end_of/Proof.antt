@@ -9,7 +9,7 @@ use Rattle.show_lists.proofs.words.end_of.Statement.{statement}
 use Rattle.show_lists.proofs.words.end_of.Tie as tie
 
 abbrev invariant-loop : tie.invariant-loop
-invariant-loop line x₀ k₀ x k = spec.endFrom x (drop k line) ≡ spec.endFrom x₀ line
+invariant-loop line x₀ k₀ x k = spec.end_from x (drop k line) ≡ spec.end_from x₀ line
 
 abbrev decreases-loop : tie.decreases-loop
 decreases-loop line x₀ k₀ x k = length line - k

@@ -4,7 +4,7 @@ use Rattle.show_lists.proofs.words.without_return.Statement.{statement}
 use Rattle.show_lists.proofs.words.without_return.Tie as tie
 
 returns : tie.Need-returns
-returns c = laws.return-cut c.before.before.before.before.before.args.line.now _ _ _ c.before.before.before.minus.ensures c.before.before.byte_at.ensures c.before.if1.true c.part.ensures
+returns c = laws.return_cut c.before.before.before.before.before.args.line.now _ _ _ c.before.before.before.minus.ensures c.before.before.byte_at.ensures c.before.if1.true c.part.ensures
 
 returns-2 : tie.Need-returns-2
 returns-2 c = laws.return_kept c.before.before.before.before.args.line.now _ _ c.before.before.minus.ensures c.before.byte_at.ensures c.if1.false
