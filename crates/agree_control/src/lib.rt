@@ -1,1 +1,2 @@
 // That the links of an accepted text lead where its tree does is theorems alone (proofs/).
+#![tactic(auto)]

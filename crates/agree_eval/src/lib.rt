@@ -1,1 +1,2 @@
 // That the tables of accepted texts say what the expressions of their trees mean is theorems alone (proofs/).
+#![tactic(auto)]

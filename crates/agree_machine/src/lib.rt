@@ -1,1 +1,2 @@
 // The machine of tables is that of the tree: theorems alone (proofs/).
+#![tactic(auto)]

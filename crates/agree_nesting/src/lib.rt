@@ -1,1 +1,2 @@
 // That selections and options of an accepted text are nested in its tables is theorems alone (proofs/).
+#![tactic(auto)]

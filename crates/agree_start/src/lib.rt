@@ -1,1 +1,2 @@
 // What begins in a model is definitions and theorems alone (specs/, proofs/).
+#![tactic(auto)]

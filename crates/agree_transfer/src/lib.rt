@@ -1,1 +1,2 @@
 // That stages and machines which agree move alike is definitions and theorems alone (specs/, proofs/).
+#![tactic(auto)]

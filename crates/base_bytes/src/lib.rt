@@ -1,4 +1,6 @@
 // Leaves that every pass over bytes and numbers shares: reading past the end gives 0, copying stops at the shorter end.
+#![tactic(auto)]
+
 ghost use Rattle.std.specs.Prelude.{◌≡◌, min, ◌+◌, ◌-◌, ◌<◌, get_or};
 ghost use Rattle.base_bytes.specs.Lists.{same, pasted, piece};
 ghost use Rattle.base_bytes.specs.Choice as choice;

@@ -1,5 +1,6 @@
 // The kinds of tokens, as numbers: what each number spells is in specs/Kinds.antt, the one place that says so.
 // 1 to 18 are the binary operators, numbered so that ranges give their binding levels; 38 to 45 the types, so that ranges give their widths.
+#![tactic(auto)]
 
 // Past the last token.
 pub const END: u8 = 0;

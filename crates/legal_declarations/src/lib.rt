@@ -1,1 +1,2 @@
 // That the faults of the items of a model are those of its derivation is theorems alone (proofs/).
+#![tactic(auto)]

@@ -1,1 +1,2 @@
 // The tokens of the items of a derivation are definitions and theorems alone (specs/, proofs/).
+#![tactic(auto)]

@@ -1,1 +1,2 @@
 // That the parser gives each item the token of the derivation is theorems alone (proofs/).
+#![tactic(auto)]

@@ -1,4 +1,5 @@
 // The program over model and trail files. The last line of what it writes is always the answer; where its first word is `--status`, it tells the status of that answer at the very end.
+#![tactic(auto)]
 ghost use Rattle.std.specs.Prelude.{◌≤◌};
 
 use base_bytes::part;

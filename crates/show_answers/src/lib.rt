@@ -1,4 +1,5 @@
 // Answers, and the line and the marks of a refused part, written to lent bytes; and the two functions that hand finished bytes to standard output.
+#![tactic(auto)]
 ghost use Rattle.std.specs.Prelude.{◌≤◌, ◌-◌, min, ◌≡◌, [], ◌∷◌, ◌++◌, length, get_or, eqb};
 ghost use Rattle.base_bytes.specs.Choice.{pick};
 ghost use Rattle.base_pens.specs.Pen.{pen, puts};

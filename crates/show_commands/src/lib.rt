@@ -1,4 +1,5 @@
 // Commands on the tables of an accepted model; the last line of each is its answer. Each returns the status of that answer (`show_statuses`).
+#![tactic(auto)]
 ghost use Rattle.std.specs.Prelude.{◌≡◌};
 ghost use Rattle.base_pens.specs.Pen.{pen, puts};
 ghost use Rattle.show_commands.specs.Statuses as statuses;

@@ -1,4 +1,5 @@
 // A command with the words that stand behind it, over files; each returns the status of its answer (`show_statuses`). Lists of such commands stand in the module `lists`.
+#![tactic(auto)]
 ghost use Rattle.std.specs.Prelude.{◌≡◌, ◌≤◌};
 
 pub mod lists;

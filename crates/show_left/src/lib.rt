@@ -1,4 +1,5 @@
 // The command that shows the state which a trail leaves. Its last line is the replay's answer, and it returns the status of that.
+#![tactic(auto)]
 ghost use Rattle.std.specs.Prelude.{◌≡◌};
 ghost use Rattle.show_commands.specs.Statuses as statuses;
 

@@ -1,4 +1,5 @@
 // The automatic run, which shows what its steps print as it goes: the same run as that of `run_entry`.
+#![tactic(auto)]
 ghost use Rattle.std.specs.Prelude.{◌≡◌};
 ghost use Rattle.run_entry.specs.Runs.{turn_in, run_in, shown};
 

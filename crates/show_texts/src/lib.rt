@@ -1,4 +1,5 @@
 // A command on the text of a model. Each function that answers returns the status of its answer (`show_statuses`).
+#![tactic(auto)]
 ghost use Rattle.std.specs.Prelude.{◌≡◌};
 ghost use Rattle.show_texts.specs.Statuses as statuses;
 

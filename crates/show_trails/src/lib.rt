@@ -1,4 +1,5 @@
 // The command that shows the steps of a trail one by one, and what each did. Its last line is the replay's answer, and it returns the status of that.
+#![tactic(auto)]
 ghost use Rattle.std.specs.Prelude.{◌≡◌};
 ghost use Rattle.spec_machine.specs.Machine as machine;
 ghost use Rattle.step_all.specs.Moving.{machine_in};

@@ -1,1 +1,2 @@
 // Trees and the grammar are definitions and theorems alone (specs/ and proofs/).
+#![tactic(auto)]

@@ -1,1 +1,2 @@
 // Definitions alone: specs/.
+#![tactic(auto)]

@@ -1,1 +1,2 @@
 // The rows of the table of refusals are definitions alone (specs/).
+#![tactic(auto)]

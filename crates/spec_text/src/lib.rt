@@ -1,1 +1,2 @@
 // What the specification says of texts is definitions alone (specs/).
+#![tactic(auto)]

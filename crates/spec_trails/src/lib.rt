@@ -1,1 +1,2 @@
 // Runs and trails of the specification are definitions alone (specs/).
+#![tactic(auto)]

@@ -1,4 +1,5 @@
 // The entries of the stepper.
+#![tactic(auto)]
 ghost use Rattle.std.specs.Prelude.{◌≡◌};
 ghost use Rattle.step_entry.specs.Entries as entries;
 

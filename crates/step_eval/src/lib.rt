@@ -1,4 +1,5 @@
 // Working expressions out over tables and a state, for a process. No function asks anything of its caller: past the end of tables and state every number is 0.
+#![tactic(auto)]
 ghost use Rattle.std.specs.Prelude.{◌≡◌, ◌+◌, ◌-◌, ◌<◌};
 ghost use Rattle.base_values.specs.Operators.{truth};
 ghost use Rattle.step_eval.specs.Variables as variables;

@@ -1,4 +1,5 @@
 // How the answers of the stepper's entries are shown.
+#![tactic(auto)]
 use libc::STDOUT_FILENO;
 use run_entry::{Ending, Ran};
 use step_entry::{Standing, Stepped};

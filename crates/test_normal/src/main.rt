@@ -1,5 +1,6 @@
 // Prints the normal text of each text on standard input, and of its tables: in a room of its length and one less, and how many of the tables are still a text's when one
 // of their numbers is one more.
+#![tactic(auto)]
 ghost use Rattle.std.specs.Prelude.{◌≤◌};
 
 use libc::STDOUT_FILENO;

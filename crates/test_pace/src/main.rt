@@ -1,4 +1,5 @@
 // Replays the trail on standard input on the model before it, and runs that model, each twenty times: time it to see what steps of many processes take.
+#![tactic(auto)]
 use libc::STDOUT_FILENO;
 use read_passes::Judged;
 use run_entry::Ran;

@@ -1,4 +1,5 @@
 // Prints whether each text on standard input is accepted, or its refusal.
+#![tactic(auto)]
 use libc::STDOUT_FILENO;
 use read_passes::Judged;
 use test_cases::Case;

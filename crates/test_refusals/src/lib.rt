@@ -1,1 +1,2 @@
 // Refusals of small texts, computed from their bytes: they are theorems alone (specs/).
+#![tactic(auto)]

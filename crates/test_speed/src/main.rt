@@ -1,4 +1,5 @@
 // Reads the model on standard input a hundred times, and says how often it was accepted: time it to see what one reading takes.
+#![tactic(auto)]
 use libc::STDOUT_FILENO;
 use read_passes::Judged;
 use test_cases::Case;

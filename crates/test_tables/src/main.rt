@@ -1,4 +1,5 @@
 // Prints the tables of four items with room enough, one number short and none at all, and what the accessors read from them.
+#![tactic(auto)]
 use libc::STDOUT_FILENO;
 
 fn number(n: usize) {

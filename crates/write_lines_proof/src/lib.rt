@@ -1,1 +1,2 @@
 // Tokens laid out in lines: theorems alone (proofs/).
+#![tactic(auto)]
