@@ -1,5 +1,6 @@
 // The ceilings as numbers of the code; specs/Ceilings.antt says what each of them is, in the same order, and `ceiling` that they are the same.
 #![tactic(auto)]
+
 ghost use Rattle.std.specs.Prelude.{◌≡◌, get_or};
 ghost use Rattle.base_ceilings.specs.Ceilings.{ceilings};
 

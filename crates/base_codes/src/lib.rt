@@ -1,5 +1,6 @@
 // The items' codes and the sets that they are in, for code; specs/Codes.antt and specs/Sets.antt say so for definitions.
 #![tactic(auto)]
+
 ghost use Rattle.std.specs.Prelude.{◌≡◌};
 ghost use Rattle.base_codes.specs.Sets as sets;
 

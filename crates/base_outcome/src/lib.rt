@@ -1,5 +1,6 @@
 // A step, and what came of taking it, for the specification and the code alike.
 #![tactic(auto)]
+
 use base_values::Fault;
 
 // Whom a step takes along: a process, at a place of its own; or nobody.

@@ -1,5 +1,6 @@
 // Writing numbers, and bytes packed four to a number, one after the other to a lent slice that may end too soon.
 #![tactic(auto)]
+
 ghost use Rattle.std.specs.Prelude.{◌≡◌, ◌+◌, ◌<◌};
 ghost use Rattle.base_pens.specs.Pen.{pen, write};
 ghost use Rattle.base_pens.specs.Pack as pack;

@@ -1,6 +1,7 @@
 // Values of a model: signed 32-bit numbers, the operators on them by number, and casting for stores.
 // No function asks anything of its caller. specs/ says what each means.
 #![tactic(auto)]
+
 ghost use Rattle.std.specs.Prelude.{◌≡◌, ◌+ℤ◌, ◌-ℤ◌, ◌*ℤ◌};
 ghost use Rattle.base_values.specs.Bits.{low, signed, wrap32};
 ghost use Rattle.base_values.specs.Operators.{level_of, divide_of, remainder_of, shift_left_of, shift_right_of, apply_of, unary_of};

@@ -1,5 +1,6 @@
 // How deep brackets and selections nest, over the kinds of tokens: the ceilings that are judged beside the grammar.
 #![tactic(auto)]
+
 ghost use Rattle.std.specs.Prelude.{◌≡◌, ◌-◌, ◌≤◌};
 ghost use Rattle.base_ceilings.specs.Ceilings.{brackets_most};
 ghost use Rattle.parse_machine.specs.Depth.{brackets, selections, too_deep};

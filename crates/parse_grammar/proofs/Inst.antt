@@ -26,6 +26,7 @@ Each Q (x ∷ l) = Q x × Each Q l
 pub each_in : {X : Type 0} (Q : X → Type 0) (l : List X) → Each Q l → (x : X) → In x l → Q x
 each_in Q (y ∷ l) u x here = u.0
 each_in Q (y ∷ l) u x (there m) = each_in Q l u.1 x m
+each_in {X = X} Q [] u x x4 = elim x4 [ ]
 
 abbrev pub all : {X : Type 0} → (X → Bool) → List X → Bool
 all p [] = true
@@ -34,6 +35,7 @@ all p (x ∷ l) = both (p x) (all p l)
 pub all_in : {X : Type 0} (p : X → Bool) (l : List X) → T (all p l) → (x : X) → In x l → T (p x)
 all_in p (y ∷ l) t x here = both_left (p y) (all p l) t
 all_in p (y ∷ l) t x (there m) = all_in p l (both_right (p y) (all p l) t) x m
+all_in {X = X} p [] t x x4 = elim x4 [ ]
 
 -- the number of kinds, the clipped one included
 abbrev pub K : ℕ

@@ -136,6 +136,7 @@ member_in i (j ∷ l) t = go (eqb i j) refl t (member_in i l)
 map_in : {X Y : Type 0} (f : X → Y) (l : List X) (x : X) → In x l → In (f x) (map f l)
 map_in f (y ∷ l) x here = here
 map_in f (y ∷ l) x (there m) = there (map_in f l x m)
+map_in {X = X} {Y = Y} f [] x x3 = elim x3 [ ]
 
 abbrev operator_test : ℕ → Bool
 operator_test o = either (eqb (level o) 0) (member o (operators (level o)))

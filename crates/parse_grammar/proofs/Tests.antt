@@ -77,6 +77,7 @@ one_of p (x ∷ l) = both (implies (p x) (none_of p l)) (one_of p l)
 pub none_of_out : {X : Type 0} (p : X → Bool) (l : List X) (y : X) → T (none_of p l) → In y l → T (p y) → ⊥
 none_of_out p (x ∷ l) y t here u = implies_out (p x) false (both_left (implies (p x) false) (none_of p l) t) u
 none_of_out p (x ∷ l) y t (there m) u = none_of_out p l y (both_right (implies (p x) false) (none_of p l) t) m u
+none_of_out {X = X} p [] y t x3 u = elim x3 [ ]
 
 pub pick_sel : {X : Type 0} (p : X → Bool) (l : List X) (y : X) → T (one_of p l) → In y l → T (p y) → pick p l ≡ some y
 pick_sel p (x ∷ l) y t here u = go (p x) u
@@ -89,6 +90,7 @@ pick_sel p (x ∷ l) y t (there m) u = go (p x) (both_left (implies (p x) (none_
     go : (b : Bool) → T (implies b (none_of p l)) → pick p l ≡ some y → cond b (some x) (pick p l) ≡ some y
     go true t' e = absurd (none_of_out p l y t' m u)
     go false t' e = e
+pick_sel {X = X} p [] y t x3 u = elim x3 [ ]
 
 pub pick_in : {X : Type 0} (p : X → Bool) (l : List X) (y : X) → pick p l ≡ some y → In y l
 pick_in p [] y e = absurd (is_some_lem e)

@@ -1,5 +1,6 @@
 // Parsing: from the kinds of tokens to the items of the tree, by one loop over an explicit stack that the tables of `parse_tables` drive.
 #![tactic(auto)]
+
 ghost use Rattle.std.specs.Prelude.{◌≡◌, List, ◌++◌, ℕ, ◌+◌, ◌-◌, ◌*◌, ◌≤◌, ◌<◌, min, length, take, drop};
 ghost use Rattle.base_ceilings.specs.Ceilings.{items_most, tokens_most};
 ghost use Rattle.parse_tables.specs.Tables.{choices, rights, span};

@@ -1,6 +1,7 @@
 // The tables of the parsing machine: which right side of a nonterminal is used at a kind of token, and the symbols of each right side.
 // What the numbers mean is in specs/Numbering.antt; that they are the productions of `parse_grammar` is proved in proofs/Tables.antt.
 #![tactic(auto)]
+
 ghost use Rattle.std.specs.Prelude.{◌≡◌, ◌-◌, ◌<◌, get_or};
 ghost use Rattle.base_bytes.specs.Lists.{pasted};
 ghost use Rattle.parse_tables.specs.Tables.{choices, bases, rights, Numbered};

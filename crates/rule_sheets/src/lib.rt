@@ -1,6 +1,7 @@
 // What the rules and ceilings work on: beside the items of a model, for each item what its token says (args), the body that it is in (homes), and for an
 // expression where it starts and how high it is. After this no pass looks at the text.
 #![tactic(auto)]
+
 ghost use Rattle.std.specs.Prelude.{◌≡◌, ◌+◌, ◌-◌, ◌≤◌, ◌<◌, min, length, get_or, set, leb};
 ghost use Rattle.base_ceilings.specs.Ceilings.{height_most, items_most, text_most};
 ghost use Rattle.base_bytes.specs.Choice.{pick};

@@ -1,5 +1,6 @@
 // The status that a command ends with, by its answer. The answers are told apart by their words alone, so that a slip here is refused without loading the entries that give them.
 #![tactic(auto)]
+
 ghost use Rattle.std.specs.Prelude.{◌≡◌};
 ghost use Rattle.show_statuses.specs.Statuses as statuses;
 

@@ -435,6 +435,7 @@ smallest_place = record { is = there here; soonest = go }
   where
     last : (n j : ℕ) → Among n j (at 5 36 ∷ []) → (36 < j) ⊎ ((36 ≡ j) × (5 ≤ n))
     last n j here = inr (refl, omega arith)
+    last n j (there x4) = elim x4 [ ]
 
     go : (n j : ℕ) → Among n j (at 5 38 ∷ at 5 36 ∷ []) → (36 < j) ⊎ ((36 ≡ j) × (5 ≤ n))
     go n j here = inl (omega arith)
@@ -447,6 +448,7 @@ smallest_number = record { is = there here; soonest = go }
   where
     last : (n j : ℕ) → Among n j (at 2 36 ∷ []) → (36 < j) ⊎ ((36 ≡ j) × (2 ≤ n))
     last n j here = inr (refl, omega arith)
+    last n j (there x4) = elim x4 [ ]
 
     go : (n j : ℕ) → Among n j (at 4 36 ∷ at 2 36 ∷ []) → (36 < j) ⊎ ((36 ≡ j) × (2 ≤ n))
     go n j here = inr (refl, omega arith)

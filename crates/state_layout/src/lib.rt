@@ -1,5 +1,6 @@
 // A state: 2,048 signed numbers. specs/Layout.antt says where each of them stands. Reading past the end gives 0, storing there changes nothing.
 #![tactic(auto)]
+
 ghost use Rattle.std.specs.Prelude.{◌≡◌, ◌<◌, ◌+◌, set};
 ghost use Rattle.state_layout.specs.Layout.{kept_most};
 ghost use Rattle.base_bytes.specs.Numbers.{nat};

@@ -1,5 +1,6 @@
 // The entries of a model's items, read from the text, the places of its tokens, and the items' codes and tokens.
 #![tactic(auto)]
+
 ghost use Rattle.std.specs.Prelude.{◌≡◌, ◌-◌, ◌<◌, ◌≤◌, length};
 ghost use Rattle.base_ceilings.specs.Ceilings.{string_most};
 ghost use Rattle.base_pens.specs.Pen.{pen};

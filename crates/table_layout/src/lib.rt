@@ -1,5 +1,6 @@
 // The tables of a model: built from its items, and read.
 #![tactic(auto)]
+
 ghost use Rattle.std.specs.Prelude.{◌≡◌, ◌<◌, ◌≤◌, ◌*◌, length};
 ghost use Rattle.base_ceilings.specs.Ceilings.{items_most, string_most};
 ghost use Rattle.base_pens.specs.Pen.{pen, puts};

@@ -1,5 +1,6 @@
 // Stored cases on standard input, and their answers on standard output. A case comes as five digits, its length, and a line end; then its bytes, and a line end.
 #![tactic(auto)]
+
 ghost use Rattle.std.specs.Prelude.{◌≡◌, min, length, take};
 ghost use Rattle.test_cases.specs.Within.{Within};
 

@@ -1,5 +1,6 @@
 // Prints the tables of four items with room enough, one number short and none at all, and what the accessors read from them.
 #![tactic(auto)]
+
 use libc::STDOUT_FILENO;
 
 fn number(n: usize) {

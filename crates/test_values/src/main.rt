@@ -1,5 +1,6 @@
 // Prints operators, stores and levels on both sides of each boundary; crates/test_values/stdout has what is expected.
 #![tactic(auto)]
+
 use base_values::Answer;
 
 fn number(v: i32) {

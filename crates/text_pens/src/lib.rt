@@ -1,5 +1,6 @@
 // Writing bytes one after the other to a lent slice that may end too soon: numbers in decimal, fixed spellings; and whether a byte would join what stands before it.
 #![tactic(auto)]
+
 ghost use Rattle.std.specs.Prelude.{◌≡◌, ◌+◌, ◌-◌, ◌%◌, ◌<◌, length, get_or, replicate};
 ghost use Rattle.base_pens.specs.Pen.{pen, write, puts};
 ghost use Rattle.spec_text.specs.Bytes.{is_word};

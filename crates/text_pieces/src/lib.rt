@@ -1,5 +1,6 @@
 // One piece at the front of a text: what is skipped, a token, or a refusal (document 01, "Bytes", "Keywords", "Marks").
 #![tactic(auto)]
+
 ghost use Rattle.std.specs.Prelude.{◌≡◌, false, ◌+◌, ◌-◌, ◌≤◌, min, length, eqb};
 ghost use Rattle.base_ceilings.specs.Ceilings.{number_most};
 ghost use Rattle.spec_text.specs.Bytes.{is_blank, is_letter, is_digit, is_plain, is_escape, slash, star};

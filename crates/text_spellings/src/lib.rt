@@ -1,5 +1,6 @@
 // What the fixed spellings of marks and keywords are called: the kind of a word or a mark, 0 where it is none.
 #![tactic(auto)]
+
 ghost use Rattle.std.specs.Prelude.{◌≡◌, [], ◌∷◌};
 ghost use Rattle.base_bytes.specs.Choice.{pick};
 ghost use Rattle.base_bytes.specs.Lists.{same};

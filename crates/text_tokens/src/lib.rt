@@ -1,5 +1,6 @@
 // Bytes to tokens: the whole text in one pass (document 01, "The edition we read", Bytes), and places as lines and columns.
 #![tactic(auto)]
+
 ghost use Rattle.std.specs.Prelude.{◌≡◌, ◌≤◌, length};
 ghost use Rattle.base_ceilings.specs.Ceilings.{text_most, tokens_most};
 ghost use Rattle.text_tokens.specs.Reading.{read_from};

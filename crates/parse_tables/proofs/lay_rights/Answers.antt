@@ -1,0 +1,6 @@
+use Rattle.parse_tables.specs.Tables.{rights}
+use Rattle.parse_tables.proofs.lay_rights.Goals as goal
+
+pub returns : goal.returns
+unfolding rights
+returns c = c.copy_bytes.ensures

@@ -1,0 +1,23 @@
+use Rattle.rule_sheets.proofs.Fills as fills
+use Rattle.rule_sheets.specs.Spans as spans
+use Rattle.rule_sheets.proofs.Walks as laws
+use lib.ListN.{length}
+use Prim.Native.Nat.{◌-◌}
+use mathlib.Core.Path.{refl, ◌∙◌}
+use native.Mathlib.Omega.{arith}
+use Rattle.rule_sheets.proofs.fill_starts.Goals as goal
+
+pub returns-then-codes-gt-ITEMS_MOST : goal.returns-then-codes-gt-ITEMS_MOST
+returns-then-codes-gt-ITEMS_MOST c = fills.starts_long c.args.codes.now c.args.starts.now (omega arith)
+
+pub loop-j-init : goal.loop-j-init
+loop-j-init c = (omega arith, omega arith, refl, fills.starts-start c.args.codes.now c.args.starts.now (omega arith))
+
+pub loop-j-preserved : goal.loop-j-preserved
+loop-j-preserved c = (omega arith, omega arith, c.put.auto.0 ∙ c.loop-j.invariant.2, laws.filled_more (spans.start_of c.args.codes.now) c.loop-j.j (length c.args.codes.now) c.loop-j.starts c.start_of_lem.result c.put.new.0 (omega arith) c.start_of_lem.ensures.0 c.put.ensures ∙ c.loop-j.invariant.3)
+
+pub shape_of-starts : goal.shape_of-starts
+shape_of-starts c = c.loop-j.invariant.2
+
+pub returns : goal.returns
+returns c = laws.filled_end (spans.start_of c.args.codes.now) c.loop-j.j (length c.args.codes.now) c.loop-j.starts (omega arith) ∙ c.loop-j.invariant.3

@@ -1,0 +1,5 @@
+use Rattle.state_layout.proofs.Laws.{count_at}
+use Rattle.state_layout.proofs.declared_of.Goals as goal
+
+pub returns : goal.returns
+returns c = let all = count_at c.args.s.now (c.count.ensures.value, c.count.ensures.upper_bound) c.channel_at.ensures in record { value = all.0; upper_bound = all.1 }

@@ -1,0 +1,9 @@
+use native.Mathlib.Omega.{arith}
+use lib.ListN.{length-take}
+use Rattle.test_cases.proofs.front.Goals as goal
+
+pub slice_bounds-result-end : goal.slice_bounds-result-end
+slice_bounds-result-end c = simp length-take (omega arith)
+
+pub returns : goal.returns
+returns c = rw c.least-m.ensures

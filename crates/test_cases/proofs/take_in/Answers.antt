@@ -1,0 +1,6 @@
+use native.Mathlib.Omega.{arith}
+use lib.ListN.{length-take}
+use Rattle.test_cases.proofs.take_in.Goals as goal
+
+pub slice_bounds-read_full-end-2 : goal.slice_bounds-read_full-end-2
+slice_bounds-read_full-end-2 c = simp length-take (omega arith)
