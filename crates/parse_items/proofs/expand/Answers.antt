@@ -16,4 +16,4 @@ pub returns-then-size-sp : goal.returns-then-size-sp
 returns-then-size-sp c = λ o lo. no_room_law c.args.v c.args.stack.now c.args.s.sp c.args.s.pos c.args.s.n c.args.p c.wide-size.result (take c.args.s.n o) c.requires.2 c.requires.5 (size_at c.args.sides.now _ _ _ c.requires.0 c.wide-size.ensures.value c.byte_at.ensures) c.if-p-eq0.false c.if-size-sp.true
 
 pub returns : goal.returns
-returns c = λ o lo. (expand_law c.args.v c.args.stack.now c.args.s.sp c.args.s.pos c.args.s.n c.args.p c.wide-size.result (take c.args.s.n o) c.requires.2 c.requires.5 (size_at c.args.sides.now _ _ _ c.requires.0 c.wide-size.ensures.value c.byte_at.ensures) c.if-p-eq0.false c.if-size-sp.false c.push-top.new.1.0 c.push-top.result c.mark_of.result (c.mark_of.ensures.0 (take c.args.s.n o) (length-take-le c.args.s.n o (omega arith))) c.push-top.ensures.0, omega (arith, c.push-top.ensures.1), search rules, search rules)
+returns c = λ o lo. (expand_law c.args.v c.args.stack.now c.args.s.sp c.args.s.pos c.args.s.n c.args.p c.wide-size.result (take c.args.s.n o) c.requires.2 c.requires.5 (size_at c.args.sides.now _ _ _ c.requires.0 c.wide-size.ensures.value c.byte_at.ensures) c.if-p-eq0.false c.if-size-sp.false c.push-top.new.stack c.push-top.result c.mark_of.result (c.mark_of.ensures.0 (take c.args.s.n o) (length-take-le c.args.s.n o (omega arith))) c.push-top.ensures.0, omega (arith, c.push-top.ensures.1), search rules, search rules)

@@ -17,7 +17,7 @@ pub loop-j-init : goal.loop-j-init
 loop-j-init c = (omega arith, omega arith, omega arith, refl, fills.args-start c.args.text.now c.args.starts.now c.args.ends.now c.args.codes.now c.args.toks.now c.args.args.now (omega arith) (omega arith))
 
 pub loop-j-preserved : goal.loop-j-preserved
-loop-j-preserved c = (omega arith, omega arith, omega arith, c.put.auto.0 ∙ c.loop-j.invariant.3, laws.filled_more (λ l i. payload.arg_of c.args.text.now c.args.starts.now c.args.ends.now c.args.codes.now c.args.toks.now i) c.loop-j.j (length c.args.codes.now) c.loop-j.args c.arg_of.result c.put.new.0 (omega arith) c.arg_of.ensures.value c.put.ensures ∙ c.loop-j.invariant.4)
+loop-j-preserved c = (omega arith, omega arith, omega arith, c.put.auto.s ∙ c.loop-j.invariant.3, laws.filled_more (λ l i. payload.arg_of c.args.text.now c.args.starts.now c.args.ends.now c.args.codes.now c.args.toks.now i) c.loop-j.j (length c.args.codes.now) c.loop-j.args c.arg_of.result c.put.new.s (omega arith) c.arg_of.ensures.value c.put.ensures ∙ c.loop-j.invariant.4)
 
 pub shape_of-args : goal.shape_of-args
 shape_of-args c = c.loop-j.invariant.3

@@ -18,7 +18,7 @@ pub put-requires : goal.put-requires
 put-requires c = formats.chosen_less c.is_head.result c.choose_size.ensures (omega arith)
 
 pub loop-j-preserved : goal.loop-j-preserved
-loop-j-preserved c = (omega arith, omega arith, fills.inside-more c.args.codes.now c.loop-j.j c.loop-j.h c.loop-j.invariant.2 c.inside-h.ensures.value, c.inside-h.ensures.upper_bound, c.put.auto.0 ∙ c.loop-j.invariant.4, laws.filled_more (λ l i. homing.home_of c.args.codes.now i) c.loop-j.j (length c.args.codes.now) c.loop-j.homes c.choose_size.result c.put.new.0 (omega arith) (fills.home_is c.args.codes.now c.loop-j.j c.loop-j.h c.loop-j.invariant.2 c.is_head.ensures c.choose_size.ensures) c.put.ensures ∙ c.loop-j.invariant.5)
+loop-j-preserved c = (omega arith, omega arith, fills.inside-more c.args.codes.now c.loop-j.j c.loop-j.h c.loop-j.invariant.2 c.inside-h.ensures.value, c.inside-h.ensures.upper_bound, c.put.auto.s ∙ c.loop-j.invariant.4, laws.filled_more (λ l i. homing.home_of c.args.codes.now i) c.loop-j.j (length c.args.codes.now) c.loop-j.homes c.choose_size.result c.put.new.s (omega arith) (fills.home_is c.args.codes.now c.loop-j.j c.loop-j.h c.loop-j.invariant.2 c.is_head.ensures c.choose_size.ensures) c.put.ensures ∙ c.loop-j.invariant.5)
 
 pub shape_of-homes : goal.shape_of-homes
 shape_of-homes c = c.loop-j.invariant.4

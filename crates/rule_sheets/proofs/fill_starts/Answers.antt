@@ -14,7 +14,7 @@ pub loop-j-init : goal.loop-j-init
 loop-j-init c = (omega arith, omega arith, refl, fills.starts-start c.args.codes.now c.args.starts.now (omega arith))
 
 pub loop-j-preserved : goal.loop-j-preserved
-loop-j-preserved c = (omega arith, omega arith, c.put.auto.0 ∙ c.loop-j.invariant.2, laws.filled_more (spans.start_of c.args.codes.now) c.loop-j.j (length c.args.codes.now) c.loop-j.starts c.start_of_lem.result c.put.new.0 (omega arith) c.start_of_lem.ensures.0 c.put.ensures ∙ c.loop-j.invariant.3)
+loop-j-preserved c = (omega arith, omega arith, c.put.auto.s ∙ c.loop-j.invariant.2, laws.filled_more (spans.start_of c.args.codes.now) c.loop-j.j (length c.args.codes.now) c.loop-j.starts c.start_of-v.result c.put.new.s (omega arith) c.start_of-v.ensures.value c.put.ensures ∙ c.loop-j.invariant.3)
 
 pub shape_of-starts : goal.shape_of-starts
 shape_of-starts c = c.loop-j.invariant.2

@@ -2,7 +2,7 @@ use Prim.Native.Nat.{◌≤◌, ◌-◌}
 use Rattle.test_tables.proofs.main.Given as goal
 
 abbrev pub invariant-loop-i : goal.invariant-loop-i
-invariant-loop-i l = i ≤ 5
+invariant-loop-i l = l.i ≤ 5
 
 abbrev pub decreases-loop-i : goal.decreases-loop-i
-decreases-loop-i l = 5 - i
+decreases-loop-i l = 5 - l.i

@@ -3,7 +3,7 @@ use mathlib.Core.Path.{◌∙◌}
 use Rattle.text_pens.proofs.joins.Goals as goal
 
 pub returns-then-k-lt71 : goal.returns-then-k-lt71
-returns-then-k-lt71 c = c.is_IsWord.ensures ∙ laws.word-joins c.args.k c.args.c c.if-k-lt38.false c.if-k-lt71.true
+returns-then-k-lt71 c = c.is_word.ensures ∙ laws.word-joins c.args.k c.args.c c.if-k-lt38.false c.if-k-lt71.true
 
 pub returns-then-k-eq71 : goal.returns-then-k-eq71
 returns-then-k-eq71 c = c.is_digit.ensures ∙ laws.number-joins c.args.k c.args.c c.if-k-eq71.true

@@ -8,7 +8,7 @@ pub loop-k-init : goal.loop-k-init
 loop-k-init c = (refl, refl)
 
 pub loop-k-preserved : goal.loop-k-preserved
-loop-k-preserved c = (omega (arith, c.loop-k.invariant.0), laws.puts-more c.args.s.now c.loop-k.k _ _ _ (omega arith) refl c.put-q.ensures ∙ c.loop-k.invariant.1)
+loop-k-preserved c = (omega (arith, c.put-q.auto.out, c.loop-k.invariant.0), laws.puts-more c.args.s.now c.loop-k.k _ _ _ (omega arith) refl c.put-q.ensures ∙ c.loop-k.invariant.1)
 
 pub shape_of-out : goal.shape_of-out
 shape_of-out c = c.loop-k.invariant.0

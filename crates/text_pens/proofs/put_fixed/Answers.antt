@@ -9,10 +9,10 @@ pub loop-j-init : goal.loop-j-init
 loop-j-init c = (refl, refl)
 
 pub loop-j-preserved : goal.loop-j-preserved
-loop-j-preserved c = (omega (arith, c.loop-j.invariant.0), laws.puts-more (spelled_by c.args.k) c.loop-j.j _ _ _ (omega (arith, c.type_size.ensures)) c.letter.ensures c.put-q.ensures ∙ c.loop-j.invariant.1)
+loop-j-preserved c = (omega (arith, c.put-q.auto.out, c.loop-j.invariant.0), laws.puts-more (spelled_by c.args.k) c.loop-j.j _ _ _ (omega (arith, c.size_of-n.ensures)) c.letter.ensures c.put-q.ensures ∙ c.loop-j.invariant.1)
 
 pub shape_of-out : goal.shape_of-out
 shape_of-out c = c.loop-j.invariant.0
 
 pub returns : goal.returns
-returns c = sym (laws.puts_end (spelled_by c.args.k) c.loop-j.j _ (omega (arith, c.type_size.ensures))) ∙ c.loop-j.invariant.1
+returns c = sym (laws.puts_end (spelled_by c.args.k) c.loop-j.j _ (omega (arith, c.size_of-n.ensures))) ∙ c.loop-j.invariant.1
