@@ -1,5 +1,6 @@
 // The links of a model, one number for each item: declarations, marks, ends and the places that follow, so that a stepper finds all it needs at once.
 #![tactic(auto)]
+
 ghost use Rattle.std.specs.Prelude.{◌≡◌, ◌+◌, ◌-◌, ◌≤◌, ◌<◌, min, length, get_or, set};
 ghost use Rattle.base_ceilings.specs.Ceilings.{items_most};
 ghost use Rattle.link_items.specs.Links.{size_kept};

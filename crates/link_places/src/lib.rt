@@ -1,5 +1,6 @@
 // Where control can stand in a model, by its items alone: phrases and their marks, the places of statements, what closes what was opened, which place follows.
 #![tactic(auto)]
+
 ghost use Rattle.std.specs.Prelude.{◌≡◌, ◌+◌, ◌≤◌, ◌<◌, length};
 ghost use Rattle.base_codes.specs.Sets as sets;
 ghost use Rattle.link_places.specs.Places as places;

@@ -1,5 +1,6 @@
 // The ceilings that are judged last (document 01, row 6): is one passed by a model that has no fault, or does no process start?
 #![tactic(auto)]
+
 ghost use Rattle.std.specs.Prelude.{◌≡◌, ◌+◌, ◌≤◌, ◌<◌, length};
 ghost use Rattle.base_ceilings.specs.Ceilings.{items_most};
 ghost use Rattle.rule_ceilings.specs.Ceilings as tops;

@@ -1,5 +1,6 @@
 // The rules on names and numbers, each for one item of a model: the number of the fault that the item has by it, 0 for none (document 01, rows 2, 4 and 5).
 #![tactic(auto)]
+
 ghost use Rattle.std.specs.Prelude.{◌≡◌, ◌+◌, ◌-◌, ◌≤◌, ◌<◌};
 ghost use Rattle.base_codes.specs.Sets as sets;
 ghost use Rattle.rule_search.specs.Chain.{Chained};

@@ -1,5 +1,6 @@
 // The least fault of a model whose grammar is right, by place and then by number (document 01, "Within a pass the smallest place wins, then the smallest number").
 #![tactic(auto)]
+
 ghost use Rattle.std.specs.Prelude.{◌≡◌, ◌+◌, ◌-◌, ◌<◌};
 ghost use Rattle.rule_search.specs.Chain.{Chained};
 ghost use Rattle.rule_least.specs.Faults as faults;

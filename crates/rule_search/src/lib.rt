@@ -1,6 +1,7 @@
 // Searches over the items of a model: sets of items, declarations by name and body, counts.
 // Declarations are found along a chain, which a caller has filled (`fill_chain`) and lends: what a search finds is said for a chain that passes no declaration over.
 #![tactic(auto)]
+
 ghost use Rattle.std.specs.Prelude.{◌≡◌, ◌≤◌, ◌<◌, set};
 ghost use Rattle.base_ceilings.specs.Ceilings.{items_most};
 ghost use Rattle.rule_sheets.specs.Walks.{filled};

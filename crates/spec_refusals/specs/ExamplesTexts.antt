@@ -18,7 +18,7 @@ use Rattle.spec_grammar.specs.Grammar.{one, is_int, no_semi, none_trails, s_skip
 use Rattle.spec_grammar.specs.Examples as grammar
 use Rattle.spec_rules.specs.Senses.{sense_in, fresh}
 use Rattle.spec_rules.specs.Ceilings.{modest}
-use Rattle.spec_faults.specs.Faults.{in_list, in_leaf, in_tree, in_variable, in_items, in_units, Among, here}
+use Rattle.spec_faults.specs.Faults.{in_list, in_leaf, in_tree, in_variable, in_items, in_units, Among, here, there}
 use Rattle.spec_refusals.specs.Texts.{Tokens}
 use Rattle.spec_refusals.specs.Legal.{Legal}
 use Rattle.spec_refusals.specs.Rows as rows
@@ -77,6 +77,7 @@ break_out_of_place =
   where
     soonest : (y j : ℕ) → Among y j (record { number = 5; token = 2 } ∷ []) → (2 < j) ⊎ ((2 ≡ j) × (5 ≤ y))
     soonest y j here = inr (refl, omega arith)
+    soonest y j (there x3) = elim x3 [ ]
 
 -- `int a`: "no process starts"
 declaring : Tokens (bytes "int a") (placed 45 0 3 ∷ placed 70 4 1 ∷ [])

@@ -1,5 +1,6 @@
 // Prints the items or the refusal of each list of kinds on standard input, a byte each.
 #![tactic(auto)]
+
 use libc::STDOUT_FILENO;
 use parse_items::Parsed;
 use test_cases::Case;

@@ -1,5 +1,6 @@
 // Prints the tokens or the refusal of each text on standard input.
 #![tactic(auto)]
+
 use libc::STDOUT_FILENO;
 use test_cases::Case;
 use text_tokens::Lexed;

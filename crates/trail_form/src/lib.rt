@@ -1,5 +1,6 @@
 // The records of a trail, and the form of a whole one (document 01, "Trail lines").
 #![tactic(auto)]
+
 ghost use Rattle.std.specs.Prelude.{◌≡◌, not, [], ◌∷◌, ◌+◌, ◌≤◌, min, get_or, take, eqb};
 ghost use Rattle.base_ceilings.specs.Ceilings.{number_most};
 ghost use Rattle.base_bytes.specs.Choice.{both};

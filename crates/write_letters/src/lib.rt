@@ -1,5 +1,6 @@
 // The tokens of tables, by their numbers: what they hold is spelled, and each is written with one space where it would otherwise join the one before.
 #![tactic(auto)]
+
 ghost use Rattle.std.specs.Prelude.{◌≡◌, [], ◌∷◌, map, ◌-◌};
 ghost use Rattle.base_bytes.specs.Choice.{pick};
 ghost use Rattle.base_pens.specs.Pen.{pen, puts};

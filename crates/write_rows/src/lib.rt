@@ -1,5 +1,6 @@
 // The rows by which a model's items become the tokens of its normal text (specs/Rules.antt), as bytes.
 #![tactic(auto)]
+
 ghost use Rattle.std.specs.Prelude.{◌≡◌};
 ghost use Rattle.base_bytes.specs.Lists.{pasted};
 ghost use Rattle.write_rows.specs.Rules.{cells};

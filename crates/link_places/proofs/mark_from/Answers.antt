@@ -1,0 +1,23 @@
+use native.Mathlib.Omega.{arith}
+use mathlib.Core.Path.{refl, ◌∙◌}
+use Prim.Native.Nat.{◌-◌}
+use lib.ListN.{length, get_or}
+use Rattle.rule_sheets.proofs.Walks as laws
+use Rattle.link_places.specs.Places.{is_mark, mark_from}
+use Rattle.link_places.proofs.mark_from.Goals as goal
+
+pub loop-k-init : goal.loop-k-init
+unfolding mark_from
+loop-k-init c = refl
+
+pub returns-then-is_mark : goal.returns-then-is_mark
+returns-then-is_mark c = laws.first_stop (λ n. is_mark (get_or c.args.codes.now n 0)) c.loop-k.k (length c.args.codes.now - c.loop-k.k) (omega arith) c.is_mark.ensures c.if-is_mark.true ∙ c.loop-k.invariant
+
+pub loop-k-smaller : goal.loop-k-smaller
+loop-k-smaller c = omega arith
+
+pub loop-k-preserved : goal.loop-k-preserved
+loop-k-preserved c = laws.first_more (λ n. is_mark (get_or c.args.codes.now n 0)) c.loop-k.k (length c.args.codes.now) (omega arith) c.is_mark.ensures c.if-is_mark.false ∙ c.loop-k.invariant
+
+pub returns : goal.returns
+returns c = laws.first_end (λ n. is_mark (get_or c.args.codes.now n 0)) c.loop-k.k (length c.args.codes.now - c.loop-k.k) (omega arith) ∙ c.loop-k.invariant
