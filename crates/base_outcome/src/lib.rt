@@ -4,14 +4,14 @@
 use base_values::Fault;
 
 // Whom a step takes along: a process, at a place of its own; or nobody.
-#[derive(Drop)]
+#[derive(Clone, Copy)]
 pub enum Partner {
     Nobody,
     With(u8, u32),
 }
 
 // A step: its process, its number k among the steps of that process, from 1, its statement's place, and its partner.
-#[derive(Drop)]
+#[derive(Clone, Copy)]
 pub struct Step {
     pub process: u8,
     pub number: u32,
@@ -20,7 +20,7 @@ pub struct Step {
 }
 
 // It is done, its assertion failed, it faulted; or there is none to take.
-#[derive(Drop)]
+#[derive(Clone, Copy)]
 pub enum Taken {
     Done,
     Refuted,

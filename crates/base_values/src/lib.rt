@@ -9,7 +9,7 @@ ghost use Rattle.base_values.specs.Types.{width_of, cast_of};
 ghost use Rattle.base_values.specs.Faults.{fault_number};
 
 // Why a step fails.
-#[derive(Drop)]
+#[derive(Clone, Copy)]
 pub enum Fault {
     Divide,
     Shift,
@@ -19,7 +19,7 @@ pub enum Fault {
 }
 
 // What working an expression out gives.
-#[derive(Drop)]
+#[derive(Clone, Copy)]
 pub enum Answer {
     Value(i32),
     Fails(Fault),

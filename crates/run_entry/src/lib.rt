@@ -9,7 +9,7 @@ use base_values::Fault;
 use step_all::{Offer, Verdict};
 
 // How a run ends.
-#[derive(Drop)]
+#[derive(Clone, Copy)]
 pub enum Ending {
     Finished,
     Blocked,
@@ -19,7 +19,7 @@ pub enum Ending {
 }
 
 // How a run ended and how many steps it took, a failing one included; or the number of the refusal.
-#[derive(Drop)]
+#[derive(Clone, Copy)]
 pub enum Ran {
     Ended(Ending, u32),
     Refused(u8),

@@ -1,5 +1,6 @@
 // The parts of a sentence that says what a text was refused for: what is wrong with its bytes, how deep it nests, the spelling of a kind, what a rule asks, which ceiling is passed.
 #![tactic(auto)]
+
 use text_pens::{put, put_all};
 
 // The kinds from NAMES on have no spelling of their own.

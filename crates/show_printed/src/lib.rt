@@ -1,6 +1,7 @@
 // Bytes as they are shown: what a model prints, each line two blanks in; bytes of a text or a trail, those that cannot be shown by their numbers; and all that stands before an answer, guarded, so that no line of
 // it begins like an answer or a heading.
 #![tactic(auto)]
+
 ghost use Rattle.std.specs.Prelude.{◌≡◌, Bool, true, [], ◌∷◌, ◌++◌, length};
 ghost use Rattle.base_bytes.specs.Choice.{pick, both};
 ghost use Rattle.base_pens.specs.Pen.{pen, puts};

@@ -9,7 +9,7 @@ ghost use Rattle.step_all.specs.Moving as moving;
 use base_outcome::{Partner, Step, Taken};
 use step_offers::Walk;
 
-#[derive(Drop)]
+#[derive(Clone, Copy)]
 pub enum Verdict {
     Finished,
     Blocked,
@@ -20,7 +20,7 @@ pub enum Verdict {
 const NOWHERE: u32 = 4294967295;
 
 // An offered step; or how many steps are left to pass.
-#[derive(Drop)]
+#[derive(Clone, Copy)]
 pub enum Offer {
     Step(Step),
     Beyond(u32),

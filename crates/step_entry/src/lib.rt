@@ -8,7 +8,7 @@ use base_values::Fault;
 use step_all::{Offer, Verdict};
 
 // How a state stands, or the number of the refusal.
-#[derive(Drop)]
+#[derive(Clone, Copy)]
 pub enum Standing {
     Finished,
     Blocked,
@@ -17,7 +17,7 @@ pub enum Standing {
 }
 
 // A step that is offered; or how many there are in all; or the number of the refusal.
-#[derive(Drop)]
+#[derive(Clone, Copy)]
 pub enum Listed {
     Step(Step),
     Only(u32),
@@ -25,7 +25,7 @@ pub enum Listed {
 }
 
 // A step that was taken, with the number of bytes that it printed; one that failed; or the number of the refusal.
-#[derive(Drop)]
+#[derive(Clone, Copy)]
 pub enum Stepped {
     Took(usize),
     Assert,

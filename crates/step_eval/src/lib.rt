@@ -1,5 +1,6 @@
 // Working expressions out over tables and a state, for a process. No function asks anything of its caller: past the end of tables and state every number is 0.
 #![tactic(auto)]
+
 ghost use Rattle.std.specs.Prelude.{◌≡◌, ◌+◌, ◌-◌, ◌<◌};
 ghost use Rattle.base_values.specs.Operators.{truth};
 ghost use Rattle.step_eval.specs.Variables as variables;
@@ -8,21 +9,21 @@ ghost use Rattle.step_eval.specs.Expressions as expressions;
 use base_values::{Answer, Fault};
 
 // Where a variable's number stands in the state, or the fault of its index.
-#[derive(Drop)]
+#[derive(Clone, Copy)]
 pub enum Located {
     At(usize),
     Astray(Fault),
 }
 
 // The record of a channel, or why there is none.
-#[derive(Drop)]
+#[derive(Clone, Copy)]
 pub enum Reached {
     Record(u32),
     Unmade(Fault),
 }
 
 // What the last item of an expression is.
-#[derive(Drop)]
+#[derive(Clone, Copy)]
 pub enum Node {
     Number,
     True,

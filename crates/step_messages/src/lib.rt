@@ -17,7 +17,7 @@ const FIELDS_MOST: u32 = base_ceilings::FIELDS_MOST as u32;
 const LAST: u32 = base_ceilings::CAPACITY_MOST as u32 - 1;
 
 // The item where arguments end, or the first fault among them.
-#[derive(Drop)]
+#[derive(Clone, Copy)]
 pub enum Gathered {
     Upto(usize),
     Failed(Fault),

@@ -17,7 +17,7 @@ const ITEMS_MOST: u32 = base_ceilings::ITEMS_MOST as u32;
 const OFFERS_MOST: u32 = 8 * OPTIONS_MOST;
 
 // The place that was looked for, or how many are left to pass.
-#[derive(Drop)]
+#[derive(Clone, Copy)]
 pub enum Walk {
     Found(u32),
     Left(u32),

@@ -24,7 +24,7 @@ const CHANNELS_MOST: u32 = base_ceilings::CHANNELS_MOST as u32;
 const TOO_MANY: u32 = FIELDS_MOST + 1;
 
 // The number of the message that a receive can take, or none, or the fault of its test.
-#[derive(Drop)]
+#[derive(Clone, Copy)]
 pub enum Found {
     Message(u32),
     Nothing,

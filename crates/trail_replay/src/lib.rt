@@ -11,7 +11,7 @@ use step_all::{Offer, Verdict};
 use trail_form::{Formed, Record};
 
 // A trail that is accepted, with its verdict (assert 1, fault 2, finished 3, blocked 4, open 5); or the number and the line of the refusal.
-#[derive(Drop)]
+#[derive(Clone, Copy)]
 pub enum Replayed {
     Accepted(u8),
     Refused(u8, usize),

@@ -1,5 +1,6 @@
 // Tokens laid out in lines, by their kinds alone: the printed edition of a model.
 #![tactic(auto)]
+
 ghost use Rattle.std.specs.Prelude.{◌≡◌, map, ◌+◌, ◌<◌, ◌≤◌, ◌^◌};
 ghost use Rattle.base_pens.specs.Pen.{pen, puts};
 ghost use Rattle.write_letters.specs.Tokens.{token_by};

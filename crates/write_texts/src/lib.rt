@@ -1,5 +1,6 @@
 // The normal text of tables, and their layout: items, read from the back, become tokens by the rows of a table; tokens are written with one space where two would read otherwise, or in lines.
 #![tactic(auto)]
+
 ghost use Rattle.std.specs.Prelude.{◌≡◌, false, ◌+◌, ◌-◌, ◌≤◌, ◌<◌, ◌*◌, min, length, get_or, drop, take, ltb};
 ghost use Rattle.base_ceilings.specs.Ceilings.{items_most};
 ghost use Rattle.base_pens.specs.Pen.{pen, puts};

@@ -1,0 +1,11 @@
+use Rattle.spec_account.specs.Bytes.{hex_digit}
+use borrow.Author.Tests.{lt-ltb, le-ltb}
+use Rattle.show_printed.proofs.hex_digit.Goals as goal
+
+pub returns-then-n-lt10 : goal.returns-then-n-lt10
+unfolding hex_digit
+returns-then-n-lt10 c = rw (lt-ltb _ _ c.if-n-lt10.true)
+
+pub returns-else-n-lt10 : goal.returns-else-n-lt10
+unfolding hex_digit
+returns-else-n-lt10 c = rw (le-ltb _ _ c.if-n-lt10.false)
