@@ -135,6 +135,7 @@ module _ {S : Type 0} (c : Stage S) where
       go : {l : List ℕ} → In q l → l ≡ [] → ⊥
       go {l = z ∷ l} first e = let n : suc (length l) ≡ 0 = ap length e in omega arith
       go {l = z ∷ l} (behind h) e = let n : suc (length l) ≡ 0 = ap length e in omega arith
+      go {l = []} x'' e = elim x'' [ ]
 
   in_one : (q i : ℕ) → In q (i ∷ []) → i ≡ q
   in_one q i first = refl

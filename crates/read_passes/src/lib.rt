@@ -1,5 +1,6 @@
 // Every pass of the reader in its order, and the tables of a text that all of them let through.
 #![tactic(auto)]
+
 ghost use Rattle.std.specs.Prelude.{◌≡◌, length, replicate};
 ghost use Rattle.base_ceilings.specs.Ceilings.{items_most};
 ghost use Rattle.link_items.specs.Links.{links_of};

@@ -1,5 +1,6 @@
 // The text of one statement, and where it begins in the normal text, from the tables of a model: its items are written by the writer of normal texts, asked for one statement.
 #![tactic(auto)]
+
 ghost use Rattle.std.specs.Prelude.{◌≡◌};
 ghost use Rattle.base_pens.specs.Pen.{pen, puts};
 ghost use Rattle.show_statement.specs.Statements.{ends_leaf, is_branching, leaf_end, last_of, statement_in, seen_in, length_from, place_in};

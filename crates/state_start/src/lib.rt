@@ -1,5 +1,6 @@
 // The initial state of a model, and one process more. No function asks anything of its caller, but that an item's number has 32 bits.
 #![tactic(auto)]
+
 ghost use Rattle.std.specs.Prelude.{◌≡◌, ◌+◌, ◌-◌, ◌<◌, ◌≤◌};
 ghost use Rattle.base_ceilings.specs.Ceilings.{items_most};
 ghost use Rattle.state_layout.specs.Walks.{walk};

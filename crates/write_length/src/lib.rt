@@ -1,5 +1,6 @@
 // Is the normal text of tables longer than a normal text may be?
 #![tactic(auto)]
+
 ghost use Rattle.std.specs.Prelude.{◌≡◌};
 ghost use Rattle.write_length.specs.Overlong.{overlong};
 
