@@ -1,5 +1,6 @@
 // The entries of the reader: is this a model, and what are its tables; and the part of the text that a refusal names.
 #![tactic(auto)]
+
 ghost use Rattle.std.specs.Prelude.{◌≡◌, length};
 ghost use Rattle.read_passes.specs.Judging.{judge_of};
 ghost use Rattle.read_entry.specs.Entries.{read_of, left_of, part_start, part, behind, Bounded};

@@ -1,5 +1,6 @@
 // What a text was refused for, in one sentence that a clerk can act on, two blanks in. The passes of the reader are gone through again, to the one that refused. The sentence explains the answer and is no part of it.
 #![tactic(auto)]
+
 use base_bytes::{least, part, word_at};
 use parse_items::Parsed;
 use rule_least::Fault;

@@ -1,5 +1,6 @@
 // Arguments worked out, and messages put into and taken out of channels. No function asks anything of its caller.
 #![tactic(auto)]
+
 ghost use Rattle.std.specs.Prelude.{◌≡◌, ◌+◌, ◌-◌, ◌<◌, ◌*◌, get_or, set, pos};
 ghost use Rattle.base_ceilings.specs.Ceilings.{capacity_most, fields_most, numbers_most};
 ghost use Rattle.state_layout.specs.Walks.{walk};

@@ -1,5 +1,6 @@
 // The steps that a place offers, in text order, each by its place: the k-th of them, and how many there are.
 #![tactic(auto)]
+
 ghost use Rattle.std.specs.Prelude.{◌≡◌, ◌+◌, ◌-◌, ◌<◌, ◌≤◌, [], ◌∷◌};
 ghost use Rattle.base_ceilings.specs.Ceilings.{items_most};
 ghost use Rattle.state_layout.specs.Layout.{kept_most};

@@ -1,5 +1,6 @@
 // Which statements are executable, in a state, for a process. No function that is lent asks anything of its caller.
 #![tactic(auto)]
+
 ghost use Rattle.std.specs.Prelude.{◌≡◌, ◌+◌, ◌<◌, ◌≤◌, eqb};
 ghost use Rattle.base_ceilings.specs.Ceilings.{fields_most, items_most};
 ghost use Rattle.base_codes.specs.Codes.{c_channel};
