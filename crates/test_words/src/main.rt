@@ -1,8 +1,8 @@
 // Reads each of the small models on standard input three hundred times; with any argument it looks up their words instead, as often. Time both to see what part of a reading the lookup is.
 #![tactic(auto)]
-use libc::STDOUT_FILENO;
+
 use read_passes::Judged;
-use test_cases::Case;
+use test_cases::{Case, STDOUT_FILENO};
 use text_tokens::Lexed;
 
 const TIMES: usize = 300;
