@@ -1,67 +1,105 @@
 // The program over model and trail files. The last line of what it writes is always the answer; where its first word is `--status`, it tells the status of that answer at the very end.
 #![tactic(auto)]
+
 ghost use Rattle.std.specs.Prelude.{◌≤◌};
 
 use base_bytes::part;
-use show_answers::put;
+use show_answers::{Output, put};
 use show_statuses::{Answer, status};
+use std::env::FillError;
+use std::io::IsTerminal;
+use std::rt::{Clock, Env, Files};
+
+// Puts argument i at the front of a buffer; its length, or 0 where it is missing or has no room.
+fn arg(rt: &impl Env, i: usize, buffer: &mut [u8]) -> usize {
+    rt.arg(i, buffer).unwrap_or(0)
+}
+
+// How many arguments there are, the program's name among them.
+fn arg_count(rt: &impl Env) -> usize {
+    let mut byte = [0u8; 1];
+    for i in 0..usize::MAX {
+        if let Err(FillError::NotPresent) = rt.arg(i, &mut byte) {
+            return i;
+        }
+    }
+    usize::MAX
+}
 
 // Is the first word `--status`?
-fn is_asked() -> bool {
+fn is_asked(rt: &impl Env) -> bool {
     let mut word = io::buffer();
-    let n = os::arg(1, &mut word);
+    let n = arg(rt, 1, &mut word);
     base_bytes::same(part(&word, 0, n), b"--status")
 }
 
 // A command that is not well formed.
-fn refuse(words: &[u8]) -> u8
+fn refuse(words: &[u8], to: &mut Output) -> u8
     ensures { result ≤ 2 }
 {
-    put(words);
+    put(words, to);
     status(Answer::Error)
 }
 
 // The command that is argument `at`, with its words: `count` of them stand behind it.
-fn answer(at: u8, count: usize) -> u8
+fn answer(
+    rt: &(impl Env + Files + Clock),
+    stderr: &impl IsTerminal,
+    at: u8,
+    count: usize,
+    to: &mut Output,
+) -> u8
     ensures { result ≤ 2 }
 {
     let mut command = io::buffer();
     let mut first = io::buffer();
     let mut second = io::buffer();
-    let c = os::arg(at as usize, &mut command);
-    let f = os::arg(at as usize + 1, &mut first);
-    let g = os::arg(at as usize + 2, &mut second);
+    let c = arg(rt, at as usize, &mut command);
+    let f = arg(rt, at as usize + 1, &mut first);
+    let g = arg(rt, at as usize + 2, &mut second);
     if f == 0 {
-        return refuse(b"error: a file's name is missing or too long\n");
+        return refuse(b"error: a file's name is missing or too long\n", to);
     }
     if base_bytes::same(part(&command, 0, c), b"batch") {
-        return show_files::lists::batch(part(&first, 0, f), part(&second, 0, g), count);
+        return show_files::lists::batch(
+            rt,
+            stderr,
+            part(&first, 0, f),
+            part(&second, 0, g),
+            count,
+            to,
+        );
     }
     show_files::perform(
+        rt,
         part(&command, 0, c),
         part(&first, 0, f),
         part(&second, 0, g),
         count,
+        to,
     )
 }
 
 // The command that is argument `at`.
-fn perform(at: u8) -> u8
+fn perform(rt: &(impl Env + Files + Clock), stderr: &impl IsTerminal, at: u8, to: &mut Output) -> u8
     ensures { result ≤ 2 }
 {
-    let count = os::arg_count();
+    let count = arg_count(rt);
     if count < at as usize + 2 {
         return refuse(
             b"error: usage: pluskaro read|normal|layout|start MODEL, run MODEL [LIMIT], replay|steps|state MODEL TRAIL, batch LIST [COUNT]\n",
+            to,
         );
     }
-    answer(at, count - at as usize - 1)
+    answer(rt, stderr, at, count - at as usize - 1, to)
 }
 
-fn main() {
-    if is_asked() {
-        show_answers::tell_status(perform(2));
+fn main(rt: HostRuntime) {
+    let mut to = show_answers::fresh_output();
+    if is_asked(&rt) {
+        let x = perform(&rt, &rt.stderr(), 2, &mut to);
+        show_answers::tell_status(x, &to);
     } else {
-        perform(1);
+        perform(&rt, &rt.stderr(), 1, &mut to);
     }
 }

@@ -1,5 +1,6 @@
 // Answers, and the line and the marks of a refused part, written to lent bytes; and the two functions that hand finished bytes to standard output.
 #![tactic(auto)]
+
 ghost use Rattle.std.specs.Prelude.{◌≤◌, ◌-◌, min, ◌≡◌, [], ◌∷◌, ◌++◌, length, get_or, eqb};
 ghost use Rattle.base_bytes.specs.Choice.{pick};
 ghost use Rattle.base_pens.specs.Pen.{pen, puts};
@@ -22,15 +23,29 @@ const ERROR_ROOM: usize = 16384 + 64;
 
 const STATUS_ROOM: usize = 32;
 
+// The descriptor of standard output.
+const STDOUT_FILENO: i32 = 1;
+
 // The descriptor on which the status of the answer is told.
 const STATUS_FILENO: i32 = 3;
 
-// Hands finished bytes to standard output: an answer. Where they cannot be written whole, the descriptor for the status is closed, so that no status can be told any more.
-pub fn put(s: &[u8]) {
-    if io::write_all(libc::STDOUT_FILENO, s) {
+// Whether all that was handed to standard output so far could be written whole. Once it could not, no status is told any more.
+#[derive(Drop)]
+pub struct Output {
+    whole: bool,
+}
+
+// Standard output, to which nothing was handed yet.
+pub fn fresh_output() -> Output {
+    Output { whole: true }
+}
+
+// Hands finished bytes to standard output: an answer. Where they cannot be written whole, that is kept, so that no status can be told any more.
+pub fn put(s: &[u8], to: &mut Output) {
+    if io::write_all(STDOUT_FILENO, s) {
         return;
     }
-    libc::close(STATUS_FILENO);
+    to.whole = false;
 }
 
 // Writes the line that tells a status.
@@ -40,22 +55,25 @@ fn put_status(x: u8, out: &mut [u8], p: usize) -> usize
     put_counted(b"status", x as usize, out, p)
 }
 
-// Tells the status of the answer, for who started the program: the last that it does.
-pub fn tell_status(x: u8) {
+// Tells the status of the answer, for who started the program: the last that it does. Where a part of the output could not be written whole, nothing is told.
+pub fn tell_status(x: u8, to: &Output) {
+    if !to.whole {
+        return;
+    }
     let mut line = [0u8; STATUS_ROOM];
     let n = put_status(x, &mut line, 0);
     io::write_all(STATUS_FILENO, part(&line, 0, n));
 }
 
 // Hands on the first n bytes that were written to a buffer, of what stands before an answer, guarded; where they did not fit, a line that says so.
-pub fn hand_on(buffer: &[u8], n: usize) {
+pub fn hand_on(buffer: &[u8], n: usize, to: &mut Output) {
     if base_bytes::least(HANDED_MOST, buffer.len()) < n {
-        put(b"  this part is too long to be shown\n");
+        put(b"  this part is too long to be shown\n", to);
         return;
     }
     let mut out = [0u8; 3 * HANDED_MOST];
     let w = show_printed::put_guarded(part(buffer, 0, n), &mut out, 0);
-    put(part(&out, 0, w));
+    put(part(&out, 0, w), to);
 }
 
 // Writes an error: its words, and what it speaks of.
@@ -79,17 +97,17 @@ fn put_heading(n: usize, line: &[u8], out: &mut [u8], p: usize) -> usize
 }
 
 // Heads the answer of command n of a list.
-pub fn head(n: usize, line: &[u8]) {
+pub fn head(n: usize, line: &[u8], to: &mut Output) {
     let mut out = [0u8; ERROR_ROOM];
     let k = put_heading(n, line, &mut out, 0);
-    put(part(&out, 0, k));
+    put(part(&out, 0, k), to);
 }
 
 // Answers with an error.
-pub fn complain(words: &[u8], name: &[u8]) {
+pub fn complain(words: &[u8], name: &[u8], to: &mut Output) {
     let mut line = [0u8; ERROR_ROOM];
     let n = put_error(words, name, &mut line, 0);
-    put(part(&line, 0, n));
+    put(part(&line, 0, n), to);
 }
 
 // The place of the first such byte from a place on, or the end.

@@ -1,5 +1,6 @@
 // Commands on the tables of an accepted model; the last line of each is its answer. Each returns the status of that answer (`show_statuses`).
 #![tactic(auto)]
+
 ghost use Rattle.std.specs.Prelude.{◌≡◌};
 ghost use Rattle.base_pens.specs.Pen.{pen, puts};
 ghost use Rattle.show_commands.specs.Statuses as statuses;
@@ -8,7 +9,7 @@ ghost use Rattle.show_commands.specs.Lines as lines;
 use base_bytes::part;
 use base_outcome::Step;
 use run_entry::{Ending, Ran};
-use show_answers::{put, put_counted};
+use show_answers::{Output, put, put_counted};
 use show_statuses::{Answer, status};
 use step_all::{Offer, Verdict};
 use text_pens::put_all;
@@ -20,7 +21,7 @@ const ANSWER_ROOM: usize = 64;
 const LINE_ROOM: usize = 4 * base_ceilings::NORMAL_MOST + 128;
 
 // `start`: each offered step of a state; how many there are.
-fn list_offers(t: &[u32], s: &[i32]) -> usize {
+fn list_offers(t: &[u32], s: &[i32], to: &mut Output) -> usize {
     let mut out = [0u8; LINE_ROOM];
     let mut n: u32 = 0;
     while n < show_steps::LISTED_MOST {
@@ -28,7 +29,7 @@ fn list_offers(t: &[u32], s: &[i32]) -> usize {
         match o {
             Offer::Step(x) => {
                 let k = show_steps::put_offer(t, s, x, &mut out, 0);
-                show_answers::hand_on(&out, k);
+                show_answers::hand_on(&out, k, to);
             }
             Offer::Beyond(_) => {
                 return n as usize;
@@ -51,12 +52,12 @@ fn put_verdict(v: Verdict, n: usize, out: &mut [u8], p: usize) -> usize
 }
 
 // Answers for a state in which n steps are offered.
-fn answer_verdict(v: Verdict, n: usize) -> u8
+fn answer_verdict(v: Verdict, n: usize, to: &mut Output) -> u8
     ensures { result ≡ statuses.verdict_status v }
 {
     let mut line = [0u8; ANSWER_ROOM];
     let k = put_verdict(v, n, &mut line, 0);
-    put(part(&line, 0, k));
+    put(part(&line, 0, k), to);
     match v {
         Verdict::Finished => status(Answer::Finished),
         Verdict::Blocked => status(Answer::Blocked),
@@ -65,14 +66,14 @@ fn answer_verdict(v: Verdict, n: usize) -> u8
 }
 
 // `start MODEL`
-pub fn start(tables: &[u32]) -> u8
+pub fn start(tables: &[u32], to: &mut Output) -> u8
     ensures { result ≡ statuses.start_status tables.now }
 {
     let t = read_genuine::written(tables);
     let mut s = [0i32; base_ceilings::STATE_ROOM];
     state_start::start(t, &mut s);
-    let n = list_offers(t, &s);
-    answer_verdict(step_all::verdict_of(t, &s), n)
+    let n = list_offers(t, &s, to);
+    answer_verdict(step_all::verdict_of(t, &s), n, to)
 }
 
 // Writes the answer for a run of n steps.
@@ -110,12 +111,12 @@ fn put_ran(r: Ran, out: &mut [u8], p: usize) -> usize
     }
 }
 
-fn answer_run(r: Ran) -> u8
+fn answer_run(r: Ran, to: &mut Output) -> u8
     ensures { result ≡ statuses.ran_status r }
 {
     let mut line = [0u8; ANSWER_ROOM];
     let k = put_ran(r, &mut line, 0);
-    put(part(&line, 0, k));
+    put(part(&line, 0, k), to);
     match r {
         Ran::Ended(e, _) => ending_status(e),
         Ran::Refused(_) => status(Answer::Error),
@@ -123,12 +124,12 @@ fn answer_run(r: Ran) -> u8
 }
 
 // Shows what keeps a `run` from starting, where a run ends blocked.
-fn tell_waits(t: &[u32], s: &[i32], e: Ending) {
+fn tell_waits(t: &[u32], s: &[i32], e: Ending, to: &mut Output) {
     match e {
         Ending::Blocked => {
             let mut out = [0u8; LINE_ROOM];
             let n = show_waits::put_waits(t, s, &mut out, 0);
-            show_answers::hand_on(&out, n);
+            show_answers::hand_on(&out, n, to);
         }
         Ending::Finished => {}
         Ending::Open => {}
@@ -137,29 +138,29 @@ fn tell_waits(t: &[u32], s: &[i32], e: Ending) {
     }
 }
 
-fn tell_stuck(t: &[u32], s: &[i32], r: Ran) {
+fn tell_stuck(t: &[u32], s: &[i32], r: Ran, to: &mut Output) {
     match r {
         Ran::Ended(e, _) => {
-            tell_waits(t, s, e);
+            tell_waits(t, s, e, to);
         }
         Ran::Refused(_) => {}
     }
 }
 
 // `run MODEL LIMIT`
-pub fn run(tables: &[u32], limit: u32) -> u8
+pub fn run(tables: &[u32], limit: u32, to: &mut Output) -> u8
     ensures { result ≡ statuses.run_status tables.now limit }
 {
     let t = read_genuine::written(tables);
     let mut s = [0i32; base_ceilings::STATE_ROOM];
     state_start::start(t, &mut s);
     let mut line = [b'\n'; 1];
-    let r = show_run::run(t, &mut s, limit, &mut line);
+    let r = show_run::run(t, &mut s, limit, &mut line, to);
     if line[0] != b'\n' {
-        put(b"\n");
+        put(b"\n", to);
     }
-    tell_stuck(t, &s, r);
-    answer_run(r)
+    tell_stuck(t, &s, r, to);
+    answer_run(r, to)
 }
 
 // Writes the answer of a replay.
@@ -172,12 +173,12 @@ fn put_replayed(r: Replayed, out: &mut [u8], p: usize) -> usize
     }
 }
 
-pub fn answer_replay(r: Replayed) -> u8
+pub fn answer_replay(r: Replayed, to: &mut Output) -> u8
     ensures { result ≡ statuses.replayed_status r }
 {
     let mut line = [0u8; ANSWER_ROOM];
     let k = put_replayed(r, &mut line, 0);
-    put(part(&line, 0, k));
+    put(part(&line, 0, k), to);
     match r {
         Replayed::Accepted(_) => status(Answer::Accepted),
         Replayed::Refused(_, _) => status(Answer::Refused),
@@ -185,9 +186,9 @@ pub fn answer_replay(r: Replayed) -> u8
 }
 
 // `replay MODEL TRAIL`
-pub fn replay(tables: &[u32], trail: &[u8]) -> u8
+pub fn replay(tables: &[u32], trail: &[u8], to: &mut Output) -> u8
     ensures { result ≡ statuses.replay_status tables.now trail.now }
 {
     let mut s = [0i32; base_ceilings::STATE_ROOM];
-    answer_replay(trail_replay::replay(tables, trail, &mut s))
+    answer_replay(trail_replay::replay(tables, trail, &mut s), to)
 }

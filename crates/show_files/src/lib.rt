@@ -1,12 +1,17 @@
 // A command with the words that stand behind it, over files; each returns the status of its answer (`show_statuses`). Lists of such commands stand in the module `lists`.
 #![tactic(auto)]
+
 ghost use Rattle.std.specs.Prelude.{◌≡◌, ◌≤◌};
 
 pub mod lists;
 
 use base_bytes::part;
-use show_answers::put;
+use show_answers::{Output, put};
 use show_statuses::{Answer, status};
+use std::fs;
+use std::io::Read;
+use std::rt::Files;
+use std::str::from_utf8;
 
 // The steps of a run that is given no limit.
 const LIMIT: u32 = 1000000;
@@ -18,28 +23,57 @@ enum Loaded {
     Failed,
 }
 
-// Reads a file to its end, or as far as there is room.
-fn load(path: &[u8], buffer: &mut [u8]) -> Loaded {
-    let fd = os::open_read(path);
-    if fd < 0 {
-        return Loaded::Failed;
+// Opens a file for reading.
+fn open_read<R: Files>(rt: &R, path: &[u8]) -> Option<R::File> {
+    match from_utf8(path) {
+        Ok(name) => fs::open(rt, name).ok(),
+        Err(_) => None,
     }
-    let n = io::read_full(fd, buffer);
+}
+
+// Reads until the buffer is full, the file ends or a read fails; how many bytes of the buffer it filled.
+fn read_full(file: &mut impl Read, buffer: &mut [u8]) -> usize {
+    let mut done: usize = 0;
+    while done < buffer.len() {
+        match file.read(&mut buffer[done..]) {
+            Ok(0) => {
+                return done;
+            }
+            Ok(n) => {
+                done += n;
+            }
+            Err(_) => {
+                return done;
+            }
+        }
+    }
+    done
+}
+
+// Reads a file that is open to its end, or as far as there is room.
+fn load_from(file: &mut impl Read, buffer: &mut [u8]) -> Loaded {
+    let n = read_full(file, buffer);
     let mut beyond = [0u8; 1];
     // A read that failed has ended the loop as the end of the file would: one more tells them apart.
-    let more = libc::read(fd, &mut beyond);
-    libc::close(fd);
-    if more < 0 {
-        return Loaded::Failed;
+    match file.read(&mut beyond) {
+        Ok(_) => Loaded::Bytes(n),
+        Err(_) => Loaded::Failed,
     }
-    Loaded::Bytes(n)
+}
+
+// Reads a file to its end, or as far as there is room.
+fn load(rt: &impl Files, path: &[u8], buffer: &mut [u8]) -> Loaded {
+    match open_read(rt, path) {
+        Some(mut file) => load_from(&mut file, buffer),
+        None => Loaded::Failed,
+    }
 }
 
 // A file that cannot be read.
-fn unreadable(path: &[u8]) -> u8
+fn unreadable(path: &[u8], to: &mut Output) -> u8
     ensures { result ≡ 2 }
 {
-    show_answers::complain(b"error: cannot read ", path);
+    show_answers::complain(b"error: cannot read ", path, to);
     status(Answer::Error)
 }
 
@@ -88,26 +122,33 @@ fn is_replay(command: &[u8]) -> bool {
 }
 
 // A command with its model and its trail, from their files.
-fn perform_files(command: &[u8], model: &[u8], trail: &[u8], limit: u32) -> u8
+fn perform_files(
+    rt: &impl Files,
+    command: &[u8],
+    model: &[u8],
+    trail: &[u8],
+    limit: u32,
+    to: &mut Output,
+) -> u8
     ensures { result ≤ 2 }
 {
     let mut text = [0u8; base_ceilings::TEXT_MOST + 1];
-    let l = load(model, &mut text);
+    let l = load(rt, model, &mut text);
     match l {
-        Loaded::Failed => unreadable(model),
-        Loaded::Bytes(n) => show_texts::perform_text(command, part(&text, 0, n), trail, limit),
+        Loaded::Failed => unreadable(model, to),
+        Loaded::Bytes(n) => show_texts::perform_text(command, part(&text, 0, n), trail, limit, to),
     }
 }
 
 // A command over a model and a trail, from their files. A trail is read to one byte past its ceiling, so that none is cut.
-fn perform_replay(command: &[u8], model: &[u8], file: &[u8]) -> u8
+fn perform_replay(rt: &impl Files, command: &[u8], model: &[u8], file: &[u8], to: &mut Output) -> u8
     ensures { result ≤ 2 }
 {
     let mut trail = [0u8; base_ceilings::TRAIL_MOST + 1];
-    let l = load(file, &mut trail);
+    let l = load(rt, file, &mut trail);
     match l {
-        Loaded::Failed => unreadable(file),
-        Loaded::Bytes(n) => perform_files(command, model, part(&trail, 0, n), 0),
+        Loaded::Failed => unreadable(file, to),
+        Loaded::Bytes(n) => perform_files(rt, command, model, part(&trail, 0, n), 0, to),
     }
 }
 
@@ -130,36 +171,43 @@ fn is_limit(word: &[u8]) -> bool {
 }
 
 // `run` with its limit.
-fn perform_run(model: &[u8], word: &[u8]) -> u8
+fn perform_run(rt: &impl Files, model: &[u8], word: &[u8], to: &mut Output) -> u8
     ensures { result ≤ 2 }
 {
     if is_limit(word) {
-        return perform_files(b"run", model, b"", text_pieces::value(word) as u32);
+        return perform_files(rt, b"run", model, b"", text_pieces::value(word) as u32, to);
     }
-    put(b"error: a limit is a number of at most 9 digits\n");
+    put(b"error: a limit is a number of at most 9 digits\n", to);
     status(Answer::Error)
 }
 
 // A command with its words: `count` of them stand behind it.
-pub fn perform(command: &[u8], first: &[u8], second: &[u8], count: usize) -> u8
+pub fn perform(
+    rt: &impl Files,
+    command: &[u8],
+    first: &[u8],
+    second: &[u8],
+    count: usize,
+    to: &mut Output,
+) -> u8
     ensures { result ≤ 2 }
 {
     if words_least(command) == 0 {
-        return show_texts::unknown(command);
+        return show_texts::unknown(command, to);
     }
     if count < words_least(command) {
-        put(b"error: a word is missing\n");
+        put(b"error: a word is missing\n", to);
         return status(Answer::Error);
     }
     if words_most(command) < count {
-        put(b"error: too many words\n");
+        put(b"error: too many words\n", to);
         return status(Answer::Error);
     }
     if is_replay(command) {
-        return perform_replay(command, first, second);
+        return perform_replay(rt, command, first, second, to);
     }
     if count == 2 {
-        return perform_run(first, second);
+        return perform_run(rt, first, second, to);
     }
-    perform_files(command, first, b"", LIMIT)
+    perform_files(rt, command, first, b"", LIMIT, to)
 }

@@ -3,12 +3,14 @@ ghost use Rattle.std.specs.Prelude.{◌≡◌, ◌≤◌};
 ghost use Rattle.show_lists.specs.Tally.{batch_status};
 
 use base_bytes::part;
-use show_answers::{put, seek};
+use show_answers::{Output, put, seek};
 use show_lists::progress::Watch;
 use show_lists::tally::{Expected, Tally};
 use show_lists::words::Place;
 use show_lists::{tally, words};
 use show_statuses::{Answer, status};
+use std::io::{IsTerminal, Read};
+use std::rt::{Clock, Files};
 
 // The most bytes of a line of a list.
 const LINE_MOST: usize = 4096;
@@ -43,7 +45,7 @@ fn words_behind(words: &[u8]) -> usize {
 }
 
 // A command and its words, each of which ends with a line end.
-fn perform_words(words: &[u8]) -> u8
+fn perform_words(rt: &impl Files, words: &[u8], to: &mut Output) -> u8
     ensures { result ≤ 2 }
 {
     let e = seek(words, 0, b'\n');
@@ -51,35 +53,40 @@ fn perform_words(words: &[u8]) -> u8
     let f = seek(rest, 0, b'\n');
     let last = part(rest, f + 1, rest.len());
     super::perform(
+        rt,
         part(words, 0, e),
         part(rest, 0, f),
         part(last, 0, seek(last, 0, b'\n')),
         words_behind(words),
+        to,
     )
 }
 
 // A line whose words are not well formed.
-fn refuse(words: &[u8]) -> u8
+fn refuse(words: &[u8], to: &mut Output) -> u8
     ensures { result ≤ 2 }
 {
-    put(words);
+    put(words, to);
     status(Answer::Error)
 }
 
 // A line of a list: a command and its words.
-fn perform_line(line: &[u8]) -> u8
+fn perform_line(rt: &impl Files, line: &[u8], to: &mut Output) -> u8
     ensures { result ≤ 2 }
 {
     let mut text = [0u8; LINE_MOST + 1];
     let n = words::put_words(line, &mut text, 0);
     match words::end_of(line) {
-        Place::Apart => perform_words(part(&text, 0, n)),
-        Place::Plain => perform_words(part(&text, 0, n)),
-        Place::Closed => perform_words(part(&text, 0, n)),
-        Place::Quoted => refuse(b"error: a quote does not end\n"),
-        Place::Slashed => refuse(b"error: a quote does not end\n"),
-        Place::Stray => refuse(b"error: in quotes a backslash stands before \" or \\ only\n"),
-        Place::Crowded => refuse(b"error: behind a closing quote a blank must stand\n"),
+        Place::Apart => perform_words(rt, part(&text, 0, n), to),
+        Place::Plain => perform_words(rt, part(&text, 0, n), to),
+        Place::Closed => perform_words(rt, part(&text, 0, n), to),
+        Place::Quoted => refuse(b"error: a quote does not end\n", to),
+        Place::Slashed => refuse(b"error: a quote does not end\n", to),
+        Place::Stray => refuse(
+            b"error: in quotes a backslash stands before \" or \\ only\n",
+            to,
+        ),
+        Place::Crowded => refuse(b"error: behind a closing quote a blank must stand\n", to),
     }
 }
 
@@ -94,14 +101,14 @@ fn gathered(line: &[u8], held: usize) -> &[u8] {
 }
 
 // The heading of command n, and the command.
-fn answer_line(line: &[u8], n: u32) -> u8
+fn answer_line(rt: &impl Files, line: &[u8], n: u32, to: &mut Output) -> u8
     ensures { result ≤ 2 }
 {
-    show_answers::head(n as usize, part(line, 0, LINE_MOST));
+    show_answers::head(n as usize, part(line, 0, LINE_MOST), to);
     if LINE_MOST < line.len() {
-        return refuse(b"error: the line is longer than 4096 bytes\n");
+        return refuse(b"error: the line is longer than 4096 bytes\n", to);
     }
-    perform_line(line)
+    perform_line(rt, line, to)
 }
 
 // Is the line no command? One that is too long is an error, whatever it begins with.
@@ -115,11 +122,13 @@ fn is_passed(line: &[u8]) -> bool {
 
 // Works off the line that is gathered.
 fn finish_line(
+    rt: &(impl Files + Clock),
     line: &[u8],
     r: Working,
     x: Expected,
     wrong: &mut [u32],
     errors: &mut [u32],
+    to: &mut Output,
 ) -> Working {
     let text = gathered(line, r.held);
     let t = r.tally;
@@ -132,13 +141,13 @@ fn finish_line(
         };
     }
     let n = tally::one_more(t.commands);
-    let status = answer_line(text, n);
+    let status = answer_line(rt, text, n, to);
     tally::keep(1, status, n, wrong, t.wrong);
     tally::keep(2, status, n, errors, t.errors);
     Working {
         held: 0,
         tally: tally::tallied(t, status),
-        watch: show_lists::progress::told(watch, n, x),
+        watch: show_lists::progress::told(rt, watch, n, x),
     }
 }
 
@@ -152,15 +161,17 @@ fn keep(line: &mut [u8], at: usize, b: u8) {
 
 // One byte more of a list.
 fn take_byte(
+    rt: &(impl Files + Clock),
     b: u8,
     line: &mut [u8],
     r: Working,
     x: Expected,
     wrong: &mut [u32],
     errors: &mut [u32],
+    to: &mut Output,
 ) -> Working {
     if b == b'\n' {
-        return finish_line(line, r, x, wrong, errors);
+        return finish_line(rt, line, r, x, wrong, errors, to);
     }
     let held = r.held;
     let t = r.tally;
@@ -174,17 +185,19 @@ fn take_byte(
 }
 
 fn take_bytes(
+    rt: &(impl Files + Clock),
     s: &[u8],
     line: &mut [u8],
     r: Working,
     x: Expected,
     wrong: &mut [u32],
     errors: &mut [u32],
+    to: &mut Output,
 ) -> Working {
     let mut now = r;
     let mut k: usize = 0;
     while k < s.len() {
-        now = take_byte(s[k], line, now, x, wrong, errors);
+        now = take_byte(rt, s[k], line, now, x, wrong, errors, to);
         k += 1;
     }
     now
@@ -197,9 +210,17 @@ fn done(r: Working) -> Worked {
 }
 
 // Works off a list to its end. The turns are counted down from a number that no list uses up, since nothing says that a file ends.
-fn work_off(fd: i32, x: Expected, wrong: &mut [u32], errors: &mut [u32]) -> Worked {
+fn work_off<R: Files + Clock>(
+    rt: &R,
+    stderr: &impl IsTerminal,
+    mut file: R::File,
+    x: Expected,
+    wrong: &mut [u32],
+    errors: &mut [u32],
+    to: &mut Output,
+) -> Worked {
     let mut front = [0u8; 3];
-    let n = io::read_full(fd, &mut front);
+    let n = super::read_full(&mut file, &mut front);
     if base_bytes::same(part(&front, 0, n), b"\xef\xbb\xbf") {
         return Worked::Marked;
     }
@@ -211,32 +232,39 @@ fn work_off(fd: i32, x: Expected, wrong: &mut [u32], errors: &mut [u32]) -> Work
             wrong: 0,
             errors: 0,
         },
-        watch: show_lists::progress::begun(),
+        watch: show_lists::progress::begun(rt, stderr),
     };
-    let mut r = take_bytes(part(&front, 0, n), &mut line, begun, x, wrong, errors);
+    let mut r = take_bytes(
+        rt,
+        part(&front, 0, n),
+        &mut line,
+        begun,
+        x,
+        wrong,
+        errors,
+        to,
+    );
     let mut turns: u64 = 18446744073709551615;
     while turns > 0 {
         let mut chunk = io::buffer();
-        let got = libc::read(fd, &mut chunk);
-        if got < 0 {
+        let Ok(n) = file.read(&mut chunk) else {
             return Worked::Failed;
-        }
-        if got == 0 {
+        };
+        if n == 0 {
             // A last line that has no line end is a line all the same.
             if r.held > 0 {
-                return done(finish_line(&line, r, x, wrong, errors));
+                return done(finish_line(rt, &line, r, x, wrong, errors, to));
             }
             return done(r);
         }
-        let n = io::count(got, &chunk);
-        r = take_bytes(&chunk[..n], &mut line, r, x, wrong, errors);
+        r = take_bytes(rt, &chunk[..n], &mut line, r, x, wrong, errors, to);
         turns -= 1;
     }
     Worked::Failed
 }
 
 // Tells what was counted, and answers.
-fn close_list(x: Expected, t: Tally, wrong: &[u32], errors: &[u32]) -> u8
+fn close_list(x: Expected, t: Tally, wrong: &[u32], errors: &[u32], to: &mut Output) -> u8
     ensures { result ≡ batch_status x t.commands t.wrong t.errors }
 {
     let mut out = [0u8; tally::TOLD_ROOM];
@@ -244,48 +272,72 @@ fn close_list(x: Expected, t: Tally, wrong: &[u32], errors: &[u32]) -> u8
     let b = tally::put_numbers(b"errors:", errors, t.errors, &mut out, a);
     let c = tally::put_expected(x, t.commands, &mut out, b);
     let d = tally::put_tally(t, &mut out, c);
-    put(part(&out, 0, d));
+    put(part(&out, 0, d), to);
     tally::batch_status(x, t)
 }
 
 // Works off a list that is open.
-fn batch_from(path: &[u8], fd: i32, x: Expected) -> u8
+fn batch_from<R: Files + Clock>(
+    rt: &R,
+    stderr: &impl IsTerminal,
+    path: &[u8],
+    file: R::File,
+    x: Expected,
+    to: &mut Output,
+) -> u8
     ensures { result ≤ 2 }
 {
     let mut wrong = [0u32; tally::KEPT_MOST];
     let mut errors = [0u32; tally::KEPT_MOST];
-    let w = work_off(fd, x, &mut wrong, &mut errors);
-    libc::close(fd);
+    let w = work_off(rt, stderr, file, x, &mut wrong, &mut errors, to);
     match w {
-        Worked::Off(t) => close_list(x, t, &wrong, &errors),
-        Worked::Marked => refuse(b"error: the list begins with a byte order mark\n"),
-        Worked::Failed => super::unreadable(path),
+        Worked::Off(t) => close_list(x, t, &wrong, &errors, to),
+        Worked::Marked => refuse(b"error: the list begins with a byte order mark\n", to),
+        Worked::Failed => super::unreadable(path, to),
     }
 }
 
 // A list of which so many commands are expected.
-fn batch_of(path: &[u8], x: Expected) -> u8
+fn batch_of(
+    rt: &(impl Files + Clock),
+    stderr: &impl IsTerminal,
+    path: &[u8],
+    x: Expected,
+    to: &mut Output,
+) -> u8
     ensures { result ≤ 2 }
 {
-    let fd = os::open_read(path);
-    if fd < 0 {
-        return super::unreadable(path);
+    match super::open_read(rt, path) {
+        Some(file) => batch_from(rt, stderr, path, file, x, to),
+        None => super::unreadable(path, to),
     }
-    batch_from(path, fd, x)
 }
 
 // `batch LIST [COUNT]`: `count` words stand behind it.
-pub fn batch(path: &[u8], word: &[u8], count: usize) -> u8
+pub fn batch(
+    rt: &(impl Files + Clock),
+    stderr: &impl IsTerminal,
+    path: &[u8],
+    word: &[u8],
+    count: usize,
+    to: &mut Output,
+) -> u8
     ensures { result ≤ 2 }
 {
     if count > 2 {
-        return refuse(b"error: too many words\n");
+        return refuse(b"error: too many words\n", to);
     }
     if count < 2 {
-        return batch_of(path, Expected::Any);
+        return batch_of(rt, stderr, path, Expected::Any, to);
     }
     if super::is_limit(word) {
-        return batch_of(path, Expected::Exactly(text_pieces::value(word) as u32));
+        return batch_of(
+            rt,
+            stderr,
+            path,
+            Expected::Exactly(text_pieces::value(word) as u32),
+            to,
+        );
     }
-    refuse(b"error: a count is a number of at most 9 digits\n")
+    refuse(b"error: a count is a number of at most 9 digits\n", to)
 }

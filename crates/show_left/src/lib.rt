@@ -1,9 +1,10 @@
 // The command that shows the state which a trail leaves. Its last line is the replay's answer, and it returns the status of that.
 #![tactic(auto)]
+
 ghost use Rattle.std.specs.Prelude.{◌≡◌};
 ghost use Rattle.show_commands.specs.Statuses as statuses;
 
-use show_answers::hand_on;
+use show_answers::{Output, hand_on};
 use show_commands::answer_replay;
 use trail_replay::Replayed;
 
@@ -11,7 +12,7 @@ use trail_replay::Replayed;
 const PART_ROOM: usize = 5 * base_ceilings::NORMAL_MOST;
 
 // Each process with the statement at which it stands, and its variables.
-fn show_processes(t: &[u32], s: &[i32]) {
+fn show_processes(t: &[u32], s: &[i32], to: &mut Output) {
     let n = base_bytes::least(
         state_layout::processes(s) as usize,
         base_ceilings::PROCESSES_MOST,
@@ -20,19 +21,19 @@ fn show_processes(t: &[u32], s: &[i32]) {
     let mut p: usize = 0;
     while p < n {
         let k = show_steps::put_process(t, s, p as u8, &mut out, 0);
-        hand_on(&out, k);
+        hand_on(&out, k, to);
         p += 1;
     }
 }
 
 // Global variables, processes, channels.
-fn show_all(t: &[u32], s: &[i32]) {
+fn show_all(t: &[u32], s: &[i32], to: &mut Output) {
     let mut out = [0u8; PART_ROOM];
     let g = show_state::put_globals(t, s, &mut out, 0);
-    hand_on(&out, g);
-    show_processes(t, s);
+    hand_on(&out, g, to);
+    show_processes(t, s, to);
     let c = show_state::put_channels(t, s, &mut out, 0);
-    hand_on(&out, c);
+    hand_on(&out, c, to);
 }
 
 // Does a replay so answered leave a state?
@@ -44,13 +45,13 @@ fn leaves_state(r: Replayed) -> bool {
 }
 
 // `state MODEL TRAIL`
-pub fn state(tables: &[u32], trail: &[u8]) -> u8
+pub fn state(tables: &[u32], trail: &[u8], to: &mut Output) -> u8
     ensures { result ≡ statuses.replay_status tables.now trail.now }
 {
     let mut s = [0i32; base_ceilings::STATE_ROOM];
     let r = trail_replay::replay(tables, trail, &mut s);
     if leaves_state(r) {
-        show_all(read_genuine::written(tables), &s);
+        show_all(read_genuine::written(tables), &s, to);
     }
-    answer_replay(r)
+    answer_replay(r, to)
 }

@@ -1,6 +1,6 @@
 -- THE WORDS THAT THE CODE WRITES ARE THOSE OF THE LINE, and where it stands at the end tells what is wrong with a line that has none (`words_split`).
 use Prim.Native.Nat.{ℕ}
-use mathlib.Core.Path.{◌≡◌, refl, sym, ap, ◌∙◌}
+use mathlib.Core.Path.{◌≡◌, refl, sym, ap}
 use mathlib.Core.Bool.{Bool, true, false, not}
 use mathlib.Core.List.{List, [], ◌∷◌, ◌++◌}
 use lib.Dec.{eqb}
@@ -8,7 +8,7 @@ use Rattle.base_bytes.specs.Choice.{pick, either}
 use Rattle.base_bytes.proofs.Tests.{true_false}
 use Rattle.show_lists.specs.declared.words.Place.{Place}
 use Rattle.show_lists.specs.declared.words.Place.TheVariants.{Apart, Plain, Quoted, Slashed, Closed, Stray, Crowded}
-use Rattle.show_lists.specs.Words.{is_blank, is_slashed, Line, words, unended, stray, crowded, ended, longer, split_last, split_next, split, behind, added, added_last, words_from, end_from, joined, is_whole, is_open, Says}
+use Rattle.show_lists.specs.Words.{is_blank, is_slashed, Line, words, unended, stray, crowded, ended, longer, split_last, split_next, split, behind, added, added_last, words_from, end_from, joined, Says}
 
 -- a line that begins inside a word has one
 abbrev is_some : List (List ℕ) → Bool

@@ -1,6 +1,6 @@
 -- Worked examples: words parted by several blanks and a tab, with blanks around them; words in quotes, with a blank, a quote, a backslash, and nothing in them; a quote inside a word, and a backslash outside quotes; each
 -- of the three that are wrong; lines that are no commands, and line ends; the status of a list, and what is told behind it.
-use Rattle.std.specs.Prelude.{suc, ◌≡◌, refl, true, false, [], ◌∷◌}
+use Rattle.std.specs.Prelude.{◌≡◌, refl, true, false, [], ◌∷◌}
 use Rattle.base_kinds.specs.Kinds.{bytes}
 use Rattle.spec_text.specs.Formats.{digits_by}
 use Rattle.show_lists.specs.declared.words.Place.TheVariants.{Apart}

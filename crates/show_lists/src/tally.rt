@@ -12,7 +12,7 @@ pub const KEPT_MOST: usize = 16384;
 pub const TOLD_ROOM: usize = 22 * KEPT_MOST + 512;
 
 // How many commands of a list were worked off, how many of them found something wrong, and how many ended in an error.
-#[derive(Drop)]
+#[derive(Clone, Copy)]
 pub struct Tally {
     pub commands: u32,
     pub wrong: u32,
@@ -20,7 +20,7 @@ pub struct Tally {
 }
 
 // How many commands a list should have.
-#[derive(Drop)]
+#[derive(Clone, Copy)]
 pub enum Expected {
     Any,
     Exactly(u32),

@@ -8,7 +8,7 @@ use text_pens::put;
 
 // Where in a line one stands: where a word may begin, in a word, in quotes, there behind a backslash, behind a closing quote; or behind a backslash in quotes that stands before something else, or behind what may
 // not stand right behind a closing quote.
-#[derive(Drop)]
+#[derive(Clone, Copy)]
 pub enum Place {
     Apart,
     Plain,

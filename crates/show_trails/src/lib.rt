@@ -1,5 +1,6 @@
 // The command that shows the steps of a trail one by one, and what each did. Its last line is the replay's answer, and it returns the status of that.
 #![tactic(auto)]
+
 ghost use Rattle.std.specs.Prelude.{◌≡◌};
 ghost use Rattle.spec_machine.specs.Machine as machine;
 ghost use Rattle.step_all.specs.Moving.{machine_in};
@@ -7,7 +8,7 @@ ghost use Rattle.show_commands.specs.Statuses as statuses;
 
 use base_bytes::part;
 use base_outcome::{Step, Taken};
-use show_answers::{hand_on, seek};
+use show_answers::{Output, hand_on, seek};
 use show_commands::answer_replay;
 use step_all::Offer;
 use trail_form::{Formed, Record};
@@ -26,25 +27,25 @@ enum Next {
 }
 
 // Takes a step that line i of a trail asks for, and shows it and what it did; the normal text has `whole` bytes.
-fn tell_step(t: &[u32], s: &mut [i32], whole: usize, i: usize, x: Step) -> Taken
+fn tell_step(t: &[u32], s: &mut [i32], whole: usize, i: usize, x: Step, to: &mut Output) -> Taken
     ensures { (result, s.new) ≡ machine.advance (machine_in t.now) s.old x }
 {
     let mut out = [0u8; STEP_ROOM];
     let told = show_steps::put_taken(t, s, whole, i, x, &mut out, 0);
-    hand_on(&out, told.end);
+    hand_on(&out, told.end, to);
     told.taken
 }
 
 // Shows a record that is not offered, and what its process was offered instead.
-fn tell_refused(t: &[u32], s: &[i32], i: usize, process: u32, k: u32) {
+fn tell_refused(t: &[u32], s: &[i32], i: usize, process: u32, k: u32, to: &mut Output) {
     let mut out = [0u8; INSTEAD_ROOM];
     let a = show_steps::put_not_offered(i, process, k, &mut out, 0);
     let b = show_steps::put_instead(t, s, process, &mut out, a);
-    hand_on(&out, b);
+    hand_on(&out, b, to);
 }
 
 // Shows a record behind a step that failed.
-fn tell_behind(i: usize, process: u32, k: u32) {
+fn tell_behind(i: usize, process: u32, k: u32, to: &mut Output) {
     let mut out = [0u8; 256];
     let a = show_steps::put_not_offered(i, process, k, &mut out, 0);
     let b = text_pens::put_all(
@@ -52,7 +53,7 @@ fn tell_behind(i: usize, process: u32, k: u32) {
         &mut out,
         a,
     );
-    hand_on(&out, b);
+    hand_on(&out, b, to);
 }
 
 // How a trail goes on behind a step so taken.
@@ -74,15 +75,16 @@ fn tell_asked(
     process: u32,
     k: u32,
     failed: bool,
+    to: &mut Output,
 ) -> Next {
     if failed {
-        tell_behind(i, process, k);
+        tell_behind(i, process, k, to);
         return Next::Over;
     }
     match step_all::step_at(t, s, process, k) {
-        Offer::Step(x) => next_behind(tell_step(t, s, whole, i, x)),
+        Offer::Step(x) => next_behind(tell_step(t, s, whole, i, x, to)),
         Offer::Beyond(_) => {
-            tell_refused(t, s, i, process, k);
+            tell_refused(t, s, i, process, k, to);
             Next::Over
         }
     }
@@ -96,16 +98,17 @@ fn tell_record(
     line: &[u8],
     i: usize,
     failed: bool,
+    to: &mut Output,
 ) -> Next {
     match trail_form::record_of(line) {
-        Record::Step(process, k) => tell_asked(t, s, whole, i, process, k, failed),
+        Record::Step(process, k) => tell_asked(t, s, whole, i, process, k, failed, to),
         Record::Claim(_) => Next::Over,
         Record::Malformed => Next::Over,
     }
 }
 
 // Shows the first n records of a trail, as far as it goes on.
-fn tell_steps(t: &[u32], s: &mut [i32], trail: &[u8], n: usize) {
+fn tell_steps(t: &[u32], s: &mut [i32], trail: &[u8], n: usize, to: &mut Output) {
     let whole = show_statement::length_from(t, 0);
     let mut at: usize = 0;
     let mut failed = false;
@@ -113,7 +116,7 @@ fn tell_steps(t: &[u32], s: &mut [i32], trail: &[u8], n: usize) {
     while i < n {
         i += 1;
         let e = seek(trail, at, b'\n');
-        match tell_record(t, s, whole, part(trail, at, e), i, failed) {
+        match tell_record(t, s, whole, part(trail, at, e), i, failed, to) {
             Next::Goes => {}
             Next::Failed => {
                 failed = true;
@@ -127,7 +130,7 @@ fn tell_steps(t: &[u32], s: &mut [i32], trail: &[u8], n: usize) {
 }
 
 // `steps MODEL TRAIL`
-pub fn steps(tables: &[u32], trail: &[u8]) -> u8
+pub fn steps(tables: &[u32], trail: &[u8], to: &mut Output) -> u8
     ensures { result ≡ statuses.replay_status tables.now trail.now }
 {
     let mut s = [0i32; base_ceilings::STATE_ROOM];
@@ -141,9 +144,10 @@ pub fn steps(tables: &[u32], trail: &[u8]) -> u8
                 &mut s,
                 trail,
                 base_bytes::least(n, base_ceilings::STEPS_MOST),
+                to,
             );
         }
         Formed::Spoiled(_, _) => {}
     }
-    answer_replay(r)
+    answer_replay(r, to)
 }

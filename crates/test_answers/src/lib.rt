@@ -1,8 +1,9 @@
 // How the answers of the stepper's entries are shown.
 #![tactic(auto)]
-use libc::STDOUT_FILENO;
+
 use run_entry::{Ending, Ran};
 use step_entry::{Standing, Stepped};
+use test_cases::STDOUT_FILENO;
 
 pub fn put(s: &[u8]) {
     io::write_all(STDOUT_FILENO, s);

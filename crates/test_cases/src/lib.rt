@@ -4,7 +4,8 @@
 ghost use Rattle.std.specs.Prelude.{◌≡◌, min, length, take};
 ghost use Rattle.test_cases.specs.Within.{Within};
 
-use libc::STDOUT_FILENO;
+// The descriptor of standard output.
+pub const STDOUT_FILENO: i32 = 1;
 
 #[derive(Drop)]
 pub enum Case {

@@ -1,9 +1,8 @@
 // Prints the items or the refusal of each list of kinds on standard input, a byte each.
 #![tactic(auto)]
 
-use libc::STDOUT_FILENO;
 use parse_items::Parsed;
-use test_cases::Case;
+use test_cases::{Case, STDOUT_FILENO};
 
 fn show(kinds: &[u8]) {
     let mut codes = [0u8; base_ceilings::ITEMS_MOST];

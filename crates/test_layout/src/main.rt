@@ -1,9 +1,9 @@
 // Prints the layout of each text on standard input, and of its tables in a room of its length and one less; and whether the layout reads back to the same tables and the same normal text.
 #![tactic(auto)]
-use libc::STDOUT_FILENO;
+
 use normal_entry::Written;
 use read_passes::Judged;
-use test_cases::Case;
+use test_cases::{Case, STDOUT_FILENO};
 
 fn put(s: &[u8]) {
     io::write_all(STDOUT_FILENO, s);

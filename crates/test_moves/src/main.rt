@@ -1,5 +1,6 @@
 // Walks through each model on standard input by the entries of the stepper; then the automatic run, and steps that are refused (crate `test_walks`).
 #![tactic(auto)]
+
 use read_passes::Judged;
 use test_answers::{put, show_run};
 use test_cases::Case;

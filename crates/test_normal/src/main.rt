@@ -1,12 +1,12 @@
 // Prints the normal text of each text on standard input, and of its tables: in a room of its length and one less, and how many of the tables are still a text's when one
 // of their numbers is one more.
 #![tactic(auto)]
+
 ghost use Rattle.std.specs.Prelude.{◌≤◌};
 
-use libc::STDOUT_FILENO;
 use normal_entry::Written;
 use read_passes::Judged;
-use test_cases::Case;
+use test_cases::{Case, STDOUT_FILENO};
 
 fn put(s: &[u8]) {
     io::write_all(STDOUT_FILENO, s);

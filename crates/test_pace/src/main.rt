@@ -1,9 +1,9 @@
 // Replays the trail on standard input on the model before it, and runs that model, each twenty times: time it to see what steps of many processes take.
 #![tactic(auto)]
-use libc::STDOUT_FILENO;
+
 use read_passes::Judged;
 use run_entry::Ran;
-use test_cases::Case;
+use test_cases::{Case, STDOUT_FILENO};
 use trail_replay::Replayed;
 
 // The steps of a run.

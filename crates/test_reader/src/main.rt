@@ -1,8 +1,8 @@
 // Prints whether each text on standard input is accepted, or its refusal.
 #![tactic(auto)]
-use libc::STDOUT_FILENO;
+
 use read_passes::Judged;
-use test_cases::Case;
+use test_cases::{Case, STDOUT_FILENO};
 
 fn show(text: &[u8]) {
     let mut tables = [0u32; 16384];

@@ -1,8 +1,8 @@
 // Reads the model on standard input a hundred times, and says how often it was accepted: time it to see what one reading takes.
 #![tactic(auto)]
-use libc::STDOUT_FILENO;
+
 use read_passes::Judged;
-use test_cases::Case;
+use test_cases::{Case, STDOUT_FILENO};
 
 fn accepted(text: &[u8]) -> usize {
     let mut tables = [0u32; 16384];

@@ -1,7 +1,8 @@
 // Prints the tables of four items with room enough, one number short and none at all, and what the accessors read from them.
 #![tactic(auto)]
 
-use libc::STDOUT_FILENO;
+// The descriptor of standard output.
+const STDOUT_FILENO: i32 = 1;
 
 fn number(n: usize) {
     io::write_all(STDOUT_FILENO, b" ");

@@ -1,8 +1,7 @@
 // Prints the tokens or the refusal of each text on standard input.
 #![tactic(auto)]
 
-use libc::STDOUT_FILENO;
-use test_cases::Case;
+use test_cases::{Case, STDOUT_FILENO};
 use text_tokens::Lexed;
 
 fn show(text: &[u8]) {

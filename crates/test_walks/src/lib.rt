@@ -1,5 +1,6 @@
 // Walks by the entries of the stepper: how many steps are offered, and the one that is taken; and steps and runs that are refused. One crate holds them all, since what costs is loading the stepper.
 #![tactic(auto)]
+
 use base_outcome::Step;
 use step_entry::Listed;
 use test_answers::{show_run, show_step};

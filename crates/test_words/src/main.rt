@@ -1,8 +1,10 @@
 // Reads each of the small models on standard input three hundred times; with any argument it looks up their words instead, as often. Time both to see what part of a reading the lookup is.
 #![tactic(auto)]
-use libc::STDOUT_FILENO;
+
 use read_passes::Judged;
-use test_cases::Case;
+use std::env::FillError;
+use std::rt::Env;
+use test_cases::{Case, STDOUT_FILENO};
 use text_tokens::Lexed;
 
 const TIMES: usize = 300;
@@ -71,8 +73,18 @@ fn show(text: &[u8], words: bool) {
     io::write_all(STDOUT_FILENO, b"\n");
 }
 
-fn main() {
-    let words = os::arg_count() > 1;
+// Is there an argument behind the program's name?
+fn is_given(rt: &impl Env) -> bool {
+    let mut byte = [0u8; 1];
+    match rt.arg(1, &mut byte) {
+        Ok(_) => true,
+        Err(FillError::TooLong) => true,
+        Err(FillError::NotPresent) => false,
+    }
+}
+
+fn main(rt: HostRuntime) {
+    let words = is_given(&rt);
     let mut text = [0u8; base_ceilings::NORMAL_MOST];
     let mut left: usize = 1000000;
     while left > 0 {
