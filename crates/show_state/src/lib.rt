@@ -1,5 +1,6 @@
 // How a state is shown: the variables by name with their numbers, the channels with their messages, written one after the other to a lent slice that may end too soon.
 #![tactic(auto)]
+
 ghost use Rattle.std.specs.Prelude.{◌≡◌};
 ghost use Rattle.base_pens.specs.Pen.{pen, puts};
 ghost use Rattle.spec_account.specs.States.{values_text};

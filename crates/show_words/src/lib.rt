@@ -1,5 +1,6 @@
 // The words of which what is shown is made: numbers, names, messages, written one after the other to a lent slice that may end too soon.
 #![tactic(auto)]
+
 ghost use Rattle.std.specs.Prelude.{◌≡◌, ◌+◌, ◌%◌};
 ghost use Rattle.base_pens.specs.Pen.{pen, puts};
 ghost use Rattle.spec_text.specs.Formats.{digits_by, digits_of, decimal_of};

@@ -1,6 +1,7 @@
 // Are numbers a state of a model? Units, places and channels are looked up in the tables, values are held to their types; then what is in use is written on zeros and
 // compared, so that nothing stands where nothing is in use. The public function asks nothing of its caller.
 #![tactic(auto)]
+
 ghost use Rattle.std.specs.Prelude.{◌≡◌, ◌<◌};
 ghost use Rattle.state_types.specs.Fits as fits;
 ghost use Rattle.state_check.specs.Standing as standing;

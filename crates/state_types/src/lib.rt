@@ -1,5 +1,6 @@
 // Do numbers count something, and do they lie in their types? No function asks anything of its caller.
 #![tactic(auto)]
+
 ghost use Rattle.std.specs.Prelude.{◌≡◌};
 ghost use Rattle.state_types.specs.Fits as fits;
 

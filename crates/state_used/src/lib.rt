@@ -1,5 +1,6 @@
 // What is in use of a state's numbers, written on others. No function asks anything of its caller.
 #![tactic(auto)]
+
 ghost use Rattle.std.specs.Prelude.{◌≡◌};
 ghost use Rattle.state_layout.specs.Walks.{walk};
 ghost use Rattle.state_used.specs.Shapes as shapes;

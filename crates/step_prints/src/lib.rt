@@ -1,5 +1,6 @@
 // What a printf writes, into a lent slice as far as it reaches.
 #![tactic(auto)]
+
 ghost use Rattle.std.specs.Prelude.{◌≡◌, ◌+◌, ◌%◌, ◌<◌, ◌≤◌, [], ◌∷◌};
 ghost use Rattle.spec_text.specs.Formats as formats;
 ghost use Rattle.step_prints.specs.Printing as printing;

@@ -1,6 +1,7 @@
 // What the statements do, but for `run`: the state after a step, or why it is not taken. All is worked out before the first store, so that a fault or a failed assertion
 // leaves the state as it is.
 #![tactic(auto)]
+
 ghost use Rattle.std.specs.Prelude.{◌≡◌, ◌<◌};
 ghost use Rattle.step_statements.specs.Statements as statements;
 

@@ -1,5 +1,6 @@
 // Taking the step of the statement at a place, `run` among them.
 #![tactic(auto)]
+
 ghost use Rattle.std.specs.Prelude.{◌≡◌, ◌<◌};
 ghost use Rattle.base_ceilings.specs.Ceilings.{numbers_most, processes_most};
 ghost use Rattle.state_layout.specs.Layout.{processes_of};
