@@ -1,5 +1,6 @@
 // What a step did, a line for each deed: what it stored, sent, received and started, read from the tables of the model and the numbers of the states before and after it.
 #![tactic(auto)]
+
 ghost use Rattle.std.specs.Prelude.{◌≡◌};
 ghost use Rattle.base_pens.specs.Pen.{pen, puts};
 ghost use Rattle.show_deeds.specs.Deeds as deeds;

@@ -1,5 +1,6 @@
 // What keeps a `run` from starting: the first process that stands at one for which there is no room, in a line behind a tab, written to lent bytes.
 #![tactic(auto)]
+
 ghost use Rattle.std.specs.Prelude.{◌≡◌, [], ◌∷◌, ◌+◌, ◌<◌, ◌≤◌};
 ghost use Rattle.base_ceilings.specs.Ceilings.{items_most};
 ghost use Rattle.base_pens.specs.Pen.{pen, puts};

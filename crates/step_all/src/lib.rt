@@ -1,5 +1,6 @@
 // The steps that are offered in a state, over all its processes; what a step does; and the verdict of a state.
 #![tactic(auto)]
+
 ghost use Rattle.std.specs.Prelude.{◌≡◌, ◌≤◌};
 ghost use Rattle.step_all.specs.Moving.{machine_in};
 ghost use Rattle.base_ceilings.specs.Ceilings.{processes_most};

@@ -5,4 +5,4 @@ pub returns-then-s-eq0 : goal.returns-then-s-eq0
 returns-then-s-eq0 c = laws.mark-none c.args.s.now _ _ c.if-s-eq0.true c.put_all.ensures
 
 pub returns : goal.returns
-returns c = laws.mark-some c.args.s.now _ _ c.if-s-eq0.false c.Put-under.ensures
+returns c = laws.mark-some c.args.s.now _ _ c.if-s-eq0.false c.put_under.ensures
