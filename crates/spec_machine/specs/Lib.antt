@@ -27,4 +27,3 @@ pub mod ExamplesStarts
 pub mod ExamplesNames
 pub mod ExamplesProcesses
 pub mod ExamplesPrinted
-pub mod ExamplesFits
