@@ -113,3 +113,6 @@ labelled_lies {w} (option q os) i j (inr p) =
           lying_behind (i_option ∷ code_tree q) (i_end_option ∷ code_tree os) (marked w r.act) i (i + 1 + size_in q) r.at (omega (arith, size_tree q))
           (lying_behind (i_end_option ∷ []) (code_tree os) (marked w r.act) (i + 1 + size_in q) (i + 2 + size_in q) r.at (omega arith) r.lies);
     }
+labelled_lies {w = w} over i j p = elim p [ ]
+labelled_lies {w = w} end i j p = elim p [ ]
+labelled_lies {w = w} (leaf _) i j p = elim p [ ]

@@ -1,5 +1,6 @@
 // Are these the tables of an accepted text? They are written as a text, which is read again.
 #![tactic(auto)]
+
 ghost use Rattle.std.specs.Prelude.{◌≡◌, length};
 ghost use Rattle.base_bytes.specs.Lists.{same};
 ghost use Rattle.read_passes.specs.Judging.{judge_of, tables_text};
