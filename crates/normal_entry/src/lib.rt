@@ -1,5 +1,6 @@
 // The entries that write normal text: of a model's text, and of tables.
 #![tactic(auto)]
+
 ghost use Rattle.std.specs.Prelude.{◌≡◌, ◌≤◌, length};
 ghost use Rattle.base_ceilings.specs.Ceilings.{normal_most};
 ghost use Rattle.write_texts.specs.Normal.{normal_of};

@@ -1,5 +1,6 @@
 // The automatic run: from a state it takes first offered steps until none is, one fails, or a limit is met.
 #![tactic(auto)]
+
 ghost use Rattle.std.specs.Prelude.{◌≡◌};
 ghost use Rattle.run_entry.specs.Runs as runs;
 ghost use Rattle.run_entry.specs.Entries as entries;

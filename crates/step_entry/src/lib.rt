@@ -1,5 +1,6 @@
 // The entries of the stepper.
 #![tactic(auto)]
+
 ghost use Rattle.std.specs.Prelude.{◌≡◌};
 ghost use Rattle.step_entry.specs.Entries as entries;
 

@@ -1,5 +1,6 @@
 // Trails replayed: each recorded step in its turn from the initial state on, and the claimed verdict against the one reached.
 #![tactic(auto)]
+
 ghost use Rattle.std.specs.Prelude.{◌≡◌};
 ghost use Rattle.trail_form.specs.Forms.{form_of, answer_of};
 ghost use Rattle.trail_form.specs.declared.Formed.TheVariants.{Well};
