@@ -61,6 +61,7 @@ none_in {B = B} {q = q} h = absurd (go h refl)
     go : {l : List B} → In q l → l ≡ [] → ⊥
     go {l = z ∷ l} first e = let n : suc (length l) ≡ 0 = ap length e in omega arith
     go {l = z ∷ l} (behind h) e = let n : suc (length l) ≡ 0 = ap length e in omega arith
+    go {l = []} x'' e = elim x'' [ ]
 
 -- a move of these places is at one of them
 pub in_alone : {y : Move} (l : List ℕ) → In y (alone l) → In y.place l

@@ -31,7 +31,7 @@ use Rattle.table_entries.proofs.Runs.{length_runs, runs_at}
 use Rattle.table_layout.specs.Trees.{entries_in}
 use Rattle.rule_sheets.specs.Walks.{first}
 use Rattle.rule_sheets.specs.Payload.{word_of, same_name, first_same, name_arg, arg_of, args_of, spelled}
-use Rattle.spec_text.specs.Formats.{format_from, format_of}
+use Rattle.spec_text.specs.Formats.{format_from, format_of, move_of}
 use Rattle.spec_text.specs.Names.{pid}
 use Rattle.rule_sheets.proofs.Meaning.{filled_at}
 use Rattle.table_proof.specs.Read.{Right}
@@ -63,7 +63,7 @@ format_end : (opened : Bool) (n bad : ℕ) (s : List ℕ) → format_from opened
 unfolding format_from
 format_end true n bad [] = omega arith
 format_end false n bad [] = omega arith
-format_end opened n bad (b ∷ s) = format_end _ _ _ s
+format_end opened n bad (b ∷ s) = format_end (eqb (move_of opened b) 1) (n + pick (eqb (move_of opened b) 2) 1 0) (pick (eqb (move_of opened b) 3) 1 bad) s
 
 format-quoted : (s : List ℕ) → format_of (quote ∷ (s ++ quote ∷ [])) ≡ format_of s
 unfolding format_from
