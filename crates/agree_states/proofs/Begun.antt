@@ -235,14 +235,20 @@ unit_sites_lem : (u : Part) (i : ℕ) → Bodied u → unit_sites u i ≡ group_
 unit_sites_lem (process a w gs b) i h =
     ap (λ j. group_sites gs j ++ body_sites b (body_in (process a w gs b) i)) (let e = some-items a in let z : i + size_activity a ≡ suc (i + size_activity a - 1) = omega arith in z)
 unit_sites_lem (init b) i h = refl
+unit_sites_lem (Rattle.spec_grammar.specs.Tree.mtypes _) i h = elim h [ ]
+unit_sites_lem (Rattle.spec_grammar.specs.Tree.global _) i h = elim h [ ]
 
 unit_params : (u : Part) → Bodied u → of_groups (groups_of u) ≡ parameters_of u
 unit_params (process a w gs b) h = refl
 unit_params (init b) h = refl
+unit_params (Rattle.spec_grammar.specs.Tree.mtypes _) h = elim h [ ]
+unit_params (Rattle.spec_grammar.specs.Tree.global _) h = elim h [ ]
 
 pub unit-split : (u : Part) → Bodied u → variables_of u ≡ parameters_of u ++ locals_of (body_of u)
 unit-split (process a w gs b) h = refl
 unit-split (init b) h = refl
+unit-split (Rattle.spec_grammar.specs.Tree.mtypes _) h = elim h [ ]
+unit-split (Rattle.spec_grammar.specs.Tree.global _) h = elim h [ ]
 
 names-one : (k : ℕ) (ws : List Name) (j : ℕ) → j < length (map (of_parameter k) ws) → (get_or (map (of_parameter k) ws) j no_var).size ≡ 1
 names-one k [] j h = absurd (omega arith)

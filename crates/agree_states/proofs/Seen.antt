@@ -71,6 +71,8 @@ tells_right L K j h =
 pub body_end : (u : Part) (i : ℕ) → Bodied u → end_in (body_of u) (body_in u i) < i + size_part u
 body_end (process a w gs (body ds q)) i h = omega arith
 body_end (init (body ds q)) i h = omega arith
+body_end (mtypes _) i h = elim h [ ]
+body_end (global _) i h = elim h [ ]
 
 module _ (T : List ℕ) where
   -- item j, if it declares, does so for one of these sites
@@ -448,6 +450,8 @@ module _ (T : List ℕ) where
   unit-stands (init b) i p h =
       let s : suc i ≡ i + 1 = omega arith in
       standing-wide (i + 1) (end_in b (i + 1)) i (end_in b (i + 1)) (omega arith) (omega arith) (body_sites b (i + 1)) (body_stands b (i + 1) (subst (λ n. Held T n (code_body b)) s h.2))
+  unit-stands (mtypes _) i p h = elim p [ ]
+  unit-stands (global _) i p h = elim p [ ]
 
   -- of any unit, in its items
   pub part-stands : (u : Part) (i : ℕ) → Held T i (code_part u) → Standing i (i + size_part u) (unit_sites u i)

@@ -282,6 +282,8 @@ some-items (times n) = omega arith
 pub head-inside : (u : Part) (i : ℕ) → Bodied u → (i ≤ head_in u i) × (head_in u i < i + size_part u)
 head-inside (process a w gs (body ds q)) i h = let g = some-items a in (omega arith, omega arith)
 head-inside (init b) i h = (omega arith, omega arith)
+head-inside (mtypes _) i h = elim h [ ]
+head-inside (global _) i h = elim h [ ]
 
 -- NO TWO UNITS begin with one item
 pub head-one : (m : Model) (k j : ℕ) → Bodied (unit_at m k) → Bodied (unit_at m j) → head_of m k ≡ head_of m j → k ≡ j

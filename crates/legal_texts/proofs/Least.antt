@@ -81,6 +81,7 @@ in_least (f ∷ l) x k e = go (least_in l) refl (in_least l) e
   where
     near : (y j : ℕ) → Among y j (f ∷ []) → f.number ≡ x → f.token ≡ k → NoLater x k y j
     near y j here a b = inr (sym b, omega arith)
+    near y j (there x8) a b = elim x8 [ ]
 
     go : (r : answers.Fault) → least_in l ≡ r → ((y j : ℕ) → least_in l ≡ At y j → Least l y j) → sooner f.token f.number r ≡ At x k → Least (f ∷ l) x k
     go None q r e =
