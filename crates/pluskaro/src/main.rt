@@ -8,7 +8,11 @@ use show_answers::{Output, put};
 use show_statuses::{Answer, status};
 use std::env::FillError;
 use std::io::IsTerminal;
+use std::process::ExitCode;
 use std::rt::{Clock, Env, Files};
+
+// The exit status where nobody reads standard output any more: what a shell tells of a program that the system ends for that, 128 and the number of SIGPIPE.
+const UNREAD: u8 = 141;
 
 // Puts argument i at the front of a buffer; its length, or 0 where it is missing or has no room.
 fn arg(rt: &impl Env, i: usize, buffer: &mut [u8]) -> usize {
@@ -94,12 +98,17 @@ fn perform(rt: &(impl Env + Files + Clock), stderr: &impl IsTerminal, at: u8, to
     answer(rt, stderr, at, count - at as usize - 1, to)
 }
 
-fn main(rt: HostRuntime) {
-    let mut to = show_answers::fresh_output();
+fn main(rt: HostRuntime) -> ExitCode {
+    let mut to = show_answers::fresh_output(rt.stdout());
     if is_asked(&rt) {
         let x = perform(&rt, &rt.stderr(), 2, &mut to);
         show_answers::tell_status(x, &to);
     } else {
         perform(&rt, &rt.stderr(), 1, &mut to);
+    }
+    if show_answers::is_read(&to) {
+        ExitCode::SUCCESS
+    } else {
+        ExitCode::from(UNREAD)
     }
 }

@@ -13,6 +13,7 @@ ghost use Rattle.show_answers.specs.Parts as parts;
 
 use base_bytes::part;
 use show_words::put_count;
+use std::io::{ErrorKind, Stdout, Write};
 use text_pens::put_all;
 
 // The most bytes of what is handed on at once: no normal text takes more where it is shown; a longer line of a text is not shown.
@@ -23,29 +24,43 @@ const ERROR_ROOM: usize = 16384 + 64;
 
 const STATUS_ROOM: usize = 32;
 
-// The descriptor of standard output.
-const STDOUT_FILENO: i32 = 1;
-
 // The descriptor on which the status of the answer is told.
 const STATUS_FILENO: i32 = 3;
 
-// Whether all that was handed to standard output so far could be written whole. Once it could not, no status is told any more.
+// Standard output: whether all that was handed to it so far could be written whole, and whether there is still somebody to read it. Once something could not be written whole, no status is told any more.
 #[derive(Drop)]
 pub struct Output {
+    stdout: Stdout,
     whole: bool,
+    read: bool,
 }
 
 // Standard output, to which nothing was handed yet.
-pub fn fresh_output() -> Output {
-    Output { whole: true }
+pub fn fresh_output(stdout: Stdout) -> Output {
+    Output {
+        stdout,
+        whole: true,
+        read: true,
+    }
 }
 
-// Hands finished bytes to standard output: an answer. Where they cannot be written whole, that is kept, so that no status can be told any more.
+// Hands finished bytes to standard output: an answer. Where they cannot be written whole, that is kept, so that no status can be told any more; where nobody reads, nothing is written any more.
 pub fn put(s: &[u8], to: &mut Output) {
-    if io::write_all(STDOUT_FILENO, s) {
+    if !to.read {
         return;
     }
-    to.whole = false;
+    match to.stdout.write_all(s) {
+        Ok(()) => {}
+        Err(e) => {
+            to.whole = false;
+            to.read = e.kind() != ErrorKind::BrokenPipe;
+        }
+    }
+}
+
+// Is there still somebody to read standard output, as far as is known?
+pub fn is_read(to: &Output) -> bool {
+    to.read
 }
 
 // Writes the line that tells a status.

@@ -3,7 +3,7 @@ ghost use Rattle.std.specs.Prelude.{◌≡◌, ◌≤◌};
 ghost use Rattle.show_lists.specs.Tally.{batch_status};
 
 use base_bytes::part;
-use show_answers::{Output, put, seek};
+use show_answers::{Output, is_read, put, seek};
 use show_lists::progress::Watch;
 use show_lists::tally::{Expected, Tally};
 use show_lists::words::Place;
@@ -147,7 +147,11 @@ fn finish_line(
     Working {
         held: 0,
         tally: tally::tallied(t, status),
-        watch: show_lists::progress::told(rt, watch, n, x),
+        watch: if is_read(to) {
+            show_lists::progress::told(rt, watch, n, x)
+        } else {
+            watch
+        },
     }
 }
 
@@ -184,6 +188,7 @@ fn take_byte(
     }
 }
 
+// Bytes more of a list, as long as its answers are read.
 fn take_bytes(
     rt: &(impl Files + Clock),
     s: &[u8],
@@ -197,6 +202,9 @@ fn take_bytes(
     let mut now = r;
     let mut k: usize = 0;
     while k < s.len() {
+        if !is_read(to) {
+            return now;
+        }
         now = take_byte(rt, s[k], line, now, x, wrong, errors, to);
         k += 1;
     }
@@ -209,7 +217,7 @@ fn done(r: Working) -> Worked {
     Worked::Off(t)
 }
 
-// Works off a list to its end. The turns are counted down from a number that no list uses up, since nothing says that a file ends.
+// Works off a list to its end, or until nobody reads its answers any more. The turns are counted down from a number that no list uses up, since nothing says that a file ends.
 fn work_off<R: Files + Clock>(
     rt: &R,
     stderr: &impl IsTerminal,
@@ -250,6 +258,9 @@ fn work_off<R: Files + Clock>(
         let Ok(n) = file.read(&mut chunk) else {
             return Worked::Failed;
         };
+        if !is_read(to) {
+            return done(r);
+        }
         if n == 0 {
             // A last line that has no line end is a line all the same.
             if r.held > 0 {

@@ -8,7 +8,7 @@ use base_bytes::part;
 use base_outcome::Taken;
 use base_values::Fault;
 use run_entry::{Ending, Ran};
-use show_answers::{Output, put};
+use show_answers::{Output, is_read, put};
 use step_all::Offer;
 
 // The most bytes that the printed text of a step takes as it is shown: a margin and four bytes for each.
@@ -49,8 +49,11 @@ fn turn(t: &[u32], s: &mut [i32], line: &mut [u8], to: &mut Output) -> Taken
     }
 }
 
-// Shows on standard error how far a long run has come.
-fn show_progress(n: u32) {
+// Shows on standard error how far a long run has come, as long as its output is read.
+fn show_progress(n: u32, to: &Output) {
+    if !is_read(to) {
+        return;
+    }
     if n % STEPS_BETWEEN == STEPS_BETWEEN - 1 {
         io::print_decimal(STDERR_FILENO, n as u64 + 1);
         io::write_all(STDERR_FILENO, b" steps\n");
@@ -66,7 +69,7 @@ pub fn run(t: &[u32], s: &mut [i32], limit: u32, line: &mut [u8], to: &mut Outpu
         let r = turn(t, s, line, to);
         match r {
             Taken::Done => {
-                show_progress(n);
+                show_progress(n, to);
                 n += 1;
             }
             Taken::Refuted => {
