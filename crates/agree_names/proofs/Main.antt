@@ -142,6 +142,8 @@ item-constant : (T : List ℕ) (m : Model) (u d : ℕ) (y : Meaning) → tabled.
 item-constant T m u d (local i x) (of_local l g s c n k) = c
 item-constant T m u d (global i x) (of_global l g s c n k) = c
 item-constant T m u d (message n) (of_message c l s) = eq-eqb (code_of T d) c_message c
+item-constant T m u d self x' = elim x' [ ]
+item-constant T m u d names.unknown x'' = elim x'' [ ]
 
 -- a statement of a narrow tree is narrow
 within-narrow : {k : Sort} {t : Tree k} {i n o : ℕ} {a : Tree action} {j m u : ℕ} → Within k t i n o a j m u → narrow t ≡ true → narrow a ≡ true

@@ -12,7 +12,7 @@ pub loop-i-init : goal.loop-i-init
 loop-i-init c = (refl, omega arith, refl)
 
 pub loop-i-preserved : goal.loop-i-preserved
-loop-i-preserved c = (omega (arith, c.put.auto.s, c.loop-i.invariant.0), omega (arith, c.loop-i-test.true, c.loop-i.invariant.0), ap (take (c.loop-i.i + 1)) c.put.ensures ∙ laws.kept_more (c.args.s.now ++ replicate (length c.args.kept.now) (pos 0)) c.loop-i.auto c.loop-i.i _ (laws.padded_long c.args.s.now (length c.args.kept.now) c.loop-i.i (omega (arith, c.loop-i.invariant.0, c.loop-i-test.true))) c.loop-i-test.true (back c.cell.type_inv ∙ c.cell.ensures ∙ sym (laws.padded-cell c.args.s.now (length c.args.kept.now) c.loop-i.i)) c.loop-i.invariant.2)
+loop-i-preserved c = (omega (arith, c.put.auto.s, c.loop-i.invariant.0), omega (arith, c.loop-i-test.true, c.loop-i.invariant.0), ap (take (c.loop-i.i + 1)) c.put.ensures ∙ laws.kept_more (c.args.s.now ++ replicate (length c.args.kept.now) (pos 0)) c.loop-i.kept c.loop-i.i _ (laws.padded_long c.args.s.now (length c.args.kept.now) c.loop-i.i (omega (arith, c.loop-i.invariant.0, c.loop-i-test.true))) c.loop-i-test.true (back c.cell.type_inv ∙ c.cell.ensures ∙ sym (laws.padded-cell c.args.s.now (length c.args.kept.now) c.loop-i.i)) c.loop-i.invariant.2)
 
 pub returns : goal.returns
-returns c = laws.kept-all (c.args.s.now ++ replicate (length c.args.kept.now) (pos 0)) c.loop-i.auto (length c.args.kept.now) c.loop-i.i (omega (arith, c.loop-i.invariant.0)) c.loop-i.invariant.0 c.loop-i.invariant.1 c.loop-i.invariant.2
+returns c = laws.kept-all (c.args.s.now ++ replicate (length c.args.kept.now) (pos 0)) c.loop-i.kept (length c.args.kept.now) c.loop-i.i (omega (arith, c.loop-i.invariant.0)) c.loop-i.invariant.0 c.loop-i.invariant.1 c.loop-i.invariant.2
