@@ -116,6 +116,8 @@ module _ (T : List ℕ) where
   unit-listed (init b) i p h =
       let e = i + size_part (init b) in
       listed-from (body_sites b (i + 1)) (i + 1) i e (omega arith) (body_listed b (i + 1) e (omega arith) (subst (λ n. Told T n (code_body b)) (let z : suc i ≡ i + 1 = omega arith in z) h.1))
+  unit-listed (mtypes _) i p h = elim p [ ]
+  unit-listed (global _) i p h = elim p [ ]
 
   here-listed : (u : Part) (i : ℕ) → Told T i (code_part u) → Listed (global_here u i) i (i + size_part u)
   here-listed (mtypes ws) i h = omega arith

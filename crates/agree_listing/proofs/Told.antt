@@ -86,6 +86,8 @@ module _ (T : List ℕ) where
   part_titled : (u : Part) (i : ℕ) → Bodied u → Told i (code_part u) → title_in T (head_in u i) ≡ title_of u
   part_titled (process a w gs b) i d h = activity_titled a w (each code_group gs) i (told-front i (code_activity a w ++ each code_group gs) (code_body b) h)
   part_titled (init b) i d h = rw (eq-eqb (code_of T i) c_init (told-code i i_init h.0))
+  part_titled (Rattle.spec_grammar.specs.Tree.mtypes _) i d h = elim d [ ]
+  part_titled (Rattle.spec_grammar.specs.Tree.global _) i d h = elim d [ ]
 
   -- THE NAME OF A UNIT is what stands before its first item
   pub unit_titled : (m : Model) → Told 0 (code m) → (k : ℕ) → Bodied (unit_at m k) → title_in T (head_of m k) ≡ title_of (unit_at m k)

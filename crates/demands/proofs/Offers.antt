@@ -156,11 +156,11 @@ module _ {S : Type 0} (M : Machine S) (s : S) where
   unfolding offered
   rising_offered = rising_list (late M s) 0 (M.processes s)
 
-above-nth : {p k k' : ℕ} {x : Step} {l : List Step} → Nth x k' l → Above p k l → Before p k x.process x.number
+above-nth : {p k : ℕ} {x : Step} {k' : ℕ} {l : List Step} → Nth x k' l → Above p k l → Before p k x.process x.number
 above-nth here h = h.0
 above-nth (later n) h = above-nth n h.1
 
-rising_nth : {k k' : ℕ} {x y : Step} {l : List Step} → Nth x k l → Nth y k' l → Rising l → k < k' → Before x.process x.number y.process y.number
+rising_nth : {x y : Step} {k k' : ℕ} {l : List Step} → Nth x k l → Nth y k' l → Rising l → k < k' → Before x.process x.number y.process y.number
 rising_nth here here h i = absurd (omega arith)
 rising_nth here (later n) h i = above-nth n h.0
 rising_nth (later m) here h i = absurd (omega arith)

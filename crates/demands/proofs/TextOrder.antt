@@ -98,6 +98,7 @@ nth_ascends (later m) (later n) i e a h = nth_ascends m n _ e a.1 (omega arith)
 nth-none : {A : Type 0} {y : A} {k : ℕ} {l : List A} → Nth y k l → l ≡ [] → ⊥
 nth-none {l = z ∷ l} here e = let n : suc (length l) ≡ 0 = ap length e in omega arith
 nth-none {l = z ∷ l} (later h) e = let n : suc (length l) ≡ 0 = ap length e in omega arith
+nth-none {A = A} {y = y} {k = k} {l = []} x'' e = elim x'' [ ]
 
 -- the k-th of moves at places is at the k-th place
 pub nth-alone : {y : Move} {k : ℕ} (l : List ℕ) → Nth y k (moves l) → Nth y.place k l

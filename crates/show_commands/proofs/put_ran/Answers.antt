@@ -1,0 +1,7 @@
+use Rattle.show_commands.proofs.put_ran.Goals as goal
+
+pub returns-in-Ended : goal.returns-in-Ended
+returns-in-Ended c = rw c.in-Ended.is c.put_ending.ensures
+
+pub returns-in-Refused : goal.returns-in-Refused
+returns-in-Refused c = rw c.in-Refused.is c.put_all.ensures
