@@ -1,5 +1,6 @@
 // The entries that write the layout, the printed edition: of a model's text, and of tables.
 #![tactic(auto)]
+
 ghost use Rattle.std.specs.Prelude.{◌≡◌, ◌≤◌, length};
 ghost use Rattle.base_ceilings.specs.Ceilings.{text_most};
 ghost use Rattle.write_texts.specs.Normal.{layout_of};

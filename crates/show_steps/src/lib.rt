@@ -1,5 +1,6 @@
 // The lines of steps, of what came of them, and of processes, written to lent bytes.
 #![tactic(auto)]
+
 ghost use Rattle.std.specs.Prelude.{◌≡◌, [], ◌∷◌, ◌++◌, ◌+◌, length};
 ghost use Rattle.base_pens.specs.Pen.{pen, puts};
 ghost use Rattle.base_kinds.specs.Kinds.{bytes};
