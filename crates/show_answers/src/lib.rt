@@ -65,7 +65,7 @@ pub fn is_read(to: &Output) -> bool {
 
 // Writes the line that tells a status.
 fn put_status(x: u8, out: &mut [u8], p: usize) -> usize
-    ensures { pen out.new result ≡ puts (answers.statusLine x) (pen out.old p) }
+    ensures { pen out.new result ≡ puts (answers.status_line x) (pen out.old p) }
 {
     put_counted(b"status", x as usize, out, p)
 }
@@ -93,7 +93,7 @@ pub fn hand_on(buffer: &[u8], n: usize, to: &mut Output) {
 
 // Writes an error: its words, and what it speaks of.
 fn put_error(words: &[u8], name: &[u8], out: &mut [u8], p: usize) -> usize
-    ensures { pen out.new result ≡ puts (answers.errorLine words.now name.now) (pen out.old p) }
+    ensures { pen out.new result ≡ puts (answers.error_line words.now name.now) (pen out.old p) }
 {
     let a = put_all(words, out, p);
     let b = show_printed::put_escapes(name, out, a);
@@ -102,7 +102,7 @@ fn put_error(words: &[u8], name: &[u8], out: &mut [u8], p: usize) -> usize
 
 // Writes the heading of command n of a list.
 fn put_heading(n: usize, line: &[u8], out: &mut [u8], p: usize) -> usize
-    ensures { pen out.new result ≡ puts (answers.headingLine n line.now) (pen out.old p) }
+    ensures { pen out.new result ≡ puts (answers.heading_line n line.now) (pen out.old p) }
 {
     let a = put_all(b"== ", out, p);
     let b = put_count(n, out, a);
@@ -260,7 +260,7 @@ pub fn put_counted(word: &[u8], n: usize, out: &mut [u8], p: usize) -> usize
 
 // Writes the answer for a text that is refused.
 pub fn put_refusal(x: u8, place: usize, len: usize, out: &mut [u8], p: usize) -> usize
-    ensures { pen out.new result ≡ puts (answers.refusedLine x place len) (pen out.old p) }
+    ensures { pen out.new result ≡ puts (answers.refused_line x place len) (pen out.old p) }
 {
     let a = put_all(b"refused ", out, p);
     let b = put_count(x as usize, out, a);
@@ -271,7 +271,7 @@ pub fn put_refusal(x: u8, place: usize, len: usize, out: &mut [u8], p: usize) ->
 
 // Writes the answer for a trail that is refused.
 pub fn put_stopped(x: u8, line: usize, out: &mut [u8], p: usize) -> usize
-    ensures { pen out.new result ≡ puts (answers.stoppedLine x line) (pen out.old p) }
+    ensures { pen out.new result ≡ puts (answers.stopped_line x line) (pen out.old p) }
 {
     let a = put_all(b"refused ", out, p);
     let b = put_count(x as usize, out, a);
@@ -295,7 +295,7 @@ fn put_verdict(v: u8, out: &mut [u8], p: usize) -> usize
 
 // Writes the answer for a trail that is accepted.
 pub fn put_accepted(v: u8, out: &mut [u8], p: usize) -> usize
-    ensures { pen out.new result ≡ puts (answers.acceptedLine v) (pen out.old p) }
+    ensures { pen out.new result ≡ puts (answers.accepted_line v) (pen out.old p) }
 {
     let a = put_all(b"accepted ", out, p);
     let b = put_verdict(v, out, a);

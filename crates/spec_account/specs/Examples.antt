@@ -5,7 +5,7 @@ use Rattle.base_kinds.specs.Kinds.{bytes}
 use Rattle.spec_text.specs.Formats.{digits_by}
 use Rattle.spec_account.specs.Bytes.{hex_digit, is_visible, visible, each_visible, is_escapable, is_paired_from, is_paired, is_plain, escaped, each_escaped, margin, shown_byte, shown, indented}
 use Rattle.spec_account.specs.Quiet.{is_front, quiet, guarded}
-use Rattle.spec_account.specs.Answers.{errorLine, headingLine, statusLine}
+use Rattle.spec_account.specs.Answers.{error_line, heading_line, status_line}
 use Rattle.spec_account.specs.Steps.{printed_text}
 use Rattle.spec_account.specs.Refused.{first_line, last_line, ends, refused_at}
 
@@ -30,7 +30,7 @@ unfolding each_visible visible is_visible each_escaped escaped is_plain hex_digi
 seen = (refl, refl)
 
 -- a name with a backslash and an escape, a heading with a carriage return, a status
-lines : (errorLine (bytes "error: cannot read ") (bytes "a\\x" ++ 27 ∷ []) ≡ bytes "error: cannot read a\\x5cx\\x1b\n") × (headingLine 17 (bytes "read a" ++ 13 ∷ []) ≡ bytes "== 17 read a\\x0d\n") × (statusLine 2 ≡ bytes "status 2\n")
+lines : (error_line (bytes "error: cannot read ") (bytes "a\\x" ++ 27 ∷ []) ≡ bytes "error: cannot read a\\x5cx\\x1b\n") × (heading_line 17 (bytes "read a" ++ 13 ∷ []) ≡ bytes "== 17 read a\\x0d\n") × (status_line 2 ≡ bytes "status 2\n")
 unfolding each_escaped escaped is_plain hex_digit digits_by
 lines = (refl, refl, refl)
 
