@@ -254,13 +254,14 @@ fn work_off<R: Files + Clock>(
     );
     let mut turns: u64 = 18446744073709551615;
     while turns > 0 {
+        // Where nobody reads the answers any more, no further command is waited for.
+        if !is_read(to) {
+            return done(r);
+        }
         let mut chunk = io::buffer();
         let Ok(n) = file.read(&mut chunk) else {
             return Worked::Failed;
         };
-        if !is_read(to) {
-            return done(r);
-        }
         if n == 0 {
             // A last line that has no line end is a line all the same.
             if r.held > 0 {
