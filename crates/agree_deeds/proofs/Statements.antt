@@ -1,4 +1,5 @@
 -- EACH STATEMENT OF AN ACCEPTED TEXT: where its step is done, the lines that tables and numbers give for it are its deeds in the plain states that the numbers hold, one statement after the other.
+use Rattle.std.specs.Prelude.{Result, Ok, Err}
 use Prim.Native.Nat.{ℕ, ◌+◌, ◌-◌, ◌≤◌, min}
 use native.Mathlib.Omega.{arith}
 use borrow.Author.Tests.{lt-ltb, leb-true}
@@ -17,10 +18,9 @@ use Rattle.base_bytes.specs.Numbers.{nat}
 use Rattle.base_bytes.proofs.Tests.{both_true}
 use Rattle.base_kinds.specs.Kinds.{bytes}
 use Rattle.base_values.specs.Bits.{wrap32}
-use Rattle.base_values.specs.declared.Answer.{Answer}
-use Rattle.base_values.specs.declared.Answer.TheVariants.{Value, Fails}
 use Rattle.base_outcome.specs.declared.Taken.{Taken}
 use Rattle.base_outcome.specs.declared.Taken.TheVariants.{Done, Refuted, Faulted, Idle}
+use Rattle.base_values.specs.declared.Fault.{Fault}
 use Rattle.spec_grammar.specs.Tree.{Name, Ref, Received, into, equal, exactly, exactly_true, exactly_false, action, Tree, leaf, express, assign, increment, decrement, send, receive, assert, print, skip, goto, break, timeout, else, run, set_run, select, loop, Model}
 use Rattle.spec_rules.specs.Roles.{target}
 use Rattle.legal_rules.specs.Expressions.{lawful, whole}
@@ -33,7 +33,6 @@ use Rattle.table_layout.specs.Access.{code_of, link_of}
 use Rattle.read_passes.specs.Judging.{tables_text}
 use Rattle.read_accepts_proof.specs.Meaning.{Accepts}
 use Rattle.write_letters.specs.Tokens.{spelled}
-use Rattle.step_eval.specs.declared.Reached.TheVariants.{Record}
 use Rattle.step_eval.specs.Expressions.{locate_of}
 use Rattle.step_ready.specs.Executing.{is_own_mark, mark_of, fits_of, message_of}
 use Rattle.spec_machine.specs.Eval.{eval}
@@ -143,9 +142,9 @@ module _ (t : List ℕ) (a : Accepts t) (k : ℕ) (X : Tabled (Belongs a.tree) a
     one_store : (n : ℕ) → aim c.scene r ≡ hit n → (v : ℤ) → stored_in T S S' p j e ≡ deed_text m p (unit_at m k) σ τ (stored r n v)
     one_store n h v = stored-line (Belongs m) m k at T D U X p rest σ τ Kσ Kτ r j e o target law (target-named K (Belongs m k) at c σ d S A r law) n h v
 
-    assigned-shown : (x : Answer) (q : Aim) → aim c.scene r ≡ q → (n : ℕ) → Finished (assigned_by c n σ (name_of r) x q).0 → stored_in T S S' p j e ≡ text (assigned c r x q)
-    assigned-shown (Value v) (hit i) h n f = one_store i h v ∙ inv (one-text m p (unit_at m k) σ τ (stored r i v))
-    assigned-shown (Fails x) (hit i) h n f = absurd f
+    assigned-shown : (x : Result ℤ Fault) (q : Aim) → aim c.scene r ≡ q → (n : ℕ) → Finished (assigned_by c n σ (name_of r) x q).0 → stored_in T S S' p j e ≡ text (assigned c r x q)
+    assigned-shown (Ok v) (hit i) h n f = one_store i h v ∙ inv (one-text m p (unit_at m k) σ τ (stored r i v))
+    assigned-shown (Err x) (hit i) h n f = absurd f
     assigned-shown x (miss y) h n f = absurd f
 
     stepped-shown : (z : ℤ) (q : Aim) → aim c.scene r ≡ q → (n : ℕ) → Finished (stepped_by c n σ (name_of r) z q).0 → stored_in T S S' p j e ≡ text (stepped c r z q)
@@ -197,7 +196,7 @@ module _ (t : List ℕ) (a : Accepts t) (k : ℕ) (X : Tabled (Belongs a.tree) a
 
   module _ (ys : List Received) (e z : ℕ) (g : Got T D ys (e + 1) z) (s : ToldAll t a ys (e + 1)) (law : rules.all (receives at) ys ≡ true) (few : length ys ≤ fields_most) where
     received_found : (v : ℤ) (i n : ℕ) → c.scene.made v ≡ true → finding c v ys ≡ found i → (q : Aims) → targets c ys ≡ q → Finished (effects.received_at c n σ v i ys q).0
-        → shown.received_by T S S' p e (Record (nat v - 1)) ≡ text (received_at c v i ys q)
+        → shown.received_by T S S' p e (Ok (nat v - 1)) ≡ text (received_at c v i ys q)
     received_found v i n made h (hits ks) w f =
         let o = found_oldest v ys i h in
         let line = ap (passed_in T S (nat v - 1)) (inv o.0) ∙ message-line (Belongs m) m k at T D U X p rest σ Kσ v i made o.1 in

@@ -1,4 +1,5 @@
 -- THE CHANNEL OF A SEND OR A RECEIVE over tables is the one that its operand reaches in the tree's stage, with as many fields as there are arguments, or the same fault.
+use Rattle.std.specs.Prelude.{Result, Ok, Err}
 use Prim.Native.Nat.{ℕ, ◌+◌, ◌-◌, ◌≤◌, min}
 use native.Mathlib.Omega.{arith}
 use native.Mathlib.Decide.{ℕ_discrete}
@@ -12,12 +13,11 @@ use Rattle.base_ceilings.specs.Ceilings.{fields_most}
 use Rattle.base_codes.specs.Codes.{c_field}
 use Rattle.base_bytes.specs.Choice.{pick}
 use Rattle.table_layout.specs.Access.{code_of, link_of}
+use Rattle.base_values.specs.declared.Fault.{Fault}
 use Rattle.base_values.specs.declared.Fault.TheVariants.{Channel, Fields}
 use Rattle.state_layout.specs.Layout.{cell_of, declared_of}
 use Rattle.base_bytes.specs.Numbers.{nat}
 use Rattle.spec_grammar.specs.Tree.{Name, Ref}
-use Rattle.step_eval.specs.declared.Reached.{Reached}
-use Rattle.step_eval.specs.declared.Reached.TheVariants.{Record, Unmade}
 use Rattle.step_eval.specs.Variables.{slot_of, made_of, load_of, channel_of}
 use Rattle.step_eval.specs.Expressions.{locate_of}
 use Rattle.step_ready.specs.Channels.{fields_of, arguments_of, addressed_of}
@@ -28,9 +28,9 @@ use Rattle.spec_machine.specs.Arguments.{name_of, Aim, hit, miss, aim, Reach, ch
 use Rattle.agree_effects.proofs.Receives.{placed, locate-aim}
 
 -- the record of a channel, by its number
-abbrev pub record_of : Reach → Reached
-record_of (channel v) = Record (nat v - 1)
-record_of (astray f) = Unmade f
+abbrev pub record_of : Reach → Result ℕ Fault
+record_of (channel v) = Ok (nat v - 1)
+record_of (astray f) = Err f
 
 abbrev pub Arrived : Reach → Type 0
 Arrived (channel v) = Unit {0}
@@ -67,12 +67,12 @@ module _ (t : List ℕ) (decl : Name → ℕ) (s : List ℤ) (p : ℕ) (unit : N
       f : ℕ
       f = fields_of t (declared_of s (nat v - 1))
 
-      on : (b : Bool) → pick b (Record (nat v - 1)) (Unmade Fields) ≡ record_of (pick b (channel v) (astray Fields))
+      on : (b : Bool) → pick b (Ok (nat v - 1)) (Err Fields) ≡ record_of (pick b (channel v) (astray Fields))
       on true = refl
       on false = refl
 
-      go : (b : Bool) → addressed_of t s (pick b (Record (nat v - 1)) (Unmade Channel)) (min (fields_most + 1) n) ≡ record_of (pick b (pick (eqb f n) (channel v) (astray Fields)) (astray Channel))
-      go true = ap (λ b. pick b (Record (nat v - 1)) (Unmade Fields)) (count_five f n (fields_most_lem t (declared_of s (nat v - 1)))) ∙ on (eqb f n)
+      go : (b : Bool) → addressed_of t s (pick b (Ok (nat v - 1)) (Err Channel)) (min (fields_most + 1) n) ≡ record_of (pick b (pick (eqb f n) (channel v) (astray Fields)) (astray Channel))
+      go true = ap (λ b. pick {A = Result ℕ Fault} b (Ok (nat v - 1)) (Err Fields)) (count_five f n (fields_most_lem t (declared_of s (nat v - 1)))) ∙ on (eqb f n)
       go false = refl
 
   pub message_is : (r : Ref) (q m n : ℕ) → locate_of t s p q m ≡ locate t s p decl r → arguments_of t (m + 1) ≡ min (fields_most + 1) n → message_of t s p q m ≡ record_of (reach (stage_in t s p decl unit) r n)

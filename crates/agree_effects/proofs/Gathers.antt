@@ -1,5 +1,6 @@
 -- THE VALUES OF ARGUMENTS, worked out one after the other over tables, are those of the tree's expressions, or the first fault; where they end is where their `end` stands; the list that
 -- they fill has each of them at its place.
+use Rattle.std.specs.Prelude.{Result, Ok, Err}
 use Prim.Native.Nat.{ℕ, zero, suc, ◌+◌, ◌≤◌, ◌<◌, min}
 use native.Mathlib.Omega.{arith}
 use native.Mathlib.Decide.{ℕ_discrete}
@@ -10,14 +11,11 @@ use lib.Seq.{get_or-set_same, get_or-set_other}
 use lib.IntN.{ℤ}
 use borrow.Author.Tests.{eq-eqb, ne_eqb}
 use Rattle.base_codes.specs.Codes.{c_end}
+use Rattle.base_values.specs.declared.Fault.{Fault}
 use Rattle.table_layout.specs.Access.{code_of}
-use Rattle.base_values.specs.declared.Answer.{Answer}
-use Rattle.base_values.specs.declared.Answer.TheVariants.{Value, Fails}
 use Rattle.spec_grammar.specs.Tree.{Name, Expr}
 use Rattle.step_eval.specs.Expressions.{eval_of}
 use Rattle.step_ready.specs.Channels.{arguments_from}
-use Rattle.step_messages.specs.declared.Gathered.{Gathered}
-use Rattle.step_messages.specs.declared.Gathered.TheVariants.{Upto, Failed}
 use Rattle.step_messages.specs.Messages.{on_value, gather_end, gather_list}
 use Rattle.step_take.specs.Effects.{end_from}
 use Rattle.spec_machine.specs.Eval.{Scene, eval}
@@ -73,9 +71,9 @@ fill-blank {A} d n vs h i = go (ℕ_discrete (min i (length vs)) i)
     go (no e) = fill-behind d vs (replicate n d) 0 i (omega arith) ∙ same-all d n i ∙ sym (past_end d vs i (omega arith))
 
 -- ---- what is worked out
-abbrev pub end_by : ℕ → WorkedOut → Gathered
-end_by z (all vs) = Upto z
-end_by z (stopped f) = Failed f
+abbrev pub end_by : ℕ → WorkedOut → Result ℕ Fault
+end_by z (all vs) = Ok z
+end_by z (stopped f) = Err f
 
 first_ends : (v : ℤ) (z : ℕ) (x : WorkedOut) → end_by z x ≡ end_by z (first v x)
 first_ends v z (all vs) = refl
@@ -95,10 +93,10 @@ unfolding values
 values-count c [] w = refl
 values-count c (e ∷ es) w = go (eval c e) (values c es) w (values-count c es)
   where
-    go : (y : Answer) (r : WorkedOut) → Whole (values_by y r) → (Whole r → length (listed r) ≡ length es) → length (listed (values_by y r)) ≡ suc (length es)
-    go (Value v) (all l) w below = ap suc (below tt)
-    go (Value v) (stopped f) w below = absurd w
-    go (Fails f) r w below = absurd w
+    go : (y : Result ℤ Fault) (r : WorkedOut) → Whole (values_by y r) → (Whole r → length (listed r) ≡ length es) → length (listed (values_by y r)) ≡ suc (length es)
+    go (Ok v) (all l) w below = ap suc (below tt)
+    go (Ok v) (stopped f) w below = absurd w
+    go (Err f) r w below = absurd w
 
 module _ (t : List ℕ) (decl : Name → ℕ) where
   -- how many there are, as far as n
@@ -128,12 +126,12 @@ module _ (t : List ℕ) (decl : Name → ℕ) where
     gather_ends (no_more {a = a} e) (suc n) h = rw (eq-eqb (code_of t a) c_end e)
     gather_ends (one_more_lem m c l v r) zero h = absurd (omega arith)
     gather_ends (one_more_lem {e = e} {es = es} {a = a} {z = z} m c l v r) (suc n) h =
-        rw (ne_eqb (code_of t a) c_end c) (ap (λ k. on_value (eval_of t s p a k) (λ w. gather_end t s p n (k + 1)) (λ f. Failed f)) l
-        ∙ ap (λ y. on_value y (λ w. gather_end t s p n (m + 1)) (λ f. Failed f)) (v s p) ∙ go (eval scene e) (values scene es) (gather_ends r n (omega arith)))
+        rw (ne_eqb (code_of t a) c_end c) (ap (λ k. on_value (eval_of t s p a k) (λ w. gather_end t s p n (k + 1)) (λ f. Err f)) l
+        ∙ ap (λ y. on_value y (λ w. gather_end t s p n (m + 1)) (λ f. Err f)) (v s p) ∙ go (eval scene e) (values scene es) (gather_ends r n (omega arith)))
       where
-        go : (y : Answer) (q : WorkedOut) → gather_end t s p n (m + 1) ≡ end_by z q → on_value y (λ w. gather_end t s p n (m + 1)) (λ f. Failed f) ≡ end_by z (values_by y q)
-        go (Value w) q below = below ∙ first_ends w z q
-        go (Fails f) q below = refl
+        go : (y : Result ℤ Fault) (q : WorkedOut) → gather_end t s p n (m + 1) ≡ end_by z q → on_value y (λ w. gather_end t s p n (m + 1)) (λ f. Err f) ≡ end_by z (values_by y q)
+        go (Ok w) q below = below ∙ first_ends w z q
+        go (Err f) q below = refl
 
     pub gather_fills : {es : List Expr} {a z : ℕ} → Passed t decl es a z → (n : ℕ) → length es ≤ n → (k : ℕ) (x : List ℤ) → Whole (values (scene_of t s p decl) es)
         → gather_list t s p n a k x ≡ fill x k (listed (values (scene_of t s p decl) es))
@@ -146,8 +144,8 @@ module _ (t : List ℕ) (decl : Name → ℕ) where
         ∙ ap (λ y. on_value y (λ u. gather_list t s p n (m + 1) (k + 1) (set x k u)) (λ f. x)) (v s p)
         ∙ go (eval scene e) (values scene es) w (λ u. gather_fills r n (omega arith) (k + 1) (set x k u)))
       where
-        go : (y : Answer) (q : WorkedOut) → Whole (values_by y q) → ((u : ℤ) → Whole q → gather_list t s p n (m + 1) (k + 1) (set x k u) ≡ fill (set x k u) (k + 1) (listed q))
+        go : (y : Result ℤ Fault) (q : WorkedOut) → Whole (values_by y q) → ((u : ℤ) → Whole q → gather_list t s p n (m + 1) (k + 1) (set x k u) ≡ fill (set x k u) (k + 1) (listed q))
             → on_value y (λ u. gather_list t s p n (m + 1) (k + 1) (set x k u)) (λ f. x) ≡ fill x k (listed (values_by y q))
-        go (Value u) (all vs) w below = below u tt
-        go (Value u) (stopped f) w below = absurd w
-        go (Fails f) q w below = absurd w
+        go (Ok u) (all vs) w below = below u tt
+        go (Ok u) (stopped f) w below = absurd w
+        go (Err f) q w below = absurd w

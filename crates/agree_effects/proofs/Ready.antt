@@ -1,4 +1,5 @@
 -- WHAT IS EXECUTABLE: at the place of a statement of an accepted text's tree the tables say so exactly where the tree's statement is executable, in every state and for every process.
+use Rattle.std.specs.Prelude.{Result, Ok, Err}
 use Prim.Native.Nat.{ℕ, ◌+◌, ◌-◌}
 use native.Mathlib.Omega.{arith}
 use mathlib.Core.Path.{◌≡◌, refl, sym, ap, subst, ◌∙◌}
@@ -9,8 +10,6 @@ use lib.IntN.{ℤ}
 use Rattle.base_ceilings.specs.Ceilings.{fields_most}
 use Rattle.base_codes.specs.Codes.{c_assert, c_break, c_decrement, c_do, c_else, c_express, c_goto, c_if, c_increment, c_receive, c_run, c_send, c_skip, c_target, c_timeout, c_text}
 use Rattle.table_layout.specs.Access.{code_of, link_of}
-use Rattle.base_values.specs.declared.Answer.{Answer}
-use Rattle.base_values.specs.declared.Answer.TheVariants.{Value, Fails}
 use Rattle.base_bytes.specs.Numbers.{nat}
 use Rattle.spec_grammar.specs.Tree.{Ref, Expr, Received, action, Tree, leaf, express, assign, increment, decrement, send, receive, assert, print, skip, goto, break, timeout, else, run, set_run, select, loop}
 use Rattle.read_passes.specs.Judging.{tables_text}
@@ -39,6 +38,7 @@ use Rattle.agree_effects.proofs.Shapes.{reference_there, sending, receiving, pri
 use Rattle.base_codes.specs.Items.{Item, i_assert, i_assign, i_break, i_decrement, i_do, i_else, i_express, i_fi, i_goto, i_if, i_increment, i_name, i_od, i_skip, i_target, i_timeout}
 use Rattle.parse_code.specs.Code.{code_exp, code_tree, code}
 use Rattle.base_codes.specs.Items as items
+use Rattle.base_values.specs.declared.Fault.{Fault}
 use Rattle.step_ready.specs.Channels as channels
 use Rattle.step_ready.specs.Executing as tables
 
@@ -108,9 +108,9 @@ module _ (t : List ℕ) (s : List ℤ) (p : ℕ) (late : Bool) (q m : ℕ) where
   unfolding ready_by is_always
   by_do e = rw e
 
-passes_is : (x : Answer) → tables.passes x ≡ passes x
-passes_is (Value v) = refl
-passes_is (Fails f) = refl
+passes_is : (x : Result ℤ Fault) → tables.passes x ≡ passes x
+passes_is (Ok v) = refl
+passes_is (Err f) = refl
 
 finds_is : (x : Finding) → channels.finds (as_found x) ≡ finds x
 finds_is (found k) = refl

@@ -1,4 +1,5 @@
 -- RECEIVED ARGUMENTS over tables: they agree with a message where the tree's do, and find the same, their targets are the tree's or the first fault, and what is stored goes where the tree says.
+use Rattle.std.specs.Prelude.{Result, Ok, Err}
 use Prim.Native.Nat.{ℕ, zero, suc, ◌+◌, ◌-◌, ◌≤◌, ◌<◌, min}
 use native.Mathlib.Omega.{arith}
 use mathlib.Core.Path.{◌≡◌, refl, sym, ap, ◌∙◌}
@@ -13,22 +14,17 @@ use Rattle.base_codes.specs.Codes.{c_end, c_into, c_message}
 use Rattle.base_bytes.specs.Choice.{pick}
 use Rattle.table_layout.specs.Access.{code_of, link_of}
 use Rattle.base_values.specs.Types.{cast_of}
+use Rattle.base_values.specs.declared.Fault.{Fault}
 use Rattle.base_values.specs.declared.Fault.TheVariants.{Index}
-use Rattle.base_values.specs.declared.Answer.{Answer}
-use Rattle.base_values.specs.declared.Answer.TheVariants.{Value, Fails}
 use Rattle.base_values.specs.Operators.{is_true, equal_by}
 use Rattle.state_layout.specs.Layout.{field_of}
 use Rattle.base_bytes.specs.Numbers.{nat}
 use Rattle.spec_grammar.specs.Tree.{Name, Ref, plain, indexed, Received, into, equal, exactly, exactly_true, exactly_false}
-use Rattle.step_eval.specs.declared.Located.{Located}
-use Rattle.step_eval.specs.declared.Located.TheVariants.{At, Astray}
 use Rattle.step_eval.specs.Variables.{type_of, size_of, slot_of, element_of}
 use Rattle.step_eval.specs.Expressions.{holds, eval_of}
 use Rattle.step_ready.specs.Channels.{arguments_from, compared_at, agrees_of, matches_from, found_by, found_from}
 use Rattle.step_ready.specs.declared.Found.{Found}
 use Rattle.step_ready.specs.declared.Found.TheVariants.{Message, Nothing, Spoilt}
-use Rattle.step_messages.specs.declared.Gathered.{Gathered}
-use Rattle.step_messages.specs.declared.Gathered.TheVariants.{Upto, Failed}
 use Rattle.step_messages.specs.Messages.{on_place, aim_of, aim_end, aim_list, delivered_one, delivered}
 use Rattle.spec_machine.specs.Eval.{eval}
 use Rattle.agree_stage.specs.Scenes.{scene_of, locate}
@@ -40,9 +36,9 @@ use Rattle.spec_machine.specs.Effect.{delivery, deliveries}
 use Rattle.agree_effects.specs.Walked.{Stored, Agreed, Got, no_more, one_more_lem}
 use Rattle.agree_effects.proofs.Gathers.{fill}
 
-abbrev pub end_aims : ℕ → Aims → Gathered
-end_aims z (hits ks) = Upto z
-end_aims z (missed f) = Failed f
+abbrev pub end_aims : ℕ → Aims → Result ℕ Fault
+end_aims z (hits ks) = Ok z
+end_aims z (missed f) = Err f
 
 -- what is found, as the tables' machine says it
 abbrev pub as_found : Finding → Found
@@ -50,13 +46,13 @@ as_found (found k) = Message k
 as_found none = Nothing
 as_found (spoilt f) = Spoilt f
 
-found_by_lem : (w : ℕ) (x : Answer) (rest : Finding) → found_by w x (as_found rest) ≡ as_found (find_by w x rest)
-found_by_lem w (Value v) rest = go (is_true v)
+found_by_lem : (w : ℕ) (x : Result ℤ Fault) (rest : Finding) → found_by w x (as_found rest) ≡ as_found (find_by w x rest)
+found_by_lem w (Ok v) rest = go (is_true v)
   where
     go : (b : Bool) → pick b (Message w) (as_found rest) ≡ as_found (pick b (found w) rest)
     go true = refl
     go false = refl
-found_by_lem w (Fails f) rest = refl
+found_by_lem w (Err f) rest = refl
 
 abbrev pub Sure : Aims → Type 0
 Sure (hits ks) = Unit {0}
@@ -103,18 +99,18 @@ module _ (t : List ℕ) (decl : Name → ℕ) where
   other_compared m h = rw (ne_eqb (code_of t m) c_into h)
 
   -- ---- where a reference stands
-  abbrev pub placed : ℕ → Name → Aim → Located
-  placed p w (hit k) = At (slot_of (link_of t (decl w)) p k)
-  placed p w (miss f) = Astray f
+  abbrev pub placed : ℕ → Name → Aim → Result ℕ Fault
+  placed p w (hit k) = Ok (slot_of (link_of t (decl w)) p k)
+  placed p w (miss f) = Err f
 
-  element_aim : (s : List ℤ) (p : ℕ) (w : Name) (x : Answer) → element_of (link_of t (decl w)) p x ≡ placed p w (aim_by (scene_of t s p decl) w x)
-  element_aim s p w (Value (pos i)) = go (ltb i (size_of (link_of t (decl w))))
+  element_aim : (s : List ℤ) (p : ℕ) (w : Name) (x : Result ℤ Fault) → element_of (link_of t (decl w)) p x ≡ placed p w (aim_by (scene_of t s p decl) w x)
+  element_aim s p w (Ok (pos i)) = go (ltb i (size_of (link_of t (decl w))))
     where
-      go : (b : Bool) → pick b (At (slot_of (link_of t (decl w)) p i)) (Astray Index) ≡ placed p w (pick b (hit i) (miss Index))
+      go : (b : Bool) → pick b (Ok (slot_of (link_of t (decl w)) p i)) (Err Index) ≡ placed p w (pick b (hit i) (miss Index))
       go true = refl
       go false = refl
-  element_aim s p w (Value (negsuc i)) = refl
-  element_aim s p w (Fails f) = refl
+  element_aim s p w (Ok (negsuc i)) = refl
+  element_aim s p w (Err f) = refl
 
   pub locate-aim : (s : List ℤ) (p : ℕ) (r : Ref) → locate t s p decl r ≡ placed p (name_of r) (aim (scene_of t s p decl) r)
   unfolding locate
@@ -142,19 +138,19 @@ module _ (t : List ℕ) (decl : Name → ℕ) where
     abbrev message : ℤ → ℕ → ℕ → ℤ
     message v w = (stage_in t s p decl unit).message v w
 
-    agreed_other : (v : ℤ) (w f a m : ℕ) (y : Answer) → (code_of t m ≡ c_into → ⊥) → eval_of t s p a m ≡ y → agrees_of t s p (nat v - 1) w a m f ≡ equal_by y (field_of s (nat v - 1) w f)
+    agreed_other : (v : ℤ) (w f a m : ℕ) (y : Result ℤ Fault) → (code_of t m ≡ c_into → ⊥) → eval_of t s p a m ≡ y → agrees_of t s p (nat v - 1) w a m f ≡ equal_by y (field_of s (nat v - 1) w f)
     unfolding agrees_of
     agreed_other v w f a m y n e = rw (other_compared m n, e)
 
     agree_is : (x : Received) (a m : ℕ) → Agreed t decl x a m → (v : ℤ) (w f : ℕ) → agrees_of t s p (nat v - 1) w a m f ≡ agree (stage_in t s p decl unit) (message v w) f x
     unfolding agrees_of eval
     agree_is (into r) a m g v w f =
-        rw (stored_compared r a m g) (ap (λ y. pick (constant (name_of r)) y (Value (pos 1)))
+        rw (stored_compared r a m g) (ap (λ y. pick (constant (name_of r)) y (Ok (pos 1)))
         (ap (λ y. equal_by y (field_of s (nat v - 1) w f)) (g.worked s p)))
     agree_is (equal e) a m g v w f = agreed_other v w f a m (eval c.scene e) g.mark (g.worked s p)
-    agree_is (exactly n) a m g v w f = agreed_other v w f a m (Value (pos n)) g.mark (g.worked s p)
-    agree_is exactly_true a m g v w f = agreed_other v w f a m (Value (pos 1)) g.mark (g.worked s p)
-    agree_is exactly_false a m g v w f = agreed_other v w f a m (Value (pos 0)) g.mark (g.worked s p)
+    agree_is (exactly n) a m g v w f = agreed_other v w f a m (Ok (pos n)) g.mark (g.worked s p)
+    agree_is exactly_true a m g v w f = agreed_other v w f a m (Ok (pos 1)) g.mark (g.worked s p)
+    agree_is exactly_false a m g v w f = agreed_other v w f a m (Ok (pos 0)) g.mark (g.worked s p)
 
     matches_is : {xs : List Received} {a z : ℕ} → Got t decl xs a z → (n : ℕ) → length xs ≤ n → (v : ℤ) (w f : ℕ)
         → matches_from t s p n (nat v - 1) w a f ≡ agrees (stage_in t s p decl unit) (message v w) f xs
@@ -167,9 +163,9 @@ module _ (t : List ℕ) (decl : Name → ℕ) where
         ∙ ap (λ y. pick (holds y) (matches_from t s p n (nat v - 1) w (m + 1) (f + 1)) y) (agree_is x a m g v w f)
         ∙ ap (λ y. pick (holds (agree c (message v w) f x)) y (agree c (message v w) f x)) (matches_is r n (omega arith) v w (f + 1)) ∙ go (agree c (message v w) f x) (agrees c (message v w) (f + 1) xs))
       where
-        go : (y z : Answer) → pick (holds y) z y ≡ agree_by y z
-        go (Value w) z = refl
-        go (Fails w) z = refl
+        go : (y z : Result ℤ Fault) → pick (holds y) z y ≡ agree_by y z
+        go (Ok w) z = refl
+        go (Err w) z = refl
 
     -- ---- what is found among n messages of channel v, from message w on
     pub found_is : {xs : List Received} {a z : ℕ} → Got t decl xs a z → length xs ≤ fields_most → (v : ℤ) (n w : ℕ)
@@ -181,18 +177,18 @@ module _ (t : List ℕ) (decl : Name → ℕ) where
         ∙ ap (found_by w (agrees c (message v w) 0 xs)) (found_is g h v n (w + 1)) ∙ found_by_lem w (agrees c (message v w) 0 xs) (find_from (λ k. agrees c (message v k) 0 xs) (w + 1) n)
 
     -- ---- targets
-    abbrev spot_by : Received → Aim → Located
-    spot_by x (hit k) = At (spot p x k)
-    spot_by x (miss f) = Astray f
+    abbrev spot_by : Received → Aim → Result ℕ Fault
+    spot_by x (hit k) = Ok (spot p x k)
+    spot_by x (miss f) = Err f
 
-    aim_other : (a m : ℕ) → (code_of t m ≡ c_into → ⊥) → aim_of t s p a m ≡ At 0
+    aim_other : (a m : ℕ) → (code_of t m ≡ c_into → ⊥) → aim_of t s p a m ≡ Ok 0
     aim_other a m n = rw (other_compared m n)
 
     aim_is : (x : Received) (a m : ℕ) → Agreed t decl x a m → aim_of t s p a m ≡ spot_by x (target (stage_in t s p decl unit) x)
     aim_is (into r) a m g =
-        rw (stored_compared r a m g) (ap (λ y. pick (constant (name_of r)) (At 0) y) (g.located s p ∙ locate-aim s p r) ∙ go (constant (name_of r)) refl (aim c.scene r))
+        rw (stored_compared r a m g) (ap (λ y. pick (constant (name_of r)) (Ok 0) y) (g.located s p ∙ locate-aim s p r) ∙ go (constant (name_of r)) refl (aim c.scene r))
       where
-        go : (b : Bool) → constant (name_of r) ≡ b → (y : Aim) → pick b (At 0) (placed p (name_of r) y) ≡ spot_by (into r) (pick b (hit 0) y)
+        go : (b : Bool) → constant (name_of r) ≡ b → (y : Aim) → pick b (Ok 0) (placed p (name_of r) y) ≡ spot_by (into r) (pick b (hit 0) y)
         go true e y = rw e
         go false e (hit k) = rw e
         go false e (miss f) = refl
@@ -207,10 +203,10 @@ module _ (t : List ℕ) (decl : Name → ℕ) where
     aim-ends (no_more {a = a} e) (suc n) h = rw (eq-eqb (code_of t a) c_end e)
     aim-ends (one_more_lem m k l g r) zero h = absurd (omega arith)
     aim-ends (one_more_lem {x = x} {xs = xs} {a = a} {z = z} m k l g r) (suc n) h =
-        rw (ne_eqb (code_of t a) c_end k) (ap (λ i. on_place (aim_of t s p a i) (λ u. aim_end t s p n (i + 1)) (λ f. Failed f)) l
-        ∙ ap (λ y. on_place y (λ u. aim_end t s p n (m + 1)) (λ f. Failed f)) (aim_is x a m g) ∙ go (target c x) (targets c xs) (aim-ends r n (omega arith)))
+        rw (ne_eqb (code_of t a) c_end k) (ap (λ i. on_place (aim_of t s p a i) (λ u. aim_end t s p n (i + 1)) (λ f. Err f)) l
+        ∙ ap (λ y. on_place y (λ u. aim_end t s p n (m + 1)) (λ f. Err f)) (aim_is x a m g) ∙ go (target c x) (targets c xs) (aim-ends r n (omega arith)))
       where
-        go : (y : Aim) (q : Aims) → aim_end t s p n (m + 1) ≡ end_aims z q → on_place (spot_by x y) (λ u. aim_end t s p n (m + 1)) (λ f. Failed f) ≡ end_aims z (aims_by y q)
+        go : (y : Aim) (q : Aims) → aim_end t s p n (m + 1) ≡ end_aims z q → on_place (spot_by x y) (λ u. aim_end t s p n (m + 1)) (λ f. Err f) ≡ end_aims z (aims_by y q)
         go (hit i) q below = below ∙ before-ends i z q
         go (miss f) q below = refl
 

@@ -1,5 +1,6 @@
 -- STATEMENTS OVER TABLES, each against the tree's stage: one by one what an expression, an assertion, `++`, `--`, an assignment, a printf, a run and a `v = run` do. Here nothing is known of
 -- a text: that the statement stands so in the tables is taken.
+use Rattle.std.specs.Prelude.{Result, Ok, Err}
 use Prim.Native.Nat.{ℕ, ◌+◌, ◌-◌, ◌≤◌}
 use mathlib.Core.Path.{◌≡◌, refl, ap, ap₂, ◌∙◌}
 use mathlib.Core.List.{List}
@@ -12,8 +13,6 @@ use Rattle.base_values.specs.Bits.{wrap32}
 use Rattle.base_values.specs.Operators.{is_true}
 use Rattle.base_values.specs.declared.Fault.{Fault}
 use Rattle.base_values.specs.Types.{cast_of}
-use Rattle.base_values.specs.declared.Answer.{Answer}
-use Rattle.base_values.specs.declared.Answer.TheVariants.{Value, Fails}
 use Rattle.state_layout.specs.Layout.{kept, cell_of, processes_of}
 use Rattle.spec_grammar.specs.Tree.{Name, Ref, Expr}
 use Rattle.step_eval.specs.Variables.{type_of, slot_of}
@@ -44,18 +43,18 @@ module _ (t : List ℕ) (decl : Name → ℕ) (s : List ℤ) (p : ℕ) (unit : N
   unfolding expressed
   expressed_is e q z n w l = ap₂ (λ y k. on_value y (λ v. (Done, moved p k s)) (fault s)) w l ∙ go (eval c.scene e)
     where
-      go : (y : Answer) → on_value y (λ v. (Done, moved p n s)) (fault s) ≡ expressed_by (stage_in t s p decl unit) n s y
-      go (Value v) = refl
-      go (Fails f) = refl
+      go : (y : Result ℤ Fault) → on_value y (λ v. (Done, moved p n s)) (fault s) ≡ expressed_by (stage_in t s p decl unit) n s y
+      go (Ok v) = refl
+      go (Err f) = refl
 
   pub asserted_is : (e : Expr) (q z n : ℕ) → eval_of t s p q z ≡ eval (scene_of t s p decl) e → link_of t z ≡ n
       → asserted t p q z s ≡ asserted_by (stage_in t s p decl unit) n s (eval (scene_of t s p decl) e)
   unfolding asserted
   asserted_is e q z n w l = ap₂ (λ y k. on_value y (λ v. pick (is_true v) (Done, moved p k s) (Refuted, s)) (fault s)) w l ∙ go (eval c.scene e)
     where
-      go : (y : Answer) → on_value y (λ v. pick (is_true v) (Done, moved p n s) (Refuted, s)) (fault s) ≡ asserted_by (stage_in t s p decl unit) n s y
-      go (Value v) = refl
-      go (Fails f) = refl
+      go : (y : Result ℤ Fault) → on_value y (λ v. pick (is_true v) (Done, moved p n s) (Refuted, s)) (fault s) ≡ asserted_by (stage_in t s p decl unit) n s y
+      go (Ok v) = refl
+      go (Err f) = refl
 
   -- ---- stores: the reference r stands from q to before m, and links to its declaration
   module _ (r : Ref) (q m : ℕ) (found : locate_of t s p q m ≡ locate t s p decl r) (declared : link_of t (m - 1) ≡ decl (name_of r)) where
@@ -87,11 +86,11 @@ module _ (t : List ℕ) (decl : Name → ℕ) (s : List ℤ) (p : ℕ) (unit : N
         ∙ ap₂ (λ y k. on_place (placed t decl p w (aim c.scene r)) (λ i. on_value y (λ v. (Done, moved p k (set s i (cast_of (type_of (link_of t (decl w))) v)))) (fault s)) (fault s)) x l
         ∙ go (aim c.scene r) (eval c.scene e)
       where
-        go : (y : Aim) (v : Answer)
+        go : (y : Aim) (v : Result ℤ Fault)
             → on_place (placed t decl p (name_of r) y) (λ i. on_value v (λ v. (Done, moved p n (set s i (cast_of (type_of (link_of t (decl (name_of r)))) v)))) (fault s)) (fault s)
             ≡ assigned_by (stage_in t s p decl unit) n s (name_of r) v y
-        go (hit k) (Value v) = refl
-        go (hit k) (Fails f) = refl
+        go (hit k) (Ok v) = refl
+        go (hit k) (Err f) = refl
         go (miss f) v = refl
 
   -- ---- arguments: at most 32 expressions from item b on, item z behind them

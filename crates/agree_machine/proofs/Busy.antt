@@ -1,4 +1,5 @@
 -- SOMETHING COMES OF EVERY STEP THAT MAY BE TAKEN: it is done, or it fails.
+use Rattle.std.specs.Prelude.{Result, Ok, Err}
 use Prim.Native.Nat.{ℕ}
 use mathlib.Core.Path.{◌≡◌, refl, sym as inv}
 use mathlib.Core.Bool.{Bool, true, false}
@@ -8,10 +9,9 @@ use lib.IntN.{ℤ, pos, negsuc}
 use Rattle.base_bytes.specs.Choice.{pick}
 use Rattle.base_bytes.proofs.Tests.{true_false}
 use Rattle.base_values.specs.Operators.{is_true}
-use Rattle.base_values.specs.declared.Answer.{Answer}
-use Rattle.base_values.specs.declared.Answer.TheVariants.{Value, Fails}
 use Rattle.base_outcome.specs.declared.Taken.{Taken}
 use Rattle.base_outcome.specs.declared.Taken.TheVariants.{Done, Refuted, Faulted, Idle}
+use Rattle.base_values.specs.declared.Fault.{Fault}
 use Rattle.spec_grammar.specs.Tree.{Name, Received, action, Tree, leaf, express, assign, increment, decrement, send, receive, assert, print, skip, goto, break, timeout, else, run, set_run, select, loop}
 use Rattle.spec_machine.specs.Eval.{eval}
 use Rattle.spec_machine.specs.Stage.{Stage, Ways}
@@ -28,23 +28,23 @@ Busy (Faulted f) = Unit {0}
 Busy Idle = ⊥
 
 module _ {S : Type 0} (c : Stage S) (h : Ways) (s : S) where
-  expressed : (x : Answer) → Busy (expressed_by c h.next s x).0
-  expressed (Value v) = tt
-  expressed (Fails f) = tt
+  expressed : (x : Result ℤ Fault) → Busy (expressed_by c h.next s x).0
+  expressed (Ok v) = tt
+  expressed (Err f) = tt
 
-  asserted : (x : Answer) → Busy (asserted_by c h.next s x).0
-  asserted (Value v) = go (is_true v)
+  asserted : (x : Result ℤ Fault) → Busy (asserted_by c h.next s x).0
+  asserted (Ok v) = go (is_true v)
     where
       go : (b : Bool) → Busy (pick {A = Outcome S} b (Done, c.go h.next s) (Refuted, s)).0
       go true = tt
       go false = tt
-  asserted (Fails f) = tt
+  asserted (Err f) = tt
 
-  assigned : (w : Name) (x : Answer) (a : Aim) → Busy (assigned_by c h.next s w x a).0
-  assigned w (Value v) (hit k) = tt
-  assigned w (Fails f) (hit k) = tt
-  assigned w (Value v) (miss g) = tt
-  assigned w (Fails f) (miss g) = tt
+  assigned : (w : Name) (x : Result ℤ Fault) (a : Aim) → Busy (assigned_by c h.next s w x a).0
+  assigned w (Ok v) (hit k) = tt
+  assigned w (Err f) (hit k) = tt
+  assigned w (Ok v) (miss g) = tt
+  assigned w (Err f) (miss g) = tt
 
   stepped : (w : Name) (d : ℤ) (a : Aim) → Busy (stepped_by c h.next s w d a).0
   stepped w d (hit k) = tt

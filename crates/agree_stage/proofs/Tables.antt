@@ -1,5 +1,6 @@
 -- EXPRESSIONS MEAN WHAT THEIR TREE SAYS: where the items of an expression stand in the tables and its names link to their declarations, what is worked out over the items is what the tree
 -- means, faults and their order included.
+use Rattle.std.specs.Prelude.{Result, Ok, Err}
 use Prim.Native.Nat.{ℕ, zero, suc, ◌+◌, ◌-◌, ◌≤◌, min}
 use mathlib.Core.Path.{◌≡◌, refl, sym, ◌∙◌, ap, ap₂}
 use mathlib.Core.Bool.{Bool, true, false, not}
@@ -20,14 +21,10 @@ use Rattle.table_layout.specs.Access.{code_of, link_of}
 use Rattle.state_layout.specs.Layout.{kept, cell_of, waiting_of, kept_most}
 use Rattle.base_bytes.specs.Numbers.{nat}
 use Rattle.base_values.specs.Operators.{is_true, one_if, truth}
-use Rattle.base_values.specs.declared.Answer.{Answer}
-use Rattle.base_values.specs.declared.Answer.TheVariants.{Value, Fails}
 use Rattle.spec_grammar.specs.Tree.{Name, Shape, Exp, Ref, plain, indexed, num, tru, fls, get, query, unary, binary, choice}
 use Rattle.spec_grammar.specs.Grammar.{IsUnary, is_minus, is_not, is_flip}
 use Rattle.link_phrases_proof.specs.Phrases.{Proper}
 use Rattle.spec_rules.specs.Heights.{height}
-use Rattle.step_eval.specs.declared.Located.TheVariants.{At, Astray}
-use Rattle.step_eval.specs.declared.Reached.TheVariants.{Record, Unmade}
 use Rattle.step_eval.specs.declared.Node.{Node}
 use Rattle.step_eval.specs.declared.Node.TheVariants.{Number, True, False, Plain, Index, Length, Unary, Lazy, Binary, Choice}
 use Rattle.step_eval.specs.Variables.{variable_of, size_of, slot_of, element_of, load_of, made_of, channel_of, length_of}
@@ -36,6 +33,7 @@ use Rattle.spec_machine.specs.Eval.{Scene, element_by, length_by, sign_by, or_by
 use Rattle.agree_stage.specs.Scenes.{number_at, scene_of, size_in, Stands, Meant, Named, locate, Linked}
 use Rattle.base_codes.specs.Items.{i_binary, i_choice, i_index, i_query, i_otherwise, i_unary}
 use Rattle.parse_code.specs.Code.{code_exp}
+use Rattle.base_values.specs.declared.Fault.{Fault}
 use Rattle.base_values.specs.declared.Fault.TheVariants as fault
 use Rattle.base_codes.specs.Items as items
 
@@ -90,43 +88,43 @@ node_binary o a b =
     rw (ne_eqb c c_number (λ e. omega arith), ne_eqb c c_or_else (λ e. omega arith), ne_eqb c c_and_then (λ e. omega arith), ne_eqb c c_negate (λ e. omega arith), ne_eqb c c_not (λ e. omega arith), ne_eqb c c_complement (λ e. omega arith), ne_eqb c c_plain (λ e. omega arith), ne_eqb c c_index (λ e. omega arith), ne_eqb c c_true (λ e. omega arith), ne_eqb c c_false (λ e. omega arith), ne_eqb c c_len (λ e. omega arith), ne_eqb c c_choice (λ e. omega arith), le-ltb c c_bit_or (omega arith), le-ltb c_remainder c (omega arith)) (ap Binary z)
 
 -- ---- what was worked out, in the words of the tree
-or_is : (x y : Answer) → lazy_by 1 x y ≡ or_by x y
-or_is (Value v) y = go (is_true v)
+or_is : (x y : Result ℤ Fault) → lazy_by 1 x y ≡ or_by x y
+or_is (Ok v) y = go (is_true v)
   where
-    go : (b : Bool) → pick b (Value (one_if b)) (truth y) ≡ pick b (Value (pos 1)) (truth y)
+    go : (b : Bool) → pick b (Ok (one_if b)) (truth y) ≡ pick b (Ok (pos 1)) (truth y)
     go true = refl
     go false = refl
-or_is (Fails f) y = refl
+or_is (Err f) y = refl
 
-and_is : (x y : Answer) → lazy_by 2 x y ≡ and_by x y
-and_is (Value v) y = go (is_true v)
+and_is : (x y : Result ℤ Fault) → lazy_by 2 x y ≡ and_by x y
+and_is (Ok v) y = go (is_true v)
   where
-    go : (b : Bool) → pick (not b) (Value (one_if b)) (truth y) ≡ pick b (truth y) (Value (pos 0))
+    go : (b : Bool) → pick (not b) (Ok (one_if b)) (truth y) ≡ pick b (truth y) (Ok (pos 0))
     go true = refl
     go false = refl
-and_is (Fails f) y = refl
+and_is (Err f) y = refl
 
-both_is : (o : ℕ) (x y : Answer) → both_by o x y ≡ join_by o x y
-both_is o (Value a) (Value b) = refl
-both_is o (Value a) (Fails f) = refl
-both_is o (Fails f) y = refl
+both_is : (o : ℕ) (x y : Result ℤ Fault) → both_by o x y ≡ join_by o x y
+both_is o (Ok a) (Ok b) = refl
+both_is o (Ok a) (Err f) = refl
+both_is o (Err f) y = refl
 
-choice_is : (x y z : Answer) → choice_by x y z ≡ choose_by x y z
-choice_is (Value v) y z = refl
-choice_is (Fails f) y z = refl
+choice_is : (x y z : Result ℤ Fault) → choice_by x y z ≡ choose_by x y z
+choice_is (Ok v) y z = refl
+choice_is (Err f) y z = refl
 
-unary_is : (o : ℕ) (x : Answer) → unary_by o x ≡ sign_by o x
-unary_is o (Value v) = refl
-unary_is o (Fails f) = refl
+unary_is : (o : ℕ) (x : Result ℤ Fault) → unary_by o x ≡ sign_by o x
+unary_is o (Ok v) = refl
+unary_is o (Err f) = refl
 
 module _ (t : List ℕ) (s : List ℤ) (p : ℕ) (decl : Name → ℕ) where
-  number_is : (d : ℕ) → plain_of t s p d ≡ Value (number_at t s p d)
+  number_is : (d : ℕ) → plain_of t s p d ≡ Ok (number_at t s p d)
   unfolding plain_of number_at
   number_is d = go (eqb (code_of t d) c_message) (eqb (code_of t d) c_name)
     where
       go : (a b : Bool)
-          → pick a (Value (kept (link_of t d))) (pick b (Value (pos p)) (Value (cell_of s (slot_of (link_of t d) p 0))))
-          ≡ Value (pick a (kept (link_of t d)) (pick b (pos p) (cell_of s (slot_of (link_of t d) p 0))))
+          → pick {A = Result ℤ Fault} a (Ok (kept (link_of t d))) (pick b (Ok (pos p)) (Ok (cell_of s (slot_of (link_of t d) p 0))))
+          ≡ Ok (pick a (kept (link_of t d)) (pick b (pos p) (cell_of s (slot_of (link_of t d) p 0))))
       go true b = refl
       go false true = refl
       go false false = refl
@@ -135,9 +133,9 @@ module _ (t : List ℕ) (s : List ℤ) (p : ℕ) (decl : Name → ℕ) where
   unfolding number_at
   pid_is d e = rw e
 
-  plain_is : (w : Name) (d : ℕ) → Meant t d (decl w) → plain_of t s p d ≡ Value (number_at t s p (decl w))
+  plain_is : (w : Name) (d : ℕ) → Meant t d (decl w) → plain_of t s p d ≡ Ok (number_at t s p (decl w))
   plain_is w d (inl e) = ap (λ k. plain_of t s p k) e ∙ number_is (decl w)
-  plain_is w d (inr e) = number_is d ∙ ap Value (pid_is d e.0 ∙ sym (pid_is (decl w) e.1))
+  plain_is w d (inr e) = number_is d ∙ ap Ok (pid_is d e.0 ∙ sym (pid_is (decl w) e.1))
 
   -- `_pid` is the number of the process
   pid-number : (w : Name) → (same w pid ≡ true → code_of t (decl w) ≡ c_name) → number_at t s p (decl w) ≡ pick (same w pid) (pos p) (number_at t s p (decl w))
@@ -147,23 +145,23 @@ module _ (t : List ℕ) (s : List ℤ) (p : ℕ) (decl : Name → ℕ) where
       go true h = pid_is (decl w) (h refl)
       go false h = refl
 
-  element_is : (w : Name) (x : Answer) → load_of s (element_of (link_of t (decl w)) p x) ≡ element_by (scene_of t s p decl) w x
-  element_is w (Value (pos i)) = go (ltb i (size_of (link_of t (decl w))))
+  element_is : (w : Name) (x : Result ℤ Fault) → load_of s (element_of (link_of t (decl w)) p x) ≡ element_by (scene_of t s p decl) w x
+  element_is w (Ok (pos i)) = go (ltb i (size_of (link_of t (decl w))))
     where
       go : (b : Bool)
-          → load_of s (pick b (At (slot_of (link_of t (decl w)) p i)) (Astray fault.Index)) ≡ pick b (Value (cell_of s (slot_of (link_of t (decl w)) p i))) (Fails fault.Index)
+          → load_of s (pick b (Ok (slot_of (link_of t (decl w)) p i)) (Err fault.Index)) ≡ pick b (Ok (cell_of s (slot_of (link_of t (decl w)) p i))) (Err fault.Index)
       go true = refl
       go false = refl
-  element_is w (Value (negsuc i)) = refl
-  element_is w (Fails f) = refl
+  element_is w (Ok (negsuc i)) = refl
+  element_is w (Err f) = refl
 
-  length_is : (x : Answer) → length_of s (channel_of s x) ≡ length_by (scene_of t s p decl) x
-  length_is (Value v) = go (made_of s (nat v))
+  length_is : (x : Result ℤ Fault) → length_of s (channel_of s x) ≡ length_by (scene_of t s p decl) x
+  length_is (Ok v) = go (made_of s (nat v))
     where
-      go : (b : Bool) → length_of s (pick b (Record (nat v - 1)) (Unmade fault.Channel)) ≡ pick b (Value (pos (waiting_of s (nat v - 1)))) (Fails fault.Channel)
+      go : (b : Bool) → length_of s (pick b (Ok (nat v - 1)) (Err fault.Channel)) ≡ pick b (Ok (pos (waiting_of s (nat v - 1)))) (Err fault.Channel)
       go true = refl
       go false = refl
-  length_is (Fails f) = refl
+  length_is (Err f) = refl
 
   -- ---- the last item decides
   by_last : (h from to j c : ℕ) {n : Node} → 1 ≤ h → to ≡ j + 1 → from ≤ j → code_of t j ≡ c → node_of c ≡ n → eval_t t s p h from to ≡ by_node t s p (λ a b. eval_t t s p (h - 1) a b) from j n
@@ -178,13 +176,13 @@ module _ (t : List ℕ) (s : List ℤ) (p : ℕ) (decl : Name → ℕ) where
   start_is : (from j k : ℕ) → link_of t j ≡ k → from ≤ k → k ≤ j → start_of t from j ≡ k
   start_is from j k e a b = omega arith
 
-  lazy_at : (o h from j k : ℕ) {x y : Answer} → start_of t from j ≡ k → eval_t t s p h from k ≡ x → eval_t t s p h k j ≡ y → by_node t s p (λ a b. eval_t t s p h a b) from j (Lazy o) ≡ lazy_by o x y
+  lazy_at : (o h from j k : ℕ) {x y : Result ℤ Fault} → start_of t from j ≡ k → eval_t t s p h from k ≡ x → eval_t t s p h k j ≡ y → by_node t s p (λ a b. eval_t t s p h a b) from j (Lazy o) ≡ lazy_by o x y
   lazy_at o h from j k q ex ey = ap (λ z. lazy_by o (eval_t t s p h from z) (eval_t t s p h z j)) q ∙ ap₂ (lazy_by o) ex ey
 
-  both_at : (o h from j k : ℕ) {x y : Answer} → start_of t from j ≡ k → eval_t t s p h from k ≡ x → eval_t t s p h k j ≡ y → by_node t s p (λ a b. eval_t t s p h a b) from j (Binary o) ≡ both_by o x y
+  both_at : (o h from j k : ℕ) {x y : Result ℤ Fault} → start_of t from j ≡ k → eval_t t s p h from k ≡ x → eval_t t s p h k j ≡ y → by_node t s p (λ a b. eval_t t s p h a b) from j (Binary o) ≡ both_by o x y
   both_at o h from j k q ex ey = ap (λ z. both_by o (eval_t t s p h from z) (eval_t t s p h z j)) q ∙ ap₂ (both_by o) ex ey
 
-  choice_at : (h from j k m : ℕ) {x y z : Answer} → start_of t from j ≡ k → start_of t from (k - 1) ≡ m → eval_t t s p h from m ≡ x → eval_t t s p h m (k - 1) ≡ y → eval_t t s p h k j ≡ z
+  choice_at : (h from j k m : ℕ) {x y z : Result ℤ Fault} → start_of t from j ≡ k → start_of t from (k - 1) ≡ m → eval_t t s p h from m ≡ x → eval_t t s p h m (k - 1) ≡ y → eval_t t s p h k j ≡ z
       → by_node t s p (λ a b. eval_t t s p h a b) from j Choice ≡ choice_by x y z
   choice_at h from j k m {x} {y} {z} q r ex ey ez =
       ap (λ a. choice_by (eval_t t s p h from (start_of t from (a - 1))) (eval_t t s p h (start_of t from (a - 1)) (a - 1)) (eval_t t s p h a j)) q
@@ -192,7 +190,7 @@ module _ (t : List ℕ) (s : List ℤ) (p : ℕ) (decl : Name → ℕ) where
       ∙ (λ i. choice_by (ex i) (ey i) (ez i))
 
   -- an operator, by its number
-  operate_at : (o h from j k : ℕ) {x y : Answer} → 1 ≤ o → o ≤ 18 → 1 ≤ h → code_of t j ≡ 146 + o → link_of t j ≡ k → from ≤ k → k ≤ j → from ≤ j
+  operate_at : (o h from j k : ℕ) {x y : Result ℤ Fault} → 1 ≤ o → o ≤ 18 → 1 ≤ h → code_of t j ≡ 146 + o → link_of t j ≡ k → from ≤ k → k ≤ j → from ≤ j
       → eval_t t s p (h - 1) from k ≡ x → eval_t t s p (h - 1) k j ≡ y → eval_t t s p h from (j + 1) ≡ operate_by o x y
   operate_at o h from j k {x} {y} lo hi g c l a b d ex ey = go (ℕ_discrete o 1) (ℕ_discrete o 2)
     where
@@ -212,7 +210,7 @@ module _ (t : List ℕ) (s : List ℤ) (p : ℕ) (decl : Name → ℕ) where
   pub eval-tables : {k : Shape} (e : Exp k) (i from h : ℕ) → Proper e → Stands t e i → Named t decl e i → from ≤ i → height e ≤ h → eval_t t s p h from (i + size_in e) ≡ eval scene e
   unfolding Stands Named eval
   eval-tables (plain w) i from h r z n f g =
-      by_last h from (i + 2) (i + 1) c_plain (omega arith) (omega arith) (omega arith) z node_plain ∙ plain_is w (link_of t (i + 1)) n.0 ∙ ap Value (pid-number w n.1)
+      by_last h from (i + 2) (i + 1) c_plain (omega arith) (omega arith) (omega arith) z node_plain ∙ plain_is w (link_of t (i + 1)) n.0 ∙ ap Ok (pid-number w n.1)
   eval-tables (indexed w e) i from h r z n f g =
       let m = size_in e in
       let q : length (code_exp e ++ i_index ∷ []) ≡ m + 1 = length-append (code_exp e) (i_index ∷ []) in
@@ -222,7 +220,7 @@ module _ (t : List ℕ) (s : List ℤ) (p : ℕ) (decl : Name → ℕ) where
       ∙ ap (λ x. load_of s (element_of (link_of t (decl w)) p x)) (eval-tables e (i + 1) from (h - 1) r z.0 n.0 (omega arith) (omega arith)) ∙ element_is w (eval scene e)
   eval-tables (num v) i from h r z n f g =
       by_last h from (i + 1) i c_number (omega arith) (omega arith) f z.0 node_number
-      ∙ ap (λ y. Value (kept y)) z.1 ∙ (let b = z.2 in let y : min kept_most v ≡ v = omega arith in ap (λ y. Value (pos y)) y)
+      ∙ ap (λ y. Ok (kept y)) z.1 ∙ (let b = z.2 in let y : min kept_most v ≡ v = omega arith in ap (λ y. Ok (pos y)) y)
   eval-tables tru i from h r z n f g = by_last h from (i + 1) i c_true (omega arith) (omega arith) f z node_true
   eval-tables fls i from h r z n f g = by_last h from (i + 1) i c_false (omega arith) (omega arith) f z node_false
   eval-tables (get v) i from h r z n f g = eval-tables v i from h r z n f g
@@ -274,13 +272,13 @@ module _ (t : List ℕ) (s : List ℤ) (p : ℕ) (decl : Name → ℕ) where
   unfolding locate_of
   locate_element from to j q e = rw (q, e)
 
-  locate_plain : (from to j : ℕ) → to - 1 ≡ j → code_of t j ≡ c_plain → locate_of t s p from to ≡ At (slot_of (variable_of t j) p 0)
+  locate_plain : (from to j : ℕ) → to - 1 ≡ j → code_of t j ≡ c_plain → locate_of t s p from to ≡ Ok (slot_of (variable_of t j) p 0)
   unfolding locate_of
   locate_plain from to j q e = rw (q, e)
 
   pub locate_is : (r : Ref) (i to : ℕ) → Proper r → Stands t r i → Named t decl r i → Linked t decl r i → height r ≤ height_most → to ≡ i + size_in r → locate_of t s p i to ≡ locate t s p decl r
   unfolding locate Linked Stands Named
-  locate_is (plain w) i to r z n l g q = locate_plain i to (i + 1) (omega arith) z ∙ ap (λ d. At (slot_of (link_of t d) p 0)) l
+  locate_is (plain w) i to r z n l g q = locate_plain i to (i + 1) (omega arith) z ∙ ap (λ d. Ok (slot_of (link_of t d) p 0)) l
   locate_is (indexed w e) i to r z n l g q =
       let m = size_in e in
       let y : length (code_exp e ++ i_index ∷ []) ≡ m + 1 = length-append (code_exp e) (i_index ∷ []) in

@@ -1,7 +1,7 @@
 -- Bridge, for `demand2` (crate `demands`).
 -- The scene that tables and a state make, and that an expression of a tree stands in the tables: docs/TABLES.md, the rows of items and of links.
 -- `t` are tables, `s` a state, p the number of the process; `decl` has for each name the item that declares it, and for `_pid` any item that is a name.
-use Rattle.std.specs.Prelude.{ℕ, ◌+◌, ◌-◌, ◌≤◌, ◌≡◌, List, ◌⊎◌, length, ℤ, pos, eqb, true}
+use Rattle.std.specs.Prelude.{ℕ, ◌+◌, ◌-◌, ◌≤◌, ◌≡◌, List, ◌⊎◌, length, ℤ, pos, eqb, true, Result, Ok}
 use Rattle.base_ceilings.specs.Ceilings.{number_most}
 use Rattle.base_codes.specs.Codes.{c_choice, c_false, c_index, c_len, c_message, c_plain, c_true, c_name, c_number}
 use Rattle.base_bytes.specs.Choice.{pick}
@@ -11,13 +11,12 @@ use Rattle.table_layout.specs.Access.{code_of, link_of, number_of}
 use Rattle.state_layout.specs.Layout.{kept, cell_of, waiting_of}
 use Rattle.base_bytes.specs.Numbers.{nat}
 use Rattle.spec_grammar.specs.Tree.{Name, Shape, Exp, Ref, plain, indexed, num, tru, fls, get, query, unary, binary, choice}
-use Rattle.step_eval.specs.declared.Located.{Located}
-use Rattle.step_eval.specs.declared.Located.TheVariants.{At}
 use Rattle.step_eval.specs.Variables.{size_of, slot_of, made_of, element_of}
 use Rattle.spec_machine.specs.Eval.{Scene, eval}
 use Rattle.base_codes.specs.Items.{i_binary, i_unary}
 use Rattle.parse_code.specs.Code.{code_exp}
 use Rattle.base_codes.specs.Items as items
+use Rattle.base_values.specs.declared.Fault.{Fault}
 
 -- a plain reference to declaration d: the number of an mtype name, `_pid` (its own name, 70), or a variable
 unfoldable pub number_at : List ℕ → List ℤ → ℕ → ℕ → ℤ
@@ -72,8 +71,8 @@ Named t decl (choice a b c) i = Named t decl a i × Named t decl b (i + size_in 
 
 -- ## references: targets, channel operands, received variables
 -- where a reference stands in the state: "target indices are worked out", and must be in range
-unfoldable pub locate : List ℕ → List ℤ → ℕ → (Name → ℕ) → Ref → Located
-locate t s p decl (plain w) = At (slot_of (link_of t (decl w)) p 0)
+unfoldable pub locate : List ℕ → List ℤ → ℕ → (Name → ℕ) → Ref → Result ℕ Fault
+locate t s p decl (plain w) = Ok (slot_of (link_of t (decl w)) p 0)
 locate t s p decl (indexed w e) = element_of (link_of t (decl w)) p (eval (scene_of t s p decl) e)
 
 -- it links to the declaration of its name

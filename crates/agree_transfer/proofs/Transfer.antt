@@ -1,4 +1,5 @@
 -- WHERE TWO STAGES AGREE, every lawful statement is executable in both or in neither, offers the same steps, prints the same, and what comes of it is the same, in states that belong together.
+use Rattle.std.specs.Prelude.{Result, Ok, Err}
 use Prim.Native.Nat.{ℕ, suc, ◌+◌, min}
 use native.Mathlib.Omega.{arith}
 use mathlib.Core.Path.{◌≡◌, refl, sym as inv, ap, ap₂, ◌∙◌, subst}
@@ -15,8 +16,6 @@ use Rattle.spec_text.specs.Names.{pid}
 use Rattle.base_values.specs.Operators.{is_true, equal_by}
 use Rattle.base_values.specs.declared.Fault.{Fault}
 use Rattle.base_values.specs.declared.Fault.TheVariants.{Index, Channel, Fields}
-use Rattle.base_values.specs.declared.Answer.{Answer}
-use Rattle.base_values.specs.declared.Answer.TheVariants.{Value, Fails}
 use Rattle.spec_rules.specs.Heights.{height}
 use lib.Dec.{leb}
 use borrow.Author.Tests.{lt-ltb, eqb-true}
@@ -119,26 +118,26 @@ module _ (sense : Name → Sense) where
 
 module _ {S T : Type 0} (R : S → T → Type 0) (P : ℕ → Type 0) (at : Place) (c : Stage S) (x : S) (d : Stage T) (y : T) (a : Agrees R P at c x d y) where
   -- ---- expressions
-  element_same : (w : Name) → storable (sense at) w ≡ true → (v : Answer) → element_by c.scene w v ≡ element_by d.scene w v
-  element_same w h (Value (pos i)) = go (ltb i (c.scene.size w)) refl
+  element_same : (w : Name) → storable (sense at) w ≡ true → (v : Result ℤ Fault) → element_by c.scene w v ≡ element_by d.scene w v
+  element_same w h (Ok (pos i)) = go (ltb i (c.scene.size w)) refl
     where
-      go : (b : Bool) → ltb i (c.scene.size w) ≡ b → pick b (Value (c.scene.element w i)) (Fails Index) ≡ pick (ltb i (d.scene.size w)) (Value (d.scene.element w i)) (Fails Index)
-      go true e = rw (inv (ap (ltb i) (a.size w h)) ∙ e) (ap Value (a.element w i h e))
+      go : (b : Bool) → ltb i (c.scene.size w) ≡ b → pick b (Ok (c.scene.element w i)) (Err Index) ≡ pick (ltb i (d.scene.size w)) (Ok (d.scene.element w i)) (Err Index)
+      go true e = rw (inv (ap (ltb i) (a.size w h)) ∙ e) (ap Ok (a.element w i h e))
       go false e = rw (inv (ap (ltb i) (a.size w h)) ∙ e)
-  element_same w h (Value (negsuc i)) = refl
-  element_same w h (Fails f) = refl
+  element_same w h (Ok (negsuc i)) = refl
+  element_same w h (Err f) = refl
 
-  length-same : (v : Answer) → length_by c.scene v ≡ length_by d.scene v
-  length-same (Value v) = go (c.scene.made v) refl
+  length-same : (v : Result ℤ Fault) → length_by c.scene v ≡ length_by d.scene v
+  length-same (Ok v) = go (c.scene.made v) refl
     where
-      go : (b : Bool) → c.scene.made v ≡ b → pick b (Value (pos (c.scene.waiting v))) (Fails Channel) ≡ pick (d.scene.made v) (Value (pos (d.scene.waiting v))) (Fails Channel)
-      go true e = rw (inv (a.made v) ∙ e) (ap (λ n. Value (pos n)) (a.waiting v e))
+      go : (b : Bool) → c.scene.made v ≡ b → pick b (Ok (pos (c.scene.waiting v))) (Err Channel) ≡ pick (d.scene.made v) (Ok (pos (d.scene.waiting v))) (Err Channel)
+      go true e = rw (inv (a.made v) ∙ e) (ap (λ n. Ok (pos n)) (a.waiting v e))
       go false e = rw (inv (a.made v) ∙ e)
-  length-same (Fails f) = refl
+  length-same (Err f) = refl
 
   pub eval-same : {k : Shape} (e : Exp k) (r : Role) → named (sense at) r e ≡ true → eval c.scene e ≡ eval d.scene e
   unfolding eval named
-  eval-same (plain w) r h = ap Value (a.number w (as_operand (sense at) r false w h))
+  eval-same (plain w) r h = ap Ok (a.number w (as_operand (sense at) r false w h))
   eval-same (indexed w e) r h =
       let p = both_true (usable (sense at) r true w) (named (sense at) operand e) h in
       element_same w (indexed_storable (sense at) r w p.0) (eval c.scene e) ∙ ap (element_by d.scene w) (eval-same e operand p.1)
@@ -185,14 +184,14 @@ module _ {S T : Type 0} (R : S → T → Type 0) (P : ℕ → Type 0) (at : Plac
   There w (hit k) = ltb k (c.scene.size w) ≡ true
   There w (miss f) = Unit {0}
 
-  aimed_same : (w : Name) → storable (sense at) w ≡ true → (v : Answer) → (aim_by c.scene w v ≡ aim_by d.scene w v) × There w (aim_by c.scene w v)
-  aimed_same w h (Value (pos i)) = go (ltb i (c.scene.size w)) refl
+  aimed_same : (w : Name) → storable (sense at) w ≡ true → (v : Result ℤ Fault) → (aim_by c.scene w v ≡ aim_by d.scene w v) × There w (aim_by c.scene w v)
+  aimed_same w h (Ok (pos i)) = go (ltb i (c.scene.size w)) refl
     where
       go : (b : Bool) → ltb i (c.scene.size w) ≡ b → (pick b (hit i) (miss Index) ≡ pick (ltb i (d.scene.size w)) (hit i) (miss Index)) × There w (pick b (hit i) (miss Index))
       go true e = (rw (inv (ap (ltb i) (a.size w h)) ∙ e), e)
       go false e = (rw (inv (ap (ltb i) (a.size w h)) ∙ e), tt)
-  aimed_same w h (Value (negsuc i)) = (refl, tt)
-  aimed_same w h (Fails f) = (refl, tt)
+  aimed_same w h (Ok (negsuc i)) = (refl, tt)
+  aimed_same w h (Err f) = (refl, tt)
 
   pub aim_same : (r : Ref) (o : Role) → lawful (sense at) o r ≡ true → Storable r → (aim c.scene r ≡ aim d.scene r) × There (name_of r) (aim c.scene r)
   unfolding lawful named
@@ -252,10 +251,10 @@ module _ {S T : Type 0} (R : S → T → Type 0) (P : ℕ → Type 0) (at : Plac
   values-counted [] = refl
   values-counted (e ∷ es) = go (eval c.scene e) (values c.scene es) (values-counted es)
     where
-      go : (v : Answer) (vs : WorkedOut) → Counted (length es) vs → Counted (suc (length es)) (values_by v vs)
-      go (Value v) (args.all vs) k = ap suc k
-      go (Value v) (stopped f) k = tt
-      go (Fails f) vs k = tt
+      go : (v : Result ℤ Fault) (vs : WorkedOut) → Counted (length es) vs → Counted (suc (length es)) (values_by v vs)
+      go (Ok v) (args.all vs) k = ap suc k
+      go (Ok v) (stopped f) k = tt
+      go (Err f) vs k = tt
 
   pub into_usable : (r : Ref) → lawful (sense at) received r ≡ true → (c.constant (name_of r) ≡ is_constant (sense at (name_of r))) × (d.constant (name_of r) ≡ is_constant (sense at (name_of r)))
   unfolding lawful named
@@ -272,20 +271,20 @@ module _ {S T : Type 0} (R : S → T → Type 0) (P : ℕ → Type 0) (at : Plac
       received-storable (sense at) true n (both_true (usable (sense at) received true n) (named (sense at) operand e) p.1).0 k
 
   -- each target that is stored to is there
-  abbrev Ok : Received → ℕ → Type 0
-  Ok (into r) k = is_constant (sense at (name_of r)) ≡ false → ltb k (c.scene.size (name_of r)) ≡ true
-  Ok (equal e) k = Unit {0}
-  Ok (exactly n) k = Unit {0}
-  Ok exactly_true k = Unit {0}
-  Ok exactly_false k = Unit {0}
+  abbrev InSize : Received → ℕ → Type 0
+  InSize (into r) k = is_constant (sense at (name_of r)) ≡ false → ltb k (c.scene.size (name_of r)) ≡ true
+  InSize (equal e) k = Unit {0}
+  InSize (exactly n) k = Unit {0}
+  InSize exactly_true k = Unit {0}
+  InSize exactly_false k = Unit {0}
 
   abbrev AllOk : List Received → List ℕ → Type 0
   AllOk [] ks = Unit {0}
   AllOk (r ∷ rs) [] = Unit {0}
-  AllOk (r ∷ rs) (k ∷ ks) = Ok r k × AllOk rs ks
+  AllOk (r ∷ rs) (k ∷ ks) = InSize r k × AllOk rs ks
 
   abbrev AimOk : Received → Aim → Type 0
-  AimOk r (hit k) = Ok r k
+  AimOk r (hit k) = InSize r k
   AimOk r (miss f) = Unit {0}
 
   abbrev AimsOk : List Received → Aims → Type 0
@@ -335,17 +334,17 @@ module _ {S T : Type 0} (R : S → T → Type 0) (P : ℕ → Type 0) (at : Plac
 
   -- ---- received arguments, against two messages that have the same values in their n fields, wherever they lie
   module _ (n : ℕ) (u w : Message) (same : (f : ℕ) → ltb f n ≡ true → u f ≡ w f) where
-    equal_same : (q : Answer) (f : ℕ) → ltb f n ≡ true → equal_by q (u f) ≡ equal_by q (w f)
+    equal_same : (q : Result ℤ Fault) (f : ℕ) → ltb f n ≡ true → equal_by q (u f) ≡ equal_by q (w f)
     equal_same q f l = ap (equal_by q) (same f l)
 
     agree_same : (r : Received) (f : ℕ) → receives at r ≡ true → ltb f n ≡ true → agree c u f r ≡ agree d w f r
     agree_same (into r) f h l =
         let k = into_usable r h in
-        ap₂ (λ b q. pick b q (Value (pos 1))) (k.0 ∙ inv k.1) (ap₂ equal_by (lawful-same r received h) (same f l))
+        ap₂ (λ b q. pick b q (Ok (pos 1))) (k.0 ∙ inv k.1) (ap₂ equal_by (lawful-same r received h) (same f l))
     agree_same (equal e) f h l = ap₂ equal_by (lawful-same e operand h) (same f l)
-    agree_same (exactly n) f h l = equal_same (Value (pos n)) f l
-    agree_same exactly_true f h l = equal_same (Value (pos 1)) f l
-    agree_same exactly_false f h l = equal_same (Value (pos 0)) f l
+    agree_same (exactly n) f h l = equal_same (Ok (pos n)) f l
+    agree_same exactly_true f h l = equal_same (Ok (pos 1)) f l
+    agree_same exactly_false f h l = equal_same (Ok (pos 0)) f l
 
     agrees-same : (rs : List Received) (f : ℕ) → all (receives at) rs ≡ true → n ≡ f + length rs → agrees c u f rs ≡ agrees d w f rs
     unfolding agrees
@@ -355,7 +354,7 @@ module _ {S T : Type 0} (R : S → T → Type 0) (P : ℕ → Type 0) (at : Plac
         ap₂ agree_by (agree_same r f p.0 (lt-ltb f n (omega (arith, l)))) (agrees-same rs (f + 1) p.1 (omega (arith, l)))
 
     -- the stores of its fields
-    delivery-same : (r : Received) (f k : ℕ) → receives at r ≡ true → ltb f n ≡ true → Ok r k → {p : S} {q : T} → R p q → R (delivery c u f r k p) (delivery d w f r k q)
+    delivery-same : (r : Received) (f k : ℕ) → receives at r ≡ true → ltb f n ≡ true → InSize r k → {p : S} {q : T} → R p q → R (delivery c u f r k p) (delivery d w f r k q)
     delivery-same (into r) f k h l o {p} {q} g = go (is_constant (sense at (name_of r))) refl
       where
         b : (c.constant (name_of r) ≡ is_constant (sense at (name_of r))) × (d.constant (name_of r) ≡ is_constant (sense at (name_of r)))
@@ -480,21 +479,21 @@ module _ {S T : Type 0} (R : S → T → Type 0) (P : ℕ → Type 0) (at : Plac
     failed : (f : Fault) → Related R (fault x f) (fault y f)
     failed f = (refl, a.together)
 
-    expressed-same : (v : Answer) → Related R (expressed_by c h.next x v) (expressed_by d h.next y v)
-    expressed-same (Value v) = on a.together
-    expressed-same (Fails f) = failed f
+    expressed-same : (v : Result ℤ Fault) → Related R (expressed_by c h.next x v) (expressed_by d h.next y v)
+    expressed-same (Ok v) = on a.together
+    expressed-same (Err f) = failed f
 
-    asserted-same : (v : Answer) → Related R (asserted_by c h.next x v) (asserted_by d h.next y v)
-    asserted-same (Value v) = go (is_true v)
+    asserted-same : (v : Result ℤ Fault) → Related R (asserted_by c h.next x v) (asserted_by d h.next y v)
+    asserted-same (Ok v) = go (is_true v)
       where
         go : (b : Bool) → Related R (pick b (go_on c h.next x) (Refuted, x)) (pick b (go_on d h.next y) (Refuted, y))
         go true = on a.together
         go false = (refl, a.together)
-    asserted-same (Fails f) = failed f
+    asserted-same (Err f) = failed f
 
-    assigned-same : (w : Name) → storable (sense at) w ≡ true → (v : Answer) (k : Aim) → There w k → Related R (assigned_by c h.next x w v k) (assigned_by d h.next y w v k)
-    assigned-same w s (Value v) (hit k) t = on (a.store a.together w k v s t)
-    assigned-same w s (Fails f) (hit k) t = failed f
+    assigned-same : (w : Name) → storable (sense at) w ≡ true → (v : Result ℤ Fault) (k : Aim) → There w k → Related R (assigned_by c h.next x w v k) (assigned_by d h.next y w v k)
+    assigned-same w s (Ok v) (hit k) t = on (a.store a.together w k v s t)
+    assigned-same w s (Err f) (hit k) t = failed f
     assigned-same w s v (miss f) t = failed f
 
     stepped_same : (w : Name) → storable (sense at) w ≡ true → (e : ℤ) (k : Aim) → There w k → Related R (stepped_by c h.next x w e k) (stepped_by d h.next y w e k)

@@ -1,29 +1,24 @@
 -- The laws of `same` and `pasted`.
-use mathlib.Core.Path.{◌≡◌, refl, sym, ap, ap₂, ◌∙◌}
-use mathlib.Core.Bool.{Bool, true, false}
-use mathlib.Core.List.{List, [], ◌∷◌, ◌++◌, append-nil}
-use Prim.Native.Nat.{ℕ, zero, suc, ◌+◌, ◌≤◌, ◌<◌, min}
+use mathlib.Core.Path.{◌≡◌, refl, sym, ap, ap₂}
+use mathlib.Core.Bool.{true, false}
+use mathlib.Core.List.{List, [], ◌∷◌, append-nil}
+use Prim.Native.Nat.{ℕ, suc, min}
 use native.Mathlib.Omega.{arith}
-use native.Mathlib.Numerals.{add-one}
-use borrow.Author.Tests.{eq-eqb, ne_eqb, eqb-true}
+use borrow.Author.Tests.{eq-eqb, eqb-true}
 use lib.Dec.{eqb}
-use lib.ListN.{length, get_or, take, drop, set, drop_of_length-le}
-use lib.Seq.{drop-cons, take-suc, set-append_seam, append_snoc, set_at, length-take-le, take-length}
-use Rattle.base_bytes.specs.Choice.{both}
+use lib.Pointwise.{pointwise}
+use lib.ListN.{length, drop_of_length-le}
+use lib.Seq.{take-length}
 use Rattle.base_bytes.specs.Lists.{same, pasted}
-use Rattle.base_bytes.proofs.Tests.{both_no, both_true, true_false}
+use Rattle.base_bytes.proofs.Tests.{both_no, both_true, both_and, true_false}
 
-pub same_stop : (x y : List ℕ) (k : ℕ) → k < length x → k < length y → (get_or x k 0 ≡ get_or y k 0 → ⊥) → same (drop k x) (drop k y) ≡ false
+-- it is what `==` of slices says
+pub same_pointwise : (x y : List ℕ) → pointwise eqb x y ≡ same x y
 unfolding same
-same_stop x y k hx hy e = rw (drop-cons x k 0 hx, drop-cons y k 0 hy, ne_eqb _ _ e)
-
-pub same_more : (x y : List ℕ) (k : ℕ) → k < length x → k < length y → get_or x k 0 ≡ get_or y k 0 → same (drop k x) (drop k y) ≡ same (drop (k + 1) x) (drop (k + 1) y)
-unfolding same
-same_more x y k hx hy e = rw (drop-cons x k 0 hx, drop-cons y k 0 hy, eq-eqb _ _ e, add-one)
-
-pub same_end : (x y : List ℕ) (k : ℕ) → length x ≤ k → length y ≤ k → same (drop k x) (drop k y) ≡ true
-unfolding same
-same_end x y k hx hy = rw (drop_of_length-le x hx, drop_of_length-le y hy)
+same_pointwise [] [] = refl
+same_pointwise [] (b ∷ y) = refl
+same_pointwise (a ∷ x) [] = refl
+same_pointwise (a ∷ x) (b ∷ y) = rw (same_pointwise x y) (both_and (eqb a b) (same x y))
 
 pub same-differ : (x y : List ℕ) → (length x ≡ length y → ⊥) → same x y ≡ false
 unfolding same
@@ -46,12 +41,6 @@ same_eq (a ∷ x) [] e = absurd (true_false (sym e))
 same_eq (a ∷ x) (b ∷ y) e =
     let (p, q) = both_true (eqb a b) (same x y) e in
     ap₂ ◌∷◌ (eqb-true a b p) (same_eq x y q)
-
--- laying one number more
-pub paste_more : (xs ys : List ℕ) (k : ℕ) → k < length xs → k < length ys →
-    set (take k xs ++ drop k ys) k (get_or xs k 0) ≡ take (k + 1) xs ++ drop (k + 1) ys
-paste_more xs ys k hx hy =
-    rw (add-one, drop-cons ys k 0 hy, set_at (take k xs) (get_or ys k 0) (drop (suc k) ys) (get_or xs k 0) k (length-take-le k xs (omega arith)), take-suc xs k 0 hx, append_snoc)
 
 -- laid over as many as there are
 pub paste_whole : (n : ℕ) (xs ys : List ℕ) → length xs ≡ n → length ys ≡ n → pasted n xs ys ≡ xs

@@ -1,6 +1,6 @@
 -- Tests joined by `both` and `either` or chosen by `pick`, from their parts and back.
 use mathlib.Core.Path.{◌≡◌, refl, sym}
-use mathlib.Core.Bool.{Bool, true, false}
+use mathlib.Core.Bool.{Bool, true, false, ◌&&◌}
 use mathlib.Core.Logic.{◌⊎◌, inl, inr}
 use Prim.Native.Nat.{ℕ}
 use native.Mathlib.Omega.{arith}
@@ -12,6 +12,10 @@ true_false e = let z : ◌≡◌ {A = ℕ} 0 1 = cc in omega arith
 pub both_true : (a b : Bool) → both a b ≡ true → (a ≡ true) × (b ≡ true)
 both_true true b e = (refl, e)
 both_true false b e = (e, absurd (true_false (cc)))
+
+pub both_and : (a b : Bool) → (a && b) ≡ both a b
+both_and true b = refl
+both_and false b = refl
 
 pub both_no : (a : Bool) {b : Bool} → b ≡ false → both a b ≡ false
 both_no true e = e

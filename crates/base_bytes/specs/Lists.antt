@@ -13,7 +13,7 @@ abbrev pub piece : List ℕ → ℕ → ℕ → List ℕ
 piece text from to = take (min to (length text) - min from (min to (length text))) (drop (min from (min to (length text))) text)
 
 -- the first n of xs, as far as there are so many in both, and then what ys has behind them
-abbrev pub pasted : ℕ → List ℕ → List ℕ → List ℕ
+abbrev pub pasted : {A : Type 0} → ℕ → List A → List A → List A
 pasted n xs ys = take (min n (min (length xs) (length ys))) xs ++ drop (min n (min (length xs) (length ys))) ys
 
 -- the first list, unless it is empty

@@ -50,14 +50,14 @@ pub fn word_on(s: &[u32], i: usize, k: usize) -> usize
 pub fn least(a: usize, b: usize) -> usize
     ensures { result ≡ min a b }
 {
-    if a < b { a } else { b }
+    a.min(b)
 }
 
 // a - b, or 0 where b is more.
 pub fn minus(a: usize, b: usize) -> usize
     ensures { result ≡ a - b }
 {
-    if b <= a { a - b } else { 0 }
+    a.saturating_sub(b)
 }
 
 // The part of a text from a place to a place, as far as there is one.
@@ -73,39 +73,13 @@ pub fn part(text: &[u8], from: usize, to: usize) -> &[u8]
 pub fn same(x: &[u8], y: &[u8]) -> bool
     ensures { result ≡ same x.now y.now }
 {
-    if x.len() != y.len() {
-        return false;
-    }
-    let mut k: usize = 0;
-    while k < x.len() {
-        if x[k] != y[k] {
-            return false;
-        }
-        k += 1;
-    }
-    true
+    x == y
 }
 
 // The first n of src over the first n of dst, as far as both reach; the rest of dst stays.
-pub fn copy_bytes(dst: &mut [u8], src: &[u8], n: usize)
+pub fn copy<T: Copy>(dst: &mut [T], src: &[T], n: usize)
     ensures { dst.new ≡ pasted n src.now dst.old }
 {
     let most = least(n, least(src.len(), dst.len()));
-    let mut i: usize = 0;
-    while i < most {
-        dst[i] = src[i];
-        i += 1;
-    }
-}
-
-// The same for numbers.
-pub fn copy_words(dst: &mut [u32], src: &[u32], n: usize)
-    ensures { dst.new ≡ pasted n src.now dst.old }
-{
-    let shared = least(n, least(src.len(), dst.len()));
-    let mut i: usize = 0;
-    while i < shared {
-        dst[i] = src[i];
-        i += 1;
-    }
+    dst[..most].copy_from_slice(&src[..most]);
 }

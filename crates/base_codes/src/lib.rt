@@ -4,8 +4,6 @@
 ghost use Rattle.std.specs.Prelude.{◌≡◌};
 ghost use Rattle.base_codes.specs.Sets as sets;
 
-use base_bytes::{both, either};
-
 pub const NAME: u8 = 70;
 
 pub const NUMBER: u8 = 71;
@@ -181,55 +179,45 @@ pub const END_CLOSED: u8 = 229;
 pub fn within(lo: u8, hi: u8, c: u8) -> bool
     ensures { result ≡ sets.within lo hi c }
 {
-    both(lo <= c, c <= hi)
+    lo <= c && c <= hi
 }
 
 // Is an item part of an expression?
+#[tactic(auto, unfolding(crate::specs::Sets::is_part))]
 pub fn is_part(c: u8) -> bool
     ensures { result ≡ sets.is_part c }
 {
-    either(
-        within(NAME, NUMBER, c),
-        either(within(OR_ELSE, COMPLEMENT, c), within(PLAIN, CHOICE, c)),
-    )
+    within(NAME, NUMBER, c) || within(OR_ELSE, COMPLEMENT, c) || within(PLAIN, CHOICE, c)
 }
 
 // Does a statement begin with this mark of its own?
+#[tactic(auto, unfolding(crate::specs::Sets::is_alone))]
 pub fn is_alone(c: u8) -> bool
     ensures { result ≡ sets.is_alone c }
 {
-    either(
-        either(c == TEXT, c == SKIP),
-        either(within(BREAK, ELSE, c), either(c == IF, c == DO)),
-    )
+    c == TEXT || c == SKIP || within(BREAK, ELSE, c) || c == IF || c == DO
 }
 
 // Is this the mark of a statement that begins with a phrase?
+#[tactic(auto, unfolding(crate::specs::Sets::is_lead))]
 pub fn is_lead(c: u8) -> bool
     ensures { result ≡ sets.is_lead c }
 {
-    either(
-        within(EXPRESS, TARGET, c),
-        either(within(INCREMENT, ASSERT, c), either(c == GOTO, c == RUN)),
-    )
+    within(EXPRESS, TARGET, c) || within(INCREMENT, ASSERT, c) || c == GOTO || c == RUN
 }
 
 // Does it begin a list of arguments?
+#[tactic(auto, unfolding(crate::specs::Sets::is_opener))]
 pub fn is_opener(c: u8) -> bool
     ensures { result ≡ sets.is_opener c }
 {
-    either(
-        c == TEXT,
-        either(within(SEND, RECEIVE, c), within(RUN, SET_RUN, c)),
-    )
+    c == TEXT || within(SEND, RECEIVE, c) || within(RUN, SET_RUN, c)
 }
 
 // Is it the one item that each statement has of its own?
+#[tactic(auto, unfolding(crate::specs::Sets::is_statement))]
 pub fn is_statement(c: u8) -> bool
     ensures { result ≡ sets.is_statement c }
 {
-    either(
-        either(c == TEXT, c == EXPRESS),
-        either(within(ASSIGN, IF, c), c == DO),
-    )
+    c == TEXT || c == EXPRESS || within(ASSIGN, IF, c) || c == DO
 }

@@ -57,31 +57,27 @@ pub fn digit(k: usize, w: usize) -> u8
 pub fn drip(out: &mut [u32], i: Ink, x: u8) -> Ink
     ensures { well (pen out.new result.at) result.held result.a result.b result.c ≡ pack.drip x (well (pen out.old i.at) i.held i.a i.b i.c) }
 {
-    let at = i.at;
-    let held = i.held;
-    let a = i.a;
-    let b = i.b;
-    let c = i.c;
+    let Ink { at, held, a, b, c } = i;
     match held {
         0 => Ink {
-            at: at,
+            at,
             held: 1,
             a: x,
             b: 0,
             c: 0,
         },
         1 => Ink {
-            at: at,
+            at,
             held: 2,
-            a: a,
+            a,
             b: x,
             c: 0,
         },
         2 => Ink {
-            at: at,
+            at,
             held: 3,
-            a: a,
-            b: b,
+            a,
+            b,
             c: x,
         },
         _ => {
@@ -102,10 +98,8 @@ pub fn pour(s: &[u8], out: &mut [u32], i: Ink) -> Ink
     ensures { well (pen out.new result.at) result.held result.a result.b result.c ≡ pack.pour s.now (well (pen out.old i.at) i.held i.a i.b i.c) }
 {
     let mut w = i;
-    let mut k: usize = 0;
-    while k < s.len() {
-        w = drip(out, w, s[k]);
-        k += 1;
+    for b in s {
+        w = drip(out, w, *b);
     }
     w
 }
@@ -114,11 +108,7 @@ pub fn pour(s: &[u8], out: &mut [u32], i: Ink) -> Ink
 pub fn settle(out: &mut [u32], i: Ink) -> usize
     ensures { pen out.new result ≡ pack.settle (well (pen out.old i.at) i.held i.a i.b i.c) }
 {
-    let at = i.at;
-    let held = i.held;
-    let a = i.a;
-    let b = i.b;
-    let c = i.c;
+    let Ink { at, held, a, b, c } = i;
     if held == 0 {
         at
     } else {

@@ -1,11 +1,11 @@
 -- An operator's arm: what the machine's operation, or a callee, gives of two values.
-use Rattle.std.proofs.Common.{◌≡◌, ℕ, suc, ◌-◌, ◌^◌, ◌<◌, Bool, true, false, not, eqb, ℤ, pos, negsuc, refl, ◌∙◌, arith, w32, SFits, to_z, of_z}
+use Rattle.std.proofs.Common.{◌≡◌, ℕ, suc, ◌-◌, ◌^◌, ◌<◌, Bool, true, false, not, eqb, ℤ, pos, negsuc, refl, ◌∙◌, arith, w32, SFits, to_z, of_z, Result}
 use lib.Signed.{mag}
 use mir.Val.{bool_byte}
 use Rattle.base_values.specs.Bits.{low}
 use Rattle.base_values.specs.Operators.{same, is_true, one_if, on_bits, complement}
-use Rattle.base_values.specs.declared.Answer.{Answer}
 use Rattle.base_values.proofs.Machine.{small, back, read, bits32, same_bits, zero_bits}
+use Rattle.base_values.specs.declared.Fault.{Fault}
 
 pub one_if_lem : (t : Bool) → to_z w32 (bool_byte t) ≡ one_if t
 one_if_lem true = refl
@@ -28,7 +28,7 @@ module _ {a b : ℤ} (fa : SFits w32 a) (fb : SFits w32 b) where
   pub of_value : (g : ℤ → ℤ → ℤ) {r : ℤ} → mag r < 2 ^ 31 → r ≡ g (to_z w32 (of_z w32 a)) (to_z w32 (of_z w32 b)) → to_z w32 (of_z w32 r) ≡ g a b
   of_value g h e = back (small h) ∙ (rw (back fa, back fb) at e)
 
-  pub of_answer : (g : ℤ → ℤ → Answer) {r : Answer} → r ≡ g (to_z w32 (of_z w32 a)) (to_z w32 (of_z w32 b)) → r ≡ g a b
+  pub of_answer : (g : ℤ → ℤ → Result ℤ Fault) {r : Result ℤ Fault} → r ≡ g (to_z w32 (of_z w32 a)) (to_z w32 (of_z w32 b)) → r ≡ g a b
   of_answer g e = rw (back fa, back fb) at e
 
 pub complement_bits : {a : ℤ} → SFits w32 a → to_z w32 (4294967295 - of_z w32 a) ≡ complement a

@@ -1,13 +1,12 @@
 -- Laws of values that callers cite: a stored value is one of its type, a value of the type is stored as it is, and the operators stay in range.
 -- Those of `wrap` are in Wrap.antt, over the number of bits: at 31 they are of `wrap32`.
-use Rattle.std.proofs.Common.{◌≡◌, ℕ, suc, ◌^◌, ◌<◌, Bool, true, false, cond, not, ◌&&◌, ◌||◌, eqb, ltb, ℤ, pos, negsuc, ◌+ℤ◌, ◌-ℤ◌, ◌*ℤ◌, neg_ℤ, ap, ◌∙◌, lt_of_le_of_lt, mod-eq_of_lt, lit<, ltb-true, lt-ltb, eqb-true}
+use Rattle.std.proofs.Common.{◌≡◌, ℕ, suc, ◌^◌, ◌<◌, Bool, true, false, cond, not, ◌&&◌, ◌||◌, eqb, ltb, ℤ, pos, negsuc, ◌+ℤ◌, ◌-ℤ◌, ◌*ℤ◌, neg_ℤ, ap, ◌∙◌, lt_of_le_of_lt, mod-eq_of_lt, lit<, ltb-true, lt-ltb, eqb-true, Result, Ok, Err}
 use lib.Signed.{mag, lt_z, le_z, quot_z, rem_z, shr_z, mag_rem, mag_shr}
 use lib.Bits.{bit_and, bit_or, bit_xor, and_lt, or_lt, xor_lt}
 use Rattle.base_values.specs.Bits.{low, wrap, wrap32}
 use Rattle.base_values.specs.Types.{width_of, signed_width, keep, cast_of, within, in_type}
 use Rattle.base_values.specs.Operators.{same, is_true, one_if, on_bits, shift_by, complement, divide_of, remainder_of, shift_left_of, shift_right_of, apply_of, unary_of}
-use Rattle.base_values.specs.declared.Answer.{Answer}
-use Rattle.base_values.specs.declared.Answer.TheVariants.{Value, Fails}
+use Rattle.base_values.specs.declared.Fault.{Fault}
 use Rattle.base_values.specs.declared.Fault.TheVariants.{Divide, Shift}
 use Rattle.base_values.proofs.Wrap.{low_lt, signed-fits, wrap-fits, wrap_id, half}
 
@@ -58,9 +57,9 @@ same_eq (negsuc a) (pos b) e = cc
 
 -- ---- 32 bits
 -- ---- operators
-abbrev pub Small : Answer → Type 0
-Small (Value r) = mag r < 2 ^ 31
-Small (Fails f) = Unit {0}
+abbrev pub Small : Result ℤ Fault → Type 0
+Small (Ok r) = mag r < 2 ^ 31
+Small (Err f) = Unit {0}
 
 either : {A : Type 0} (P : A → Type 0) (t : Bool) (x y : A) → P x → P y → P (cond t x y)
 either P true x y p q = p
@@ -71,7 +70,7 @@ one-small true = lit< tt
 one-small false = lit< tt
 
 shift_small : (f : ℕ → ℤ) → ((n : ℕ) → mag (f n) < 2 ^ 31) → (b : ℤ) → Small (shift_by f b)
-shift_small f h (pos n) = either Small (ltb n 32) (Value (f n)) (Fails Shift) (h n) tt
+shift_small f h (pos n) = either Small (ltb n 32) (Ok (f n)) (Err Shift) (h n) tt
 shift_small f h (negsuc n) = tt
 
 module _ (a b : ℤ) where
@@ -97,8 +96,8 @@ module _ (a b : ℤ) where
       (either Small (eqb op 14) _ _ (wrap-fits 31 (a +ℤ b))
       (either Small (eqb op 15) _ _ (wrap-fits 31 (a -ℤ b))
       (either Small (eqb op 16) _ _ (wrap-fits 31 (a *ℤ b))
-      (either Small (eqb op 17) _ _ (either Small (same b (pos 0)) (Fails Divide) (Value (wrap32 (quot_z a b))) tt (wrap-fits 31 (quot_z a b)))
-      (either Small (eqb op 18) _ _ (either Small (same b (pos 0)) (Fails Divide) (Value (rem_z a b)) tt (lt_of_le_of_lt (mag_rem a b) h)) h)))))))))))))))))
+      (either Small (eqb op 17) _ _ (either Small (same b (pos 0)) (Err Divide) (Ok (wrap32 (quot_z a b))) tt (wrap-fits 31 (quot_z a b)))
+      (either Small (eqb op 18) _ _ (either Small (same b (pos 0)) (Err Divide) (Ok (rem_z a b)) tt (lt_of_le_of_lt (mag_rem a b) h)) h)))))))))))))))))
 
 complement-small : (a : ℤ) → mag a < 2 ^ 31 → mag (complement a) < 2 ^ 31
 complement-small (pos n) h = h

@@ -1,7 +1,7 @@
 -- Laws of the low bits, once over the number of bits: their bound and period, what they are of a sum and a product, and signed reading.
-use Rattle.std.proofs.Common.{◌≡◌, ℕ, zero, suc, ◌+◌, ◌-◌, ◌*◌, ◌/◌, ◌%◌, ◌^◌, ◌<◌, ◌≤◌, Bool, true, false, cond, ltb, ℤ, pos, negsuc, ◌+ℤ◌, ◌-ℤ◌, ◌*ℤ◌, sym, refl, ap, ◌∙◌, ap₂, mod-lt, mod-eq_of_lt, suc-mul, add-mul, pow-suc, mul-zero, zero-mul, mul-suc, arith, pow_pos, ltb-false, ltb-true, le-ltb, lt-ltb}
+use Rattle.std.proofs.Common.{◌≡◌, ℕ, zero, suc, ◌+◌, ◌-◌, ◌*◌, ◌/◌, ◌%◌, ◌^◌, ◌<◌, ◌≤◌, Bool, true, false, cond, ltb, ℤ, pos, negsuc, ◌+ℤ◌, ◌*ℤ◌, sym, refl, ap, ◌∙◌, ap₂, mod-lt, mod-eq_of_lt, suc-mul, add-mul, pow-suc, mul-zero, zero-mul, mul-suc, arith, pow_pos, ltb-false, ltb-true, le-ltb, lt-ltb}
 use native.Mathlib.Nat.{mod-eq-sub-mod, add-mod_right, mod-add-mod, mod-add-div', add-mul-mod_self_right}
-use lib.IntN.{+ℤ_assoc, +ℤ_comm, +ℤ_idr, -ℤ-+ℤ_cancel, *ℤ_comm, *ℤ-zero, suc_ℤ-*ℤ}
+use lib.IntN.{+ℤ_assoc, +ℤ_comm, +ℤ_idr, *ℤ_comm, *ℤ-zero, suc_ℤ-*ℤ}
 use lib.Signed.{mag}
 use lib.Arith.{comp_comp}
 use Rattle.base_values.specs.Bits.{low, signed, wrap}
@@ -63,19 +63,6 @@ low_add k a b =
     sym (low_periods k (a +ℤ b +ℤ pos (x.up * 2 ^ k)) y.up ∙ low_periods k (a +ℤ b) x.up)
     ∙ ap (low k) (exchange a b (pos (x.up * 2 ^ k)) (pos (y.up * 2 ^ k)) ∙ ap₂ ◌+ℤ◌ x.is y.is)
     ∙ regroup (low k a) (low k b) x.down y.down (2 ^ k)
-
-back : (M r b : ℕ) → r < M → b < M → ((r + b) % M + (M - b)) % M ≡ r
-back M r b h g =
-    let e : r + b + (M - b) ≡ r + M = omega arith in
-    mod-add-mod (r + b) M (M - b) ∙ rw e (add-mod_right r M ∙ mod-eq_of_lt h)
-
--- and of a difference, as the one number that gives back the first
-pub low_sub : (k : ℕ) (a b : ℤ) (r : ℕ) → r < 2 ^ k → (r + low k b) % 2 ^ k ≡ low k a → r ≡ low k (a -ℤ b)
-low_sub k a b r h e =
-    let f : (r + low k b) % 2 ^ k ≡ (low k (a -ℤ b) + low k b) % 2 ^ k = e ∙ sym (ap (low k) (-ℤ-+ℤ_cancel a b)) ∙ low_add k (a -ℤ b) b in
-    sym (back (2 ^ k) r (low k b) h (low_lt k b))
-    ∙ ap (λ (x : ℕ). (x + (2 ^ k - low k b)) % 2 ^ k) f
-    ∙ back (2 ^ k) (low k (a -ℤ b)) (low k b) (low_lt k (a -ℤ b)) (low_lt k b)
 
 pub low_mul : (k : ℕ) (a : ℤ) (n : ℕ) → low k (a *ℤ pos n) ≡ (low k a * n) % 2 ^ k
 low_mul k a zero = rw (*ℤ-zero a, mul-zero (low k a))

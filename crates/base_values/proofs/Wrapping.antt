@@ -1,9 +1,9 @@
--- Wrapping: sums, differences and products of 32-bit numbers by their low 32 bits.
-use Rattle.std.proofs.Common.{◌≡◌, ℕ, zero, suc, ◌+◌, ◌-◌, ◌*◌, ◌%◌, ◌^◌, ◌<◌, ◌≤◌, ℤ, pos, negsuc, ◌+ℤ◌, ◌-ℤ◌, ◌*ℤ◌, neg_ℤ, ap, ◌∙◌, zero-le, le_refl, lt_of_lt_of_le, lt_of_le_of_lt, mul-le-mul, arith, lit<, lit≤, w32, w64, SFits, to_z, of_z, le-ltb}
+-- Wrapping: products of 32-bit numbers by their low 32 bits.
+use Rattle.std.proofs.Common.{◌≡◌, ℕ, zero, suc, ◌-◌, ◌*◌, ◌%◌, ◌^◌, ◌<◌, ◌≤◌, ℤ, pos, negsuc, ◌-ℤ◌, ◌*ℤ◌, neg_ℤ, ap, ◌∙◌, zero-le, le_refl, lt_of_lt_of_le, lt_of_le_of_lt, mul-le-mul, arith, lit<, lit≤, w32, w64, SFits, to_z, of_z, le-ltb}
 use lib.Signed.{mag}
 use mir.ValLaws.{to_z-of_z, to_z_pos}
 use Rattle.base_values.specs.Bits.{low, signed, wrap32}
-use Rattle.base_values.proofs.Wrap.{low_add, low_sub, low_mul}
+use Rattle.base_values.proofs.Wrap.{low_mul}
 use Rattle.base_values.proofs.Machine.{small, back, read, bits32, minus}
 
 -- ---- a 32-bit number as a 64-bit one
@@ -32,12 +32,6 @@ mag_mul (negsuc a) (negsuc b) = le_refl _
 
 -- ---- what the calls say of the bits, as facts of the numbers
 module _ {a b : ℤ} (fa : SFits w32 a) (fb : SFits w32 b) where
-  pub sum_bits : {x y u : ℕ} → x ≡ low 32 (handed a) → y ≡ low 32 (handed b) → u ≡ (x + y) % 2 ^ 32 → u ≡ low 32 (a +ℤ b)
-  sum_bits ex ey e = rw (ex, ey, wide fa, wide fb, ← low_add 32 a b) at e
-
-  pub difference_bits : {x y u : ℕ} → x ≡ low 32 (handed a) → y ≡ low 32 (handed b) → u < 2 ^ 32 → (u + y) % 2 ^ 32 ≡ x → u ≡ low 32 (a -ℤ b)
-  difference_bits ex ey h e = low_sub 32 a b _ h (rw (ex, ey, wide fa, wide fb) at e)
-
   product : SFits w64 (a *ℤ b)
   product = record { sfits = lt_of_le_of_lt (mag_mul a b) (lt_of_le_of_lt (mul-le-mul fa.sfits fb.sfits) (lit< tt)) }
 

@@ -1,8 +1,7 @@
 -- The sample sheet of document 01 as far as values go, P2 to P7, and the two sides of each boundary, computed from the definitions.
-use Rattle.std.specs.Prelude.{◌≡◌, ℕ, true, false, ℤ, pos, neg_ℤ, refl}
+use Rattle.std.specs.Prelude.{◌≡◌, ℕ, true, false, ℤ, pos, neg_ℤ, refl, Ok, Err}
 use Rattle.base_values.specs.Operators.{level_of, apply_of, unary_of, divide_of, remainder_of, shift_left_of, shift_right_of}
 use Rattle.base_values.specs.Types.{width_of, cast_of, in_type}
-use Rattle.base_values.specs.declared.Answer.TheVariants.{Value, Fails}
 use Rattle.base_values.specs.declared.Fault.TheVariants.{Divide, Shift}
 
 abbrev minus : ℕ → ℤ
@@ -10,34 +9,34 @@ minus n = neg_ℤ (pos n)
 
 -- P2: -7/2, -7%2; and the other signs
 pub division :
-    (apply_of 17 (minus 7) (pos 2) ≡ Value (minus 3)) × (apply_of 18 (minus 7) (pos 2) ≡ Value (minus 1))
-    × (apply_of 17 (pos 7) (minus 2) ≡ Value (minus 3)) × (apply_of 18 (pos 7) (minus 2) ≡ Value (pos 1))
-    × (apply_of 17 (minus 7) (minus 2) ≡ Value (pos 3)) × (apply_of 18 (minus 7) (minus 2) ≡ Value (minus 1))
+    (apply_of 17 (minus 7) (pos 2) ≡ Ok (minus 3)) × (apply_of 18 (minus 7) (pos 2) ≡ Ok (minus 1))
+    × (apply_of 17 (pos 7) (minus 2) ≡ Ok (minus 3)) × (apply_of 18 (pos 7) (minus 2) ≡ Ok (pos 1))
+    × (apply_of 17 (minus 7) (minus 2) ≡ Ok (pos 3)) × (apply_of 18 (minus 7) (minus 2) ≡ Ok (minus 1))
 unfolding apply_of divide_of remainder_of
 division = (refl, refl, refl, refl, refl, refl)
 
 -- P3: 479001600*13; the ends of the range
 pub wrapping :
-    (apply_of 16 (pos 479001600) (pos 13) ≡ Value (pos 1932053504))
-    × (apply_of 14 (pos 2147483646) (pos 1) ≡ Value (pos 2147483647)) × (apply_of 14 (pos 2147483647) (pos 1) ≡ Value (minus 2147483648))
-    × (apply_of 15 (minus 2147483647) (pos 1) ≡ Value (minus 2147483648)) × (apply_of 15 (minus 2147483648) (pos 1) ≡ Value (pos 2147483647))
-    × (apply_of 16 (minus 2147483648) (minus 1) ≡ Value (minus 2147483648)) × (unary_of 15 (minus 2147483648) ≡ minus 2147483648) × (unary_of 15 (minus 2147483647) ≡ pos 2147483647)
+    (apply_of 16 (pos 479001600) (pos 13) ≡ Ok (pos 1932053504))
+    × (apply_of 14 (pos 2147483646) (pos 1) ≡ Ok (pos 2147483647)) × (apply_of 14 (pos 2147483647) (pos 1) ≡ Ok (minus 2147483648))
+    × (apply_of 15 (minus 2147483647) (pos 1) ≡ Ok (minus 2147483648)) × (apply_of 15 (minus 2147483648) (pos 1) ≡ Ok (pos 2147483647))
+    × (apply_of 16 (minus 2147483648) (minus 1) ≡ Ok (minus 2147483648)) × (unary_of 15 (minus 2147483648) ≡ minus 2147483648) × (unary_of 15 (minus 2147483647) ≡ pos 2147483647)
 unfolding apply_of unary_of
 wrapping = (refl, refl, refl, refl, refl, refl, refl, refl)
 
 -- P4: (-2147483647-1)/-1, and its remainder; its neighbour
 pub least_by_minus_one :
-    (apply_of 17 (minus 2147483648) (minus 1) ≡ Value (minus 2147483648)) × (apply_of 18 (minus 2147483648) (minus 1) ≡ Value (pos 0))
-    × (apply_of 17 (minus 2147483647) (minus 1) ≡ Value (pos 2147483647)) × (apply_of 17 (minus 2147483648) (pos 1) ≡ Value (minus 2147483648))
+    (apply_of 17 (minus 2147483648) (minus 1) ≡ Ok (minus 2147483648)) × (apply_of 18 (minus 2147483648) (minus 1) ≡ Ok (pos 0))
+    × (apply_of 17 (minus 2147483647) (minus 1) ≡ Ok (pos 2147483647)) × (apply_of 17 (minus 2147483648) (pos 1) ≡ Ok (minus 2147483648))
 unfolding apply_of divide_of remainder_of
 least_by_minus_one = (refl, refl, refl, refl)
 
 -- P5: 1<<31, 1<<32; a count of -1; `>>` copies the sign
 pub shifts :
-    (apply_of 12 (pos 1) (pos 31) ≡ Value (minus 2147483648)) × (apply_of 12 (pos 1) (pos 32) ≡ Fails Shift) × (apply_of 12 (pos 1) (minus 1) ≡ Fails Shift)
-    × (apply_of 12 (pos 3) (pos 31) ≡ Value (minus 2147483648)) × (apply_of 12 (minus 5) (pos 0) ≡ Value (minus 5))
-    × (apply_of 13 (minus 5) (pos 1) ≡ Value (minus 3)) × (apply_of 13 (minus 1) (pos 31) ≡ Value (minus 1)) × (apply_of 13 (pos 2147483647) (pos 31) ≡ Value (pos 0))
-    × (apply_of 13 (pos 1) (pos 32) ≡ Fails Shift) × (apply_of 13 (pos 1) (minus 1) ≡ Fails Shift)
+    (apply_of 12 (pos 1) (pos 31) ≡ Ok (minus 2147483648)) × (apply_of 12 (pos 1) (pos 32) ≡ Err Shift) × (apply_of 12 (pos 1) (minus 1) ≡ Err Shift)
+    × (apply_of 12 (pos 3) (pos 31) ≡ Ok (minus 2147483648)) × (apply_of 12 (minus 5) (pos 0) ≡ Ok (minus 5))
+    × (apply_of 13 (minus 5) (pos 1) ≡ Ok (minus 3)) × (apply_of 13 (minus 1) (pos 31) ≡ Ok (minus 1)) × (apply_of 13 (pos 2147483647) (pos 31) ≡ Ok (pos 0))
+    × (apply_of 13 (pos 1) (pos 32) ≡ Err Shift) × (apply_of 13 (pos 1) (minus 1) ≡ Err Shift)
 unfolding apply_of shift_left_of shift_right_of
 shifts = (refl, refl, refl, refl, refl, refl, refl, refl, refl, refl)
 
@@ -59,9 +58,9 @@ ranges = (refl, refl, refl, refl, refl, refl, refl, refl, refl, refl, refl)
 
 -- P7: 1/0 is a fault, and so is 1%0; conditions are 0 or 1
 pub conditions :
-    (apply_of 17 (pos 1) (pos 0) ≡ Fails Divide) × (apply_of 18 (pos 1) (pos 0) ≡ Fails Divide)
-    × (apply_of 2 (pos 0) (pos 5) ≡ Value (pos 0)) × (apply_of 2 (minus 1) (pos 5) ≡ Value (pos 1)) × (apply_of 1 (pos 0) (pos 5) ≡ Value (pos 1)) × (apply_of 1 (pos 0) (pos 0) ≡ Value (pos 0))
-    × (apply_of 8 (minus 1) (pos 0) ≡ Value (pos 1)) × (apply_of 8 (pos 0) (pos 0) ≡ Value (pos 0)) × (apply_of 9 (pos 0) (pos 0) ≡ Value (pos 1)) × (apply_of 11 (minus 1) (pos 0) ≡ Value (pos 0))
+    (apply_of 17 (pos 1) (pos 0) ≡ Err Divide) × (apply_of 18 (pos 1) (pos 0) ≡ Err Divide)
+    × (apply_of 2 (pos 0) (pos 5) ≡ Ok (pos 0)) × (apply_of 2 (minus 1) (pos 5) ≡ Ok (pos 1)) × (apply_of 1 (pos 0) (pos 5) ≡ Ok (pos 1)) × (apply_of 1 (pos 0) (pos 0) ≡ Ok (pos 0))
+    × (apply_of 8 (minus 1) (pos 0) ≡ Ok (pos 1)) × (apply_of 8 (pos 0) (pos 0) ≡ Ok (pos 0)) × (apply_of 9 (pos 0) (pos 0) ≡ Ok (pos 1)) × (apply_of 11 (minus 1) (pos 0) ≡ Ok (pos 0))
     × (unary_of 19 (pos 0) ≡ pos 1) × (unary_of 19 (minus 7) ≡ pos 0) × (unary_of 20 (pos 0) ≡ minus 1) × (unary_of 20 (minus 2147483648) ≡ pos 2147483647)
 unfolding apply_of unary_of divide_of remainder_of
 conditions = (refl, refl, refl, refl, refl, refl, refl, refl, refl, refl, refl, refl, refl, refl)

@@ -18,26 +18,33 @@ pub enum Fault {
     Fields,
 }
 
-// What working an expression out gives.
-#[derive(Clone, Copy)]
-pub enum Answer {
-    Value(i32),
-    Fails(Fault),
-}
+impl From<Fault> for u8 {
+    ghost from_gives = { λ f n. n ≡ fault_number f };
 
-pub fn fault_number(f: Fault) -> u8
-    ensures { result ≡ fault_number f }
-{
-    match f {
-        Fault::Divide => 1,
-        Fault::Shift => 2,
-        Fault::Index => 3,
-        Fault::Channel => 4,
-        Fault::Fields => 5,
+    fn from(f: Fault) -> u8 {
+        match f {
+            Fault::Divide => 1,
+            Fault::Shift => 2,
+            Fault::Index => 3,
+            Fault::Channel => 4,
+            Fault::Fields => 5,
+        }
     }
 }
 
-// The supplied wrapping add and subtract are over unsigned numbers, so signed ones go in and come out by their 32 bits.
+// Wrapping addition and subtraction are supplied; a product is worked out in 64 bits, and its low 32 are read back.
+
+pub fn add(a: i32, b: i32) -> i32
+    ensures { result ≡ wrap32 (a +ℤ b) }
+{
+    a.wrapping_add(b)
+}
+
+pub fn subtract(a: i32, b: i32) -> i32
+    ensures { result ≡ wrap32 (a -ℤ b) }
+{
+    a.wrapping_sub(b)
+}
 
 // The low 32 bits of s.
 fn bits_of(s: i64) -> u32
@@ -57,18 +64,6 @@ fn value_of(u: u32) -> i32
     }
 }
 
-pub fn add(a: i32, b: i32) -> i32
-    ensures { result ≡ wrap32 (a +ℤ b) }
-{
-    value_of(std::num::wrapping_add_u32(bits_of(a as i64), bits_of(b as i64)))
-}
-
-pub fn subtract(a: i32, b: i32) -> i32
-    ensures { result ≡ wrap32 (a -ℤ b) }
-{
-    value_of(std::num::wrapping_sub_u32(bits_of(a as i64), bits_of(b as i64)))
-}
-
 pub fn multiply(a: i32, b: i32) -> i32
     ensures { result ≡ wrap32 (a *ℤ b) }
 {
@@ -78,49 +73,49 @@ pub fn multiply(a: i32, b: i32) -> i32
 // By -1 it is a case of its own: the quotient has no place in 32 bits.
 const LEAST: i32 = -2147483648;
 
-pub fn divide(a: i32, b: i32) -> Answer
+pub fn divide(a: i32, b: i32) -> Result<i32, Fault>
     ensures { result ≡ divide_of a b }
 {
     if b == 0 {
-        return Answer::Fails(Fault::Divide);
+        return Err(Fault::Divide);
     }
     if (a == LEAST) & (b == -1) {
-        return Answer::Value(LEAST);
+        return Ok(LEAST);
     }
-    Answer::Value(a / b)
+    Ok(a / b)
 }
 
-pub fn remainder(a: i32, b: i32) -> Answer
+pub fn remainder(a: i32, b: i32) -> Result<i32, Fault>
     ensures { result ≡ remainder_of a b }
 {
     if b == 0 {
-        return Answer::Fails(Fault::Divide);
+        return Err(Fault::Divide);
     }
     if (a == LEAST) & (b == -1) {
-        return Answer::Value(0);
+        return Ok(0);
     }
-    Answer::Value(a % b)
+    Ok(a % b)
 }
 
 // A shift by more is a fault, as is one by less than 0.
 const MOST_SHIFT: i32 = 31;
 
-pub fn shift_left(a: i32, b: i32) -> Answer
+pub fn shift_left(a: i32, b: i32) -> Result<i32, Fault>
     ensures { result ≡ shift_left_of a b }
 {
     if (b < 0) | (MOST_SHIFT < b) {
-        return Answer::Fails(Fault::Shift);
+        return Err(Fault::Shift);
     }
-    Answer::Value(a << b)
+    Ok(a << b)
 }
 
-pub fn shift_right(a: i32, b: i32) -> Answer
+pub fn shift_right(a: i32, b: i32) -> Result<i32, Fault>
     ensures { result ≡ shift_right_of a b }
 {
     if (b < 0) | (MOST_SHIFT < b) {
-        return Answer::Fails(Fault::Shift);
+        return Err(Fault::Shift);
     }
-    Answer::Value(a >> b)
+    Ok(a >> b)
 }
 
 // How tightly the binary operator op binds, 1 the loosest; 0 where op is none.
@@ -143,29 +138,29 @@ pub fn level(op: u8) -> u8
 }
 
 // The binary operator op on two values; 1 to 18 are || && | ^ & == != < <= > >= << >> + - * / %.
-pub fn apply(op: u8, a: i32, b: i32) -> Answer
+pub fn apply(op: u8, a: i32, b: i32) -> Result<i32, Fault>
     ensures { result ≡ apply_of op a b }
 {
     match op {
-        1 => Answer::Value(((a != 0) | (b != 0)) as i32),
-        2 => Answer::Value(((a != 0) & (b != 0)) as i32),
-        3 => Answer::Value(a | b),
-        4 => Answer::Value(a ^ b),
-        5 => Answer::Value(a & b),
-        6 => Answer::Value((a == b) as i32),
-        7 => Answer::Value((a != b) as i32),
-        8 => Answer::Value((a < b) as i32),
-        9 => Answer::Value((a <= b) as i32),
-        10 => Answer::Value((b < a) as i32),
-        11 => Answer::Value((b <= a) as i32),
+        1 => Ok(((a != 0) | (b != 0)) as i32),
+        2 => Ok(((a != 0) & (b != 0)) as i32),
+        3 => Ok(a | b),
+        4 => Ok(a ^ b),
+        5 => Ok(a & b),
+        6 => Ok((a == b) as i32),
+        7 => Ok((a != b) as i32),
+        8 => Ok((a < b) as i32),
+        9 => Ok((a <= b) as i32),
+        10 => Ok((b < a) as i32),
+        11 => Ok((b <= a) as i32),
         12 => shift_left(a, b),
         13 => shift_right(a, b),
-        14 => Answer::Value(add(a, b)),
-        15 => Answer::Value(subtract(a, b)),
-        16 => Answer::Value(multiply(a, b)),
+        14 => Ok(add(a, b)),
+        15 => Ok(subtract(a, b)),
+        16 => Ok(multiply(a, b)),
         17 => divide(a, b),
         18 => remainder(a, b),
-        _ => Answer::Value(a),
+        _ => Ok(a),
     }
 }
 

@@ -16,8 +16,9 @@ use Rattle.spec_machine.specs.Machine as machine
 use Rattle.step_all.specs.Moving.{machine_in, nth_in, verdict_as}
 use Rattle.trail_form.specs.Forms.{form_of}
 use Rattle.normal_entry.specs.Entries.{roomy, put, tables_answer, tables_left}
-use Rattle.normal_entry.specs.declared.Written.{Written}
-use Rattle.normal_entry.specs.declared.Written.TheVariants as text
+use Rattle.std.specs.Prelude.{Result, Err}
+use Rattle.base_refusal.specs.declared.Refusal.{Refusal as Given}
+use Rattle.base_refusal.specs.Refusals.{refusal as given}
 use Rattle.step_entry.specs.Entries.{foreign_of, refusal_of, start_left, standing_of, verdict_for, offer_by, offered_of, Outcome, refused_by, outcome_by, asked_in, step_refusal, outcome_of}
 use Rattle.step_entry.specs.declared.Standing.TheVariants as standing
 use Rattle.step_entry.specs.declared.Listed.TheVariants as listed
@@ -86,11 +87,11 @@ module _ (ts us : List ℕ) (roomy-alike : ltb (length ts) tables_room ≡ ltb (
     unfolding tables_answer genuine
     written-alike = ap₂ (λ (r : Bool) (w : List ℕ). by r w) roomy-alike wrote
       where
-        by : Bool → List ℕ → Written
-        by r w = pick r (text.Refused 7 0 0) (pick (returns w (normal_of w)) (roomy (g w) out) (text.Refused 8 0 0))
+        by : Bool → List ℕ → Result ℕ Given
+        by r w = pick {A = Result ℕ Given} r (Err (given 7 0 0)) (pick {A = Result ℕ Given} (returns w (normal_of w)) (roomy (g w) out) (Err (given 8 0 0)))
 
     left-alike : tables_left g ts out ≡ tables_left g us out
-    left-alike = ap₂ (λ (a : Written) (w : List ℕ). put a (g w) out) written-alike wrote
+    left-alike = ap₂ (λ (a : Result ℕ Given) (w : List ℕ). put a (g w) out) written-alike wrote
 
   pub same_alike : Same ts us
   same_alike =

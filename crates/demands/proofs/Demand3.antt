@@ -11,8 +11,9 @@ use lib.ListN.{length, length-replicate}
 use Rattle.base_bytes.specs.Choice.{pick}
 use Rattle.base_ceilings.specs.Ceilings.{tables_room}
 use Rattle.spec_grammar.specs.Tree.{Model}
-use Rattle.read_passes.specs.declared.Judged.{Judged}
-use Rattle.read_passes.specs.declared.Judged.TheVariants as judged
+use Rattle.std.specs.Prelude.{Result, Ok, Err}
+use Rattle.base_refusal.specs.declared.Refusal.{Refusal as Given}
+use Rattle.base_refusal.specs.Refusals.{refusal as given}
 use Rattle.read_passes.specs.Judging.{judge_of, tables_text}
 use Rattle.read_accepts_proof.specs.Meaning.{Accepts}
 use Rattle.read_entry.specs.Entries as reader
@@ -32,8 +33,6 @@ use Rattle.normal_proof.proofs.Owners.{owned_genuine}
 use Rattle.normal_entry.specs.Entries as writer
 use Rattle.layout_entry.specs.Entries as laying
 use Rattle.normal_entry.specs.Entries.{answer_of, answer_from, left_from, roomy, put, written_by, text_answer, text_left, tables_answer, tables_left}
-use Rattle.normal_entry.specs.declared.Written.{Written}
-use Rattle.normal_entry.specs.declared.Written.TheVariants.{Text, Refused}
 use Rattle.write_texts.specs.Normal.{normal_of, layout_of}
 use Rattle.demands.specs.Said as said
 use Rattle.demands.specs.Demand3.{Same, Writes, Prints, Demand3}
@@ -41,13 +40,13 @@ use Rattle.demands.proofs.Owned.{blank, judged_by, legal_judged, legal_accepts, 
 use Rattle.demands.proofs.Alike.{same_alike}
 
 -- a text written where there is room for it
-written_over : (u old : List ℕ) (j : Written) (left : List ℕ) → j ≡ roomy u old → left ≡ put (roomy u old) u old → Writes u old j left
+written_over : (u old : List ℕ) (j : Result ℕ Given) (left : List ℕ) → j ≡ roomy u old → left ≡ put (roomy u old) u old → Writes u old j left
 written_over u old j left p q r =
-    let e : roomy u old ≡ Text (length u) = ap (λ (b : Bool). pick b (Refused 7 0 0) (Text (length u))) (le-ltb (length old) (length u) r) in
-    (ap said.writer (p ∙ e), q ∙ ap (λ (k : Written). put k u old) e)
+    let e : roomy u old ≡ Ok (length u) = ap (λ (b : Bool). pick {A = Result ℕ Given} b (Err (given 7 0 0)) (Ok (length u))) (le-ltb (length old) (length u) r) in
+    (ap said.writer (p ∙ e), q ∙ ap (λ (k : Result ℕ Given). put k u old) e)
 
 module _ (t : List ℕ) (l : Legal t) where
-  abbrev ok : judge_of t ≡ judged.Accepted
+  abbrev ok : judge_of t ≡ Ok tt
   ok = legal_judged t l
 
   abbrev a : Accepts t
@@ -64,7 +63,7 @@ module _ (t : List ℕ) (l : Legal t) where
     answered : (out : List ℕ) → Writes (f l.tree) out (text_answer g t out) (text_left g t out)
     answered out =
         subst (λ (u : List ℕ). Writes u out (text_answer g t out) (text_left g t out)) is
-        (written_over (g (tables_text t)) out _ _ (ap (λ (j : Judged). written_by j (g (tables_text t)) out) ok) (ap (λ (j : Judged). put (written_by j (g (tables_text t)) out) (g (tables_text t)) out) ok))
+        (written_over (g (tables_text t)) out _ _ (ap (λ (j : Result (Unit {0}) Given). written_by j (g (tables_text t)) out) ok) (ap (λ (j : Result (Unit {0}) Given). put (written_by j (g (tables_text t)) out) (g (tables_text t)) out) ok))
 
     from_tables : (old out : List ℕ) → tables_room ≤ length old → Writes (f l.tree) out (tables_answer g (reader.left_of t old) out) (tables_left g (reader.left_of t old) out)
     unfolding tables_answer
@@ -74,17 +73,17 @@ module _ (t : List ℕ) (l : Legal t) where
         subst (λ (u : List ℕ). Writes u out (tables_answer g ts out) (tables_left g ts out)) (ap g (left-wrote t old ok r) ∙ is)
         (written_over (g (written ts)) out _ _ (ap₂ (λ (x y : Bool). by x y (g (written ts))) (left-roomy t old ok r) h) (ap₂ (λ (x y : Bool). put (by x y (g (written ts))) (g (written ts)) out) (left-roomy t old ok r) h))
       where
-        by : Bool → Bool → List ℕ → Written
-        by x y v = pick x (Refused 7 0 0) (pick y (roomy v out) (Refused 8 0 0))
+        by : Bool → Bool → List ℕ → Result ℕ Given
+        by x y v = pick {A = Result ℕ Given} x (Err (given 7 0 0)) (pick {A = Result ℕ Given} y (roomy v out) (Err (given 8 0 0)))
 
   -- ---- a text of the same tree, u, with the same tables
-  module _ (u : List ℕ) (again : judge_of u ≡ judged.Accepted) (tables_are : tables_text u ≡ tables_text t) where
+  module _ (u : List ℕ) (again : judge_of u ≡ Ok tt) (tables_are : tables_text u ≡ tables_text t) where
     back : (old : List ℕ) → (read_of u old ≡ read_of t old) × (reader.left_of u old ≡ reader.left_of t old)
     unfolding read_of reader.left_of
-    back old = (ap reads (again ∙ sym ok), ap₂ (λ (j : Judged) (ts : List ℕ). stays (reads j) ts old) (again ∙ sym ok) tables_are)
+    back old = (ap reads (again ∙ sym ok), ap₂ (λ (j : Result (Unit {0}) Given) (ts : List ℕ). stays (reads j) ts old) (again ∙ sym ok) tables_are)
       where
-        reads : Judged → Judged
-        reads j = pick (ltb (length old) tables_room) (judged.Refused 7 0 0) j
+        reads : Result (Unit {0}) Given → Result (Unit {0}) Given
+        reads j = pick {A = Result (Unit {0}) Given} (ltb (length old) tables_room) (Err (given 7 0 0)) j
 
     is_legal : Legal u
     is_legal = read_legal u blank (judged_by u blank (omega (arith, length-replicate {A = ℕ} tables_room 0)) ∙ again)
@@ -97,7 +96,7 @@ module _ (t : List ℕ) (l : Legal t) where
   own : (f : Model → List ℕ) → ((c : Accepts (f a.tree)) → c.tree ≡ a.tree) → (k : Legal (f l.tree)) → k.tree ≡ l.tree
   own f h k = sym (tree_is (f l.tree) k) ∙ subst (λ (m : Model). (c : Accepts (f m)) → c.tree ≡ m) (tree_is t l) h (legal_accepts (f l.tree) k)
 
-  again : judge_of (normal l.tree) ≡ judged.Accepted
+  again : judge_of (normal l.tree) ≡ Ok tt
   again = ap judge_of (sym normal_is) ∙ text_accepted t a
 
   tables_are : tables_text (normal l.tree) ≡ tables_text t
@@ -119,7 +118,7 @@ module _ (t : List ℕ) (l : Legal t) where
   laid_is : layout a.tree ≡ layout l.tree
   laid_is = ap layout (tree_is t l)
 
-  laid-again : judge_of (layout l.tree) ≡ judged.Accepted
+  laid-again : judge_of (layout l.tree) ≡ Ok tt
   laid-again = ap judge_of (sym laid_is) ∙ layout_accepted t a
 
   laid-tables : tables_text (layout l.tree) ≡ tables_text t
@@ -139,8 +138,8 @@ module _ (t : List ℕ) (l : Legal t) where
 
   layout_normal : (out : List ℕ) → (answer_of (layout l.tree) out ≡ answer_of t out) × (writer.left_of (layout l.tree) out ≡ writer.left_of t out)
   layout_normal out = (
-    ap₂ (λ (j : Judged) (ts : List ℕ). written_by j (normal_of ts) out) (laid-again ∙ sym ok) laid-tables,
-    ap₂ (λ (j : Judged) (ts : List ℕ). put (written_by j (normal_of ts) out) (normal_of ts) out) (laid-again ∙ sym ok) laid-tables,
+    ap₂ (λ (j : Result (Unit {0}) Given) (ts : List ℕ). written_by j (normal_of ts) out) (laid-again ∙ sym ok) laid-tables,
+    ap₂ (λ (j : Result (Unit {0}) Given) (ts : List ℕ). put (written_by j (normal_of ts) out) (normal_of ts) out) (laid-again ∙ sym ok) laid-tables,
   )
 
 -- "equal exactly when the trees are"

@@ -16,8 +16,9 @@ use Rattle.spec_grammar.specs.Grammar.{Gram}
 use Rattle.spec_refusals.specs.Legal.{Legal}
 use Rattle.parse_grammar.proofs.Main.{one_tree}
 use Rattle.text_tokens.specs.Reading.{Reading, tokens, refused}
-use Rattle.read_passes.specs.declared.Judged.{Judged}
-use Rattle.read_passes.specs.declared.Judged.TheVariants as judged
+use Rattle.std.specs.Prelude.{Result, Ok, Err}
+use Rattle.base_refusal.specs.declared.Refusal.{Refusal as Given}
+use Rattle.base_refusal.specs.Refusals.{refusal as given}
 use Rattle.read_passes.specs.Judging.{judge_of, tables_text}
 use Rattle.read_accepts_proof.specs.Meaning.{Accepts}
 use Rattle.read_accepts_proof.proofs.Main.{accepted_means, means_accepted}
@@ -35,9 +36,9 @@ blank = replicate tables_room 0
 
 pub judged_by : (t old : List ℕ) → tables_room ≤ length old → read_of t old ≡ judge_of t
 unfolding read_of
-judged_by t old h = ap (λ (b : Bool). pick b (judged.Refused 7 0 0) (judge_of t)) (le-ltb (length old) tables_room h)
+judged_by t old h = ap (λ (b : Bool). pick {A = Result (Unit {0}) Given} b (Err (given 7 0 0)) (judge_of t)) (le-ltb (length old) tables_room h)
 
-pub legal_judged : (t : List ℕ) → Legal t → judge_of t ≡ judged.Accepted
+pub legal_judged : (t : List ℕ) → Legal t → judge_of t ≡ Ok tt
 legal_judged t l = let h : tables_room ≤ length blank = omega (arith, length-replicate {A = ℕ} tables_room 0) in sym (judged_by t blank h) ∙ legal_read t blank h l
 
 pub legal_accepts : (t : List ℕ) → Legal t → Accepts t
@@ -54,10 +55,10 @@ tree_is t l =
     one_tree (tokens_in t l.parts) a.tree l.tree (subst (λ (ps : List Placed). Gram (tokens_in t ps) a.tree) p a.gram) l.gram
 
 -- ---- what an accepted text leaves in lent tables that have the room
-module _ (t old : List ℕ) (ok : judge_of t ≡ judged.Accepted) (r : tables_room ≤ length old) where
+module _ (t old : List ℕ) (ok : judge_of t ≡ Ok tt) (r : tables_room ≤ length old) where
   pub left_is : reader.left_of t old ≡ tables_text t ++ drop (length (tables_text t)) old
   unfolding reader.left_of
-  left_is = ap (λ (j : Judged). stays j (tables_text t) old) (judged_by t old r ∙ ok)
+  left_is = ap (λ (j : Result (Unit {0}) Given). stays j (tables_text t) old) (judged_by t old r ∙ ok)
 
   pub left-roomy : ltb (length (reader.left_of t old)) tables_room ≡ false
   left-roomy =

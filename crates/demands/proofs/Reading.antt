@@ -9,8 +9,9 @@ use lib.Dec.{ltb}
 use lib.ListN.{length, drop}
 use Rattle.base_ceilings.specs.Ceilings.{tables_room}
 use Rattle.base_bytes.specs.Choice.{pick}
-use Rattle.read_passes.specs.declared.Judged.{Judged}
-use Rattle.read_passes.specs.declared.Judged.TheVariants as judged
+use Rattle.std.specs.Prelude.{Result, Ok, Err}
+use Rattle.base_refusal.specs.declared.Refusal.{Refusal as Given}
+use Rattle.base_refusal.specs.Refusals.{refusal as given}
 use Rattle.read_passes.specs.Judging.{judge_of}
 use Rattle.read_accepts_proof.proofs.Tables.{tree_tables, tables_tree}
 use Rattle.read_entry.specs.Entries.{read_of}
@@ -21,16 +22,16 @@ use Rattle.demands.proofs.Told.{not_refusal}
 use Rattle.demands.specs.Said as said
 use Rattle.demands.specs.Said.{values}
 
-accepted_said : (j : Judged) → said.reader j ≡ values [] → j ≡ judged.Accepted
-accepted_said judged.Accepted e = refl
-accepted_said (judged.Refused x i n) e = not_refusal e
+accepted_said : (j : Result (Unit {0}) Given) → said.reader j ≡ values [] → j ≡ Ok tt
+accepted_said (Ok u) e = refl
+accepted_said (Err r) e = not_refusal e
 
 module _ (t : List ℕ) where
-  had_room : (old : List ℕ) → read_of t old ≡ judged.Accepted → tables_room ≤ length old
+  had_room : (old : List ℕ) → read_of t old ≡ Ok tt → tables_room ≤ length old
   unfolding read_of
   had_room old e = go (ltb (length old) tables_room) refl e
     where
-      go : (b : Bool) → ltb (length old) tables_room ≡ b → pick b (judged.Refused 7 0 0) (judge_of t) ≡ judged.Accepted → tables_room ≤ length old
+      go : (b : Bool) → ltb (length old) tables_room ≡ b → pick {A = Result (Unit {0}) Given} b (Err (given 7 0 0)) (judge_of t) ≡ Ok tt → tables_room ≤ length old
       go true h e = absurd (let z : ◌≡◌ {A = ℕ} 0 1 = cc in omega arith)
       go false h e = ltb-false (length old) tables_room h
 

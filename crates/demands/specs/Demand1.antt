@@ -2,7 +2,7 @@
 -- DEMAND 1: whatever bytes or numbers arrive, every public entry answers and ends, relies on no caller, refuses with the number and place of document 01's table, and leaves each lent buffer as that
 -- document says. That it answers and ends, with one answer and one content of lent memory, is its contract, an equation without any condition; here is which refusals there are. What is answered where
 -- nothing is refused is demands 2 and 3.
-use Rattle.std.specs.Prelude.{ℕ, ◌+◌, ◌≤◌, ◌<◌, ◌≡◌, ◌⊎◌, ◌↔◌, false, List, [], length, take, drop, ℤ}
+use Rattle.std.specs.Prelude.{ℕ, ◌+◌, ◌≤◌, ◌<◌, ◌≡◌, ◌⊎◌, ◌↔◌, false, List, [], length, take, drop, ℤ, Result}
 use Rattle.std.proofs.Math.Option.{none}
 use Rattle.base_ceilings.specs.Ceilings.{normal_most, print_room, steps_most, tables_room, trail_most}
 use Rattle.spec_text.specs.Placed.{Placed}
@@ -28,7 +28,7 @@ use Rattle.read_entry.specs.Entries.{read_of, part_start}
 use Rattle.spec_normal.specs.Normal.{normal}
 use Rattle.normal_entry.specs.Entries as writing
 use Rattle.normal_entry.specs.Entries.{answer_of, answer_from, left_from}
-use Rattle.normal_entry.specs.declared.Written.{Written}
+use Rattle.base_refusal.specs.declared.Refusal.{Refusal as Given}
 use Rattle.spec_layout.specs.Layout.{layout}
 use Rattle.layout_entry.specs.Entries as laying
 use Rattle.step_entry.specs.Entries.{foreign_of, refusal_of, start_left, offered_of, verdict_for, outcome_of}
@@ -59,7 +59,7 @@ pub data NotWritten (f : Model → List ℕ) (t : List ℕ) (room : ℕ) : ℕ �
   no_room : (l : Legal t) → room < length (f l.tree) → NotWritten f t room 7 0 0
 
 -- an entry answers, and leaves what is lent, so
-pub record Writer (f : Model → List ℕ) (t : List ℕ) (answer : List ℕ → Written) (left : List ℕ → List ℕ) : Type 0 where
+pub record Writer (f : Model → List ℕ) (t : List ℕ) (answer : List ℕ → Result ℕ Given) (left : List ℕ → List ℕ) : Type 0 where
   pub refuses : (out : List ℕ) (x i n : ℕ) → (said.writer (answer out) ≡ refusal x i n) ↔ NotWritten f t (length out) x i n
   pub unchanged : (out : List ℕ) (x i n : ℕ) → said.writer (answer out) ≡ refusal x i n → left out ≡ out
 
@@ -69,7 +69,7 @@ pub data NotWrittenOf (f : Model → List ℕ) (ts : List ℕ) (room : ℕ) : �
   no_model : tables_room ≤ length ts → ((m : Model) → Tables ts m → ⊥) → NotWrittenOf f ts room 8
   no_room : (m : Model) → tables_room ≤ length ts → Tables ts m → room < length (f m) → NotWrittenOf f ts room 7
 
-pub record TablesWriter (f : Model → List ℕ) (ts : List ℕ) (answer : List ℕ → Written) (left : List ℕ → List ℕ) : Type 0 where
+pub record TablesWriter (f : Model → List ℕ) (ts : List ℕ) (answer : List ℕ → Result ℕ Given) (left : List ℕ → List ℕ) : Type 0 where
   pub refuses : (out : List ℕ) (x i n : ℕ) → (said.writer (answer out) ≡ refusal x i n) ↔ NotWrittenOf f ts (length out) x × (i ≡ 0) × (n ≡ 0)
   pub unchanged : (out : List ℕ) (x i n : ℕ) → said.writer (answer out) ≡ refusal x i n → left out ≡ out
 

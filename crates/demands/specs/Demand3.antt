@@ -1,7 +1,7 @@
 -- Top: a statement about the entries, over the specification.
 -- DEMAND 3: each accepted text has one normal text, never longer; equal exactly when the trees are; reads back to the same tables; its own normal text; same answer on every trail. Which texts are
 -- accepted is demand 2's: those that are legal. And its printed edition, the layout (request One); "never longer" speaks of normal text alone.
-use Rattle.std.specs.Prelude.{ℕ, ◌≤◌, ◌≡◌, ◌↔◌, List, [], ◌∷◌, ◌++◌, ℤ, length, drop}
+use Rattle.std.specs.Prelude.{ℕ, ◌≤◌, ◌≡◌, ◌↔◌, List, [], ◌∷◌, ◌++◌, ℤ, length, drop, Result}
 use Rattle.base_ceilings.specs.Ceilings.{tables_room, text_most}
 use Rattle.spec_grammar.specs.Tree.{Model}
 use Rattle.spec_refusals.specs.Legal.{Legal}
@@ -10,7 +10,7 @@ use Rattle.read_entry.specs.Entries.{read_of}
 use Rattle.spec_normal.specs.Normal.{normal}
 use Rattle.normal_entry.specs.Entries as writer
 use Rattle.normal_entry.specs.Entries.{answer_of, answer_from, left_from}
-use Rattle.normal_entry.specs.declared.Written.{Written}
+use Rattle.base_refusal.specs.declared.Refusal.{Refusal as Given}
 use Rattle.spec_layout.specs.Layout.{layout}
 use Rattle.layout_entry.specs.Entries as laying
 use Rattle.step_entry.specs.Entries.{foreign_of, start_left, offered_of, verdict_for, outcome_of}
@@ -31,11 +31,11 @@ pub record Same (ts us : List ℕ) : Type 0 where
   pub layout_text_lem : (out : List ℕ) → (laying.answer_from ts out ≡ laying.answer_from us out) × (laying.left_from ts out ≡ laying.left_from us out)
 
 -- the text u is answered and written over the lent bytes `out`, if they have room for it, with what lies beyond it as it was; 7 where they have not is demand 1's
-abbrev pub Writes : List ℕ → List ℕ → Written → List ℕ → Type 0
+abbrev pub Writes : List ℕ → List ℕ → Result ℕ Given → List ℕ → Type 0
 Writes u out answer left = length u ≤ length out → (said.writer answer ≡ values (length u ∷ [])) × (left ≡ u ++ drop (length u) out)
 
 -- ## of the text t, whose tree is m: what is written is `f m`, the normal text or the layout
-module _ (f : Model → List ℕ) (answer : List ℕ → List ℕ → Written) (left : List ℕ → List ℕ → List ℕ) (answer-from : List ℕ → List ℕ → Written) (left-from : List ℕ → List ℕ → List ℕ) where
+module _ (f : Model → List ℕ) (answer : List ℕ → List ℕ → Result ℕ Given) (left : List ℕ → List ℕ → List ℕ) (answer-from : List ℕ → List ℕ → Result ℕ Given) (left-from : List ℕ → List ℕ → List ℕ) where
   pub record Prints (t : List ℕ) (m : Model) : Type 0 where
     -- "each accepted text has one normal text": the entry answers it, whatever bytes are lent
     pub answered : (out : List ℕ) → Writes (f m) out (answer t out) (left t out)

@@ -2,14 +2,11 @@
 -- WHAT EACH ANSWER STANDS FOR: document 01, "Where an answer is an enum, a definition gives this paper's number and values for each of its cases". A refusal has its number of the table "What is
 -- answered", its place (0 where the table says 0) and the length of its part (0 where it has none); all else has its values. Verdicts have the numbers of trails: assert 1, fault 2, finished 3,
 -- blocked 4, open 5; faults theirs (specs/Faults.antt of `base_values`).
-use Rattle.std.specs.Prelude.{ℕ, List, [], ◌∷◌}
+use Rattle.std.specs.Prelude.{ℕ, List, [], ◌∷◌, Result, Ok, Err}
 use Rattle.base_values.specs.Faults.{fault_number}
 use Rattle.base_outcome.specs.declared.Partner.{Partner}
 use Rattle.base_outcome.specs.declared.Partner.TheVariants.{Nobody, With}
-use Rattle.read_passes.specs.declared.Judged.{Judged}
-use Rattle.read_passes.specs.declared.Judged.TheVariants as judged
-use Rattle.normal_entry.specs.declared.Written.{Written}
-use Rattle.normal_entry.specs.declared.Written.TheVariants as writing
+use Rattle.base_refusal.specs.declared.Refusal.{Refusal as Given}
 use Rattle.step_entry.specs.declared.Listed.{Listed}
 use Rattle.step_entry.specs.declared.Listed.TheVariants as listed
 use Rattle.step_entry.specs.declared.Standing.{Standing}
@@ -29,14 +26,14 @@ pub data Said : Type 0 where
   values : List ℕ → Said
 
 -- the reader
-abbrev pub reader : Judged → Said
-reader judged.Accepted = values []
-reader (judged.Refused x i n) = refusal x i n
+abbrev pub reader : Result (Unit {0}) Given → Said
+reader (Ok u) = values []
+reader (Err r) = refusal r.number r.place r.length
 
 -- normal text: how many bytes it has
-abbrev pub writer : Written → Said
-writer (writing.Text n) = values (n ∷ [])
-writer (writing.Refused x i n) = refusal x i n
+abbrev pub writer : Result ℕ Given → Said
+writer (Ok n) = values (n ∷ [])
+writer (Err r) = refusal r.number r.place r.length
 
 -- the list of offered steps: a step's process, number and place, and the process and place that move along, if any; behind the last, how many there are
 abbrev pub along : Partner → List ℕ

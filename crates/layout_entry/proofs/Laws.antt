@@ -6,8 +6,8 @@ use Prim.Native.Nat.{ℕ, ◌≤◌}
 use native.Mathlib.Omega.{arith}
 use lib.ListN.{length}
 use Rattle.base_ceilings.specs.Ceilings.{tables_room, text_most}
-use Rattle.read_passes.specs.declared.Judged.{Judged}
-use Rattle.read_passes.specs.declared.Judged.TheVariants as judged
+use Rattle.std.specs.Prelude.{Result, Ok}
+use Rattle.base_refusal.specs.declared.Refusal.{Refusal}
 use Rattle.read_accepts_proof.proofs.Main.{accepted_means}
 use Rattle.read_entry.specs.Entries.{read_of, left_of as readLeft}
 use Rattle.write_texts.specs.Normal.{layout_of}
@@ -21,7 +21,7 @@ use Rattle.read_accepts_proof.specs.Meaning.{Accepts}
 text-short : (t : List ℕ) (a : Accepts t) → length (layout_text t) ≤ text_most
 text-short t a = omega (arith, ap length (text-layout t a), layout_short t a)
 
-pub text-room : (t zeros tables : List ℕ) (r : Judged) → length zeros ≡ tables_room → r ≡ read_of t zeros → tables ≡ readLeft t zeros → (w : List ℕ) → r ≡ judged.Accepted → w ≡ written tables → length (layout_of w) ≤ text_most
+pub text-room : (t zeros tables : List ℕ) (r : Result (Unit {0}) Refusal) → length zeros ≡ tables_room → r ≡ read_of t zeros → tables ≡ readLeft t zeros → (w : List ℕ) → r ≡ Ok tt → w ≡ written tables → length (layout_of w) ≤ text_most
 text-room t zeros tables r l e f w q ew = rw (ew ∙ written_is t zeros tables r l e f q) (text-short t (accepted_means t (sym (judged_is t zeros tables r l e f) ∙ q)))
 
 pub tables-room : (ts : List ℕ) (b : Bool) (w : List ℕ) → b ≡ genuine ts → b ≡ true → w ≡ written ts → length (layout_of w) ≤ text_most

@@ -8,7 +8,7 @@ use lib.ListN.{length}
 use Rattle.base_ceilings.specs.Ceilings.{text_most}
 use Rattle.spec_grammar.specs.Print.{print_model}
 use Rattle.spec_layout.specs.Layout.{layout}
-use Rattle.read_passes.specs.declared.Judged.TheVariants.{Accepted}
+use Rattle.std.specs.Prelude.{Ok}
 use Rattle.read_passes.specs.Judging.{judge_of, tables_text}
 use Rattle.read_accepts_proof.specs.Meaning.{Accepts, links_at}
 use Rattle.read_accepts_proof.proofs.Main.{accepted_means}
@@ -44,7 +44,7 @@ module _ (t : List ℕ) (a : Accepts t) where
       rw (← lines-laid a.gram) (lay_back (print_model a.tree) (printed-sound t a.parts a.tree a.reads a.gram) (rw (lines-laid a.gram) layout_short)
       (printed_few t a.parts a.tree a.reads a.gram))
 
-  pub layout_accepted : judge_of (layout a.tree) ≡ Accepted
+  pub layout_accepted : judge_of (layout a.tree) ≡ Ok tt
   layout_accepted = printed_accepted t a (layout a.tree) layout-reads
 
   pub layout_tree : (c : Accepts (layout a.tree)) → c.tree ≡ a.tree

@@ -20,7 +20,9 @@ use Rattle.parse_machine.specs.Answer.{parsed}
 use Rattle.parse_machine.proofs.Main.{accepts}
 use Rattle.rule_least.specs.Faults.{checked}
 use Rattle.rule_least.specs.declared.Fault.TheVariants.{None}
-use Rattle.read_passes.specs.declared.Judged.TheVariants.{Accepted, Refused}
+use Rattle.std.specs.Prelude.{Ok, Err, Result}
+use Rattle.base_refusal.specs.declared.Refusal.{Refusal}
+use Rattle.base_refusal.specs.Refusals.{refusal}
 use Rattle.read_passes.specs.Judging.{judge_of}
 use Rattle.read_accepts_proof.specs.Meaning.{Accepts, Grammatical, codes_of, said}
 use Rattle.read_accepts_proof.proofs.Main.{kinds_are, all_proper, short, accepted_means, means_accepted}
@@ -67,7 +69,7 @@ legal_parses t l = text_parses t l.parts l.tree l.reads l.gram l.shallow
 
 -- what the rules say of every tree
 module _ (rules : (m : Model) (ts : List Token) (g : Gram ts m) (cs vs toks : List ℕ) → Says m cs vs → (checked cs vs toks ≡ None → faults_of g ≡ []) × (faults_of g ≡ [] → checked cs vs toks ≡ None)) where
-  pub accepted_lawful : (t : List ℕ) → judge_of t ≡ Accepted → Legal t
+  pub accepted_lawful : (t : List ℕ) → judge_of t ≡ Ok tt → Legal t
   unfolding accepted_parses
   accepted_lawful t q =
       let a = accepted_means t q in
@@ -84,7 +86,7 @@ module _ (rules : (m : Model) (ts : List Token) (g : Gram ts m) (cs vs toks : Li
         slim = accepted_slim t a;
       }
 
-  pub lawful_accepted : (t : List ℕ) → Legal t → judge_of t ≡ Accepted
+  pub lawful_accepted : (t : List ℕ) → Legal t → judge_of t ≡ Ok tt
   unfolding legal_parses text_parses
   lawful_accepted t l =
       let p = legal_parses t l in
@@ -105,14 +107,14 @@ module _ (rules : (m : Model) (ts : List Token) (g : Gram ts m) (cs vs toks : Li
       }
 
   -- the same of the reader's entry, whose tables are lent with room or refused
-  pub read-lawful : (t old : List ℕ) → read_of t old ≡ Accepted → Legal t
+  pub read-lawful : (t old : List ℕ) → read_of t old ≡ Ok tt → Legal t
   unfolding read_of
   read-lawful t old q = go (ltb (length old) tables_room) q
     where
-      go : (b : Bool) → pick b (Refused 7 0 0) (judge_of t) ≡ Accepted → Legal t
+      go : (b : Bool) → pick {A = Result (Unit {0}) Refusal} b (Err (refusal 7 0 0)) (judge_of t) ≡ Ok tt → Legal t
       go true e = absurd (let z : ◌≡◌ {A = ℕ} 0 1 = cc in omega arith)
       go false e = accepted_lawful t e
 
-  pub lawful-read : (t old : List ℕ) → tables_room ≤ length old → Legal t → read_of t old ≡ Accepted
+  pub lawful-read : (t old : List ℕ) → tables_room ≤ length old → Legal t → read_of t old ≡ Ok tt
   unfolding read_of
   lawful-read t old h l = rw (le-ltb (length old) tables_room h) (lawful_accepted t l)

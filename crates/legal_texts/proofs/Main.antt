@@ -25,7 +25,7 @@ use Rattle.rule_least.specs.declared.Fault.TheVariants.{None, At}
 use Rattle.rule_least.proofs.Theorems.{places_free}
 use Rattle.read_accepts_proof.specs.Meaning.{Grammatical, codes_of, said}
 use Rattle.read_accepts_proof.proofs.Main.{kinds_are}
-use Rattle.read_passes.specs.declared.Judged.TheVariants.{Accepted}
+use Rattle.std.specs.Prelude.{Ok}
 use Rattle.read_entry.specs.Entries.{read_of}
 use Rattle.legal_terms.specs.Says.{Says}
 use Rattle.legal_terms.specs.Faulted.{faults_from, Stand}
@@ -70,8 +70,8 @@ least-fault t p x k =
       λ c. ap (checked (codes_of t p) (said t p)) e ∙ own.1 (subst (λ l. Least l x k) (sym all) c),
     )
 
-pub read_legal : (t old : List ℕ) → read_of t old ≡ Accepted → Legal t
+pub read_legal : (t old : List ℕ) → read_of t old ≡ Ok tt → Legal t
 read_legal t old = whole.read-lawful rules t old
 
-pub legal_read : (t old : List ℕ) → tables_room ≤ length old → Legal t → read_of t old ≡ Accepted
+pub legal_read : (t old : List ℕ) → tables_room ≤ length old → Legal t → read_of t old ≡ Ok tt
 legal_read t old = whole.lawful-read rules t old

@@ -19,7 +19,8 @@ use Rattle.parse_machine.specs.Machine.{place_of}
 use Rattle.read_accepts_proof.specs.Meaning.{Grammatical, codes_of, said}
 use Rattle.read_accepts_proof.proofs.Alike.{overlong_is}
 use Rattle.rule_ceilings.specs.Ceilings.{passed}
-use Rattle.read_passes.specs.declared.Judged.TheVariants.{Refused}
+use Rattle.std.specs.Prelude.{Err}
+use Rattle.base_refusal.specs.Refusals.{refusal}
 use Rattle.read_entry.specs.Entries.{read_of}
 use Rattle.read_refusals_proof.specs.Rows.{wide_at, Row, short, bytes, deep, stop, fault, ceiling}
 use Rattle.read_refusals_proof.proofs.Main.{answer-row, row-answer}
@@ -70,5 +71,5 @@ module _ (t old : List ℕ) where
       ceiling p h ((rules m (tokens_in t ps) g (codes_of t p) (said t p) (map place_of p.numbers) (text_says t p)).1 w)
       (right-holds (passed (codes_of t p) (said t p)) _ (length_is p ∙ lt-ltb normal_most (length (normal m)) o)) refl refl refl
 
-  pub refused_exact : (x i n : ℕ) → (read_of t old ≡ Refused x i n) ↔ rows.Refused t (length old) x i n
+  pub refused_exact : (x i n : ℕ) → (read_of t old ≡ Err (refusal x i n)) ↔ rows.Refused t (length old) x i n
   refused_exact x i n = (λ e. row_refused x i n (answer-row t old x i n e), λ r. row-answer t old x i n (refused_row x i n r))

@@ -1,10 +1,8 @@
 -- How the links are filled: one item more, the end, and that the array stays as it is where there is too much.
-use Prim.Native.Nat.{ℕ, zero, suc, ◌+◌, ◌-◌, ◌≤◌, ◌<◌, min}
-use mathlib.Core.Path.{◌≡◌, refl, sym, ◌∙◌, ap}
+use Prim.Native.Nat.{ℕ, suc, ◌≤◌, ◌<◌, min}
+use mathlib.Core.Path.{◌≡◌}
 use mathlib.Core.List.{List}
-use native.Mathlib.Omega.{arith}
 use lib.ListN.{length, get_or, set, replicate}
-use lib.Dec.{ltb}
 use borrow.Author.Tests.{lt-ltb, le-ltb}
 use Rattle.base_ceilings.specs.Ceilings.{items_most}
 use Rattle.rule_sheets.specs.Homes.{homes_of}

@@ -2,7 +2,7 @@
 -- The links of a model, one number for each item, so that a stepper finds all it needs at once. They are a function of the items and of what their tokens say, so
 -- of the tree alone. `cs` are the items, `vs` what their tokens say, `hs` the bodies that they are in, `ss` where expressions start.
 -- Document 01, "Names", "How it moves"; docs/TABLES.md.
-use Rattle.std.specs.Prelude.{ℕ, zero, suc, ◌+◌, ◌-◌, ◌*◌, min, Bool, List, length, get_or, set, replicate, eqb, ltb}
+use Rattle.std.specs.Prelude.{ℕ, zero, suc, ◌+◌, ◌-◌, ◌*◌, min, List, length, get_or, set, replicate, eqb, ltb}
 use Rattle.base_ceilings.specs.Ceilings.{array_most, items_most}
 use Rattle.base_codes.specs.Codes.{c_bit}
 use Rattle.base_bytes.specs.Choice.{pick}

@@ -50,10 +50,8 @@ fn offset_at(codes: &[u8], args: &[u32], homes: &[u32], d: usize) -> usize
     ensures upper_bound { result ≤ 65535 }
 {
     let mut n: usize = 0;
-    let mut j: usize = 0;
-    while j < d {
+    for j in 0..d {
         n += rule_ceilings::numbers_at(codes, args, homes, word_at(homes, d), j);
-        j += 1;
     }
     base_bytes::least(65535, n)
 }
@@ -184,9 +182,7 @@ fn fill_back(
     requires { (length codes.now ≤ items_most) × Chained codes.now args.now chain.now }
     ensures { links.new ≡ spec.filled_back codes.now args.now homes.now starts.now (length codes.now) links.old }
 {
-    let mut j = codes.len();
-    while 0 < j {
-        j -= 1;
+    for j in (0..codes.len()).rev() {
         let v = link_by(
             codes,
             args,

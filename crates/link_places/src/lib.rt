@@ -19,14 +19,12 @@ pub fn is_mark(c: u8) -> bool
 pub fn mark_from(codes: &[u8], i: usize) -> usize
     ensures { result ≡ places.mark_from codes.now i }
 {
-    let mut k = i;
-    while k < codes.len() {
+    for k in i..codes.len() {
         if is_mark(codes[k]) {
             return k;
         }
-        k += 1;
     }
-    k
+    i.max(codes.len())
 }
 
 // Does a statement have its place here?
@@ -62,14 +60,12 @@ fn is_stop(codes: &[u8], p: usize) -> bool
 pub fn place_from(codes: &[u8], k: usize) -> usize
     ensures { result ≡ places.place_from codes.now k }
 {
-    let mut i = k;
-    while i < codes.len() {
+    for i in k..codes.len() {
         if is_stop(codes, i) {
             return i;
         }
-        i += 1;
     }
-    i
+    k.max(codes.len())
 }
 
 fn is_opening(pair: u8, c: u8) -> bool
@@ -111,16 +107,14 @@ fn deeper(pair: u8, c: u8, d: usize) -> usize
 pub fn close_of(codes: &[u8], pair: u8, k: usize) -> usize
     ensures { result ≡ places.close_of_lem codes.now pair k }
 {
-    let mut i = k;
     let mut d: usize = 1;
-    while i < codes.len() {
+    for i in k..codes.len() {
         if both(is_closing(pair, codes[i]), d == 1) {
             return i;
         }
         d = deeper(pair, codes[i], d);
-        i += 1;
     }
-    i
+    k.max(codes.len())
 }
 
 fn shallower(c: u8, d: usize) -> usize
@@ -139,15 +133,13 @@ fn open_of(codes: &[u8], k: usize) -> usize
     requires { k < length codes.now }
     ensures { result ≡ places.open_of codes.now k 1 }
 {
-    let mut i = k;
     let mut d: usize = 1;
-    while 0 < i {
-        let c = base_bytes::byte_at(codes, i - 1);
+    for i in (0..k).rev() {
+        let c = base_bytes::byte_at(codes, i);
         if both(is_opening(0, c), d == 1) {
-            return i - 1;
+            return i;
         }
         d = shallower(c, d);
-        i -= 1;
     }
     0
 }

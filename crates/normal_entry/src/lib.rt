@@ -6,17 +6,10 @@ ghost use Rattle.base_ceilings.specs.Ceilings.{normal_most};
 ghost use Rattle.write_texts.specs.Normal.{normal_of};
 ghost use Rattle.normal_entry.specs.Entries.{roomy, put, answer_of, left_of, answer_from, left_from};
 
-use read_passes::Judged;
+use base_refusal::Refusal;
 
-// The length of the text that was written, or the refusal's number, place and length.
-#[derive(Drop)]
-pub enum Written {
-    Text(usize),
-    Refused(u8, usize, usize),
-}
-
-// The normal text of the tables w, if there is room for it.
-fn lay(w: &[u32], out: &mut [u8]) -> Written
+// How long the normal text of the tables w is, and the text itself, if there is room for it.
+fn lay(w: &[u32], out: &mut [u8]) -> Result<usize, Refusal>
     requires { length (normal_of w.now) ≤ normal_most }
     ensures value { result ≡ roomy (normal_of w.now) out.old }
     ensures out_after { out.new ≡ put result (normal_of w.now) out.old }
@@ -24,35 +17,32 @@ fn lay(w: &[u32], out: &mut [u8]) -> Written
     let mut text = [0u8; base_ceilings::NORMAL_MOST];
     let n = write_texts::write_normal(w, &mut text);
     if out.len() < n {
-        return Written::Refused(7, 0, 0);
+        return Err(Refusal::of_no_part(7));
     }
-    base_bytes::copy_bytes(out, &text, n);
-    Written::Text(n)
+    base_bytes::copy(out, &text, n);
+    Ok(n)
 }
 
 // The normal text of a model.
-pub fn normal(text: &[u8], out: &mut [u8]) -> Written
+pub fn normal(text: &[u8], out: &mut [u8]) -> Result<usize, Refusal>
     ensures value { result ≡ answer_of text.now out.old }
     ensures out_after { out.new ≡ left_of text.now out.old }
 {
     let mut tables = [0u32; base_ceilings::TABLES_ROOM];
-    let j = read_entry::read(text, &mut tables);
-    match j {
-        Judged::Accepted => lay(read_genuine::written(&tables), out),
-        Judged::Refused(x, i, n) => Written::Refused(x, i, n),
-    }
+    read_entry::read(text, &mut tables)?;
+    lay(read_genuine::written(&tables), out)
 }
 
 // The normal text that tables hold.
-pub fn normal_of(tables: &[u32], out: &mut [u8]) -> Written
+pub fn normal_of(tables: &[u32], out: &mut [u8]) -> Result<usize, Refusal>
     ensures value { result ≡ answer_from tables.now out.old }
     ensures out_after { out.new ≡ left_from tables.now out.old }
 {
     if tables.len() < base_ceilings::TABLES_ROOM {
-        return Written::Refused(7, 0, 0);
+        return Err(Refusal::of_no_part(7));
     }
     if read_genuine::is_genuine(tables) {
         return lay(read_genuine::written(tables), out);
     }
-    Written::Refused(8, 0, 0)
+    Err(Refusal::of_no_part(8))
 }

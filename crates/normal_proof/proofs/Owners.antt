@@ -11,8 +11,8 @@ use Rattle.base_ceilings.specs.Ceilings.{normal_most}
 use Rattle.base_bytes.specs.Choice.{pick}
 use Rattle.base_bytes.specs.Lists.{same}
 use Rattle.base_bytes.proofs.Lists.{same_refl, same_eq}
-use Rattle.read_passes.specs.declared.Judged.{Judged}
-use Rattle.read_passes.specs.declared.Judged.TheVariants.{Accepted, Refused}
+use Rattle.std.specs.Prelude.{Result, Ok, Err}
+use Rattle.base_refusal.specs.declared.Refusal.{Refusal}
 use Rattle.read_passes.specs.Judging.{judge_of, tables_text}
 use Rattle.read_accepts_proof.proofs.Main.{accepted_means}
 use Rattle.write_texts.specs.Normal.{normal_of}
@@ -24,17 +24,17 @@ pub genuine_owned : (ts : List ℕ) → genuine ts ≡ true → Owned ts
 unfolding genuine returns
 genuine_owned ts e = go (ltb normal_most (length (normal_of (written ts)))) (judge_of (normal_of (written ts))) refl e
   where
-    go : (b : Bool) (j : Judged) → judge_of (normal_of (written ts)) ≡ j → pick b false (agrees j (written ts) (tables_text (normal_of (written ts)))) ≡ true → Owned ts
+    go : (b : Bool) (j : Result (Unit {0}) Refusal) → judge_of (normal_of (written ts)) ≡ j → pick b false (agrees j (written ts) (tables_text (normal_of (written ts)))) ≡ true → Owned ts
     go true j h k = absurd (let z : ◌≡◌ {A = ℕ} 0 1 = cc in omega arith)
-    go false Accepted h k = record { text = normal_of (written ts); accepted = h; own = sym (same_eq (written ts) (tables_text (normal_of (written ts))) k) }
-    go false (Refused x i n) h k = absurd (let z : ◌≡◌ {A = ℕ} 0 1 = cc in omega arith)
+    go false (Ok u) h k = record { text = normal_of (written ts); accepted = h; own = sym (same_eq (written ts) (tables_text (normal_of (written ts))) k) }
+    go false (Err r) h k = absurd (let z : ◌≡◌ {A = ℕ} 0 1 = cc in omega arith)
 
 -- a short text that is accepted with the tables w returns them
-returned : (w u : List ℕ) → length u ≤ normal_most → judge_of u ≡ Accepted → tables_text u ≡ w → returns w u ≡ true
+returned : (w u : List ℕ) → length u ≤ normal_most → judge_of u ≡ Ok tt → tables_text u ≡ w → returns w u ≡ true
 unfolding returns
 returned w u h j e =
     ap (λ (b : Bool). pick b false (agrees (judge_of u) w (tables_text u))) (le-ltb normal_most (length u) h)
-    ∙ (ap (λ (z : Judged). agrees z w (tables_text u)) j ∙ ap (same w) e ∙ same_refl w)
+    ∙ (ap (λ (z : Result (Unit {0}) Refusal). agrees z w (tables_text u)) j ∙ ap (same w) e ∙ same_refl w)
 
 pub owned_genuine : (ts : List ℕ) → Owned ts → genuine ts ≡ true
 unfolding genuine

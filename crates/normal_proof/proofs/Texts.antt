@@ -6,7 +6,7 @@ use mathlib.Core.Path.{◌≡◌, sym, ◌∙◌, ap}
 use mathlib.Core.List.{List}
 use lib.ListN.{length}
 use Rattle.base_ceilings.specs.Ceilings.{normal_most}
-use Rattle.read_passes.specs.declared.Judged.TheVariants.{Accepted}
+use Rattle.std.specs.Prelude.{Ok}
 use Rattle.read_passes.specs.Judging.{judge_of, tables_text}
 use Rattle.read_accepts_proof.specs.Meaning.{Accepts, links_at}
 use Rattle.read_accepts_proof.proofs.Main.{accepted_means}
@@ -27,7 +27,7 @@ module _ (t : List ℕ) (a : Accepts t) where
   pub text-short : length (normal_text t) ≤ normal_most
   text-short = omega (arith, ap length text-normal, accepted_slim t a)
 
-  pub text_accepted : judge_of (normal_text t) ≡ Accepted
+  pub text_accepted : judge_of (normal_text t) ≡ Ok tt
   text_accepted = ap judge_of text-normal ∙ printed_accepted t a (normal a.tree) (normal-reads t a)
 
   again : Accepts (normal a.tree)

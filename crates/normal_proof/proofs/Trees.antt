@@ -23,7 +23,7 @@ use Rattle.table_proof.proofs.Accepted.{accepted_known, accepted_small, accepted
 use Rattle.write_texts.specs.Normal.{normal_of}
 use Rattle.write_reprint_proof.proofs.Main.{normal_text_lem}
 use Rattle.write_shortest_proof.proofs.Main.{normal_shortest, printed-sound, printed_few, printed_shallow}
-use Rattle.read_passes.specs.declared.Judged.TheVariants.{Accepted}
+use Rattle.std.specs.Prelude.{Ok}
 use Rattle.read_passes.specs.Judging.{judge_of}
 use Rattle.read_accepts_proof.specs.Meaning.{Accepts}
 use Rattle.read_accepts_proof.proofs.Alike.{same_tree}
@@ -35,7 +35,7 @@ Prints u m = (qs : List Placed) × (reading u ≡ tokens qs) × (tokens_in u qs 
 
 -- ---- a text of the printed tokens of an accepted text's tree is accepted, and of no other tree
 module _ (t : List ℕ) (a : Accepts t) (u : List ℕ) (r : Prints u a.tree) where
-  pub printed_accepted : judge_of u ≡ Accepted
+  pub printed_accepted : judge_of u ≡ Ok tt
   printed_accepted = let (qs, e, s) = r in same_tree t u a qs e (rw s (print_in a.gram)) (rw s (printed_shallow t a.parts a.tree a.reads a.gram a.shallow))
 
   pub printed_tree : (c : Accepts u) → c.tree ≡ a.tree

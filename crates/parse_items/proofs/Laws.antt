@@ -1,14 +1,15 @@
 -- Laws on lists that the loops cite, over plain variables. Assumes nothing.
-use Prim.Native.Nat.{ℕ, zero, suc, ◌+◌, ◌-◌, ◌*◌, ◌%◌, ◌≤◌, ◌<◌}
+use Prim.Native.Nat.{ℕ, zero, suc, ◌+◌, ◌-◌, ◌≤◌, ◌<◌}
 use native.Mathlib.Omega.{arith}
 use native.Mathlib.Nat.{le_of_suc-le-suc, not-suc-le-zero}
 use native.Mathlib.Numerals.{add-one}
-use mathlib.Core.Path.{◌≡◌, refl, ap, ◌∙◌}
+use Rattle.std.specs.Prelude.{Option, None, Some}
+use Rattle.std.specs.Option.{unwrap_or, IfSome}
+use mathlib.Core.Path.{◌≡◌, refl, sym, ap, subst, ◌∙◌}
 use mathlib.Core.List.{List, [], ◌∷◌, ◌++◌, map}
 use lib.ListN.{length, get_or, take, drop, set}
-use borrow.Author.Tests.{lt-ltb, le-ltb}
 use Rattle.parse_tables.specs.Tables.{choices, rights, production, production_by, span}
-use Rattle.parse_machine.specs.Machine.{marked, mark, symbol_of, place_of, count_of_lem}
+use Rattle.parse_machine.specs.Machine.{marked, symbol_of, place_of, count_of_lem}
 use Rattle.parse_items.specs.Views.{Spread}
 
 -- ---- items into an array: one turn
@@ -48,23 +49,19 @@ unfolding span
 span-length i zero = refl
 span-length i (suc n) = ap suc (span-length (i + 1) n)
 
--- ---- what is added to its symbols
-pub mark-now : (v pos n : ℕ) → v % 256 < 143 → (o : List ℕ) → length o ≡ n → 256 * pos + 1048576 * n ≡ mark v pos o
-mark-now v pos n h o e = simp (lt-ltb (v % 256) 143 h, e)
-
-pub mark_then : (v pos n : ℕ) → 143 ≤ v % 256 → (o : List ℕ) → length o ≡ n → v - v % 256 ≡ mark v pos o
-mark_then v pos n h o e = simp (le-ltb (v % 256) 143 h)
-
-pub push-start : (l : List ℕ) (top first n b : ℕ) → drop top l ≡ marked b (span (first + n) (n - n)) ++ drop top l
+pub push-start : (l : List ℕ) (top first n b : ℕ) → n ≤ top → drop (top - n + n) l ≡ marked b (span (first + n) (n - n)) ++ drop top l
 unfolding span
-push-start l top first n b = let e : n - n ≡ 0 = omega arith in rw e
+push-start l top first n b h =
+    let e : n - n ≡ 0 = omega arith in
+    let f : top - n + n ≡ top = omega arith in
+    rw (e, f)
 
-pub push_end : (l l₀ : List ℕ) (top first n b at k : ℕ) → k ≤ 0 → at + (n - k) ≡ top → length l ≡ length l₀ → drop at l ≡ marked b (span (first + k) (n - k)) ++ drop top l₀ →
-    (drop at l ≡ marked b (span first n) ++ drop top l₀) × (at ≡ top - n) × (length l ≡ length l₀)
-push_end l l₀ top first n b at k h g e inv =
+pub push_end : (l below : List ℕ) (at first n b k : ℕ) → k ≤ 0 → drop (at + k) l ≡ marked b (span (first + k) (n - k)) ++ below → drop at l ≡ marked b (span first n) ++ below
+push_end l below at first n b k h inv =
+    let x : at + k ≡ at = omega arith in
     let z : first + k ≡ first = omega arith in
     let y : n - k ≡ n = omega arith in
-    (rw (z, y) at inv, omega arith, e)
+    rw (x, z, y) at inv
 
 -- ---- the tables that are lent
 pub side_at : (sides : List ℕ) (i b x y : ℕ) → sides ≡ rights → x ≡ y → y ≡ get_or sides i 0 → x + b ≡ get_or rights i 0 + b
@@ -76,3 +73,13 @@ size_at sides i x y e p q = rw (← e, ← q, p)
 pub by_choices : (rows : List ℕ) (x k r : ℕ) → rows ≡ choices → r ≡ production_by rows x k → r ≡ production x k
 unfolding production
 by_choices rows x k r e p = p ∙ ap (λ (t : List ℕ). production_by t x k) e
+
+-- a number that is there, or none, which stands as 0
+pub none_read : (o : Option ℕ) → o ≡ None → unwrap_or o 0 ≡ 0
+none_read o e = ap (λ (q : Option ℕ). unwrap_or q 0) e
+
+pub some_read : (o : Option ℕ) (p : ℕ) → o ≡ Some p → p ≡ unwrap_or o 0
+some_read o p e = sym (ap (λ (q : Option ℕ). unwrap_or q 0) e)
+
+pub some_above : (o : Option ℕ) (p : ℕ) → o ≡ Some p → IfSome o (λ q. (0 < q) × (q < 512)) → p ≡ 0 → ⊥
+some_above o p e h z = let w : (0 < p) × (p < 512) = subst (λ (q : Option ℕ). IfSome q (λ r. (0 < r) × (r < 512))) e h in absurd (omega (arith, w.0))

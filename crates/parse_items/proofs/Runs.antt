@@ -1,11 +1,17 @@
 -- Runs of the machine: what a turn of the loop does to them, and the entry. Over plain variables. Assumes nothing.
 use Prim.Native.Nat.{ℕ, suc, ◌-◌, ◌≤◌, ◌<◌}
 use native.Mathlib.Omega.{arith}
-use mathlib.Core.Path.{◌≡◌, sym, ap, subst, ◌∙◌}
+use mathlib.Core.Path.{◌≡◌, refl, sym, ap, subst, ◌∙◌}
 use mathlib.Core.List.{List, [], ◌∷◌, map}
 use lib.ListN.{length, take, drop, set, length-set, drop_of_length-le}
 use lib.Seq.{length-take-le, drop-cons, get_or-set_same}
-use borrow.Author.Tests.{lt-ltb, le-ltb, le-leb, lt-leb}
+use borrow.Author.Tests.{lt-ltb, le-ltb, le-leb, lt-leb, leb-true, leb-false}
+use mathlib.Core.Bool.{Bool, true, false}
+use lib.Dec.{leb}
+use Rattle.std.specs.Prelude.{Option, None, Some}
+use Rattle.std.specs.Bool.{then_some}
+use Rattle.std.proofs.lemmas.Option.{none-some, same_Some}
+use Rattle.parse_machine.proofs.Ranges.{Ranged, items_in_range}
 use Rattle.base_ceilings.specs.Ceilings.{items_most, tokens_most}
 use Rattle.base_kinds.specs.Kinds.{Token, kind_of}
 use Rattle.parse_grammar.specs.Judge.{judge}
@@ -31,11 +37,9 @@ one_left l j x h e =
 pub start_law : (ks l o : List ℕ) (f : ℕ) → length l ≡ most_stack → run ks f start ≡ run ks f (conf (set l (most_stack - 1) 141) o (record { sp = (most_stack - 1); pos = 0; n = 0 }))
 start_law ks l o f h = ap (λ (s : List ℕ). run ks f (record { st = s; pos = 0; out = [] })) (sym (one_left l (most_stack - 1) 141 (omega arith) h))
 
-turn : (ks : List ℕ) (f : ℕ) (c : Config) → 0 < f → run ks f c ≡ next (run ks (f - 1)) (step ks c)
+turn : (ks : List ℕ) (f g : ℕ) (c : Config) → f ≡ suc g → run ks f c ≡ next (run ks g) (step ks c)
 unfolding run
-turn ks f c h =
-    let e : f ≡ suc (f - 1) = omega arith in
-    ap (λ (n : ℕ). run ks n c) e
+turn ks f g c h = ap (λ (n : ℕ). run ks n c) h
 
 pub dry : (ks : List ℕ) (f : ℕ) (c : Config) → f ≤ 0 → run ks f c ≡ spent
 unfolding run
@@ -43,14 +47,14 @@ dry ks f c h =
     let e : f ≡ 0 = omega arith in
     ap (λ (n : ℕ). run ks n c) e
 
-module _ (ks a o a' o' : List ℕ) (s : State) (f : ℕ) (res : Outcome) (x : Step) (h : 0 < f) (r : res ≡ run ks f (conf a o s)) (k : Stepped (step ks (conf a o s)) x a' o') where
+module _ (ks a o a' o' : List ℕ) (s : State) (f g : ℕ) (res : Outcome) (x : Step) (h : f ≡ suc g) (r : res ≡ run ks f (conf a o s)) (k : Stepped (step ks (conf a o s)) x a' o') where
   at_variant : (y : Step) → x ≡ y → Stepped (step ks (conf a o s)) y a' o'
   at_variant y e = subst (λ (z : Step). Stepped (step ks (conf a o s)) z a' o') e k
 
-  after : (n : Next) → step ks (conf a o s) ≡ n → res ≡ next (run ks (f - 1)) n
-  after n e = r ∙ turn ks f (conf a o s) h ∙ ap (next (run ks (f - 1))) e
+  after : (n : Next) → step ks (conf a o s) ≡ n → res ≡ next (run ks g) n
+  after n e = r ∙ turn ks f g (conf a o s) h ∙ ap (next (run ks g)) e
 
-  pub go_run : (s' : State) → x ≡ Go s' → (s'.sp ≤ most_stack) × (s'.n ≤ items_most) × (s'.pos ≤ tokens_most) × (res ≡ run ks (f - 1) (conf a' o' s'))
+  pub go_run : (s' : State) → x ≡ Go s' → (s'.sp ≤ most_stack) × (s'.n ≤ items_most) × (s'.pos ≤ tokens_most) × (res ≡ run ks g (conf a' o' s'))
   go_run s' e = let w = at_variant (Go s') e in (w.1, w.2, w.3, after _ w.0)
 
   pub stop_run : (i : ℕ) → x ≡ Stop i → res ≡ refused i
@@ -61,6 +65,28 @@ module _ (ks a o a' o' : List ℕ) (s : State) (f : ℕ) (res : Outcome) (x : St
 
   pub spent_run : x ≡ Spent → res ≡ spent
   spent_run e = after _ (at_variant Spent e)
+
+-- ---- the place that is too deep, or none
+by_some : (b : Bool) (x k : ℕ) → then_some b x ≡ Some k → (b ≡ true) × (k ≡ x)
+by_some true x k e = (refl, sym (same_Some x k e))
+by_some false x k e = absurd (none-some k e)
+
+by_none : (b : Bool) (x : ℕ) → then_some b x ≡ None → b ≡ false
+by_none true x e = absurd (none-some x (sym e))
+by_none false x e = refl
+
+module _ (ks : List ℕ) {d : Option ℕ} (ed : d ≡ then_some (leb (too_deep ks) (length ks)) (too_deep ks)) where
+  pub deep_is : (k : ℕ) → d ≡ Some k → k ≡ too_deep ks
+  deep_is k e = (by_some (leb (too_deep ks) (length ks)) (too_deep ks) k (sym ed ∙ e)).1
+
+  pub deep-inside : (k : ℕ) → d ≡ Some k → k ≤ length ks
+  deep-inside k e = rw (deep_is k e) (leb-true (too_deep ks) (length ks) (by_some (leb (too_deep ks) (length ks)) (too_deep ks) k (sym ed ∙ e)).0)
+
+  pub none_deep : d ≡ None → length ks < too_deep ks
+  none_deep e = leb-false (too_deep ks) (length ks) (by_none (leb (too_deep ks) (length ks)) (too_deep ks) (sym ed ∙ e))
+
+pub stop-inside : (ks o : List ℕ) {x : Halt} → length ks ≤ tokens_most → Ran (machine ks) x o → (i : ℕ) → x ≡ Stopped i → i ≤ length ks
+stop-inside ks o g k i e = subst (Ranged ks) (subst (λ (z : Halt). Ran (machine ks) z o) e k) (items_in_range ks g)
 
 -- ---- the entry
 means_law : (ks : List ℕ) (room : ℕ) (ts : List Token) → map kind_of ts ≡ ks → AllProper ts → length ts ≤ tokens_most → items_most ≤ room → meant ts (parsed ks room) ≡ judge ts

@@ -2,6 +2,7 @@
 #![tactic(auto)]
 
 ghost use Rattle.std.specs.Prelude.{◌≡◌, List, ◌++◌, ℕ, ◌+◌, ◌-◌, ◌*◌, ◌≤◌, ◌<◌, min, length, take, drop};
+ghost use Rattle.std.specs.Option.{unwrap_or, IfSome};
 ghost use Rattle.base_ceilings.specs.Ceilings.{items_most, tokens_most};
 ghost use Rattle.parse_tables.specs.Tables.{choices, rights, span};
 ghost use Rattle.parse_machine.specs.Machine.{symbol_of, place_of, count_of_lem, clipped, column, marked, mark, write, expand, step, machine, most_stack, place_room};
@@ -63,13 +64,6 @@ enum Halt {
     Exhausted,
 }
 
-fn wide(x: u8) -> usize
-    ensures value { result ≡ x }
-    ensures upper_bound { result < 256 }
-{
-    x as usize
-}
-
 // The column of the tables for a kind: 73 for what is none.
 fn clip(k: u8) -> u8
     ensures { result ≡ clipped k }
@@ -120,12 +114,9 @@ fn push(
     requires { (sides.now ≡ rights) × (n ≤ top) × (top ≤ length stack.old) × (first < items_most) × (n < 256) × (marking ≤ 18446744073709551360) }
     ensures { (drop result stack.new ≡ marked marking (span first n) ++ drop top stack.old) × (result ≡ top - n) × (length stack.new ≡ length stack.old) }
 {
-    let mut k = n;
-    let mut at = top;
-    while k > 0 {
-        k -= 1;
-        at -= 1;
-        stack[at] = wide(base_bytes::byte_at(sides, first + k)) + marking;
+    let at = top - n;
+    for k in (0..n).rev() {
+        stack[at + k] = usize::from(base_bytes::byte_at(sides, first + k)) + marking;
     }
     at
 }
@@ -142,18 +133,18 @@ fn mark_of(v: usize, pos: usize, n: usize) -> usize
     }
 }
 
-// The symbols of the right side p take the place of v, which is on top.
-fn expand(sides: &[u8], stack: &mut [usize], v: usize, p: usize, s: State) -> Step
-    requires { (sides.now ≡ rights) × (p < 512) × (s.sp < most_stack) × (s.n ≤ items_most) × (s.pos ≤ tokens_most) × (length stack.old ≡ most_stack) }
-    ensures { (o : List ℕ) → length o ≡ items_most → Stepped (expand v (drop (s.sp + 1) stack.old) s.pos (take s.n o) p) result stack.new o }
+// The symbols of the right side p, if there is one, take the place of v, which is on top.
+fn expand(sides: &[u8], stack: &mut [usize], v: usize, p: Option<usize>, s: State) -> Step
+    requires { (sides.now ≡ rights) × IfSome p (λ q. (0 < q) × (q < 512)) × (s.sp < most_stack) × (s.n ≤ items_most) × (s.pos ≤ tokens_most) × (length stack.old ≡ most_stack) }
+    ensures { (o : List ℕ) → length o ≡ items_most → Stepped (expand v (drop (s.sp + 1) stack.old) s.pos (take s.n o) (unwrap_or p 0)) result stack.new o }
 {
     let sp = s.sp;
     let pos = s.pos;
     let n = s.n;
-    if p == 0 {
+    let Some(p) = p else {
         return Step::Stop(pos);
-    }
-    let size = wide(base_bytes::byte_at(sides, p * 13));
+    };
+    let size = usize::from(base_bytes::byte_at(sides, p * 13));
     if size > sp + 1 {
         return Step::Spent;
     }
@@ -233,9 +224,7 @@ fn run(rows: &[u8], sides: &[u8], kinds: &[u8], stack: &mut [usize], out: &mut [
         pos: 0,
         n: 0,
     };
-    let mut fuel: usize = TURNS;
-    while fuel > 0 {
-        fuel -= 1;
+    for _ in 0..TURNS {
         let next = step_on(rows, sides, kinds, stack, out, s);
         match next {
             Step::Go(t) => {
@@ -284,13 +273,11 @@ fn spread(work: &[usize], n: usize, codes: &mut [u8], tokens: &mut [u32], sizes:
     requires { (n ≤ length work.now) × (n ≤ length codes.old) × (n ≤ length tokens.old) × (n ≤ length sizes.old) }
     ensures { Spread n work.now codes.old codes.new tokens.old tokens.new sizes.old sizes.new }
 {
-    let mut i: usize = 0;
-    while i < n {
+    for i in 0..n {
         let v = work[i];
         codes[i] = symbol_of(v);
         tokens[i] = token_of(v);
         sizes[i] = size_of(v);
-        i += 1;
     }
 }
 
@@ -312,15 +299,20 @@ pub fn parse(kinds: &[u8], codes: &mut [u8], tokens: &mut [u32], sizes: &mut [u3
     let a = drive(kinds, &mut stack, &mut work);
     match a {
         Halt::Stopped(i) => {
-            if d <= i {
-                Parsed::Refused(2, d)
-            } else {
-                Parsed::Refused(3, i)
+            match d {
+                None => Parsed::Refused(3, i),
+                Some(k) => {
+                    if k <= i {
+                        Parsed::Refused(2, k)
+                    } else {
+                        Parsed::Refused(3, i)
+                    }
+                }
             }
         }
         Halt::Accepted(n) => {
-            if d <= kinds.len() {
-                return Parsed::Refused(2, d);
+            if let Some(k) = d {
+                return Parsed::Refused(2, k);
             }
             spread(&work, n, codes, tokens, sizes);
             Parsed::Items(n)

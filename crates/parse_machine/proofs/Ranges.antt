@@ -84,16 +84,16 @@ record Within (ks st : List ℕ) (pos : ℕ) (out : List ℕ) : Type 0 where
 
 abbrev pub Ranged : List ℕ → Outcome → Type 0
 Ranged ks (done o) = AllInRange (length ks) 0 o
-Ranged ks (refused i) = Unit {0}
+Ranged ks (refused i) = i ≤ length ks
 Ranged ks spent = Unit {0}
 
 ranged-pick : (ks : List ℕ) (b : Bool) (x y : Next) (f : Config → Outcome) → (b ≡ true → Ranged ks (next f x)) → (b ≡ false → Ranged ks (next f y)) → Ranged ks (next f (pick b x y))
 ranged-pick ks true x y f p q = p refl
 ranged-pick ks false x y f p q = q refl
 
-ranged_end : (ks : List ℕ) (b : Bool) (i : ℕ) (o : List ℕ) → AllInRange (length ks) 0 o → Ranged ks (pick b (refused i) (done o))
-ranged_end ks true i o a = tt
-ranged_end ks false i o a = a
+ranged_end : (ks : List ℕ) (b : Bool) (i : ℕ) (o : List ℕ) → i ≤ length ks → AllInRange (length ks) 0 o → Ranged ks (pick b (refused i) (done o))
+ranged_end ks true i o h a = h
+ranged_end ks false i o h a = a
 
 module _ (ks : List ℕ) (short : length ks ≤ tokens_most) (f : Config → Outcome) (ih : (c : Config) → Within ks c.st c.pos c.out → Ranged ks (f c))
     (v : ℕ) (st : List ℕ) (pos : ℕ) (out : List ℕ) (w : Within ks (v ∷ st) pos out) where
@@ -123,14 +123,14 @@ module _ (ks : List ℕ) (short : length ks ≤ tokens_most) (f : Config → Out
       (λ g. ih (record { st = st; pos = pos + 1; out = out })
       (record { entries = later-entries st (omega arith) (omega arith) w.entries.1; inside = omega arith; room = w.room; fine = w.fine }))
       (λ g. write-ranged pos (pos + 1) (omega arith) (λ z. k) (omega arith) (omega arith)))
-      (λ e. tt))
-      (λ h. tt)
+      (λ e. w.inside))
+      (λ h. w.inside)
 
   expand-ranged : 73 ≤ v % 256 → v % 256 < c_or_else → Ranged ks (next f (expand v st pos out (production (v % 256) (column ks pos))))
   unfolding expand solid_rights
   expand-ranged lo hi =
       let p : ℕ = production (v % 256) (column ks pos) in
-      ranged-pick ks (eqb p 0) _ _ f (λ e. tt)
+      ranged-pick ks (eqb p 0) _ _ f (λ e. w.inside)
       (λ e. ranged-pick ks (leb (length (right p) + length st) most_stack) _ _ f
       (λ g. ih (record { st = marked (mark v pos out) (right p) ++ st; pos = pos; out = out })
       (record {
@@ -146,7 +146,7 @@ module _ (ks : List ℕ) (short : length ks ≤ tokens_most) (f : Config → Out
 turn_ranged : (ks : List ℕ) → length ks ≤ tokens_most → (f : Config → Outcome) → ((c : Config) → Within ks c.st c.pos c.out → Ranged ks (f c)) → (st : List ℕ) (pos : ℕ) (out : List ℕ) →
     Within ks st pos out → Ranged ks (next f (step_on ks st pos out))
 unfolding step_on
-turn_ranged ks short f ih [] pos out w = ranged_end ks (ltb pos (length ks)) pos out w.fine
+turn_ranged ks short f ih [] pos out w = ranged_end ks (ltb pos (length ks)) pos out w.inside w.fine
 turn_ranged ks short f ih (v ∷ st) pos out w =
     ranged-pick ks (ltb (symbol_of v) 73) _ _ f (λ e. eat-ranged ks short f ih v st pos out w)
     (λ e. ranged-pick ks (ltb (symbol_of v) c_or_else) _ _ f (λ g. expand-ranged ks short f ih v st pos out w (ltb-false (symbol_of v) 73 e) (ltb-true (symbol_of v) c_or_else g))

@@ -3,22 +3,16 @@
 #![tactic(auto)]
 
 ghost use Rattle.std.specs.Prelude.{◌≡◌, ◌-◌, ◌<◌, get_or};
+ghost use Rattle.std.specs.Option.{unwrap_or, IfSome};
 ghost use Rattle.base_bytes.specs.Lists.{pasted};
 ghost use Rattle.parse_tables.specs.Tables.{choices, bases, rights, Numbered};
-
-fn wide(x: u8) -> usize
-    ensures value { result ≡ x }
-    ensures upper_bound { result < 256 }
-{
-    x as usize
-}
 
 // A row for each nonterminal, and in it a column for the end of the text, for each kind from 1 to 72 and for what is no kind. A table is laid out once and lent
 // from then on, since a fixed byte string is stored anew wherever it is named.
 pub fn lay_choices(out: &mut [u8])
     ensures { out.new ≡ pasted 5476 choices out.old }
 {
-    base_bytes::copy_bytes(
+    base_bytes::copy(
         out,
         b"\
 00000000000000010001110000000000000000000000000000001000010000000100001100\
@@ -118,7 +112,7 @@ fn base_at(i: usize) -> u8
 pub fn lay_rights(out: &mut [u8])
     ensures { out.new ≡ pasted 2275 rights out.old }
 {
-    base_bytes::copy_bytes(
+    base_bytes::copy(
         out,
         b"\
 \x00\x00\x00\x00\x00\x00\x00\x00\x00\x00\x00\x00\x00\
@@ -300,11 +294,19 @@ pub fn lay_rights(out: &mut [u8])
     );
 }
 
-// The number of the right side that the symbol x has at column k, by the rows of choices that are lent, 0 where it has none.
-pub fn production(rows: &[u8], x: u8, k: u8) -> usize
-    ensures { Numbered rows.now x k result }
+// The number of the right side that the symbol x has at column k, by the rows of choices that are lent.
+pub fn production(rows: &[u8], x: u8, k: u8) -> Option<usize>
+    ensures number { Numbered rows.now x k (unwrap_or result 0) }
+    ensures some { IfSome result (λ p. (0 < p) × (p < 512)) }
 {
-    let row = base_bytes::minus(wide(x), 73);
-    let c = base_bytes::minus(wide(base_bytes::byte_at(rows, row * 74 + wide(k))), 48);
-    if c == 0 { 0 } else { wide(base_at(row)) + c }
+    let row = base_bytes::minus(usize::from(x), 73);
+    let c = base_bytes::minus(
+        usize::from(base_bytes::byte_at(rows, row * 74 + usize::from(k))),
+        48,
+    );
+    if c == 0 {
+        None
+    } else {
+        Some(usize::from(base_at(row)) + c)
+    }
 }

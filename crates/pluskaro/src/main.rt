@@ -1,11 +1,9 @@
 // The program over model and trail files. The last line of what it writes is always the answer; where its first word is `--status`, it tells the status of that answer at the very end.
 #![tactic(auto)]
 
-ghost use Rattle.std.specs.Prelude.{◌≤◌};
-
 use base_bytes::part;
 use show_answers::{Output, put};
-use show_statuses::{Answer, status};
+use show_statuses::{Answer, Status, status_of};
 use std::env::FillError;
 use std::io::IsTerminal;
 use std::process::ExitCode;
@@ -38,11 +36,9 @@ fn is_asked(rt: &impl Env) -> bool {
 }
 
 // A command that is not well formed.
-fn refuse(words: &[u8], to: &mut Output) -> u8
-    ensures { result ≤ 2 }
-{
+fn refuse(words: &[u8], to: &mut Output) -> Status {
     put(words, to);
-    status(Answer::Error)
+    status_of(Answer::Error)
 }
 
 // The command that is argument `at`, with its words: `count` of them stand behind it.
@@ -52,9 +48,7 @@ fn answer(
     at: u8,
     count: usize,
     to: &mut Output,
-) -> u8
-    ensures { result ≤ 2 }
-{
+) -> Status {
     let mut command = io::buffer();
     let mut first = io::buffer();
     let mut second = io::buffer();
@@ -85,9 +79,12 @@ fn answer(
 }
 
 // The command that is argument `at`.
-fn perform(rt: &(impl Env + Files + Clock), stderr: &impl IsTerminal, at: u8, to: &mut Output) -> u8
-    ensures { result ≤ 2 }
-{
+fn perform(
+    rt: &(impl Env + Files + Clock),
+    stderr: &impl IsTerminal,
+    at: u8,
+    to: &mut Output,
+) -> Status {
     let count = arg_count(rt);
     if count < at as usize + 2 {
         return refuse(
@@ -102,7 +99,7 @@ fn main(rt: HostRuntime) -> ExitCode {
     let mut to = show_answers::fresh_output(rt.stdout());
     if is_asked(&rt) {
         let x = perform(&rt, &rt.stderr(), 2, &mut to);
-        show_answers::tell_status(x, &to);
+        show_answers::tell_status(u8::from(x), &to);
     } else {
         perform(&rt, &rt.stderr(), 1, &mut to);
     }

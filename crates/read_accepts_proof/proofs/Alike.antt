@@ -51,7 +51,7 @@ use Rattle.read_length_proof.proofs.Main.{overlong_exact}
 use Rattle.rule_sheets.specs.Payload.{spelled}
 use Rattle.rule_sheets.proofs.Meaning.{Alike, args-alike}
 use Rattle.rule_least.proofs.Theorems.{places_free}
-use Rattle.read_passes.specs.declared.Judged.TheVariants.{Accepted}
+use Rattle.std.specs.Prelude.{Ok}
 use Rattle.read_passes.specs.Judging.{payload, laid, tables_from, tables_at, tables_text, wide_room, front, judge_of}
 use Rattle.read_accepts_proof.specs.Meaning.{Accepts}
 use Rattle.read_accepts_proof.proofs.Main.{kinds_are, all_proper, short, means_accepted}
@@ -256,7 +256,7 @@ pub accepted_slim : (t : List ℕ) (a : Accepts t) → length (normal a.tree) �
 accepted_slim t a = ltb-false normal_most (length (normal a.tree)) (inv (overlong_is t a.parts a.tree a.reads a.gram a.numbers a.written a.coded) ∙ a.slim)
 
 -- ---- a text of an accepted text's tree that is not too deep is accepted
-pub same_tree : (t u : List ℕ) (a : Accepts t) (qs : List Placed) → reading u ≡ tokens qs → Gram (tokens_in u qs) a.tree → too_deep (tokens_in u qs) ≡ none → judge_of u ≡ Accepted
+pub same_tree : (t u : List ℕ) (a : Accepts t) (qs : List Placed) → reading u ≡ tokens qs → Gram (tokens_in u qs) a.tree → too_deep (tokens_in u qs) ≡ none → judge_of u ≡ Ok tt
 same_tree t u a qs e g d =
     let ps = a.parts in
     let o = a.numbers in

@@ -1,15 +1,13 @@
 -- The laws that the entries cite.
 use mathlib.Core.Path.{◌≡◌, refl, sym, ap, ap₂, ◌∙◌}
-use mathlib.Core.Bool.{Bool, true, false}
 use mathlib.Core.List.{List}
-use Prim.Native.Nat.{ℕ, ◌+◌, ◌-◌, ◌≤◌, ◌<◌}
+use Prim.Native.Nat.{ℕ, ◌+◌, ◌-◌, ◌≤◌}
 use native.Mathlib.Omega.{arith}
-use borrow.Author.Tests.{le-leb, lt-leb, lt-ltb, le-ltb}
-use lib.Dec.{leb, ltb}
+use borrow.Author.Tests.{le-ltb}
 use lib.ListN.{length, take, drop}
 use Rattle.base_ceilings.specs.Ceilings.{tables_room}
-use Rattle.read_passes.specs.declared.Judged.{Judged}
-use Rattle.read_passes.specs.declared.Judged.TheVariants.{Accepted, Refused}
+use Rattle.std.specs.Prelude.{Result, Ok, Err}
+use Rattle.base_refusal.specs.declared.Refusal.{Refusal}
 use Rattle.read_passes.specs.Judging.{judge_of, left, tables_text}
 use Rattle.read_accepts_proof.proofs.Main.{accepted_means}
 use Rattle.read_accepts_proof.proofs.Tables.{text-laid}
@@ -17,40 +15,27 @@ use Rattle.read_entry.specs.Entries.{read_of, stays, left_of, part_start, part, 
 
 -- ---- reading
 module _ (t old : List ℕ) where
-  pub short-read : length old < tables_room → (Refused 7 0 0 ≡ read_of t old) × (old ≡ left_of t old)
-  unfolding read_of left_of
-  short-read h = (simp (lt-ltb (length old) tables_room h), simp (lt-ltb (length old) tables_room h))
-
-  pub room-read : (r : Judged) → tables_room ≤ length old → r ≡ judge_of t → r ≡ read_of t old
+  room-read : (r : Result (Unit {0}) Refusal) → tables_room ≤ length old → r ≡ judge_of t → r ≡ read_of t old
   unfolding read_of
   room-read r h e = simp (le-ltb (length old) tables_room h) e
 
-  clean : (r : Judged) → tables_room ≤ length old → r ≡ judge_of t → left r (tables_text t) old ≡ stays r (tables_text t) old
-  clean Accepted h e = text-laid t (accepted_means t (sym e)) old h
-  clean (Refused x i n) h e = refl
+  clean : (r : Result (Unit {0}) Refusal) → tables_room ≤ length old → r ≡ judge_of t → left r (tables_text t) old ≡ stays r (tables_text t) old
+  clean (Ok u) h e = text-laid t (accepted_means t (sym e)) old h
+  clean (Err r) h e = refl
 
-  pub room-left : (r : Judged) (new : List ℕ) → tables_room ≤ length old → r ≡ judge_of t → new ≡ left r (tables_text t) old → new ≡ left_of t old
+  pub room-left : (r : Result (Unit {0}) Refusal) (new : List ℕ) → tables_room ≤ length old → r ≡ judge_of t → new ≡ left r (tables_text t) old → new ≡ left_of t old
   unfolding left_of
-  room-left r new h e g = g ∙ clean r h e ∙ ap (λ (j : Judged). stays j (tables_text t) old) (room-read r h e)
+  room-left r new h e g = g ∙ clean r h e ∙ ap (λ (j : Result (Unit {0}) Refusal). stays j (tables_text t) old) (room-read r h e)
 
 -- in tables of the whole room the answer is that of the text alone
-pub whole_room : (t old : List ℕ) (r : Judged) → length old ≡ tables_room → r ≡ read_of t old → r ≡ judge_of t
+pub whole_room : (t old : List ℕ) (r : Result (Unit {0}) Refusal) → length old ≡ tables_room → r ≡ read_of t old → r ≡ judge_of t
 unfolding read_of
 whole_room t old r l e = e ∙ simp (le-ltb (length old) tables_room (omega arith))
 
 -- ---- the part that an answer names
-pub part_none : (n : ℕ) (j : Judged) → j ≡ Accepted → Bounded n j 0 0
-part_none n j e = record { low = omega arith; high = omega arith; begins = rw e refl; ends = rw e refl }
-
-pub part_out : (n x i m : ℕ) (j : Judged) → j ≡ Refused x i m → n < i + m → Bounded n j 0 0
-part_out n x i m j e h = record { low = omega arith; high = omega arith; begins = rw (e, lt-leb (i + m) n h) refl; ends = rw (e, lt-leb (i + m) n h) refl }
-
-pub part_in : (n x i m : ℕ) (j : Judged) → j ≡ Refused x i m → i + m ≤ n → Bounded n j i (i + m)
-part_in n x i m j e h = record { low = omega arith; high = h; begins = rw (e, le-leb (i + m) n h) refl; ends = rw (e, le-leb (i + m) n h) refl }
-
 -- the part between bounds, and where it lies
-pub part_is : (t : List ℕ) (j k : Judged) (a e : ℕ) → j ≡ k → Bounded (length t) j a e → take (e - a) (drop a t) ≡ part t k
+pub part_is : (t : List ℕ) (j k : Result (Unit {0}) Refusal) (a e : ℕ) → j ≡ k → Bounded (length t) j a e → take (e - a) (drop a t) ≡ part t k
 part_is t j k a e q b = ap₂ (λ x y. take (y - x) (drop x t)) b.begins b.ends ∙ ap (part t) q
 
-pub part_lies : (n : ℕ) (j k : Judged) (a e x y : ℕ) → j ≡ k → Bounded n j a e → ◌≡◌ {A = ℕ × ℕ} (x, a + y) (behind (x, y) (part_start n k))
+pub part_lies : (n : ℕ) (j k : Result (Unit {0}) Refusal) (a e x y : ℕ) → j ≡ k → Bounded n j a e → ◌≡◌ {A = ℕ × ℕ} (x, a + y) (behind (x, y) (part_start n k))
 part_lies n j k a e x y q b = ap (λ z. (x, z)) (let z : a + y ≡ y + a = omega arith in z ∙ ap (y +◌) (b.begins ∙ ap (part_start n) q))

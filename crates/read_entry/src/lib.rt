@@ -5,15 +5,15 @@ ghost use Rattle.std.specs.Prelude.{◌≡◌, length};
 ghost use Rattle.read_passes.specs.Judging.{judge_of};
 ghost use Rattle.read_entry.specs.Entries.{read_of, left_of, part_start, part, behind, Bounded};
 
-use read_passes::Judged;
+use base_refusal::Refusal;
 
 // The answer for a text; of an accepted one the tables, at the front of what is lent.
-pub fn read(text: &[u8], tables: &mut [u32]) -> Judged
+pub fn read(text: &[u8], tables: &mut [u32]) -> Result<(), Refusal>
     ensures value { result ≡ read_of text.now tables.old }
     ensures tables_after { tables.new ≡ left_of text.now tables.old }
 {
     if tables.len() < base_ceilings::TABLES_ROOM {
-        return Judged::Refused(7, 0, 0);
+        return Err(Refusal::of_no_part(7));
     }
     read_passes::pass(text, tables)
 }
@@ -26,24 +26,18 @@ struct Bounds {
 }
 
 // The part that an answer names, within a text of n bytes.
-fn named(j: Judged, n: usize) -> Bounds
+fn named(j: Result<(), Refusal>, n: usize) -> Bounds
     ensures { Bounded n j result.start result.end }
 {
-    match j {
-        Judged::Accepted => Bounds { start: 0, end: 0 },
-        Judged::Refused(_, i, m) => {
-            if n < i {
-                return Bounds { start: 0, end: 0 };
-            }
-            if n - i < m {
-                return Bounds { start: 0, end: 0 };
-            }
-            Bounds {
-                start: i,
-                end: i + m,
-            }
+    if let Err(r) = j {
+        if r.place <= n && r.length <= n - r.place {
+            return Bounds {
+                start: r.place,
+                end: r.place + r.length,
+            };
         }
     }
+    Bounds { start: 0, end: 0 }
 }
 
 // The part of the text that a refusal names: empty, at the start, for a text that is accepted or refused by no part.

@@ -1,8 +1,8 @@
 -- The laws that the check cites.
-use mathlib.Core.Path.{◌≡◌, sym, ap, ◌∙◌}
-use mathlib.Core.Bool.{Bool, false}
+use mathlib.Core.Path.{◌≡◌, refl, sym, ap, ◌∙◌}
+use mathlib.Core.Bool.{Bool, true, false}
 use mathlib.Core.List.{List, [], ◌∷◌, ◌++◌}
-use Prim.Native.Nat.{ℕ, ◌+◌, ◌-◌, ◌≤◌, ◌<◌, min}
+use Prim.Native.Nat.{ℕ, ◌≤◌, ◌<◌, min}
 use native.Mathlib.Omega.{arith}
 use borrow.Author.Tests.{lt-ltb, le-ltb}
 use lib.ListN.{length, get_or, take, drop, length-append}
@@ -16,8 +16,8 @@ use Rattle.base_pens.proofs.Pen.{puts_fit, puts-full, list_of, at_of}
 use Rattle.table_layout.proofs.Holds.{holds-length}
 use Rattle.table_layout.proofs.Fits.{length-tables}
 use Rattle.table_layout.specs.Trees.{entries_in}
-use Rattle.read_passes.specs.declared.Judged.{Judged}
-use Rattle.read_passes.specs.declared.Judged.TheVariants.{Accepted, Refused}
+use Rattle.std.specs.Prelude.{Result, Ok, Err, is_ok}
+use Rattle.base_refusal.specs.declared.Refusal.{Refusal}
 use Rattle.read_passes.specs.Judging.{judge_of, tables_text}
 use Rattle.read_accepts_proof.specs.Meaning.{Accepts, links_at}
 use Rattle.read_accepts_proof.proofs.Main.{accepted_means}
@@ -43,22 +43,30 @@ written-front xs ys e h =
 pub some-numbers : (t : List ℕ) → Accepts t → 0 < length (tables_text t)
 some-numbers t a = rw (text-tables t a) (omega (arith, length-tables (entries_in a.tree) (links_at t a)))
 
+accepted_if : (r : Result (Unit {0}) Refusal) → is_ok r ≡ true → r ≡ Ok tt
+accepted_if (Ok u) h = refl
+accepted_if (Err x) h = absurd (let z : ◌≡◌ {A = ℕ} 0 1 = cc in omega arith)
+
 -- ---- a text that is read into an array of the whole room
-module _ (t old new : List ℕ) (r : Judged) (l : length old ≡ tables_room) (e : r ≡ read_of t old) (f : new ≡ left_of t old) where
+module _ (t old new : List ℕ) (r : Result (Unit {0}) Refusal) (l : length old ≡ tables_room) (e : r ≡ read_of t old) (f : new ≡ left_of t old) where
   left_is : new ≡ stays (judge_of t) (tables_text t) old
   unfolding left_of
-  left_is = f ∙ ap (λ (j : Judged). stays j (tables_text t) old) (sym e ∙ whole_room t old r l e)
+  left_is = f ∙ ap (λ (j : Result (Unit {0}) Refusal). stays j (tables_text t) old) (sym e ∙ whole_room t old r l e)
 
-  pub gives_accepted : (w : List ℕ) (b : Bool) → r ≡ Accepted → b ≡ same w (written new) → b ≡ agrees (judge_of t) w (tables_text t)
+  pub gives_accepted : (w : List ℕ) (b : Bool) → is_ok r ≡ true → b ≡ same w (written new) → b ≡ agrees (judge_of t) w (tables_text t)
   gives_accepted w b q g =
-      let j : judge_of t ≡ Accepted = sym (whole_room t old r l e) ∙ q in
+      let j : judge_of t ≡ Ok tt = sym (whole_room t old r l e) ∙ accepted_if r q in
       let a = accepted_means t j in
-      let n : new ≡ tables_text t ++ drop (length (tables_text t)) old = left_is ∙ ap (λ (z : Judged). stays z (tables_text t) old) j in
+      let n : new ≡ tables_text t ++ drop (length (tables_text t)) old = left_is ∙ ap (λ (z : Result (Unit {0}) Refusal). stays z (tables_text t) old) j in
       g ∙ ap (λ (z : List ℕ). same w (written z)) n ∙ ap (same w) (written-front (tables_text t) (drop (length (tables_text t)) old) (counted t a) (some-numbers t a))
-      ∙ sym (ap (λ (z : Judged). agrees z w (tables_text t)) j)
+      ∙ sym (ap (λ (z : Result (Unit {0}) Refusal). agrees z w (tables_text t)) j)
 
-  pub gives_refused : (w : List ℕ) (x i n : ℕ) → r ≡ Refused x i n → false ≡ agrees (judge_of t) w (tables_text t)
-  gives_refused w x i n q = sym (ap (λ (z : Judged). agrees z w (tables_text t)) (sym (whole_room t old r l e) ∙ q))
+  pub gives_refused : (w : List ℕ) → is_ok r ≡ false → false ≡ agrees (judge_of t) w (tables_text t)
+  gives_refused w q = go (judge_of t) (ap is_ok (sym (whole_room t old r l e)) ∙ q)
+    where
+      go : (j : Result (Unit {0}) Refusal) → is_ok j ≡ false → false ≡ agrees j w (tables_text t)
+      go (Ok u) h = absurd (let z : ◌≡◌ {A = ℕ} 0 1 = cc in omega arith)
+      go (Err x) h = refl
 
 -- ---- a text in an array
 module _ (u old new : List ℕ) (r : ℕ) (l : length old ≡ normal_most) (e : pen new r ≡ puts u (pen old 0)) where

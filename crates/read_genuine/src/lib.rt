@@ -6,8 +6,6 @@ ghost use Rattle.base_bytes.specs.Lists.{same};
 ghost use Rattle.read_passes.specs.Judging.{judge_of, tables_text};
 ghost use Rattle.read_genuine.specs.Genuine as spec;
 
-use read_passes::Judged;
-
 // The written part of tables.
 pub fn written(t: &[u32]) -> &[u32]
     ensures { result.now ≡ spec.written t.now }
@@ -20,17 +18,7 @@ pub fn written(t: &[u32]) -> &[u32]
 fn same_words(x: &[u32], y: &[u32]) -> bool
     ensures { result ≡ same x.now y.now }
 {
-    if x.len() != y.len() {
-        return false;
-    }
-    let mut k: usize = 0;
-    while k < x.len() {
-        if x[k] != y[k] {
-            return false;
-        }
-        k += 1;
-    }
-    true
+    x == y
 }
 
 // Does a text give these numbers as its tables?
@@ -38,11 +26,7 @@ fn gives(text: &[u8], w: &[u32]) -> bool
     ensures { result ≡ spec.agrees (judge_of text.now) w.now (tables_text text.now) }
 {
     let mut back = [0u32; base_ceilings::TABLES_ROOM];
-    let j = read_entry::read(text, &mut back);
-    match j {
-        Judged::Accepted => same_words(w, written(&back)),
-        Judged::Refused(_, _, _) => false,
-    }
+    read_entry::read(text, &mut back).is_ok() && same_words(w, written(&back))
 }
 
 // Are these the tables of an accepted text?

@@ -31,10 +31,8 @@ fn numbers(codes: &[u8], args: &[u32], homes: &[u32], h: usize) -> usize
     ensures { result ≡ tops.numbers codes.now args.now homes.now h }
 {
     let mut n: usize = 0;
-    let mut j: usize = 0;
-    while j < codes.len() {
+    for j in 0..codes.len() {
         n += numbers_at(codes, args, homes, h, j);
-        j += 1;
     }
     n
 }
@@ -129,10 +127,8 @@ fn total(codes: &[u8], args: &[u32], homes: &[u32], which: u8) -> usize
     ensures { result ≡ tops.total codes.now args.now homes.now which }
 {
     let mut n: usize = 0;
-    let mut j: usize = 0;
-    while j < codes.len() {
+    for j in 0..codes.len() {
         n += weight(codes, args, homes, which, j);
-        j += 1;
     }
     n
 }

@@ -271,14 +271,12 @@ fn twin(codes: &[u8], j: usize) -> bool
     requires { j < 18446744073709551615 }
     ensures { result ≡ rules.twin codes.now j 1 }
 {
-    let mut k = j;
     let mut d: usize = 1;
-    while 0 < k {
-        if twin_at(codes, k - 1, d) {
+    for k in (0..j).rev() {
+        if twin_at(codes, k, d) {
             return true;
         }
-        d = depth_on(codes, k - 1, d);
-        k -= 1;
+        d = depth_on(codes, k, d);
     }
     false
 }

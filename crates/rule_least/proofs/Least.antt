@@ -1,12 +1,12 @@
 -- The fold from the last item to the first.
-use Prim.Native.Nat.{ℕ, zero, suc, ◌+◌, ◌-◌, ◌≤◌, ◌<◌}
-use mathlib.Core.Path.{◌≡◌, refl, sym, ◌∙◌, ap}
+use Prim.Native.Nat.{ℕ, suc, ◌+◌, ◌-◌, ◌≤◌}
+use mathlib.Core.Path.{◌≡◌, ◌∙◌, ap}
 use mathlib.Core.List.{List}
 use native.Mathlib.Omega.{arith}
 use lib.ListN.{length}
 use Rattle.rule_least.specs.Faults.{joined, least_from, least_of}
 use Rattle.rule_least.specs.declared.Fault.{Fault}
-use Rattle.rule_least.specs.declared.Fault.TheVariants.{None, At}
+use Rattle.rule_least.specs.declared.Fault.TheVariants.{None}
 
 module _ (cs vs hs ss ts toks : List ℕ) where
   pub least-none : (n : ℕ) {k : ℕ} → k ≡ 0 → None ≡ least_from cs vs hs ss ts toks n k

@@ -1,7 +1,7 @@
 -- Mechanism, held to the specification by `least-fault` (crate `legal_texts`).
 -- The faults of a model with their places, and the least of them: document 01, "Within a pass the smallest place wins, then the smallest number".
 -- A place is a token; which one is said by the last column of "What is answered".
-use Rattle.std.specs.Prelude.{ℕ, zero, suc, ◌+◌, ◌-◌, Bool, List, [], ◌∷◌, length, get_or, replicate, eqb, ltb}
+use Rattle.std.specs.Prelude.{ℕ, zero, suc, ◌+◌, ◌-◌, List, length, get_or, replicate, eqb, ltb}
 use Rattle.base_ceilings.specs.Ceilings.{items_most}
 use Rattle.base_codes.specs.Codes.{c_set_run}
 use Rattle.base_codes.specs.Sets.{rule_of}
@@ -9,7 +9,7 @@ use Rattle.base_bytes.specs.Choice.{pick}
 use Rattle.rule_sheets.specs.Homes.{homes_of}
 use Rattle.rule_sheets.specs.Spans.{starts_of, heights_of}
 use Rattle.rule_search.specs.Search.{opener}
-use Rattle.rule_item.specs.Rules.{bad_by, bad}
+use Rattle.rule_item.specs.Rules.{bad}
 use Rattle.rule_least.specs.declared.Fault.{Fault}
 use Rattle.rule_least.specs.declared.Fault.TheVariants.{None, At}
 

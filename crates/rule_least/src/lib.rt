@@ -93,9 +93,7 @@ fn least_fault(
     ensures { result ≡ faults.least_of codes.now args.now homes.now starts.now heights.now toks.now }
 {
     let mut best = Fault::None;
-    let mut j = codes.len();
-    while 0 < j {
-        j -= 1;
+    for j in (0..codes.len()).rev() {
         best = joined(codes, args, homes, chain, starts, heights, toks, j, best);
     }
     best

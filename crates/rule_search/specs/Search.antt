@@ -1,6 +1,6 @@
 -- Mechanism, held to the specification by `rules` (crate `legal_texts`).
 -- Searches over items. `cs` are the items, `vs` what their tokens say (a name's number, specs/Payload.antt of `rule_sheets`), `hs` the bodies that they are in.
-use Rattle.std.specs.Prelude.{ℕ, ◌+◌, ◌-◌, Bool, false, List, length, get_or, eqb, ltb}
+use Rattle.std.specs.Prelude.{ℕ, ◌-◌, Bool, false, List, get_or, eqb, ltb}
 use Rattle.base_bytes.specs.Choice.{pick, both}
 use Rattle.rule_sheets.specs.Walks.{first, after, sum}
 use Rattle.rule_search.specs.Sets.{among}

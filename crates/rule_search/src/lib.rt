@@ -90,10 +90,8 @@ fn clear(n: usize, chain: &mut [u32])
     requires { n ≤ items_most }
     ensures { chain.new ≡ filled (λ l w. n) 0 n chain.old }
 {
-    let mut w: usize = 0;
-    while w < n {
+    for w in 0..n {
         put(chain, w, n);
-        w += 1;
     }
 }
 
@@ -121,9 +119,7 @@ pub fn fill_chain(codes: &[u8], args: &[u32], chain: &mut [u32])
         return;
     }
     clear(codes.len(), chain);
-    let mut j = codes.len();
-    while 0 < j {
-        j -= 1;
+    for j in (0..codes.len()).rev() {
         link(codes, args, chain, j);
     }
 }
@@ -168,6 +164,7 @@ pub fn find(
     if w == 0 {
         return to;
     }
+    // The step is as far as the chain goes, so no range counts it.
     let mut d = head(chain, w);
     while d < to {
         if declares(codes, args, homes, set, w, h, d) {
@@ -201,12 +198,10 @@ pub fn lookup(
 pub fn after(codes: &[u8], set: u8, j: usize) -> usize
     ensures { result ≡ finding.last codes.now set j }
 {
-    let mut k = j;
-    while 0 < k {
-        if among(set, base_bytes::byte_at(codes, k - 1)) {
-            return k;
+    for k in (0..j).rev() {
+        if among(set, base_bytes::byte_at(codes, k)) {
+            return k + 1;
         }
-        k -= 1;
     }
     0
 }
@@ -228,10 +223,8 @@ pub fn count(codes: &[u8], homes: &[u32], set: u8, h: usize, from: usize, to: us
     ensures { result ≡ finding.count codes.now homes.now set h from to }
 {
     let mut n: usize = 0;
-    let mut j = from;
-    while j < to {
+    for j in from..to {
         n += one(codes, homes, set, h, j);
-        j += 1;
     }
     n
 }

@@ -1,16 +1,14 @@
 -- The laws of formats: one byte more, and the end.
-use Prim.Native.Nat.{ℕ, ◌+◌, ◌-◌, ◌*◌, ◌≤◌, ◌<◌}
+use Prim.Native.Nat.{ℕ, ◌+◌, ◌*◌, ◌≤◌, ◌<◌}
 use mathlib.Core.Path.{◌≡◌}
 use mathlib.Core.Bool.{Bool, true, false}
 use mathlib.Core.List.{List}
 use native.Mathlib.Omega.{arith}
 use native.Mathlib.Numerals.{add-one}
-use lib.ListN.{length, get_or, drop, length-take, length-drop, drop_of_length-le}
+use lib.ListN.{length, get_or, drop, drop_of_length-le}
 use lib.Seq.{drop-cons}
 use lib.Dec.{eqb}
-use Rattle.base_ceilings.specs.Ceilings.{items_most}
 use Rattle.base_bytes.specs.Choice.{pick}
-use Rattle.base_bytes.specs.Lists.{piece}
 use Rattle.spec_text.specs.Formats.{format_from, move_of}
 
 module _ (opened : Bool) (n bad : ℕ) (s : List ℕ) (i : ℕ) where
@@ -31,11 +29,3 @@ one_most false e = omega arith
 pub chosen_most : (t : Bool) {r b : ℕ} → r ≡ pick t 1 b → b ≤ 1 → r ≤ 1
 chosen_most true e h = omega arith
 chosen_most false e h = omega arith
-
-pub chosen_less : (t : Bool) {r h : ℕ} → r ≡ pick t 0 h → h < items_most + 1 → r < 4294967296
-chosen_less true e h = omega arith
-chosen_less false e h = omega arith
-
--- a part is no longer than the whole
-pub piece_most : (t : List ℕ) (a b : ℕ) → length (piece t a b) ≤ length t
-piece_most t a b = simp (length-take, length-drop) (omega arith)

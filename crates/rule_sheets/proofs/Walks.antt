@@ -1,11 +1,12 @@
 -- The laws of walks: one place more, and the end.
 use Prim.Native.Nat.{ℕ, zero, suc, ◌+◌, ◌-◌, ◌≤◌, ◌<◌}
-use mathlib.Core.Path.{◌≡◌, refl, sym, ◌∙◌, ap}
+use mathlib.Core.Path.{◌≡◌, sym, ◌∙◌, ap}
 use mathlib.Core.Bool.{Bool, true, false}
-use mathlib.Core.List.{List, [], ◌∷◌}
+use mathlib.Core.List.{List}
 use native.Mathlib.Omega.{arith}
 use native.Mathlib.Nat.{add-zero, zero-add, add_assoc}
-use lib.ListN.{length, get_or, set}
+use native.Mathlib.Numerals.{add-one}
+use lib.ListN.{set}
 use Rattle.base_bytes.specs.Choice.{pick}
 use Rattle.rule_sheets.specs.Walks.{first, after, sum, filled}
 
@@ -22,6 +23,9 @@ pub first_end : (p : ℕ → Bool) (i k : ℕ) → k ≡ 0 → i ≡ first p i k
 unfolding first
 first_end p i k e = rw e
 
+pub first_past : (p : ℕ → Bool) (i n : ℕ) → i ≡ n → n ≡ first p i (n - i)
+first_past p i n e = sym e ∙ first_end p i (n - i) (omega arith)
+
 pub first_most : (p : ℕ → Bool) (i k : ℕ) → first p i k ≤ i + k
 unfolding first
 first_most p i zero = omega arith
@@ -31,9 +35,9 @@ first_most p i (suc k) = here (p i) (first_most p (i + 1) k)
     here true h = omega arith
     here false h = omega arith
 
-pub after_stop : (p : ℕ → Bool) (i j : ℕ) {b : Bool} → i ≡ suc j → b ≡ p j → b ≡ true → i ≡ after p i
+pub after_stop : (p : ℕ → Bool) (i j : ℕ) {b : Bool} → i ≡ suc j → b ≡ p j → b ≡ true → j + 1 ≡ after p i
 unfolding after
-after_stop p i j q eb e = rw (q, ← eb, e)
+after_stop p i j q eb e = rw (q, ← eb, e, add-one)
 
 pub after_more : (p : ℕ → Bool) (i j : ℕ) {b : Bool} → i ≡ suc j → b ≡ p j → b ≡ false → after p j ≡ after p i
 unfolding after

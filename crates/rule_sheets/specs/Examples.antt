@@ -1,6 +1,6 @@
 -- Mechanism: worked examples, computed from its definitions; they are held to nothing else.
 -- Worked examples, computed.
-use Rattle.std.specs.Prelude.{ℕ, ◌≡◌, refl, List, [], ◌∷◌}
+use Rattle.std.specs.Prelude.{◌≡◌, refl, [], ◌∷◌}
 use Rattle.base_codes.specs.Codes.{c_add, c_body, c_end_body, c_index, c_init, c_name, c_number, c_skip}
 use Rattle.rule_sheets.specs.Walks.{filled}
 use Rattle.spec_text.specs.Formats.{format_from, format_of}

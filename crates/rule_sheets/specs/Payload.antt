@@ -1,7 +1,7 @@
 -- Mechanism, held to the specification by `read_legal`, `legal_read` (crate `legal_texts`).
 -- What the token of an item says, as one number: names by the first item that has the name, numbers by their value, formats by what they ask for.
 -- It is a function of spellings alone: no place of the text is in it. Document 01, "Names" and row 5 of "What is answered".
-use Rattle.std.specs.Prelude.{ℕ, ◌+◌, ◌-◌, min, Bool, false, List, length, get_or, eqb, ltb}
+use Rattle.std.specs.Prelude.{ℕ, ◌+◌, min, Bool, false, List, length, get_or, eqb, ltb}
 use Rattle.base_ceilings.specs.Ceilings.{items_most, number_most, text_most}
 use Rattle.base_bytes.specs.Choice.{pick}
 use Rattle.base_bytes.specs.Lists.{same, piece}

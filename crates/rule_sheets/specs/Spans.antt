@@ -1,7 +1,7 @@
 -- Mechanism, held to the specification by `rules` (crate `legal_texts`).
 -- For an expression, which is in postfix, that ends at an item: where it starts, and its height. Document 01, "Ceilings": expression height 32 (operand 1;
 -- operator, index, `len` 1 above its highest part). Parentheses add nothing: the items have none. A conditional is 1 above its highest part; `len(c)` is 2.
-use Rattle.std.specs.Prelude.{ℕ, zero, suc, ◌+◌, ◌-◌, min, Bool, List, length, get_or, eqb, ltb, leb}
+use Rattle.std.specs.Prelude.{ℕ, ◌+◌, ◌-◌, min, List, length, get_or, eqb, ltb, leb}
 use Rattle.base_ceilings.specs.Ceilings.{height_most, items_most}
 use Rattle.base_codes.specs.Codes.{c_bit, c_choice, c_index, c_len, c_negate, c_plain, c_remainder}
 use Rattle.base_bytes.specs.Choice.{pick, both, either}

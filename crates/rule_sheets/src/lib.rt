@@ -114,14 +114,12 @@ fn first_same(
     ensures value { result ≡ first_same text.now starts.now ends.now codes.now toks.now j }
     ensures upper_bound { result ≤ j }
 {
-    let mut i: usize = 0;
-    while i < j {
+    for i in 0..j {
         if same_name(text, starts, ends, codes, toks, j, i) {
             return i;
         }
-        i += 1;
     }
-    i
+    j
 }
 
 fn name_arg(
@@ -170,13 +168,11 @@ fn format_arg(s: &[u8]) -> usize
     let mut opened = false;
     let mut n: usize = 0;
     let mut bad: usize = 0;
-    let mut i: usize = 0;
-    while i < s.len() {
-        let m = move_of(opened, s[i]);
+    for b in s {
+        let m = move_of(opened, *b);
         opened = m == 1;
         n += choose_size(m == 2, 1, 0);
         bad = choose_size(m == 3, 1, bad);
-        i += 1;
     }
     2 * n + choose_size(opened, 1, bad)
 }
@@ -220,10 +216,8 @@ pub fn fill_args(
     if base_ceilings::ITEMS_MOST < codes.len() {
         return;
     }
-    let mut j: usize = 0;
-    while j < codes.len() {
+    for j in 0..codes.len() {
         put(args, j, arg_of(text, starts, ends, codes, toks, j));
-        j += 1;
     }
 }
 
@@ -254,11 +248,9 @@ pub fn fill_homes(codes: &[u8], homes: &mut [u32])
         return;
     }
     let mut h: usize = 0;
-    let mut j: usize = 0;
-    while j < codes.len() {
-        put(homes, j, choose_size(is_head(codes[j]), 0, h));
-        h = inside(codes[j], j, h);
-        j += 1;
+    for (j, c) in codes.iter().enumerate() {
+        put(homes, j, choose_size(is_head(*c), 0, h));
+        h = inside(*c, j, h);
     }
 }
 
@@ -314,11 +306,9 @@ pub fn fill_starts(codes: &[u8], starts: &mut [u32])
     if base_ceilings::ITEMS_MOST < codes.len() {
         return;
     }
-    let mut j: usize = 0;
-    while j < codes.len() {
+    for j in 0..codes.len() {
         let v = start_of(codes, starts, j);
         put(starts, j, v);
-        j += 1;
     }
 }
 
@@ -366,10 +356,8 @@ pub fn fill_heights(codes: &[u8], starts: &[u32], heights: &mut [u32])
     if base_ceilings::ITEMS_MOST < codes.len() {
         return;
     }
-    let mut j: usize = 0;
-    while j < codes.len() {
+    for j in 0..codes.len() {
         let v = height_of(codes, starts, heights, j);
         put(heights, j, v);
-        j += 1;
     }
 }

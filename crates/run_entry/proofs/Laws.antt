@@ -78,6 +78,10 @@ module _ (t : List ℕ) (limit n : ℕ) (s₀ s : List ℤ) (inv : behind n (run
   unfolding run_from
   ended h ev ea = let z : limit - n ≡ 0 = omega arith in still s (ap (λ (l : ℕ). behind n (run_in t l s)) (sym z) ∙ inv) ev ea
 
+  -- the same where the limit itself is the count
+  pub ended_at : n ≡ limit → {v : Verdict} {a : Ending} → v ≡ verdict_as (machine.verdict (machine_in t) s) → a ≡ ending_of v → (Ended a limit, s) ≡ shown (run_in t limit s₀)
+  ended_at h {a = a} ev ea = ap (λ (c : ℕ). (Ended a c, s)) (sym h) ∙ ended (omega arith) ev ea
+
   module _ (h : n < limit) {r : Taken} {s' : List ℤ} (e : (r, s') ≡ turn_in t s) where
     known : (x : Taken) → r ≡ x → behind n (run_by M x s' (λ y. run_in t (limit - (n + 1)) y)) ≡ run_in t limit s₀
     unfolding run_from

@@ -38,13 +38,15 @@ pub fn turn(t: &[u32], s: &mut [i32]) -> Taken
 }
 
 // How a run ends that goes no further in a state that stands so.
-pub fn ending_of(v: Verdict) -> Ending
-    ensures { result ≡ runs.ending_of v }
-{
-    match v {
-        Verdict::Finished => Ending::Finished,
-        Verdict::Blocked => Ending::Blocked,
-        Verdict::Open => Ending::Open,
+impl From<Verdict> for Ending {
+    ghost from_gives = { λ v r. r ≡ runs.ending_of v };
+
+    fn from(v: Verdict) -> Ending {
+        match v {
+            Verdict::Finished => Ending::Finished,
+            Verdict::Blocked => Ending::Blocked,
+            Verdict::Open => Ending::Open,
+        }
     }
 }
 
@@ -52,13 +54,10 @@ pub fn ending_of(v: Verdict) -> Ending
 pub fn run_on(t: &[u32], s: &mut [i32], limit: u32) -> Ran
     ensures { (result, s.new) ≡ runs.shown (runs.run_in t.now limit s.old) }
 {
-    let mut n: u32 = 0;
-    while n < limit {
+    for n in 0..limit {
         let r = turn(t, s);
         match r {
-            Taken::Done => {
-                n += 1;
-            }
+            Taken::Done => {}
             Taken::Refuted => {
                 return Ran::Ended(Ending::Assert, n + 1);
             }
@@ -66,11 +65,11 @@ pub fn run_on(t: &[u32], s: &mut [i32], limit: u32) -> Ran
                 return Ran::Ended(Ending::Fault(f), n + 1);
             }
             Taken::Idle => {
-                return Ran::Ended(ending_of(step_all::verdict_of(t, s)), n);
+                return Ran::Ended(step_all::verdict_of(t, s).into(), n);
             }
         }
     }
-    Ran::Ended(ending_of(step_all::verdict_of(t, s)), n)
+    Ran::Ended(step_all::verdict_of(t, s).into(), limit)
 }
 
 // The automatic run from the lent state on, which it leaves as the run does.

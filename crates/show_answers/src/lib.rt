@@ -129,28 +129,24 @@ pub fn complain(words: &[u8], name: &[u8], to: &mut Output) {
 pub fn seek(line: &[u8], from: usize, b: u8) -> usize
     ensures { (min from (length line.now) ≤ result) × (result ≤ length line.now) × (result ≡ first (λ k. eqb (get_or line.now k 0) b) (min from (length line.now)) (length line.now - min from (length line.now))) }
 {
-    let mut k = base_bytes::least(from, line.len());
-    while k < line.len() {
+    for k in base_bytes::least(from, line.len())..line.len() {
         if line[k] == b {
             return k;
         }
-        k += 1;
     }
-    k
+    line.len()
 }
 
 // Where the bytes before the first line end end.
 fn line_stop(s: &[u8]) -> usize
     ensures { (result ≤ length s.now) × (result ≡ length (shown.first_line s.now)) }
 {
-    let mut k: usize = 0;
-    while k < s.len() {
-        if s[k] == b'\n' {
+    for (k, b) in s.iter().enumerate() {
+        if *b == b'\n' {
             return k;
         }
-        k += 1;
     }
-    k
+    s.len()
 }
 
 // The bytes before the first line end.
@@ -172,11 +168,8 @@ fn line_start(s: &[u8]) -> usize
     ensures { (result ≤ length s.now) × (parts.Last s.now result) }
 {
     let mut start: usize = 0;
-    let mut k: usize = 0;
-    while k < s.len() {
-        let b = s[k];
-        k += 1;
-        start = start_behind(b, k, start);
+    for (k, b) in s.iter().enumerate() {
+        start = start_behind(*b, k + 1, start);
     }
     start
 }
@@ -193,10 +186,8 @@ fn put_under(s: &[u8], mark: u8, out: &mut [u8], p: usize) -> usize
     ensures { pen out.new result ≡ puts (shown.under mark s.now) (pen out.old p) }
 {
     let mut q = p;
-    let mut k: usize = 0;
-    while k < s.len() {
-        q = text_pens::put_times(mark, show_printed::width(s[k]), out, q);
-        k += 1;
+    for b in s {
+        q = text_pens::put_times(mark, show_printed::width(*b), out, q);
     }
     q
 }

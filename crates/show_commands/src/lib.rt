@@ -10,7 +10,7 @@ use base_bytes::part;
 use base_outcome::Step;
 use run_entry::{Ending, Ran};
 use show_answers::{Output, put, put_counted};
-use show_statuses::{Answer, status};
+use show_statuses::{Answer, Status, status_of};
 use step_all::{Offer, Verdict};
 use text_pens::put_all;
 use trail_replay::Replayed;
@@ -23,8 +23,7 @@ const LINE_ROOM: usize = 4 * base_ceilings::NORMAL_MOST + 128;
 // `start`: each offered step of a state; how many there are.
 fn list_offers(t: &[u32], s: &[i32], to: &mut Output) -> usize {
     let mut out = [0u8; LINE_ROOM];
-    let mut n: u32 = 0;
-    while n < show_steps::LISTED_MOST {
+    for n in 0..show_steps::LISTED_MOST {
         let o = step_all::nth(t, s, n);
         match o {
             Offer::Step(x) => {
@@ -35,9 +34,8 @@ fn list_offers(t: &[u32], s: &[i32], to: &mut Output) -> usize {
                 return n as usize;
             }
         }
-        n += 1;
     }
-    n as usize
+    show_steps::LISTED_MOST as usize
 }
 
 // Writes the answer for a state in which n steps are offered.
@@ -52,21 +50,21 @@ fn put_verdict(v: Verdict, n: usize, out: &mut [u8], p: usize) -> usize
 }
 
 // Answers for a state in which n steps are offered.
-fn answer_verdict(v: Verdict, n: usize, to: &mut Output) -> u8
+fn answer_verdict(v: Verdict, n: usize, to: &mut Output) -> Status
     ensures { result ≡ statuses.verdict_status v }
 {
     let mut line = [0u8; ANSWER_ROOM];
     let k = put_verdict(v, n, &mut line, 0);
     put(part(&line, 0, k), to);
     match v {
-        Verdict::Finished => status(Answer::Finished),
-        Verdict::Blocked => status(Answer::Blocked),
-        Verdict::Open => status(Answer::Open),
+        Verdict::Finished => status_of(Answer::Finished),
+        Verdict::Blocked => status_of(Answer::Blocked),
+        Verdict::Open => status_of(Answer::Open),
     }
 }
 
 // `start MODEL`
-pub fn start(tables: &[u32], to: &mut Output) -> u8
+pub fn start(tables: &[u32], to: &mut Output) -> Status
     ensures { result ≡ statuses.start_status tables.now }
 {
     let t = read_genuine::written(tables);
@@ -89,15 +87,15 @@ fn put_ending(e: Ending, n: usize, out: &mut [u8], p: usize) -> usize
     }
 }
 
-fn ending_status(e: Ending) -> u8
+fn ending_status(e: Ending) -> Status
     ensures { result ≡ statuses.ending_status e }
 {
     match e {
-        Ending::Finished => status(Answer::Finished),
-        Ending::Blocked => status(Answer::Blocked),
-        Ending::Open => status(Answer::Open),
-        Ending::Assert => status(Answer::Assert),
-        Ending::Fault(_) => status(Answer::Fault),
+        Ending::Finished => status_of(Answer::Finished),
+        Ending::Blocked => status_of(Answer::Blocked),
+        Ending::Open => status_of(Answer::Open),
+        Ending::Assert => status_of(Answer::Assert),
+        Ending::Fault(_) => status_of(Answer::Fault),
     }
 }
 
@@ -111,7 +109,7 @@ fn put_ran(r: Ran, out: &mut [u8], p: usize) -> usize
     }
 }
 
-fn answer_run(r: Ran, to: &mut Output) -> u8
+fn answer_run(r: Ran, to: &mut Output) -> Status
     ensures { result ≡ statuses.ran_status r }
 {
     let mut line = [0u8; ANSWER_ROOM];
@@ -119,7 +117,7 @@ fn answer_run(r: Ran, to: &mut Output) -> u8
     put(part(&line, 0, k), to);
     match r {
         Ran::Ended(e, _) => ending_status(e),
-        Ran::Refused(_) => status(Answer::Error),
+        Ran::Refused(_) => status_of(Answer::Error),
     }
 }
 
@@ -148,7 +146,7 @@ fn tell_stuck(t: &[u32], s: &[i32], r: Ran, to: &mut Output) {
 }
 
 // `run MODEL LIMIT`
-pub fn run(tables: &[u32], limit: u32, to: &mut Output) -> u8
+pub fn run(tables: &[u32], limit: u32, to: &mut Output) -> Status
     ensures { result ≡ statuses.run_status tables.now limit }
 {
     let t = read_genuine::written(tables);
@@ -173,20 +171,20 @@ fn put_replayed(r: Replayed, out: &mut [u8], p: usize) -> usize
     }
 }
 
-pub fn answer_replay(r: Replayed, to: &mut Output) -> u8
+pub fn answer_replay(r: Replayed, to: &mut Output) -> Status
     ensures { result ≡ statuses.replayed_status r }
 {
     let mut line = [0u8; ANSWER_ROOM];
     let k = put_replayed(r, &mut line, 0);
     put(part(&line, 0, k), to);
     match r {
-        Replayed::Accepted(_) => status(Answer::Accepted),
-        Replayed::Refused(_, _) => status(Answer::Refused),
+        Replayed::Accepted(_) => status_of(Answer::Accepted),
+        Replayed::Refused(_, _) => status_of(Answer::Refused),
     }
 }
 
 // `replay MODEL TRAIL`
-pub fn replay(tables: &[u32], trail: &[u8], to: &mut Output) -> u8
+pub fn replay(tables: &[u32], trail: &[u8], to: &mut Output) -> Status
     ensures { result ≡ statuses.replay_status tables.now trail.now }
 {
     let mut s = [0i32; base_ceilings::STATE_ROOM];

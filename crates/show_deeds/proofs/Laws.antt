@@ -1,4 +1,5 @@
 -- Laws of the lines that tell what a step did: each line word by word, and by what was found.
+use Rattle.std.specs.Prelude.{Result, Ok, Err}
 use Prim.Native.Nat.{ℕ, zero, suc, ◌+◌, ◌-◌, ◌<◌, ◌^◌}
 use mathlib.Core.Path.{◌≡◌, refl, sym, ap, ◌∙◌}
 use mathlib.Core.Bool.{true, false}
@@ -22,10 +23,6 @@ use Rattle.table_layout.specs.Access.{code_of, link_of}
 use Rattle.state_layout.specs.Layout.{cell_of, processes_of, declared_of, waiting_of}
 use Rattle.state_layout.proofs.Laws.{back}
 use Rattle.write_letters.specs.Tokens.{spelled}
-use Rattle.step_eval.specs.declared.Located.{Located}
-use Rattle.step_eval.specs.declared.Located.TheVariants.{At, Astray}
-use Rattle.step_eval.specs.declared.Reached.{Reached}
-use Rattle.step_eval.specs.declared.Reached.TheVariants.{Record, Unmade}
 use Rattle.step_eval.specs.Variables.{variable_of, slot_of}
 use Rattle.step_eval.specs.Expressions.{locate_of}
 use Rattle.step_ready.specs.Channels.{fields_of, compared_at}
@@ -85,10 +82,10 @@ module _ (t : List ℕ) where
     started_none m w hu room = rw (← hu, ← room) (none-put w)
 
   module _ (before after : List ℤ) (p : ℕ) where
-    pub stored_at_lem : (from m i : ℕ) {x : Located} (w : Pen) {z : Pen} → x ≡ locate_of t before p from m → x ≡ At i → z ≡ puts (store_in t after p from m i) w → z ≡ puts (stored_in t before after p from m) w
+    pub stored_at_lem : (from m i : ℕ) {x : Result ℕ Fault} (w : Pen) {z : Pen} → x ≡ locate_of t before p from m → x ≡ Ok i → z ≡ puts (store_in t after p from m i) w → z ≡ puts (stored_in t before after p from m) w
     stored_at_lem from m i w e h g = rw (← e, h) g
 
-    pub stored_astray : (from m : ℕ) {f : Fault} {x : Located} (w : Pen) → x ≡ locate_of t before p from m → x ≡ Astray f → w ≡ puts (stored_in t before after p from m) w
+    pub stored_astray : (from m : ℕ) {f : Fault} {x : Result ℕ Fault} (w : Pen) → x ≡ locate_of t before p from m → x ≡ Err f → w ≡ puts (stored_in t before after p from m) w
     stored_astray from m w e h = rw (← e, h) (none-put w)
 
     pub assigned-ran : (q m : ℕ) {e c : ℕ} (w : Pen) {x y : Pen} → x ≡ puts (stored_in t before after p q m) w → e ≡ link_of t m → c ≡ code_of t e → c ≡ c_set_run → y ≡ puts (started_in t before e) x
@@ -124,20 +121,20 @@ module _ (t : List ℕ) where
         (then (target_in t before after p a m) (targets_in t before after p n (m + 1)) _ hx
         (hy ∙ ap (λ i. puts (targets_in t before after p i b) x) (let k : n1 ≡ n = omega arith in k) ∙ ap (λ i. puts (targets_in t before after p n i) x) hb))
 
-    pub sent-put : (q m c : ℕ) {x : Reached} {k : ℕ} (w : Pen) {a z : Pen} → x ≡ message_of t before p q m → x ≡ Record c → a ≡ puts (bytes "\tsent ") w → k ≡ waiting_of before c → z ≡ puts (passed_in t after c k) a
+    pub sent-put : (q m c : ℕ) {x : Result ℕ Fault} {k : ℕ} (w : Pen) {a z : Pen} → x ≡ message_of t before p q m → x ≡ Ok c → a ≡ puts (bytes "\tsent ") w → k ≡ waiting_of before c → z ≡ puts (passed_in t after c k) a
         → z ≡ puts (sent_in t before after p q m) w
     sent-put q m c w {a = a} e h ha hk hz =
         rw (← e, h) (then (bytes "\tsent ") (passed_in t after c (waiting_of before c)) _ ha (hz ∙ ap (λ i. puts (passed_in t after c i) a) hk))
 
-    pub sent-none : (q m : ℕ) {f : Fault} {x : Reached} (w : Pen) → x ≡ message_of t before p q m → x ≡ Unmade f → w ≡ puts (sent_in t before after p q m) w
+    pub sent-none : (q m : ℕ) {f : Fault} {x : Result ℕ Fault} (w : Pen) → x ≡ message_of t before p q m → x ≡ Err f → w ≡ puts (sent_in t before after p q m) w
     sent-none q m w e h = rw (← e, h) (none-put w)
 
-    pub received-put : (q m c : ℕ) {x : Reached} (w : Pen) {a b z : Pen} → x ≡ message_of t before p q m → x ≡ Record c → a ≡ puts (bytes "\treceived ") w → b ≡ puts (passed_in t before c 0) a
+    pub received-put : (q m c : ℕ) {x : Result ℕ Fault} (w : Pen) {a b z : Pen} → x ≡ message_of t before p q m → x ≡ Ok c → a ≡ puts (bytes "\treceived ") w → b ≡ puts (passed_in t before c 0) a
         → z ≡ puts (targets_in t before after p fields_most (m + 1)) b → z ≡ puts (received_in t before after p q m) w
     received-put q m c w e h ha hb hz =
         rw (← e, h) (then (bytes "\treceived ") (passed_in t before c 0 ++ targets_in t before after p fields_most (m + 1)) _ ha (then (passed_in t before c 0) (targets_in t before after p fields_most (m + 1)) _ hb hz))
 
-    pub received_none : (q m : ℕ) {f : Fault} {x : Reached} (w : Pen) → x ≡ message_of t before p q m → x ≡ Unmade f → w ≡ puts (received_in t before after p q m) w
+    pub received_none : (q m : ℕ) {f : Fault} {x : Result ℕ Fault} (w : Pen) → x ≡ message_of t before p q m → x ≡ Err f → w ≡ puts (received_in t before after p q m) w
     received_none q m w e h = rw (← e, h) (none-put w)
 
     -- ---- by the mark's code

@@ -1,18 +1,15 @@
 -- Mechanism, held to the specification by `deeds-shown` (crate `agree_deeds`).
 -- What a step did, read from the tables `t` of a model and the numbers of the states before and after it. A statement is told by its place q and its mark m; a reference stands from an item to before its mark.
-use Rattle.std.specs.Prelude.{ℕ, zero, suc, ◌+◌, ◌-◌, List, [], ◌∷◌, ◌++◌, ℤ, eqb}
+use Rattle.std.specs.Prelude.{ℕ, zero, suc, ◌+◌, ◌-◌, List, [], ◌∷◌, ◌++◌, ℤ, eqb, Result, Ok, Err}
 use Rattle.base_ceilings.specs.Ceilings.{fields_most}
 use Rattle.base_bytes.specs.Choice.{pick}
 use Rattle.base_kinds.specs.Kinds.{bytes}
 use Rattle.base_codes.specs.Codes.{c_decrement, c_end, c_increment, c_index, c_receive, c_run, c_send, c_set_run, c_target}
+use Rattle.base_values.specs.declared.Fault.{Fault}
 use Rattle.spec_text.specs.Formats.{digits_of, decimal_of}
 use Rattle.table_layout.specs.Access.{code_of, link_of}
 use Rattle.state_layout.specs.Layout.{cell_of, processes_of, declared_of, waiting_of}
 use Rattle.write_letters.specs.Tokens.{spelled}
-use Rattle.step_eval.specs.declared.Located.{Located}
-use Rattle.step_eval.specs.declared.Located.TheVariants.{At, Astray}
-use Rattle.step_eval.specs.declared.Reached.{Reached}
-use Rattle.step_eval.specs.declared.Reached.TheVariants.{Record, Unmade}
 use Rattle.step_eval.specs.Variables.{variable_of, slot_of}
 use Rattle.step_eval.specs.Expressions.{locate_of}
 use Rattle.step_ready.specs.Channels.{fields_of, compared_at}
@@ -41,9 +38,9 @@ module _ (t : List ℕ) (before : List ℤ) where
 
 module _ (t : List ℕ) (before after : List ℤ) (p : ℕ) where
   -- ## stores
-  abbrev pub stored_by : ℕ → ℕ → Located → List ℕ
-  stored_by from m (At i) = store_in t after p from m i
-  stored_by from m (Astray f) = []
+  abbrev pub stored_by : ℕ → ℕ → Result ℕ Fault → List ℕ
+  stored_by from m (Ok i) = store_in t after p from m i
+  stored_by from m (Err f) = []
 
   abbrev pub stored_in : ℕ → ℕ → List ℕ
   stored_in from m = stored_by from m (locate_of t before p from m)
@@ -52,9 +49,9 @@ module _ (t : List ℕ) (before after : List ℤ) (p : ℕ) where
   assigned_in q m = stored_in q m ++ pick (eqb (code_of t (link_of t m)) c_set_run) (started_in t before (link_of t m)) []
 
   -- ## messages
-  abbrev pub sent_by : Reached → List ℕ
-  sent_by (Record c) = bytes "\tsent " ++ passed_in t after c (waiting_of before c)
-  sent_by (Unmade f) = []
+  abbrev pub sent_by : Result ℕ Fault → List ℕ
+  sent_by (Ok c) = bytes "\tsent " ++ passed_in t after c (waiting_of before c)
+  sent_by (Err f) = []
 
   abbrev pub sent_in : ℕ → ℕ → List ℕ
   sent_in q m = sent_by (message_of t before p q m)
@@ -68,9 +65,9 @@ module _ (t : List ℕ) (before after : List ℤ) (p : ℕ) where
   targets_in zero a = []
   targets_in (suc n) a = pick (eqb (code_of t a) c_end) [] (target_in a (link_of t a) ++ targets_in n (link_of t a + 1))
 
-  abbrev pub received_by : ℕ → Reached → List ℕ
-  received_by m (Record c) = bytes "\treceived " ++ (passed_in t before c 0 ++ targets_in fields_most (m + 1))
-  received_by m (Unmade f) = []
+  abbrev pub received_by : ℕ → Result ℕ Fault → List ℕ
+  received_by m (Ok c) = bytes "\treceived " ++ (passed_in t before c 0 ++ targets_in fields_most (m + 1))
+  received_by m (Err f) = []
 
   abbrev pub received_in : ℕ → ℕ → List ℕ
   received_in q m = received_by m (message_of t before p q m)

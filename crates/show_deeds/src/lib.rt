@@ -5,7 +5,6 @@ ghost use Rattle.std.specs.Prelude.{◌≡◌};
 ghost use Rattle.base_pens.specs.Pen.{pen, puts};
 ghost use Rattle.show_deeds.specs.Deeds as deeds;
 
-use step_eval::{Located, Reached};
 use text_pens::{put, put_all};
 
 // Writes the index n in brackets, if item r ends a reference that has one.
@@ -58,8 +57,8 @@ fn put_stored(
 {
     let x = step_eval::locate(t, before, p, from, m as usize);
     match x {
-        Located::At(i) => put_store(t, after, p, from, m, i, out, pos),
-        Located::Astray(_) => pos,
+        Ok(i) => put_store(t, after, p, from, m, i, out, pos),
+        Err(_) => pos,
     }
 }
 
@@ -131,11 +130,11 @@ fn put_sent(
 {
     let x = step_ready::message(t, before, p, q, m);
     match x {
-        Reached::Record(c) => {
+        Ok(c) => {
             let a = put_all(b"\tsent ", out, pos);
             put_passed(t, after, c, state_layout::waiting_of(before, c), out, a)
         }
-        Reached::Unmade(_) => pos,
+        Err(_) => pos,
     }
 }
 
@@ -154,7 +153,7 @@ fn put_received(
 {
     let x = step_ready::message(t, before, p, q, m);
     match x {
-        Reached::Record(c) => {
+        Ok(c) => {
             let a = put_all(b"\treceived ", out, pos);
             let b = put_passed(t, before, c, 0, out, a);
             put_targets(
@@ -168,7 +167,7 @@ fn put_received(
                 b,
             )
         }
-        Reached::Unmade(_) => pos,
+        Err(_) => pos,
     }
 }
 

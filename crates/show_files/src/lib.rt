@@ -1,13 +1,13 @@
 // A command with the words that stand behind it, over files; each returns the status of its answer (`show_statuses`). Lists of such commands stand in the module `lists`.
 #![tactic(auto)]
 
-ghost use Rattle.std.specs.Prelude.{◌≡◌, ◌≤◌};
+ghost use Rattle.std.specs.Prelude.{◌≡◌};
 
 pub mod lists;
 
 use base_bytes::part;
 use show_answers::{Output, put};
-use show_statuses::{Answer, status};
+use show_statuses::{Answer, Status, status_of};
 use std::fs;
 use std::io::Read;
 use std::rt::Files;
@@ -15,13 +15,6 @@ use std::str::from_utf8;
 
 // The steps of a run that is given no limit.
 const LIMIT: u32 = 1000000;
-
-// What a file holds, as far as there is room.
-#[derive(Drop)]
-enum Loaded {
-    Bytes(usize),
-    Failed,
-}
 
 // Opens a file for reading.
 fn open_read<R: Files>(rt: &R, path: &[u8]) -> Option<R::File> {
@@ -33,6 +26,7 @@ fn open_read<R: Files>(rt: &R, path: &[u8]) -> Option<R::File> {
 
 // Reads until the buffer is full, the file ends or a read fails; how many bytes of the buffer it filled.
 fn read_full(file: &mut impl Read, buffer: &mut [u8]) -> usize {
+    // The step is what each read filled, so no range counts it.
     let mut done: usize = 0;
     while done < buffer.len() {
         match file.read(&mut buffer[done..]) {
@@ -50,75 +44,59 @@ fn read_full(file: &mut impl Read, buffer: &mut [u8]) -> usize {
     done
 }
 
-// Reads a file that is open to its end, or as far as there is room.
-fn load_from(file: &mut impl Read, buffer: &mut [u8]) -> Loaded {
+// Reads a file that is open to its end, or as far as there is room; how many bytes it filled, or `None` where a read failed.
+fn load_from(file: &mut impl Read, buffer: &mut [u8]) -> Option<usize> {
     let n = read_full(file, buffer);
     let mut beyond = [0u8; 1];
     // A read that failed has ended the loop as the end of the file would: one more tells them apart.
     match file.read(&mut beyond) {
-        Ok(_) => Loaded::Bytes(n),
-        Err(_) => Loaded::Failed,
+        Ok(_) => Some(n),
+        Err(_) => None,
     }
 }
 
-// Reads a file to its end, or as far as there is room.
-fn load(rt: &impl Files, path: &[u8], buffer: &mut [u8]) -> Loaded {
-    match open_read(rt, path) {
-        Some(mut file) => load_from(&mut file, buffer),
-        None => Loaded::Failed,
-    }
+// The same of a file that is opened first; `None` too where it cannot be.
+fn load(rt: &impl Files, path: &[u8], buffer: &mut [u8]) -> Option<usize> {
+    let mut file = open_read(rt, path)?;
+    load_from(&mut file, buffer)
 }
 
 // A file that cannot be read.
-fn unreadable(path: &[u8], to: &mut Output) -> u8
-    ensures { result ≡ 2 }
+fn unreadable(path: &[u8], to: &mut Output) -> Status
+    ensures { result ≡ Status.Error }
 {
     show_answers::complain(b"error: cannot read ", path, to);
-    status(Answer::Error)
+    status_of(Answer::Error)
 }
 
-// How many words stand behind a command, at the least and at the most: 0 for one that is unknown.
-fn words_least(command: &[u8]) -> usize {
+// How many words stand behind a command, at the least and at the most, if there is such a command.
+fn words_asked(command: &[u8]) -> Option<(usize, usize)> {
     if is_replay(command) {
-        return 2;
+        return Some((2, 2));
     }
     if base_bytes::same(command, b"run") {
-        return 1;
+        return Some((1, 2));
     }
-    if is_plain(command) { 1 } else { 0 }
-}
-
-fn words_most(command: &[u8]) -> usize {
-    if base_bytes::same(command, b"run") {
-        2
+    if is_plain(command) {
+        Some((1, 1))
     } else {
-        words_least(command)
+        None
     }
 }
 
 // A command over a model alone.
 fn is_plain(command: &[u8]) -> bool {
-    if base_bytes::same(command, b"read") {
-        return true;
-    }
-    if base_bytes::same(command, b"normal") {
-        return true;
-    }
-    if base_bytes::same(command, b"layout") {
-        return true;
-    }
-    base_bytes::same(command, b"start")
+    base_bytes::same(command, b"read")
+        || base_bytes::same(command, b"normal")
+        || base_bytes::same(command, b"layout")
+        || base_bytes::same(command, b"start")
 }
 
 // A command over a model and a trail.
 fn is_replay(command: &[u8]) -> bool {
-    if base_bytes::same(command, b"replay") {
-        return true;
-    }
-    if base_bytes::same(command, b"steps") {
-        return true;
-    }
-    base_bytes::same(command, b"state")
+    base_bytes::same(command, b"replay")
+        || base_bytes::same(command, b"steps")
+        || base_bytes::same(command, b"state")
 }
 
 // A command with its model and its trail, from their files.
@@ -129,56 +107,41 @@ fn perform_files(
     trail: &[u8],
     limit: u32,
     to: &mut Output,
-) -> u8
-    ensures { result ≤ 2 }
-{
+) -> Status {
     let mut text = [0u8; base_ceilings::TEXT_MOST + 1];
-    let l = load(rt, model, &mut text);
-    match l {
-        Loaded::Failed => unreadable(model, to),
-        Loaded::Bytes(n) => show_texts::perform_text(command, part(&text, 0, n), trail, limit, to),
+    match load(rt, model, &mut text) {
+        None => unreadable(model, to),
+        Some(n) => show_texts::perform_text(command, part(&text, 0, n), trail, limit, to),
     }
 }
 
 // A command over a model and a trail, from their files. A trail is read to one byte past its ceiling, so that none is cut.
-fn perform_replay(rt: &impl Files, command: &[u8], model: &[u8], file: &[u8], to: &mut Output) -> u8
-    ensures { result ≤ 2 }
-{
+fn perform_replay(
+    rt: &impl Files,
+    command: &[u8],
+    model: &[u8],
+    file: &[u8],
+    to: &mut Output,
+) -> Status {
     let mut trail = [0u8; base_ceilings::TRAIL_MOST + 1];
-    let l = load(rt, file, &mut trail);
-    match l {
-        Loaded::Failed => unreadable(file, to),
-        Loaded::Bytes(n) => perform_files(rt, command, model, part(&trail, 0, n), 0, to),
+    match load(rt, file, &mut trail) {
+        None => unreadable(file, to),
+        Some(n) => perform_files(rt, command, model, part(&trail, 0, n), 0, to),
     }
 }
 
 // Are these a number's digits, of at most 9?
 fn is_limit(word: &[u8]) -> bool {
-    if word.len() > 9 {
-        return false;
-    }
-    let mut i: usize = 0;
-    while i < word.len() {
-        if word[i] < b'0' {
-            return false;
-        }
-        if b'9' < word[i] {
-            return false;
-        }
-        i += 1;
-    }
-    word.len() > 0
+    (1..=9).contains(&word.len()) && word.iter().all(u8::is_ascii_digit)
 }
 
 // `run` with its limit.
-fn perform_run(rt: &impl Files, model: &[u8], word: &[u8], to: &mut Output) -> u8
-    ensures { result ≤ 2 }
-{
+fn perform_run(rt: &impl Files, model: &[u8], word: &[u8], to: &mut Output) -> Status {
     if is_limit(word) {
         return perform_files(rt, b"run", model, b"", text_pieces::value(word) as u32, to);
     }
     put(b"error: a limit is a number of at most 9 digits\n", to);
-    status(Answer::Error)
+    status_of(Answer::Error)
 }
 
 // A command with its words: `count` of them stand behind it.
@@ -189,19 +152,17 @@ pub fn perform(
     second: &[u8],
     count: usize,
     to: &mut Output,
-) -> u8
-    ensures { result ≤ 2 }
-{
-    if words_least(command) == 0 {
+) -> Status {
+    let Some((least, most)) = words_asked(command) else {
         return show_texts::unknown(command, to);
-    }
-    if count < words_least(command) {
+    };
+    if count < least {
         put(b"error: a word is missing\n", to);
-        return status(Answer::Error);
+        return status_of(Answer::Error);
     }
-    if words_most(command) < count {
+    if most < count {
         put(b"error: too many words\n", to);
-        return status(Answer::Error);
+        return status_of(Answer::Error);
     }
     if is_replay(command) {
         return perform_replay(rt, command, first, second, to);

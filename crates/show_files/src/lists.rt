@@ -1,14 +1,14 @@
 // A list of commands, worked off line by line from its file.
-ghost use Rattle.std.specs.Prelude.{◌≡◌, ◌≤◌};
+ghost use Rattle.std.specs.Prelude.{◌≡◌};
 ghost use Rattle.show_lists.specs.Tally.{batch_status};
 
 use base_bytes::part;
 use show_answers::{Output, is_read, put, seek};
 use show_lists::progress::Watch;
-use show_lists::tally::{Expected, Tally};
+use show_lists::tally::Tally;
 use show_lists::words::Place;
 use show_lists::{tally, words};
-use show_statuses::{Answer, status};
+use show_statuses::{Answer, Status, status_of};
 use std::io::{IsTerminal, Read};
 use std::rt::{Clock, Files};
 
@@ -23,10 +23,9 @@ struct Working {
     watch: Watch,
 }
 
-// What became of a list.
+// Why a list was not worked off.
 #[derive(Drop)]
-enum Worked {
-    Off(Tally),
+enum Unworked {
     Marked,
     Failed,
 }
@@ -34,20 +33,16 @@ enum Worked {
 // How many words stand behind the first, of words that each end with a line end.
 fn words_behind(words: &[u8]) -> usize {
     let mut n: usize = 0;
-    let mut i: usize = 0;
-    while i < words.len() {
-        if words[i] == b'\n' {
+    for b in words {
+        if *b == b'\n' {
             n = base_bytes::least(n, 8) + 1;
         }
-        i += 1;
     }
     base_bytes::minus(n, 1)
 }
 
 // A command and its words, each of which ends with a line end.
-fn perform_words(rt: &impl Files, words: &[u8], to: &mut Output) -> u8
-    ensures { result ≤ 2 }
-{
+fn perform_words(rt: &impl Files, words: &[u8], to: &mut Output) -> Status {
     let e = seek(words, 0, b'\n');
     let rest = part(words, e + 1, words.len());
     let f = seek(rest, 0, b'\n');
@@ -63,17 +58,13 @@ fn perform_words(rt: &impl Files, words: &[u8], to: &mut Output) -> u8
 }
 
 // A line whose words are not well formed.
-fn refuse(words: &[u8], to: &mut Output) -> u8
-    ensures { result ≤ 2 }
-{
+fn refuse(words: &[u8], to: &mut Output) -> Status {
     put(words, to);
-    status(Answer::Error)
+    status_of(Answer::Error)
 }
 
 // A line of a list: a command and its words.
-fn perform_line(rt: &impl Files, line: &[u8], to: &mut Output) -> u8
-    ensures { result ≤ 2 }
-{
+fn perform_line(rt: &impl Files, line: &[u8], to: &mut Output) -> Status {
     let mut text = [0u8; LINE_MOST + 1];
     let n = words::put_words(line, &mut text, 0);
     match words::end_of(line) {
@@ -101,9 +92,7 @@ fn gathered(line: &[u8], held: usize) -> &[u8] {
 }
 
 // The heading of command n, and the command.
-fn answer_line(rt: &impl Files, line: &[u8], n: u32, to: &mut Output) -> u8
-    ensures { result ≤ 2 }
-{
+fn answer_line(rt: &impl Files, line: &[u8], n: u32, to: &mut Output) -> Status {
     show_answers::head(n as usize, part(line, 0, LINE_MOST), to);
     if LINE_MOST < line.len() {
         return refuse(b"error: the line is longer than 4096 bytes\n", to);
@@ -125,7 +114,7 @@ fn finish_line(
     rt: &(impl Files + Clock),
     line: &[u8],
     r: Working,
-    x: Expected,
+    x: Option<u32>,
     wrong: &mut [u32],
     errors: &mut [u32],
     to: &mut Output,
@@ -142,8 +131,8 @@ fn finish_line(
     }
     let n = tally::one_more(t.commands);
     let status = answer_line(rt, text, n, to);
-    tally::keep(1, status, n, wrong, t.wrong);
-    tally::keep(2, status, n, errors, t.errors);
+    tally::keep(Status::Wrong, status, n, wrong, t.wrong);
+    tally::keep(Status::Error, status, n, errors, t.errors);
     Working {
         held: 0,
         tally: tally::tallied(t, status),
@@ -169,7 +158,7 @@ fn take_byte(
     b: u8,
     line: &mut [u8],
     r: Working,
-    x: Expected,
+    x: Option<u32>,
     wrong: &mut [u32],
     errors: &mut [u32],
     to: &mut Output,
@@ -194,43 +183,35 @@ fn take_bytes(
     s: &[u8],
     line: &mut [u8],
     r: Working,
-    x: Expected,
+    x: Option<u32>,
     wrong: &mut [u32],
     errors: &mut [u32],
     to: &mut Output,
 ) -> Working {
     let mut now = r;
-    let mut k: usize = 0;
-    while k < s.len() {
+    for b in s {
         if !is_read(to) {
             return now;
         }
-        now = take_byte(rt, s[k], line, now, x, wrong, errors, to);
-        k += 1;
+        now = take_byte(rt, *b, line, now, x, wrong, errors, to);
     }
     now
 }
 
-// The work is done.
-fn done(r: Working) -> Worked {
-    let t = r.tally;
-    Worked::Off(t)
-}
-
-// Works off a list to its end, or until nobody reads its answers any more. The turns are counted down from a number that no list uses up, since nothing says that a file ends.
+// Works off a list to its end, or until nobody reads its answers any more. There are more turns than any list uses up, since nothing says that a file ends.
 fn work_off<R: Files + Clock>(
     rt: &R,
     stderr: &impl IsTerminal,
     mut file: R::File,
-    x: Expected,
+    x: Option<u32>,
     wrong: &mut [u32],
     errors: &mut [u32],
     to: &mut Output,
-) -> Worked {
+) -> Result<Tally, Unworked> {
     let mut front = [0u8; 3];
     let n = super::read_full(&mut file, &mut front);
     if base_bytes::same(part(&front, 0, n), b"\xef\xbb\xbf") {
-        return Worked::Marked;
+        return Err(Unworked::Marked);
     }
     let mut line = [0u8; LINE_MOST + 1];
     let begun = Working {
@@ -252,31 +233,29 @@ fn work_off<R: Files + Clock>(
         errors,
         to,
     );
-    let mut turns: u64 = 18446744073709551615;
-    while turns > 0 {
+    for _ in 0..u64::MAX {
         // Where nobody reads the answers any more, no further command is waited for.
         if !is_read(to) {
-            return done(r);
+            return Ok(r.tally);
         }
         let mut chunk = io::buffer();
         let Ok(n) = file.read(&mut chunk) else {
-            return Worked::Failed;
+            return Err(Unworked::Failed);
         };
         if n == 0 {
             // A last line that has no line end is a line all the same.
             if r.held > 0 {
-                return done(finish_line(rt, &line, r, x, wrong, errors, to));
+                r = finish_line(rt, &line, r, x, wrong, errors, to);
             }
-            return done(r);
+            return Ok(r.tally);
         }
         r = take_bytes(rt, &chunk[..n], &mut line, r, x, wrong, errors, to);
-        turns -= 1;
     }
-    Worked::Failed
+    Err(Unworked::Failed)
 }
 
 // Tells what was counted, and answers.
-fn close_list(x: Expected, t: Tally, wrong: &[u32], errors: &[u32], to: &mut Output) -> u8
+fn close_list(x: Option<u32>, t: Tally, wrong: &[u32], errors: &[u32], to: &mut Output) -> Status
     ensures { result ≡ batch_status x t.commands t.wrong t.errors }
 {
     let mut out = [0u8; tally::TOLD_ROOM];
@@ -294,31 +273,26 @@ fn batch_from<R: Files + Clock>(
     stderr: &impl IsTerminal,
     path: &[u8],
     file: R::File,
-    x: Expected,
+    x: Option<u32>,
     to: &mut Output,
-) -> u8
-    ensures { result ≤ 2 }
-{
+) -> Status {
     let mut wrong = [0u32; tally::KEPT_MOST];
     let mut errors = [0u32; tally::KEPT_MOST];
-    let w = work_off(rt, stderr, file, x, &mut wrong, &mut errors, to);
-    match w {
-        Worked::Off(t) => close_list(x, t, &wrong, &errors, to),
-        Worked::Marked => refuse(b"error: the list begins with a byte order mark\n", to),
-        Worked::Failed => super::unreadable(path, to),
+    match work_off(rt, stderr, file, x, &mut wrong, &mut errors, to) {
+        Ok(t) => close_list(x, t, &wrong, &errors, to),
+        Err(Unworked::Marked) => refuse(b"error: the list begins with a byte order mark\n", to),
+        Err(Unworked::Failed) => super::unreadable(path, to),
     }
 }
 
-// A list of which so many commands are expected.
+// A list of which so many commands are expected; any number, where none is told.
 fn batch_of(
     rt: &(impl Files + Clock),
     stderr: &impl IsTerminal,
     path: &[u8],
-    x: Expected,
+    x: Option<u32>,
     to: &mut Output,
-) -> u8
-    ensures { result ≤ 2 }
-{
+) -> Status {
     match super::open_read(rt, path) {
         Some(file) => batch_from(rt, stderr, path, file, x, to),
         None => super::unreadable(path, to),
@@ -333,23 +307,15 @@ pub fn batch(
     word: &[u8],
     count: usize,
     to: &mut Output,
-) -> u8
-    ensures { result ≤ 2 }
-{
+) -> Status {
     if count > 2 {
         return refuse(b"error: too many words\n", to);
     }
     if count < 2 {
-        return batch_of(rt, stderr, path, Expected::Any, to);
+        return batch_of(rt, stderr, path, None, to);
     }
     if super::is_limit(word) {
-        return batch_of(
-            rt,
-            stderr,
-            path,
-            Expected::Exactly(text_pieces::value(word) as u32),
-            to,
-        );
+        return batch_of(rt, stderr, path, Some(text_pieces::value(word) as u32), to);
     }
     refuse(b"error: a count is a number of at most 9 digits\n", to)
 }

@@ -6,6 +6,7 @@ ghost use Rattle.show_commands.specs.Statuses as statuses;
 
 use show_answers::{Output, hand_on};
 use show_commands::answer_replay;
+use show_statuses::Status;
 use trail_replay::Replayed;
 
 // The most bytes of a process with its variables, where a byte of its statement takes at most four, and of all global variables or channels.
@@ -18,11 +19,9 @@ fn show_processes(t: &[u32], s: &[i32], to: &mut Output) {
         base_ceilings::PROCESSES_MOST,
     );
     let mut out = [0u8; PART_ROOM];
-    let mut p: usize = 0;
-    while p < n {
+    for p in 0..n {
         let k = show_steps::put_process(t, s, p as u8, &mut out, 0);
         hand_on(&out, k, to);
-        p += 1;
     }
 }
 
@@ -38,14 +37,11 @@ fn show_all(t: &[u32], s: &[i32], to: &mut Output) {
 
 // Does a replay so answered leave a state?
 fn leaves_state(r: Replayed) -> bool {
-    match r {
-        Replayed::Accepted(_) => true,
-        Replayed::Refused(x, _) => { if x == 11 { true } else { x == 12 } }
-    }
+    matches!(r, Replayed::Accepted(_) | Replayed::Refused(11 | 12, _))
 }
 
 // `state MODEL TRAIL`
-pub fn state(tables: &[u32], trail: &[u8], to: &mut Output) -> u8
+pub fn state(tables: &[u32], trail: &[u8], to: &mut Output) -> Status
     ensures { result ≡ statuses.replay_status tables.now trail.now }
 {
     let mut s = [0i32; base_ceilings::STATE_ROOM];

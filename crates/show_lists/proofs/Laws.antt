@@ -8,19 +8,28 @@ use native.Mathlib.Numerals.{add-one}
 use lib.ListN.{length, get_or, drop, drop_of_length-le}
 use lib.Seq.{drop-cons}
 use lib.Dec.{eqb, ltb}
-use borrow.Author.Tests.{eq-eqb, ne_eqb, not-true, not-false}
+use borrow.Author.Tests.{eq-eqb, ne_eqb, ltb-true, ltb-false, not-true, not-false}
 use Rattle.base_bytes.specs.Lists.{piece}
 use Rattle.base_kinds.specs.Kinds.{bytes}
 use Rattle.base_bytes.specs.Choice.{pick}
 use Rattle.base_pens.specs.Pen.{Pen, write, puts}
 use Rattle.base_pens.proofs.Pen.{puts-append}
 use Rattle.spec_text.specs.Formats.{digits_of}
+use Rattle.show_statuses.specs.declared.Status.TheVariants.{Fine, Wrong, Error}
 use Rattle.show_lists.specs.declared.words.Place.{Place}
 use Rattle.show_lists.specs.Words.{is_blank, behind, ends_word, ends_last, is_kept, added, added_last, words_from, end_from, is_passed}
-use Rattle.show_lists.specs.declared.tally.Expected.{Expected}
-use Rattle.show_lists.specs.declared.tally.Expected.TheVariants.{Any, Exactly}
+use Rattle.std.specs.Prelude.{Option, Some, None}
 use Rattle.show_lists.specs.Words.{without_return}
-use Rattle.show_lists.specs.Tally.{is_expected, batch_status, each_of, kept_most, further_text, numbers_text, other_text, expected_text}
+use Rattle.show_lists.specs.Tally.{more, is_expected, batch_status, each_of, kept_most, further_text, numbers_text, other_text, expected_text}
+
+-- one more, at most as many as can be counted
+pub more_least : (n r : ℕ) → n < 4294967296 → r ≡ min (n + 1) 4294967295 → r ≡ more n
+unfolding more
+more_least n r h e = by (ltb n 4294967295) refl
+  where
+    by : (b : Bool) → ltb n 4294967295 ≡ b → r ≡ pick b (n + 1) n
+    by true q = let z : n < 4294967295 = ltb-true n 4294967295 q in omega (arith, e)
+    by false q = let z : 4294967295 ≤ n = ltb-false n 4294967295 q in omega (arith, e)
 
 -- what one byte adds
 pub kept_put : (x : Place) (b : ℕ) (w y : Pen) → true ≡ is_kept x b → y ≡ write b w → y ≡ puts (added x b) w
@@ -107,15 +116,15 @@ no_other n k w e = rw (eq-eqb n k e) refl
 pub other_put : (n k : ℕ) (w x : Pen) → (n ≡ k → ⊥) → x ≡ puts (bytes "  " ++ (digits_of n ++ (bytes " commands were worked off, and " ++ (digits_of k ++ bytes " were expected\n")))) w → x ≡ puts (other_text n k) w
 other_put n k w x h e = rw (ne_eqb n k h) e
 
-pub empty-put : (y : Expected) (n : ℕ) (w x : Pen) → n ≡ 0 → x ≡ puts (bytes "  the list holds no command\n") w → x ≡ puts (expected_text y n) w
+pub empty-put : (y : Option ℕ) (n : ℕ) (w x : Pen) → n ≡ 0 → x ≡ puts (bytes "  the list holds no command\n") w → x ≡ puts (expected_text y n) w
 unfolding expected_text
 empty-put y n w x h e = rw (eq-eqb n 0 h) e
 
-pub any-put : (y : Expected) (n : ℕ) (w : Pen) → (n ≡ 0 → ⊥) → y ≡ Any → w ≡ puts (expected_text y n) w
+pub any-put : (y : Option ℕ) (n : ℕ) (w : Pen) → (n ≡ 0 → ⊥) → y ≡ None → w ≡ puts (expected_text y n) w
 unfolding puts expected_text
 any-put y n w h e = rw (ne_eqb n 0 h, e) refl
 
-pub exactly_put : (y : Expected) (n k : ℕ) (w x : Pen) → (n ≡ 0 → ⊥) → y ≡ Exactly k → x ≡ puts (other_text n k) w → x ≡ puts (expected_text y n) w
+pub exactly_put : (y : Option ℕ) (n k : ℕ) (w x : Pen) → (n ≡ 0 → ⊥) → y ≡ Some k → x ≡ puts (other_text n k) w → x ≡ puts (expected_text y n) w
 unfolding expected_text
 exactly_put y n k w x h e f = rw (ne_eqb n 0 h, e) f
 
@@ -133,21 +142,10 @@ return_kept l n b e f g =
     rw r refl
 
 -- ---- the status of a list
-pub unexpected_status : (y : Expected) (n w e : ℕ) (b : Bool) → (n ≡ 0 → ⊥) → b ≡ is_expected y n → not b ≡ true → 2 ≡ batch_status y n w e
+pub unexpected_status : (y : Option ℕ) (n w e : ℕ) (b : Bool) → (n ≡ 0 → ⊥) → b ≡ is_expected y n → not b ≡ true → Error ≡ batch_status y n w e
 unfolding batch_status
 unexpected_status y n w e b h f g = rw (ne_eqb n 0 h, sym f ∙ not-true b g) refl
 
-pub expected_status : (y : Expected) (n w e : ℕ) (b : Bool) → (n ≡ 0 → ⊥) → b ≡ is_expected y n → not b ≡ false → pick (ltb 0 e) 2 (pick (ltb 0 w) 1 0) ≡ batch_status y n w e
+pub expected_status : (y : Option ℕ) (n w e : ℕ) (b : Bool) → (n ≡ 0 → ⊥) → b ≡ is_expected y n → not b ≡ false → pick (ltb 0 e) Error (pick (ltb 0 w) Wrong Fine) ≡ batch_status y n w e
 unfolding batch_status
 expected_status y n w e b h f g = rw (ne_eqb n 0 h, sym f ∙ not-false b g) refl
-
-pub batch_small : (y : Expected) (n w e : ℕ) → batch_status y n w e ≤ 2
-unfolding batch_status
-batch_small y n w e = by (eqb n 0) (is_expected y n) (ltb 0 e) (ltb 0 w)
-  where
-    by : (a b c d : Bool) → pick a 2 (pick b (pick c 2 (pick d 1 0)) 2) ≤ 2
-    by true b c d = omega arith
-    by false false c d = omega arith
-    by false true true d = omega arith
-    by false true false true = omega arith
-    by false true false false = omega arith

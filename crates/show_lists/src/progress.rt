@@ -1,5 +1,4 @@
 // How far the work on a list is, told on standard error: on a terminal at most once a second, else every thousand commands.
-use super::tally::Expected;
 use std::io::IsTerminal;
 use std::rt::Clock;
 
@@ -13,15 +12,13 @@ const STDERR_FILENO: i32 = 2;
 #[derive(Drop)]
 pub struct Watch {
     pub terminal: bool,
-    pub second: i64,
+    pub second: Option<i64>,
 }
 
-// The seconds since 1970, or -1 where the clock cannot tell them.
-fn second(clock: &impl Clock) -> i64 {
-    match clock.since_1970() {
-        Ok(t) => i64::try_from(t.as_secs()).unwrap_or(-1),
-        Err(_) => -1,
-    }
+// The seconds since 1970, if the clock can tell them.
+fn second(clock: &impl Clock) -> Option<i64> {
+    let t = clock.since_1970().ok()?;
+    i64::try_from(t.as_secs()).ok()
 }
 
 // A watch that begins now.
@@ -32,20 +29,17 @@ pub fn begun(clock: &impl Clock, stderr: &impl IsTerminal) -> Watch {
     }
 }
 
-fn tell(n: u32, x: Expected) {
+fn tell(n: u32, x: Option<u32>) {
     io::print_decimal(STDERR_FILENO, n as u64);
-    match x {
-        Expected::Any => {}
-        Expected::Exactly(k) => {
-            io::write_all(STDERR_FILENO, b" of ");
-            io::print_decimal(STDERR_FILENO, k as u64);
-        }
+    if let Some(k) = x {
+        io::write_all(STDERR_FILENO, b" of ");
+        io::print_decimal(STDERR_FILENO, k as u64);
     }
     io::write_all(STDERR_FILENO, b" commands\n");
 }
 
-// Tells that n commands are worked off, if it is time.
-pub fn told(clock: &impl Clock, w: Watch, n: u32, x: Expected) -> Watch {
+// Tells that n commands are worked off, of so many as are expected, if it is time.
+pub fn told(clock: &impl Clock, w: Watch, n: u32, x: Option<u32>) -> Watch {
     let terminal = w.terminal;
     let last = w.second;
     if terminal {

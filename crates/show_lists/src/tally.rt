@@ -3,6 +3,7 @@ ghost use Rattle.std.specs.Prelude.{◌≡◌, ◌++◌, set};
 ghost use Rattle.base_pens.specs.Pen.{pen, puts};
 ghost use Rattle.show_lists.specs.Tally as spec;
 
+use show_statuses::Status;
 use text_pens::{put, put_all};
 
 // So many numbers of commands are kept that found something wrong, and as many of those that ended in an error.
@@ -19,40 +20,33 @@ pub struct Tally {
     pub errors: u32,
 }
 
-// How many commands a list should have.
-#[derive(Clone, Copy)]
-pub enum Expected {
-    Any,
-    Exactly(u32),
-}
-
 // One more, unless there are as many as can be counted.
 pub fn one_more(n: u32) -> u32
     ensures { result ≡ spec.more n }
 {
-    if n < 4294967295 { n + 1 } else { n }
+    n.saturating_add(1)
 }
 
 // One more of those that end with status x.
-fn more_if(x: u8, status: u8, n: u32) -> u32
+fn more_if(x: Status, status: Status, n: u32) -> u32
     ensures { result ≡ spec.more_if x status n }
 {
     if status == x { one_more(n) } else { n }
 }
 
 // One more command, with its status.
-pub fn tallied(t: Tally, status: u8) -> Tally
-    ensures { (result.commands ≡ spec.more t.commands) × (result.wrong ≡ spec.more_if 1 status t.wrong) × (result.errors ≡ spec.more_if 2 status t.errors) }
+pub fn tallied(t: Tally, status: Status) -> Tally
+    ensures { (result.commands ≡ spec.more t.commands) × (result.wrong ≡ spec.more_if Status.Wrong status t.wrong) × (result.errors ≡ spec.more_if Status.Error status t.errors) }
 {
     Tally {
         commands: one_more(t.commands),
-        wrong: more_if(1, status, t.wrong),
-        errors: more_if(2, status, t.errors),
+        wrong: more_if(Status::Wrong, status, t.wrong),
+        errors: more_if(Status::Error, status, t.errors),
     }
 }
 
 // Keeps the number of a command that ends with status x, as one more behind n of them, as far as there is room.
-pub fn keep(x: u8, status: u8, number: u32, kept: &mut [u32], n: u32)
+pub fn keep(x: Status, status: Status, number: u32, kept: &mut [u32], n: u32)
     ensures { kept.new ≡ spec.kept_if x status number kept.old n }
 {
     if status == x {
@@ -63,31 +57,35 @@ pub fn keep(x: u8, status: u8, number: u32, kept: &mut [u32], n: u32)
     }
 }
 
-// Is the number of commands as it should be?
-fn is_expected(x: Expected, n: u32) -> bool
+// Is the number of commands as it should be? Any is, where none is expected.
+fn is_expected(x: Option<u32>, n: u32) -> bool
     ensures { result ≡ spec.is_expected x n }
 {
     match x {
-        Expected::Any => true,
-        Expected::Exactly(k) => n == k,
+        None => true,
+        Some(k) => n == k,
     }
 }
 
 // The status of a list that was read to its end.
-pub fn batch_status(x: Expected, t: Tally) -> u8
+pub fn batch_status(x: Option<u32>, t: Tally) -> Status
     ensures { result ≡ spec.batch_status x t.commands t.wrong t.errors }
 {
     let commands = t.commands;
     if commands == 0 {
-        return 2;
+        return Status::Error;
     }
     if !is_expected(x, commands) {
-        return 2;
+        return Status::Error;
     }
     if t.errors > 0 {
-        return 2;
+        return Status::Error;
     }
-    if t.wrong > 0 { 1 } else { 0 }
+    if t.wrong > 0 {
+        Status::Wrong
+    } else {
+        Status::Fine
+    }
 }
 
 // Writes the first m of the kept numbers, each behind a blank.
@@ -95,11 +93,9 @@ fn put_each(kept: &[u32], m: usize, out: &mut [u8], p: usize) -> usize
     ensures { pen out.new result ≡ puts (spec.each_of kept.now 0 m) (pen out.old p) }
 {
     let mut q = p;
-    let mut k: usize = 0;
-    while k < m {
+    for k in 0..m {
         let a = put(out, q, b' ');
         q = put_number(base_bytes::word_at(kept, k) as u32, out, a);
-        k += 1;
     }
     q
 }
@@ -137,15 +133,15 @@ pub fn put_numbers(word: &[u8], kept: &[u32], n: u32, out: &mut [u8], p: usize) 
 }
 
 // Writes what is wrong with the number of commands.
-pub fn put_expected(x: Expected, n: u32, out: &mut [u8], p: usize) -> usize
+pub fn put_expected(x: Option<u32>, n: u32, out: &mut [u8], p: usize) -> usize
     ensures { pen out.new result ≡ puts (spec.expected_text x n) (pen out.old p) }
 {
     if n == 0 {
         return put_all(b"  the list holds no command\n", out, p);
     }
     match x {
-        Expected::Any => p,
-        Expected::Exactly(k) => put_other(n, k, out, p),
+        None => p,
+        Some(k) => put_other(n, k, out, p),
     }
 }
 

@@ -173,12 +173,9 @@ pub fn put_words(line: &[u8], out: &mut [u8], p: usize) -> usize
 {
     let mut x = Place::Apart;
     let mut q = p;
-    let mut k: usize = 0;
-    while k < line.len() {
-        let b = line[k];
-        q = put_byte(x, b, out, q);
-        x = behind(x, b);
-        k += 1;
+    for b in line {
+        q = put_byte(x, *b, out, q);
+        x = behind(x, *b);
     }
     put_last(x, out, q)
 }
@@ -188,10 +185,8 @@ pub fn end_of(line: &[u8]) -> Place
     ensures { result ≡ spec.end_from Place.Apart line.now }
 {
     let mut x = Place::Apart;
-    let mut k: usize = 0;
-    while k < line.len() {
-        x = behind(x, line[k]);
-        k += 1;
+    for b in line {
+        x = behind(x, *b);
     }
     x
 }
@@ -200,12 +195,10 @@ pub fn end_of(line: &[u8]) -> Place
 pub fn is_passed(line: &[u8]) -> bool
     ensures { result ≡ spec.is_passed line.now }
 {
-    let mut k: usize = 0;
-    while k < line.len() {
-        if !is_blank(line[k]) {
-            return line[k] == b'#';
+    for b in line {
+        if !is_blank(*b) {
+            return *b == b'#';
         }
-        k += 1;
     }
     true
 }

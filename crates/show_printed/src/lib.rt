@@ -78,10 +78,8 @@ pub fn put_visible(text: &[u8], out: &mut [u8], p: usize) -> usize
     ensures { pen out.new result ≡ puts (shown.each_visible text.now) (pen out.old p) }
 {
     let mut q = p;
-    let mut k: usize = 0;
-    while k < text.len() {
-        q = put_seen(text[k], out, q);
-        k += 1;
+    for b in text {
+        q = put_seen(*b, out, q);
     }
     q
 }
@@ -91,10 +89,8 @@ pub fn put_escapes(text: &[u8], out: &mut [u8], p: usize) -> usize
     ensures { pen out.new result ≡ puts (shown.each_escaped text.now) (pen out.old p) }
 {
     let mut q = p;
-    let mut k: usize = 0;
-    while k < text.len() {
-        q = put_escaped(text[k], out, q);
-        k += 1;
+    for b in text {
+        q = put_escaped(*b, out, q);
     }
     q
 }
@@ -127,12 +123,9 @@ pub fn put_text(text: &[u8], fresh: bool, out: &mut [u8], p: usize) -> usize
 {
     let mut q = p;
     let mut f = fresh;
-    let mut k: usize = 0;
-    while k < text.len() {
-        let b = text[k];
-        q = put_byte(b, f, out, q);
-        f = b == 10;
-        k += 1;
+    for b in text {
+        q = put_byte(*b, f, out, q);
+        f = *b == 10;
     }
     q
 }
@@ -167,12 +160,9 @@ pub fn put_guarded(text: &[u8], out: &mut [u8], p: usize) -> usize
 {
     let mut q = p;
     let mut f = true;
-    let mut k: usize = 0;
-    while k < text.len() {
-        let b = text[k];
-        q = put_guard(b, f, out, q);
-        f = b == 10;
-        k += 1;
+    for b in text {
+        q = put_guard(*b, f, out, q);
+        f = *b == 10;
     }
     q
 }

@@ -64,13 +64,11 @@ fn show_progress(n: u32, to: &Output) {
 pub fn run(t: &[u32], s: &mut [i32], limit: u32, line: &mut [u8], to: &mut Output) -> Ran
     ensures { (result, s.new) ≡ shown (run_in t.now limit s.old) }
 {
-    let mut n: u32 = 0;
-    while n < limit {
+    for n in 0..limit {
         let r = turn(t, s, line, to);
         match r {
             Taken::Done => {
                 show_progress(n, to);
-                n += 1;
             }
             Taken::Refuted => {
                 return Ran::Ended(Ending::Assert, n + 1);
@@ -79,9 +77,9 @@ pub fn run(t: &[u32], s: &mut [i32], limit: u32, line: &mut [u8], to: &mut Outpu
                 return Ran::Ended(Ending::Fault(f), n + 1);
             }
             Taken::Idle => {
-                return Ran::Ended(run_entry::ending_of(step_all::verdict_of(t, s)), n);
+                return Ran::Ended(step_all::verdict_of(t, s).into(), n);
             }
         }
     }
-    Ran::Ended(run_entry::ending_of(step_all::verdict_of(t, s)), n)
+    Ran::Ended(step_all::verdict_of(t, s).into(), limit)
 }

@@ -8,7 +8,6 @@ use show_phrases::{
     put_ceiling, put_deep, put_kind, put_quoted, put_reference, put_rule, put_spoilt,
 };
 use text_pens::{put, put_all};
-use text_tokens::Lexed;
 
 // The kinds of tokens are 1 to KINDS.
 const KINDS: u8 = 72;
@@ -19,7 +18,7 @@ fn can_stand(kinds: &[u8], k: usize, kind: u8) -> bool {
         return false;
     }
     let mut trial = [0u8; base_ceilings::TOKENS_MOST];
-    base_bytes::copy_bytes(&mut trial, kinds, k);
+    base_bytes::copy(&mut trial, kinds, k);
     trial[k] = kind;
     let mut codes = [0u8; base_ceilings::ITEMS_MOST];
     let mut toks = [0u32; base_ceilings::ITEMS_MOST];
@@ -42,10 +41,8 @@ fn put_if(holds: bool, kind: u8, out: &mut [u8], p: usize) -> usize {
 // What could stand behind the first k tokens.
 fn put_expected(kinds: &[u8], k: usize, out: &mut [u8], p: usize) -> usize {
     let mut q = put_all(b"; expected one of", out, p);
-    let mut kind: u8 = 1;
-    while kind <= KINDS {
+    for kind in 1..=KINDS {
         q = put_if(can_stand(kinds, k, kind), kind, out, q);
-        kind += 1;
     }
     q
 }
@@ -101,15 +98,13 @@ fn put_broken(
     rule_sheets::fill_starts(codes, &mut starts);
     rule_sheets::fill_heights(codes, &starts, &mut heights);
     rule_search::fill_chain(codes, args, &mut chain);
-    let mut j: usize = 0;
-    while j < codes.len() {
-        let rule = rule_item::rule_of(codes[j]);
+    for (j, c) in codes.iter().enumerate() {
+        let rule = rule_item::rule_of(*c);
         if rule_item::bad_by(codes, args, &homes, &chain, &starts, &heights, rule, j) == x {
             if rule_least::place_by(codes, &starts, toks, rule, j) == k {
                 return put_fault(codes, args, &homes, &chain, &starts, rule, x, j, out, p);
             }
         }
-        j += 1;
     }
     p
 }
@@ -170,11 +165,11 @@ fn put_words(text: &[u8], named: &[u8], out: &mut [u8], p: usize) -> usize {
     let mut starts = [0u32; base_ceilings::TOKENS_MOST];
     let mut ends = [0u32; base_ceilings::TOKENS_MOST];
     match text_tokens::lex(text, &mut kinds, &mut starts, &mut ends) {
-        Lexed::Tokens(n) => {
+        Ok(n) => {
             let m = least(n, base_ceilings::TOKENS_MOST);
             put_by_grammar(text, &kinds[..m], &starts[..m], &ends[..m], named, out, p)
         }
-        Lexed::Refused(x, _, _) => put_spoilt(x, named, out, p),
+        Err(r) => put_spoilt(r.number, named, out, p),
     }
 }
 

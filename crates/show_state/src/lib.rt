@@ -16,15 +16,13 @@ fn put_numbers(s: &[i32], l: u32, x: u8, out: &mut [u8], p: usize) -> usize
 {
     let n = step_eval::size_of(l);
     let mut q = p;
-    let mut k: u32 = 0;
-    while k < n {
+    for k in 0..n {
         let a = put(out, q, b' ');
         q = put_value(
             state_layout::cell(s, step_eval::slot(l, x, k as u8)),
             out,
             a,
         );
-        k += 1;
     }
     q
 }
@@ -64,10 +62,8 @@ pub fn put_globals(t: &[u32], s: &[i32], out: &mut [u8], p: usize) -> usize
 {
     let n = table_layout::items(t);
     let mut q = p;
-    let mut j: usize = 0;
-    while j < n {
+    for j in 0..n {
         q = put_global(t, s, j, out, q);
-        j += 1;
     }
     q
 }
@@ -90,10 +86,8 @@ pub fn put_locals(t: &[u32], s: &[i32], x: u8, out: &mut [u8], p: usize) -> usiz
     let u = state_layout::unit_of(s, x);
     let n = state_start::unit_length(t, u);
     let mut q = p;
-    let mut k: u32 = 0;
-    while k < n {
+    for k in 0..n {
         q = put_local(t, s, x, (u + k) as usize, out, q);
-        k += 1;
     }
     q
 }
@@ -104,10 +98,8 @@ fn put_messages(s: &[i32], c: u32, n: u32, out: &mut [u8], p: usize) -> usize
 {
     let w = state_layout::waiting_of(s, c);
     let mut q = p;
-    let mut m: u32 = 0;
-    while m < w {
+    for m in 0..w {
         q = put_message(s, c, m, n, out, q);
-        m += 1;
     }
     q
 }
@@ -131,10 +123,8 @@ pub fn put_channels(t: &[u32], s: &[i32], out: &mut [u8], p: usize) -> usize
 {
     let n = state_layout::channels(s);
     let mut q = p;
-    let mut c: u32 = 0;
-    while c < n {
+    for c in 0..n {
         q = put_channel(t, s, c, out, q);
-        c += 1;
     }
     q
 }

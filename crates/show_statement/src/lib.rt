@@ -38,14 +38,12 @@ fn leaf_end(t: &[u32], q: usize) -> usize
     ensures { result ≡ leaf_end t.now q }
 {
     let n = table_layout::items(t);
-    let mut i = q;
-    while i < n {
+    for i in q..n {
         if ends_leaf(table_layout::code(t, i)) {
             return i;
         }
-        i += 1;
     }
-    i
+    q.max(n)
 }
 
 // The last item of the statement at place q.

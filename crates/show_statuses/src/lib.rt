@@ -4,6 +4,27 @@
 ghost use Rattle.std.specs.Prelude.{◌≡◌};
 ghost use Rattle.show_statuses.specs.Statuses as statuses;
 
+// How a command ended: nothing is wrong; a refusal, a failed assertion, a fault or a blocked state; an error.
+#[derive(Clone, Copy, PartialEq, Eq)]
+pub enum Status {
+    Fine,
+    Wrong,
+    Error,
+}
+
+// The number that is told where the program ends.
+impl From<Status> for u8 {
+    fn from(s: Status) -> u8
+        ensures { result ≡ statuses.number s }
+    {
+        match s {
+            Status::Fine => 0,
+            Status::Wrong => 1,
+            Status::Error => 2,
+        }
+    }
+}
+
 // What the last line of a command says: the word that it begins with, or a normal text.
 #[derive(Drop)]
 pub enum Answer {
@@ -18,26 +39,30 @@ pub enum Answer {
     Error,
 }
 
-// 0 where nothing is wrong, 1 for a refusal, a failed assertion, a fault or a blocked state, 2 for an error.
-pub fn status(a: Answer) -> u8
+// The status of an answer.
+pub fn status_of(a: Answer) -> Status
     ensures { result ≡ statuses.status_of a }
 {
     match a {
-        Answer::Accepted => 0,
-        Answer::Finished => 0,
-        Answer::Open => 0,
-        Answer::Text => 0,
-        Answer::Refused => 1,
-        Answer::Assert => 1,
-        Answer::Fault => 1,
-        Answer::Blocked => 1,
-        Answer::Error => 2,
+        Answer::Accepted => Status::Fine,
+        Answer::Finished => Status::Fine,
+        Answer::Open => Status::Fine,
+        Answer::Text => Status::Fine,
+        Answer::Refused => Status::Wrong,
+        Answer::Assert => Status::Wrong,
+        Answer::Fault => Status::Wrong,
+        Answer::Blocked => Status::Wrong,
+        Answer::Error => Status::Error,
     }
 }
 
 // Of a command on a model: `x` where the model is accepted; where it is not, that of a refusal, whatever the command.
-pub fn on_model(accepted: bool, x: u8) -> u8
+pub fn on_model(accepted: bool, x: Status) -> Status
     ensures { result ≡ statuses.model_status accepted x }
 {
-    if accepted { x } else { status(Answer::Refused) }
+    if accepted {
+        x
+    } else {
+        status_of(Answer::Refused)
+    }
 }

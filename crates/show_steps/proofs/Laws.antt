@@ -10,15 +10,13 @@ use lib.Seq.{take_all, take-suc, take-suc-set}
 use lib.IntN.{ℤ, pos}
 use lib.Dec.{eqb}
 use borrow.Author.Tests.{eq-eqb, ne_eqb}
-use Rattle.base_bytes.specs.Choice.{pick}
 use Rattle.base_ceilings.specs.Ceilings.{state_room}
 use Rattle.base_kinds.specs.Kinds.{bytes}
-use Rattle.base_pens.specs.Pen.{Pen, write, puts}
+use Rattle.base_pens.specs.Pen.{Pen, puts}
 use Rattle.base_pens.proofs.Pen.{puts-append, then_puts}
 use Rattle.spec_account.specs.Bytes.{each_escaped}
 use Rattle.spec_account.specs.Steps.{printed_text}
 use Rattle.spec_machine.specs.Machine.{Step}
-use Rattle.step_all.specs.declared.Offer.{Offer}
 use Rattle.step_all.specs.declared.Offer.TheVariants as offer
 use Rattle.step_all.specs.Moving.{nth_in}
 use Rattle.base_codes.specs.Codes.{c_end_body}

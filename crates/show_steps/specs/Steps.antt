@@ -1,6 +1,6 @@
 -- Mechanism, held to the specification by `offer-shown`, `step-shown`, `outcome-shown`, `taken-shown`, `instead_shown` and `process-shown` (crate `agree_account`).
 -- The lines of steps and of processes, read from the tables `t` of a model and the numbers of states.
-use Rattle.std.specs.Prelude.{ℕ, suc, ◌+◌, ◌-◌, ◌*◌, Bool, true, false, List, [], ◌∷◌, ◌++◌, take, replicate, ℤ, pos, eqb, ltb}
+use Rattle.std.specs.Prelude.{ℕ, ◌-◌, ◌*◌, Bool, true, false, List, [], ◌∷◌, ◌++◌, take, replicate, ℤ, pos, eqb, ltb}
 use Rattle.base_ceilings.specs.Ceilings.{processes_most, items_most, state_room, print_room}
 use Rattle.base_bytes.specs.Lists.{piece}
 use Rattle.base_bytes.specs.Choice.{pick}

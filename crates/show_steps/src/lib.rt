@@ -154,10 +154,8 @@ pub struct Told {
 fn keep(s: &[i32], kept: &mut [i32])
     ensures { kept.new ≡ steps.padded (length kept.old) s.now }
 {
-    let mut i: usize = 0;
-    while i < kept.len() {
+    for i in 0..kept.len() {
         state_layout::put(kept, i, state_layout::cell(s, i));
-        i += 1;
     }
 }
 
@@ -220,8 +218,7 @@ fn put_others(t: &[u32], s: &[i32], process: u32, out: &mut [u8], p: usize) -> u
     ensures { pen out.new result ≡ puts (steps.others_in t.now process (steps.listed_in t.now s.now)) (pen out.old p) }
 {
     let mut q = p;
-    let mut n: u32 = 0;
-    while n < LISTED_MOST {
+    for n in 0..LISTED_MOST {
         let o = step_all::nth(t, s, n);
         match o {
             Offer::Step(x) => {
@@ -231,7 +228,6 @@ fn put_others(t: &[u32], s: &[i32], process: u32, out: &mut [u8], p: usize) -> u
                 return q;
             }
         }
-        n += 1;
     }
     q
 }
@@ -240,8 +236,7 @@ fn put_others(t: &[u32], s: &[i32], process: u32, out: &mut [u8], p: usize) -> u
 fn is_any(t: &[u32], s: &[i32], process: u32) -> bool
     ensures { result ≡ steps.any_of process (steps.listed_in t.now s.now) }
 {
-    let mut n: u32 = 0;
-    while n < LISTED_MOST {
+    for n in 0..LISTED_MOST {
         let o = step_all::nth(t, s, n);
         match o {
             Offer::Step(x) => {
@@ -253,7 +248,6 @@ fn is_any(t: &[u32], s: &[i32], process: u32) -> bool
                 return false;
             }
         }
-        n += 1;
     }
     false
 }

@@ -5,10 +5,8 @@ ghost use Rattle.std.specs.Prelude.{◌≡◌};
 ghost use Rattle.show_texts.specs.Statuses as statuses;
 
 use base_bytes::part;
-use normal_entry::Written;
-use read_passes::Judged;
 use show_answers::{Output, put};
-use show_statuses::{Answer, status};
+use show_statuses::{Answer, Status, status_of};
 
 // The most bytes of what is shown of a refused text, and of an answer.
 const REFUSAL_ROOM: usize = 8 * base_ceilings::NORMAL_MOST + 2048;
@@ -44,57 +42,57 @@ fn refuse(text: &[u8], x: u8, place: usize, len: usize, to: &mut Output) {
 }
 
 // A command that there is not.
-pub fn unknown(command: &[u8], to: &mut Output) -> u8
-    ensures { result ≡ 2 }
+pub fn unknown(command: &[u8], to: &mut Output) -> Status
+    ensures { result ≡ Status.Error }
 {
     show_answers::complain(b"error: unknown command ", command, to);
-    status(Answer::Error)
+    status_of(Answer::Error)
 }
 
 // `normal MODEL`
-fn show_normal(text: &[u8], to: &mut Output) -> u8
+fn show_normal(text: &[u8], to: &mut Output) -> Status
     ensures { result ≡ statuses.normal_status text.now }
 {
     let mut out = [0u8; base_ceilings::NORMAL_MOST];
     let w = normal_entry::normal(text, &mut out);
     match w {
-        Written::Text(n) => {
+        Ok(n) => {
             put(part(&out, 0, n), to);
             put(b"\n", to);
-            status(Answer::Text)
+            status_of(Answer::Text)
         }
-        Written::Refused(x, place, len) => {
-            refuse(text, x, place, len, to);
-            status(Answer::Refused)
+        Err(r) => {
+            refuse(text, r.number, r.place, r.length, to);
+            status_of(Answer::Refused)
         }
     }
 }
 
 // `layout MODEL`: its bytes and no others, since each of its lines has its end
-fn show_layout(text: &[u8], to: &mut Output) -> u8
+fn show_layout(text: &[u8], to: &mut Output) -> Status
     ensures { result ≡ statuses.layout_status text.now }
 {
     let mut out = [0u8; base_ceilings::TEXT_MOST];
     let w = layout_entry::layout(text, &mut out);
     match w {
-        Written::Text(n) => {
+        Ok(n) => {
             put(part(&out, 0, n), to);
-            status(Answer::Text)
+            status_of(Answer::Text)
         }
-        Written::Refused(x, place, len) => {
-            refuse(text, x, place, len, to);
-            status(Answer::Refused)
+        Err(r) => {
+            refuse(text, r.number, r.place, r.length, to);
+            status_of(Answer::Refused)
         }
     }
 }
 
 // A command on the tables of an accepted model, with its trail or its limit.
-fn perform_on(command: &[u8], tables: &[u32], trail: &[u8], limit: u32, to: &mut Output) -> u8
+fn perform_on(command: &[u8], tables: &[u32], trail: &[u8], limit: u32, to: &mut Output) -> Status
     ensures { result ≡ statuses.command_status command.now tables.now trail.now limit }
 {
     if base_bytes::same(command, b"read") {
         put(b"accepted\n", to);
-        return status(Answer::Accepted);
+        return status_of(Answer::Accepted);
     }
     if base_bytes::same(command, b"start") {
         return show_commands::start(tables, to);
@@ -115,7 +113,13 @@ fn perform_on(command: &[u8], tables: &[u32], trail: &[u8], limit: u32, to: &mut
 }
 
 // A command with the text of its model.
-pub fn perform_text(command: &[u8], text: &[u8], trail: &[u8], limit: u32, to: &mut Output) -> u8
+pub fn perform_text(
+    command: &[u8],
+    text: &[u8],
+    trail: &[u8],
+    limit: u32,
+    to: &mut Output,
+) -> Status
     ensures { result ≡ statuses.text_status command.now text.now trail.now limit }
 {
     if base_bytes::same(command, b"normal") {
@@ -127,14 +131,11 @@ pub fn perform_text(command: &[u8], text: &[u8], trail: &[u8], limit: u32, to: &
     let mut tables = [0u32; base_ceilings::TABLES_ROOM];
     let j = read_entry::read(text, &mut tables);
     match j {
-        Judged::Accepted => show_statuses::on_model(
-            true,
-            perform_on(command, &tables, trail, limit, to),
-        ),
-        Judged::Refused(x, place, len) => {
-            refuse(text, x, place, len, to);
+        Ok(()) => show_statuses::on_model(true, perform_on(command, &tables, trail, limit, to)),
+        Err(r) => {
+            refuse(text, r.number, r.place, r.length, to);
             // No command was performed, so it has no status of its own.
-            show_statuses::on_model(false, 0)
+            show_statuses::on_model(false, Status::Fine)
         }
     }
 }

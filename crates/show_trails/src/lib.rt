@@ -10,6 +10,7 @@ use base_bytes::part;
 use base_outcome::{Step, Taken};
 use show_answers::{Output, hand_on, seek};
 use show_commands::answer_replay;
+use show_statuses::Status;
 use step_all::Offer;
 use trail_form::{Formed, Record};
 
@@ -112,11 +113,9 @@ fn tell_steps(t: &[u32], s: &mut [i32], trail: &[u8], n: usize, to: &mut Output)
     let whole = show_statement::length_from(t, 0);
     let mut at: usize = 0;
     let mut failed = false;
-    let mut i: usize = 0;
-    while i < n {
-        i += 1;
+    for i in 0..n {
         let e = seek(trail, at, b'\n');
-        match tell_record(t, s, whole, part(trail, at, e), i, failed, to) {
+        match tell_record(t, s, whole, part(trail, at, e), i + 1, failed, to) {
             Next::Goes => {}
             Next::Failed => {
                 failed = true;
@@ -130,7 +129,7 @@ fn tell_steps(t: &[u32], s: &mut [i32], trail: &[u8], n: usize, to: &mut Output)
 }
 
 // `steps MODEL TRAIL`
-pub fn steps(tables: &[u32], trail: &[u8], to: &mut Output) -> u8
+pub fn steps(tables: &[u32], trail: &[u8], to: &mut Output) -> Status
     ensures { result ≡ statuses.replay_status tables.now trail.now }
 {
     let mut s = [0i32; base_ceilings::STATE_ROOM];

@@ -5,7 +5,7 @@ use mathlib.Core.Bool.{Bool, true, false, not}
 use mathlib.Core.List.{List, [], ◌∷◌, ◌++◌}
 use native.Mathlib.Omega.{arith}
 use lib.IntN.{ℤ}
-use lib.Dec.{eqb, ltb}
+use lib.Dec.{eqb}
 use borrow.Author.Tests.{eq-eqb, ne_eqb, lt-ltb, le-ltb}
 use Rattle.base_bytes.specs.Choice.{pick}
 use Rattle.base_ceilings.specs.Ceilings.{processes_most, channels_most, statements_most}
@@ -20,7 +20,7 @@ use Rattle.step_offers.specs.Offers.{is_selection, each_option, pick_at}
 use Rattle.step_offers.specs.declared.Walk.{Walk}
 use Rattle.step_offers.specs.declared.Walk.TheVariants.{Found, Left}
 use Rattle.step_offers.proofs.Picks.{pick-none}
-use Rattle.show_waits.specs.Waits.{is_stuck, stuck_from, stuck_of, ceiling_in, line_in, wait_in, waits_from, waits_in}
+use Rattle.show_waits.specs.Waits.{is_stuck, stuck_from, stuck_of, ceiling_in, line_in, waits_from, waits_in}
 
 module _ (t : List ℕ) (s : List ℤ) where
   -- ---- a statement

@@ -1,7 +1,7 @@
 // What keeps a `run` from starting: the first process that stands at one for which there is no room, in a line behind a tab, written to lent bytes.
 #![tactic(auto)]
 
-ghost use Rattle.std.specs.Prelude.{◌≡◌, [], ◌∷◌, ◌+◌, ◌<◌, ◌≤◌};
+ghost use Rattle.std.specs.Prelude.{◌≡◌, ◌+◌, ◌<◌, ◌≤◌};
 ghost use Rattle.base_ceilings.specs.Ceilings.{items_most};
 ghost use Rattle.base_pens.specs.Pen.{pen, puts};
 ghost use Rattle.state_layout.specs.Layout.{kept_most};
@@ -9,15 +9,10 @@ ghost use Rattle.step_offers.specs.Offers as offers;
 ghost use Rattle.show_waits.specs.Waits as waits;
 
 use show_words::put_count;
-use step_offers::Walk;
+use step_offers::{
+    DEPTH_MOST, ITEMS_MOST, OPTIONS_MOST, Walk, end_of, first_of, is_option, is_selection, pick_one,
+};
 use text_pens::put_all;
-
-// The most options of a selection, and how deep selections nest, with a statement in the last.
-const OPTIONS_MOST: u32 = base_ceilings::STATEMENTS_MOST as u32;
-
-const DEPTH_MOST: u32 = base_ceilings::SELECTIONS_MOST as u32 + 1;
-
-const ITEMS_MOST: u32 = base_ceilings::ITEMS_MOST as u32;
 
 // Is the statement at place q a `run` for which there is no room?
 fn is_stuck(t: &[u32], s: &[i32], q: u32) -> bool
@@ -28,61 +23,6 @@ fn is_stuck(t: &[u32], s: &[i32], q: u32) -> bool
         !step_ready::has_room(t, s, table_layout::link(t, m) as u32)
     } else {
         false
-    }
-}
-
-fn pick_one(k: u32, q: u32) -> Walk
-    ensures { result ≡ offers.pick_at k (q ∷ []) }
-{
-    if k == 0 {
-        Walk::Found(q)
-    } else {
-        Walk::Left(k - 1)
-    }
-}
-
-fn is_selection(t: &[u32], q: u32) -> bool
-    ensures { result ≡ offers.is_selection t.now q }
-{
-    let c = table_layout::code(t, q as usize);
-    if c == base_codes::IF {
-        true
-    } else {
-        c == base_codes::DO
-    }
-}
-
-// Is there an option at item m, before `stop`?
-fn is_option(t: &[u32], m: u32, stop: u32) -> bool
-    ensures { result ≡ offers.is_option t.now m stop }
-{
-    if m < stop {
-        table_layout::code(t, m as usize) == base_codes::OPTION
-    } else {
-        false
-    }
-}
-
-// Where the option at item m ends.
-fn end_of(t: &[u32], m: u32, stop: u32) -> u32
-    requires { (m < stop) × (stop ≤ items_most) }
-    ensures value { result ≡ offers.end_of t.now m stop }
-    ensures lower_bound { (m < result) × (result ≤ stop) }
-{
-    let e = base_bytes::least(table_layout::link(t, m as usize), stop as usize) as u32;
-    if e <= m { m + 1 } else { e }
-}
-
-// The place of its first statement.
-fn first_of(t: &[u32], m: u32) -> u32
-    requires { m < items_most }
-    ensures value { result ≡ offers.first_of t.now m }
-    ensures upper_bound { result < 8196 }
-{
-    if table_layout::code(t, m as usize + 2) == base_codes::LABEL {
-        m + 3
-    } else {
-        m + 1
     }
 }
 
@@ -172,8 +112,7 @@ pub fn put_waits(t: &[u32], s: &[i32], out: &mut [u8], p: usize) -> usize
         state_layout::processes(s) as usize,
         base_ceilings::PROCESSES_MOST,
     );
-    let mut i: usize = 0;
-    while i < n {
+    for i in 0..n {
         let w = stuck_of(t, s, i as u8);
         match w {
             Walk::Found(q) => {
@@ -181,7 +120,6 @@ pub fn put_waits(t: &[u32], s: &[i32], out: &mut [u8], p: usize) -> usize
             }
             Walk::Left(_) => {}
         }
-        i += 1;
     }
     p
 }

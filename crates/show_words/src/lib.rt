@@ -68,11 +68,9 @@ fn put_fields(s: &[i32], c: u32, m: u32, n: u32, out: &mut [u8], p: usize) -> us
         return p;
     }
     let mut q = put_value(state_layout::field_of(s, c, m, 0), out, p);
-    let mut f: u32 = 1;
-    while f < n {
+    for f in 1..n {
         let a = put(out, q, b',');
         q = put_value(state_layout::field_of(s, c, m, f), out, a);
-        f += 1;
     }
     q
 }

@@ -1,4 +1,5 @@
 -- THE DEEDS ARE ALL THAT IS DONE: a step that is done leaves the state that its deeds lead to, one after the other, with its process gone on; a step that is not done leaves the state as it was.
+use Rattle.std.specs.Prelude.{Result, Ok, Err}
 use Prim.Native.Nat.{ℕ, ◌+◌}
 use mathlib.Core.Path.{◌≡◌, refl, sym, ap, ◌∙◌, subst}
 use mathlib.Core.Bool.{Bool, true, false}
@@ -7,10 +8,9 @@ use lib.ListN.{length}
 use lib.IntN.{ℤ, pos, negsuc}
 use Rattle.base_bytes.specs.Choice.{pick}
 use Rattle.base_values.specs.Operators.{is_true}
-use Rattle.base_values.specs.declared.Answer.{Answer}
-use Rattle.base_values.specs.declared.Answer.TheVariants.{Value, Fails}
 use Rattle.base_outcome.specs.declared.Taken.{Taken}
 use Rattle.base_outcome.specs.declared.Taken.TheVariants.{Done, Refuted, Faulted, Idle}
+use Rattle.base_values.specs.declared.Fault.{Fault}
 use Rattle.spec_grammar.specs.Tree.{Name, Ref, Received, into, equal, exactly, exactly_true, exactly_false, action, Tree, leaf, express, assign, increment, decrement, send, receive, assert, print, skip, goto, break, timeout, else, run, set_run, select, loop}
 use Rattle.spec_machine.specs.Eval.{eval}
 use Rattle.spec_machine.specs.Stage.{Message, Stage, Ways}
@@ -60,10 +60,10 @@ module _ {S : Type 0} (c : Stage S) where
     Tells n o ds = Told n o.0 o.1 ds
 
     module _ (n : ℕ) where
-      assigned-told : (r : Ref) (x : Answer) (k : Aim) → Tells n (assigned_by c n s (name_of r) x k) (assigned c r x k)
+      assigned-told : (r : Ref) (x : Result ℤ Fault) (k : Aim) → Tells n (assigned_by c n s (name_of r) x k) (assigned c r x k)
       unfolding performed_all
-      assigned-told r (Value v) (hit k) = refl
-      assigned-told r (Fails f) (hit k) = refl
+      assigned-told r (Ok v) (hit k) = refl
+      assigned-told r (Err f) (hit k) = refl
       assigned-told r x (miss f) = refl
 
       stepped-told : (r : Ref) (d : ℤ) (k : Aim) → Tells n (stepped_by c n s (name_of r) d k) (stepped c r d k)
@@ -91,22 +91,22 @@ module _ {S : Type 0} (c : Stage S) where
           go (spoilt f) = refl
       received-told xs (astray f) = refl
 
-      expressed-told : (x : Answer) → Tells n (expressed_by c n s x) []
+      expressed-told : (x : Result ℤ Fault) → Tells n (expressed_by c n s x) []
       unfolding performed_all
-      expressed-told (Value v) = refl
-      expressed-told (Fails f) = refl
+      expressed-told (Ok v) = refl
+      expressed-told (Err f) = refl
 
       nothing-told : Tells n (go_on c n s) []
       unfolding performed_all
       nothing-told = refl
 
-      asserted-told : (x : Answer) → Tells n (asserted_by c n s x) []
-      asserted-told (Value v) = go (is_true v)
+      asserted-told : (x : Result ℤ Fault) → Tells n (asserted_by c n s x) []
+      asserted-told (Ok v) = go (is_true v)
         where
           go : (b : Bool) → Tells n (pick b (go_on c n s) (Refuted, s)) []
           go true = nothing-told
           go false = refl
-      asserted-told (Fails f) = refl
+      asserted-told (Err f) = refl
 
       printed-told : (vs : WorkedOut) → Tells n (printed_by c n s vs) []
       unfolding performed_all

@@ -1,10 +1,9 @@
 -- WHAT A STEP DID, in the order in which it was done: the stores, messages and processes that the statement's taking is made of. What the machine does is these deeds one after the other and nothing else
 -- (`deeds_done`, proofs/Deeds.antt), so an account told from them tells what was done.
-use Rattle.std.specs.Prelude.{ℕ, ◌+◌, List, [], ◌∷◌, ◌++◌, length, ℤ, pos, negsuc, ◌+ℤ◌}
+use Rattle.std.specs.Prelude.{ℕ, ◌+◌, List, [], ◌∷◌, ◌++◌, length, ℤ, pos, negsuc, ◌+ℤ◌, Result, Ok, Err}
 use Rattle.base_bytes.specs.Choice.{pick}
 use Rattle.base_values.specs.Bits.{wrap32}
-use Rattle.base_values.specs.declared.Answer.{Answer}
-use Rattle.base_values.specs.declared.Answer.TheVariants.{Value, Fails}
+use Rattle.base_values.specs.declared.Fault.{Fault}
 use Rattle.spec_grammar.specs.Tree.{Name, Ref, Received, into, equal, exactly, exactly_true, exactly_false, action, Tree, leaf, express, assign, increment, decrement, send, receive, assert, print, skip, goto, break, timeout, else, run, set_run, select, loop, Leaf}
 use Rattle.spec_machine.specs.Eval.{eval}
 use Rattle.spec_machine.specs.Stage.{Message, Stage, Ways}
@@ -34,11 +33,11 @@ module _ {S : Type 0} (c : Stage S) where
   performed_all (d ∷ ds) s = performed_all ds (performed d s)
 
   -- ## by what was worked out
-  abbrev pub store_of : Ref → ℕ → Answer → List Deed
-  store_of r k (Value v) = stored r k v ∷ []
-  store_of r k (Fails f) = []
+  abbrev pub store_of : Ref → ℕ → Result ℤ Fault → List Deed
+  store_of r k (Ok v) = stored r k v ∷ []
+  store_of r k (Err f) = []
 
-  abbrev pub assigned : Ref → Answer → Aim → List Deed
+  abbrev pub assigned : Ref → Result ℤ Fault → Aim → List Deed
   assigned r x (hit k) = store_of r k x
   assigned r x (miss f) = []
 

@@ -1,5 +1,6 @@
 -- PUT, FIND, TAKE: what holds of messages at any position. What was put is found there and can be taken out again, the others keep their order; what is found lies among those that were tried,
 -- passes, and is the first that does.
+use Rattle.std.specs.Prelude.{Result, Ok, Err, ℤ}
 use Prim.Native.Nat.{ℕ, zero, suc, ◌+◌, ◌-◌, ◌<◌, ◌≤◌}
 use native.Mathlib.Omega.{arith}
 use native.Mathlib.Decide.{ℕ_discrete, dec_lt}
@@ -10,8 +11,7 @@ use lib.ListN.{length, get_or, take, drop, length-append, length-take, length-dr
 use lib.Seq.{length-take-le, drop-append-add, take-length, drop-length, drop-cons, take_at, drop_at, get_or_at, get_or-append-add, get_or-take, get_or-drop}
 use Rattle.base_bytes.specs.Choice.{pick}
 use Rattle.base_values.specs.Operators.{is_true}
-use Rattle.base_values.specs.declared.Answer.{Answer}
-use Rattle.base_values.specs.declared.Answer.TheVariants.{Value, Fails}
+use Rattle.base_values.specs.declared.Fault.{Fault}
 use Rattle.spec_machine.specs.Messages.{put_at, take_at_lem, Finding, found, none, spoilt, find_by, find_from}
 
 module _ {A : Type 0} where
@@ -103,13 +103,13 @@ IsFound none = ⊥
 IsFound (spoilt f) = ⊥
 
 -- number j is the first of the n from number k on that passes
-pub record First (test : ℕ → Answer) (k n j : ℕ) : Type 0 where
+pub record First (test : ℕ → Result ℤ Fault) (k n j : ℕ) : Type 0 where
   pub from : k ≤ j
   pub below : j < k + n
   pub passes : find_by j (test j) none ≡ found j
   pub others : (i : ℕ) → k ≤ i → i < j → find_by i (test i) none ≡ none
 
-pub found_first : (test : ℕ → Answer) (n k j : ℕ) → find_from test k n ≡ found j → First test k n j
+pub found_first : (test : ℕ → Result ℤ Fault) (n k j : ℕ) → find_from test k n ≡ found j → First test k n j
 unfolding find_from
 found_first test zero k j e = absurd (subst IsFound (sym e) tt)
 found_first test (suc n) k j e = go (λ q. found_first test n (k + 1) j q) (test k) refl e
@@ -127,16 +127,16 @@ found_first test (suc n) k j e = go (λ q. found_first test n (k + 1) j q) (test
         between i c d (yes e) = subst (λ i. find_by i (test i) none ≡ none) (sym e) p
         between i c d (no e) = r.others i (omega arith) d
 
-    go : (find_from test (k + 1) n ≡ found j → First test (k + 1) n j) → (x : Answer) → test k ≡ x → find_by k x (find_from test (k + 1) n) ≡ found j → First test k (suc n) j
-    go rest (Value v) t q = on (is_true v) refl q
+    go : (find_from test (k + 1) n ≡ found j → First test (k + 1) n j) → (x : Result ℤ Fault) → test k ≡ x → find_by k x (find_from test (k + 1) n) ≡ found j → First test k (suc n) j
+    go rest (Ok v) t q = on (is_true v) refl q
       where
         on : (b : Bool) → is_true v ≡ b → pick b (found k) (find_from test (k + 1) n) ≡ found j → First test k (suc n) j
         on true e q = here (rw (t, e)) (ap number_in q)
         on false e q = later (rw (t, e)) (rest q)
-    go rest (Fails f) t q = absurd (subst IsFound (sym q) tt)
+    go rest (Err f) t q = absurd (subst IsFound (sym q) tt)
 
 -- the same tests find the same
-pub find-same : (test like : ℕ → Answer) (n k : ℕ) → ((i : ℕ) → k ≤ i → i < k + n → test i ≡ like i) → find_from test k n ≡ find_from like k n
+pub find-same : (test like : ℕ → Result ℤ Fault) (n k : ℕ) → ((i : ℕ) → k ≤ i → i < k + n → test i ≡ like i) → find_from test k n ≡ find_from like k n
 unfolding find_from
 find-same test like zero k h = refl
 find-same test like (suc n) k h = ap₂ (find_by k) (h k (omega arith) (omega arith)) (find-same test like n (k + 1) (λ i a b. h i (omega arith) (omega arith)))

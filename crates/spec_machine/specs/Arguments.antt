@@ -1,13 +1,11 @@
 -- Document 01, "How it moves": "Within a statement work goes left to right in the text, but a channel's number and field count are tested first", "Faults: .. index out of range, a channel
 -- number that was never made, wrong field count at run time", "each constant and `eval` equals its field, tried left to right to the first difference". Targets, channel operands and
 -- arguments worked out; the first fault ends the work.
-use Rattle.std.specs.Prelude.{ℕ, ◌+◌, min, List, [], ◌∷◌, ℤ, pos, negsuc, eqb, ltb}
+use Rattle.std.specs.Prelude.{ℕ, ◌+◌, min, List, [], ◌∷◌, ℤ, pos, negsuc, eqb, ltb, Result, Ok, Err}
 use Rattle.base_bytes.specs.Choice.{pick}
 use Rattle.base_values.specs.Operators.{is_true, equal_by}
 use Rattle.base_values.specs.declared.Fault.{Fault}
 use Rattle.base_values.specs.declared.Fault.TheVariants.{Index, Channel, Fields}
-use Rattle.base_values.specs.declared.Answer.{Answer}
-use Rattle.base_values.specs.declared.Answer.TheVariants.{Value, Fails}
 use Rattle.spec_grammar.specs.Tree.{Name, Expr, Ref, plain, indexed, Received, into, equal, exactly, exactly_true, exactly_false}
 use Rattle.spec_machine.specs.Eval.{Scene, eval}
 use Rattle.spec_machine.specs.Stage.{Message, Stage}
@@ -24,10 +22,10 @@ pub data Aim : Type 0 where
   miss : Fault → Aim
 
 -- "index out of range"
-abbrev pub aim_by : Scene → Name → Answer → Aim
-aim_by c w (Value (pos i)) = pick (ltb i (c.size w)) (hit i) (miss Index)
-aim_by c w (Value (negsuc i)) = miss Index
-aim_by c w (Fails f) = miss f
+abbrev pub aim_by : Scene → Name → Result ℤ Fault → Aim
+aim_by c w (Ok (pos i)) = pick (ltb i (c.size w)) (hit i) (miss Index)
+aim_by c w (Ok (negsuc i)) = miss Index
+aim_by c w (Err f) = miss f
 
 abbrev pub aim : Scene → Ref → Aim
 aim c (plain w) = hit 0
@@ -59,9 +57,9 @@ abbrev pub first : ℤ → WorkedOut → WorkedOut
 first v (all vs) = all (v ∷ vs)
 first v (stopped f) = stopped f
 
-abbrev pub values_by : Answer → WorkedOut → WorkedOut
-values_by (Value v) vs = first v vs
-values_by (Fails f) vs = stopped f
+abbrev pub values_by : Result ℤ Fault → WorkedOut → WorkedOut
+values_by (Ok v) vs = first v vs
+values_by (Err f) vs = stopped f
 
 unfoldable pub values : Scene → List Expr → WorkedOut
 values c [] = all []
@@ -69,20 +67,20 @@ values c (e ∷ es) = values_by (eval c e) (values c es)
 
 -- ## the arguments of a receive, against the fields of a message
 -- 1 where it agrees with field f, 0 where it differs; a variable agrees with every field, and is stored to later
-abbrev pub agree : {S : Type 0} → Stage S → Message → ℕ → Received → Answer
-agree c x f (into r) = pick (c.constant (name_of r)) (equal_by (eval c.scene r) (x f)) (Value (pos 1))
+abbrev pub agree : {S : Type 0} → Stage S → Message → ℕ → Received → Result ℤ Fault
+agree c x f (into r) = pick (c.constant (name_of r)) (equal_by (eval c.scene r) (x f)) (Ok (pos 1))
 agree c x f (equal e) = equal_by (eval c.scene e) (x f)
-agree c x f (exactly n) = equal_by (Value (pos n)) (x f)
-agree c x f exactly_true = equal_by (Value (pos 1)) (x f)
-agree c x f exactly_false = equal_by (Value (pos 0)) (x f)
+agree c x f (exactly n) = equal_by (Ok (pos n)) (x f)
+agree c x f exactly_true = equal_by (Ok (pos 1)) (x f)
+agree c x f exactly_false = equal_by (Ok (pos 0)) (x f)
 
 -- "each constant and `eval` equals its field, tried left to right to the first difference"
-abbrev pub agree_by : Answer → Answer → Answer
-agree_by (Value v) y = pick (is_true v) y (Value v)
-agree_by (Fails f) y = Fails f
+abbrev pub agree_by : Result ℤ Fault → Result ℤ Fault → Result ℤ Fault
+agree_by (Ok v) y = pick (is_true v) y (Ok v)
+agree_by (Err f) y = Err f
 
-unfoldable pub agrees : {S : Type 0} → Stage S → Message → ℕ → List Received → Answer
-agrees c x f [] = Value (pos 1)
+unfoldable pub agrees : {S : Type 0} → Stage S → Message → ℕ → List Received → Result ℤ Fault
+agrees c x f [] = Ok (pos 1)
 agrees c x f (r ∷ rs) = agree_by (agree c x f r) (agrees c x (f + 1) rs)
 
 -- ## what a receive finds in channel v: the oldest message alone is tried, where there is one

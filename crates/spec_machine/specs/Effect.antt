@@ -1,12 +1,10 @@
 -- Document 01, "How it moves": "Taking: target indices are worked out in the state before the step, then stores go left to right. .. A failed assertion or fault changes no state and prints
 -- nothing", "a receive's tests come before its targets. Arguments of a send or `run` are worked out only when there is room for it", "`v = run` stores 0 where nothing fits", "`goto` and
 -- `break` are steps of their own (H)". What a statement does, and what it prints: what came of it, and the state after.
-use Rattle.std.specs.Prelude.{ℕ, ◌+◌, List, [], ◌∷◌, ◌++◌, length, ℤ, pos, negsuc, ◌+ℤ◌}
+use Rattle.std.specs.Prelude.{ℕ, ◌+◌, List, [], ◌∷◌, ◌++◌, length, ℤ, pos, negsuc, ◌+ℤ◌, Result, Ok, Err}
 use Rattle.base_bytes.specs.Choice.{pick}
 use Rattle.base_values.specs.Bits.{wrap32}
 use Rattle.base_values.specs.Operators.{is_true}
-use Rattle.base_values.specs.declared.Answer.{Answer}
-use Rattle.base_values.specs.declared.Answer.TheVariants.{Value, Fails}
 use Rattle.base_outcome.specs.declared.Taken.{Taken}
 use Rattle.base_outcome.specs.declared.Taken.TheVariants.{Done, Refuted, Faulted, Idle}
 use Rattle.base_values.specs.declared.Fault.{Fault}
@@ -42,20 +40,20 @@ module _ {S : Type 0} (c : Stage S) where
   abbrev pub go_on : ℕ → S → Outcome S
   go_on n s = (Done, c.go n s)
 
-  abbrev pub expressed_by : ℕ → S → Answer → Outcome S
-  expressed_by n s (Value v) = go_on n s
-  expressed_by n s (Fails f) = fault s f
+  abbrev pub expressed_by : ℕ → S → Result ℤ Fault → Outcome S
+  expressed_by n s (Ok v) = go_on n s
+  expressed_by n s (Err f) = fault s f
 
-  abbrev pub asserted_by : ℕ → S → Answer → Outcome S
-  asserted_by n s (Value v) = pick (is_true v) (go_on n s) (Refuted, s)
-  asserted_by n s (Fails f) = fault s f
+  abbrev pub asserted_by : ℕ → S → Result ℤ Fault → Outcome S
+  asserted_by n s (Ok v) = pick (is_true v) (go_on n s) (Refuted, s)
+  asserted_by n s (Err f) = fault s f
 
-  abbrev pub stored_by : ℕ → S → Name → ℕ → Answer → Outcome S
-  stored_by n s w k (Value v) = go_on n (c.store w k v s)
-  stored_by n s w k (Fails f) = fault s f
+  abbrev pub stored_by : ℕ → S → Name → ℕ → Result ℤ Fault → Outcome S
+  stored_by n s w k (Ok v) = go_on n (c.store w k v s)
+  stored_by n s w k (Err f) = fault s f
 
   -- the target's index comes first, then the right side
-  abbrev pub assigned_by : ℕ → S → Name → Answer → Aim → Outcome S
+  abbrev pub assigned_by : ℕ → S → Name → Result ℤ Fault → Aim → Outcome S
   assigned_by n s w x (hit k) = stored_by n s w k x
   assigned_by n s w x (miss f) = fault s f
 

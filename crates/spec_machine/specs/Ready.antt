@@ -1,19 +1,18 @@
 -- Document 01, "How it moves": "Executable: an expression when not 0; a send when the channel is not full; a receive when it is not empty and each constant and `eval` equals its field, ..;
 -- `run` when a process and its channels still fit; .. all others always. .. A statement whose test faults counts as executable (H)". `else`, `if` and `do` are judged where steps are
 -- offered (specs/Offers.antt).
-use Rattle.std.specs.Prelude.{Bool, true, false, List, length, ltb}
+use Rattle.std.specs.Prelude.{Bool, true, false, List, length, ltb, Result, Ok, Err, ℤ}
 use Rattle.base_values.specs.Operators.{is_true}
-use Rattle.base_values.specs.declared.Answer.{Answer}
-use Rattle.base_values.specs.declared.Answer.TheVariants.{Value, Fails}
+use Rattle.base_values.specs.declared.Fault.{Fault}
 use Rattle.spec_grammar.specs.Tree.{Received, action, Tree, leaf, express, assign, increment, decrement, send, receive, assert, print, skip, goto, break, timeout, else, run, set_run, select, loop, Leaf}
 use Rattle.spec_machine.specs.Eval.{eval}
 use Rattle.spec_machine.specs.Stage.{Stage}
 use Rattle.spec_machine.specs.Arguments.{Reach, channel, astray, reach, finding}
 use Rattle.spec_machine.specs.Messages.{Finding, found, none, spoilt}
 
-abbrev pub passes : Answer → Bool
-passes (Value v) = is_true v
-passes (Fails f) = true
+abbrev pub passes : Result ℤ Fault → Bool
+passes (Ok v) = is_true v
+passes (Err f) = true
 
 -- "a send when the channel is not full"
 abbrev pub sendable : {S : Type 0} → Stage S → Reach → Bool

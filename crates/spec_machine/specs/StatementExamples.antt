@@ -1,13 +1,12 @@
 -- Document 01, "Tempting slips": "letting `else` pass beside a faulting guard; using a new `i` for the index in `c?i,a[i]`", and "a full and an empty channel": worked examples on both
 -- sides of a boundary, computed. The stage is a small one of its own: a state has i, a[0], a[1] and c.
-use Rattle.std.specs.Prelude.{ℕ, ◌+◌, ◌≡◌, refl, true, false, List, [], ◌∷◌, get_or, set, ℤ, pos, eqb}
+use Rattle.std.specs.Prelude.{ℕ, ◌+◌, ◌≡◌, refl, true, false, List, [], ◌∷◌, get_or, set, ℤ, pos, eqb, Result, Ok, Err}
 use Rattle.base_bytes.specs.Choice.{pick}
 use Rattle.base_bytes.specs.Lists.{same}
 use Rattle.base_bytes.specs.Numbers.{nat}
 use Rattle.base_values.specs.Operators.{apply_of, divide_of}
+use Rattle.base_values.specs.declared.Fault.{Fault}
 use Rattle.base_values.specs.declared.Fault.TheVariants.{Divide, Index, Fields}
-use Rattle.base_values.specs.declared.Answer.{Answer}
-use Rattle.base_values.specs.declared.Answer.TheVariants.{Value, Fails}
 use Rattle.base_outcome.specs.declared.Taken.TheVariants.{Done, Faulted}
 use Rattle.spec_grammar.specs.Marks.{k_bang, k_ask}
 use Rattle.spec_grammar.specs.Tree.{Name, Expr, Tree, action, plain, indexed, num, get, binary, choice, into, leaf, express, send, receive, skip, else, select, bare, labelled, end, then, over, option}
@@ -110,20 +109,20 @@ unfolding effect agrees find_from targets deliveries eval same
 past_end = refl
 
 -- ## "`&&`, `||` and the conditional evaluate only what they need", and give 0 or 1
-abbrev worth : Expr → Answer
+abbrev worth : Expr → Result ℤ Fault
 worth e = eval (small 1 before).scene e
 
 abbrev faulty : Expr
 faulty = binary 17 (num 1) (num 0)
 
-lazily : (worth (binary 1 (num 2) faulty) ≡ Value (pos 1)) × (worth (binary 2 (num 0) faulty) ≡ Value (pos 0)) × (worth (choice (num 5) (num 2) faulty) ≡ Value (pos 2))
-    × (worth (choice (num 0) faulty (num 3)) ≡ Value (pos 3))
+lazily : (worth (binary 1 (num 2) faulty) ≡ Ok (pos 1)) × (worth (binary 2 (num 0) faulty) ≡ Ok (pos 0)) × (worth (choice (num 5) (num 2) faulty) ≡ Ok (pos 2))
+    × (worth (choice (num 0) faulty (num 3)) ≡ Ok (pos 3))
 unfolding eval
 lazily = (refl, refl, refl, refl)
 
 -- the left operand's fault comes first
-left-first : (worth (binary 2 faulty (num 0)) ≡ Fails Divide) × (worth (binary 14 faulty (get (indexed a (num 2)))) ≡ Fails Divide)
-    × (worth (binary 14 (get (indexed a (num 2))) faulty) ≡ Fails Index)
+left-first : (worth (binary 2 faulty (num 0)) ≡ Err Divide) × (worth (binary 14 faulty (get (indexed a (num 2)))) ≡ Err Divide)
+    × (worth (binary 14 (get (indexed a (num 2))) faulty) ≡ Err Index)
 unfolding eval apply_of divide_of same
 left-first = (refl, refl, refl)
 

@@ -88,12 +88,10 @@ fn process_sound(t: &[u32], s: &[i32], p: u8) -> bool
 fn processes_sound(t: &[u32], s: &[i32], n: u8) -> bool
     ensures { result ≡ fits.every (standing.process_sound t.now s.now) 0 n }
 {
-    let mut p: u8 = 0;
-    while p < n {
+    for p in 0..n {
         if !process_sound(t, s, p) {
             return false;
         }
-        p += 1;
     }
     true
 }
@@ -136,12 +134,10 @@ fn channel_sound(t: &[u32], s: &[i32], c: u32) -> bool
 fn channels_sound(t: &[u32], s: &[i32], n: u32) -> bool
     ensures { result ≡ fits.every (standing.channel_sound t.now s.now) 0 n }
 {
-    let mut c: u32 = 0;
-    while c < n {
+    for c in 0..n {
         if !channel_sound(t, s, c) {
             return false;
         }
-        c += 1;
     }
     true
 }
@@ -174,12 +170,10 @@ fn sound(t: &[u32], s: &[i32]) -> bool
 fn same_numbers(x: &[i32], s: &[i32]) -> bool
     ensures { result ≡ standing.same_numbers x.now s.now }
 {
-    let mut i: usize = 0;
-    while i < base_ceilings::STATE_ROOM {
+    for i in 0..base_ceilings::STATE_ROOM {
         if state_layout::cell(x, i) != state_layout::cell(s, i) {
             return false;
         }
-        i += 1;
     }
     true
 }

@@ -41,7 +41,7 @@ pub fn natural(v: i32) -> u32
     ensures value { result ≡ nat v }
     ensures upper_bound { result < kept_most + 1 }
 {
-    if v < 0 { 0 } else { v as u32 }
+    v.max(0) as u32
 }
 
 pub fn count(s: &[i32], i: usize) -> u32
@@ -163,9 +163,5 @@ pub fn clear(s: &mut [i32])
     ensures { s.new ≡ layout.cleared s.old }
 {
     let most = base_bytes::least(base_ceilings::STATE_ROOM, s.len());
-    let mut i: usize = 0;
-    while i < most {
-        s[i] = 0;
-        i += 1;
-    }
+    s[..most].fill(0);
 }

@@ -2,7 +2,6 @@
 use Prim.Native.Nat.{ℕ, min, ◌+◌, ◌-◌, ◌/◌, ◌%◌, ◌≤◌, ◌<◌, ◌^◌}
 use mathlib.Core.Path.{◌≡◌, sym, ap, ◌∙◌}
 use mathlib.Core.List.{List}
-use native.Mathlib.Omega.{arith}
 use lib.ListN.{set}
 use lib.IntN.{ℤ, pos}
 use lib.Signed.{mag}
@@ -139,10 +138,6 @@ unfolding unit_started
 unit-all t j s s' em en e = e ∙ ap (λ n. walk (λ k x. process_made t j x) 0 n s) (en ∙ ap (min processes_most) em)
 
 module _ (t : List ℕ) (u : ℕ) {e : ℕ} (ee : e ≡ link_of t u) where
-  pub length_none : e < u → 0 ≡ unit_length t u
-  unfolding unit_length
-  length_none h = let q : link_of t u - u ≡ 0 = omega arith in rw q
-
   pub length_some : {r : ℕ} → r ≡ min items_most (e - u) → r ≡ unit_length t u
   unfolding unit_length
   length_some er = er ∙ ap (λ a. min items_most (a - u)) ee

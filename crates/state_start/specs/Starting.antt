@@ -2,7 +2,7 @@
 -- The initial state: document 01, "How it moves", "Variables start at 0 or their value; every element of an array gets it .. Channels count from 1 as made, globals
 -- first", "Processes start in text order (`init` included) at 0; a new one takes the next number", and of parameters "those of an `active` process start at 0".
 -- `t` are tables, `s` the state before, p the number of a process.
-use Rattle.std.specs.Prelude.{ℕ, ◌+◌, ◌-◌, ◌/◌, ◌%◌, min, List, set, ℤ, pos, eqb, ltb}
+use Rattle.std.specs.Prelude.{ℕ, ◌+◌, ◌-◌, ◌/◌, ◌%◌, min, List, set, ℤ, eqb, ltb}
 use Rattle.base_ceilings.specs.Ceilings.{items_most, processes_most}
 use Rattle.base_codes.specs.Codes.{c_active, c_active_many, c_body, c_channel, c_declared, c_init}
 use Rattle.base_bytes.specs.Choice.{pick}

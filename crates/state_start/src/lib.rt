@@ -53,10 +53,8 @@ fn fill(s: &mut [i32], l: u32, p: u8, v: i32)
     ensures { s.new ≡ starting.filled l p v s.old }
 {
     let n = step_eval::size_of(l);
-    let mut k: u32 = 0;
-    while k < n {
+    for k in 0..n {
         state_layout::put(s, step_eval::slot(l, p, k as u8), v);
-        k += 1;
     }
 }
 
@@ -136,10 +134,7 @@ pub fn unit_length(t: &[u32], u: u32) -> u32
     ensures upper_bound { (result ≤ items_most) × (u + result < 4294967296) }
 {
     let e = table_layout::link(t, u as usize);
-    if e < u as usize {
-        return 0;
-    }
-    base_bytes::least(base_ceilings::ITEMS_MOST, e - u as usize) as u32
+    base_bytes::least(base_ceilings::ITEMS_MOST, e.saturating_sub(u as usize)) as u32
 }
 
 // The next process, of the unit that item u begins, if one more fits.
@@ -151,10 +146,8 @@ pub fn make_process(t: &[u32], s: &mut [i32], u: u32)
         state_layout::put_count(s, state_layout::process_at(p as u8), u as usize);
         state_layout::put_count(s, 0, p as usize + 1);
         let n = unit_length(t, u);
-        let mut k: u32 = 0;
-        while k < n {
+        for k in 0..n {
             enter(t, s, p as u8, u + k);
-            k += 1;
         }
     }
 }
@@ -174,7 +167,7 @@ fn make_global(t: &[u32], s: &mut [i32], j: u32)
 fn minus_two(j: u32) -> usize
     ensures { result ≡ j - 2 }
 {
-    if j < 2 { 0 } else { (j - 2) as usize }
+    j.saturating_sub(2) as usize
 }
 
 // How many processes the unit that item j begins starts.
@@ -193,30 +186,24 @@ fn start_unit(t: &[u32], s: &mut [i32], j: u32)
     ensures { s.new ≡ starting.unit_started t.now j s.old }
 {
     let n = base_bytes::least(base_ceilings::PROCESSES_MOST, starts_of(t, j));
-    let mut k: usize = 0;
-    while k < n {
+    for _k in 0..n {
         make_process(t, s, j);
-        k += 1;
     }
 }
 
 fn make_globals(t: &[u32], s: &mut [i32], n: u32)
     ensures { s.new ≡ walk (starting.global_made t.now) 0 n s.old }
 {
-    let mut j: u32 = 0;
-    while j < n {
+    for j in 0..n {
         make_global(t, s, j);
-        j += 1;
     }
 }
 
 fn start_units(t: &[u32], s: &mut [i32], n: u32)
     ensures { s.new ≡ walk (starting.unit_started t.now) 0 n s.old }
 {
-    let mut j: u32 = 0;
-    while j < n {
+    for j in 0..n {
         start_unit(t, s, j);
-        j += 1;
     }
 }
 

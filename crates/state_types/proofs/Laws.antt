@@ -39,9 +39,6 @@ module _ (f : ℕ → Bool) where
   next : (i m : ℕ) → i < m → every f i (m - i) ≡ both (f i) (every f (i + 1) (m - (i + 1)))
   next i m h = let q : m - i ≡ suc (m - (i + 1)) = omega arith in ap (every f i) q ∙ one i (m - (i + 1))
 
-  pub every-start : (m : ℕ) → every f 0 (m - 0) ≡ every f 0 m
-  every-start m = ap (every f 0) (omega arith)
-
   module _ (i m : ℕ) (h : i < m) {b : Bool} (eb : b ≡ f i) where
     pub every_more : b ≡ true → every f (i + 1) (m - (i + 1)) ≡ every f i (m - i)
     every_more e = sym (next i m h ∙ ap (λ b. both b (every f (i + 1) (m - (i + 1)))) (sym eb ∙ e))

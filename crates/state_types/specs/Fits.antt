@@ -1,7 +1,7 @@
 -- Mechanism, held to the specification by `demand2` (crate `demands`).
 -- Numbers that count, and numbers that lie in their types: document 01, "A state of the model (refusal 9): values in their types, .. messages in their field types, counts
 -- within ceilings". `t` are tables, `s` the numbers, p a process.
-use Rattle.std.specs.Prelude.{ℕ, zero, suc, ◌+◌, ◌-◌, ◌/◌, ◌%◌, min, Bool, true, List, ℤ, eqb}
+use Rattle.std.specs.Prelude.{ℕ, zero, suc, ◌+◌, ◌/◌, ◌%◌, min, Bool, true, List, ℤ, eqb}
 use Rattle.base_codes.specs.Codes.{c_declared, c_parameter}
 use Rattle.base_bytes.specs.Choice.{pick, both, either}
 use Rattle.table_layout.specs.Access.{code_of, link_of}

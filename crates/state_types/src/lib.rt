@@ -50,12 +50,10 @@ fn variable_fits(s: &[i32], l: u32, p: u8) -> bool
     ensures { result ≡ fits.variable_fits s.now l p }
 {
     let n = step_eval::size_of(l);
-    let mut k: u32 = 0;
-    while k < n {
+    for k in 0..n {
         if !element_fits(s, l, p, k as u8) {
             return false;
         }
-        k += 1;
     }
     true
 }
@@ -73,12 +71,10 @@ fn global_fits(t: &[u32], s: &[i32], j: usize) -> bool
 pub fn globals_fit(t: &[u32], s: &[i32], n: usize) -> bool
     ensures { result ≡ fits.every (fits.global_fits t.now s.now) 0 n }
 {
-    let mut j: usize = 0;
-    while j < n {
+    for j in 0..n {
         if !global_fits(t, s, j) {
             return false;
         }
-        j += 1;
     }
     true
 }
@@ -97,12 +93,10 @@ pub fn locals_fit(t: &[u32], s: &[i32], p: u8, u: u32) -> bool
     ensures { result ≡ fits.locals_fit t.now s.now p u }
 {
     let n = state_start::unit_length(t, u);
-    let mut k: u32 = 0;
-    while k < n {
+    for k in 0..n {
         if !local_fits(t, s, p, (u + k) as usize) {
             return false;
         }
-        k += 1;
     }
     true
 }
@@ -121,12 +115,10 @@ fn message_fits(t: &[u32], s: &[i32], c: u32, d: u32, m: u32) -> bool
     ensures { result ≡ fits.message_fits t.now s.now c d m }
 {
     let n = step_ready::fields(t, d);
-    let mut f: u32 = 0;
-    while f < n {
+    for f in 0..n {
         if !field_fits(t, s, c, d, m, f) {
             return false;
         }
-        f += 1;
     }
     true
 }
@@ -134,12 +126,10 @@ fn message_fits(t: &[u32], s: &[i32], c: u32, d: u32, m: u32) -> bool
 pub fn messages_fit(t: &[u32], s: &[i32], c: u32, d: u32, n: u32) -> bool
     ensures { result ≡ fits.every (fits.message_fits t.now s.now c d) 0 n }
 {
-    let mut m: u32 = 0;
-    while m < n {
+    for m in 0..n {
         if !message_fits(t, s, c, d, m) {
             return false;
         }
-        m += 1;
     }
     true
 }

@@ -23,10 +23,8 @@ fn shape_variable(s: &[i32], x: &mut [i32], l: u32, p: u8)
     ensures { x.new ≡ shapes.variable_shaped s.now l p x.old }
 {
     let n = step_eval::size_of(l);
-    let mut k: u32 = 0;
-    while k < n {
+    for k in 0..n {
         shape_element(s, x, l, p, k as u8);
-        k += 1;
     }
 }
 
@@ -41,10 +39,8 @@ fn shape_global(t: &[u32], s: &[i32], x: &mut [i32], j: usize)
 fn shape_globals(t: &[u32], s: &[i32], x: &mut [i32], n: usize)
     ensures { x.new ≡ walk (shapes.global_shaped t.now s.now) 0 n x.old }
 {
-    let mut j: usize = 0;
-    while j < n {
+    for j in 0..n {
         shape_global(t, s, x, j);
-        j += 1;
     }
 }
 
@@ -61,10 +57,8 @@ fn shape_locals(t: &[u32], s: &[i32], x: &mut [i32], p: u8, u: u32)
     ensures { x.new ≡ shapes.locals_shaped t.now s.now p u x.old }
 {
     let n = state_start::unit_length(t, u);
-    let mut k: u32 = 0;
-    while k < n {
+    for k in 0..n {
         shape_local(t, s, x, p, (u + k) as usize);
-        k += 1;
     }
 }
 
@@ -81,10 +75,8 @@ fn shape_process(t: &[u32], s: &[i32], x: &mut [i32], p: u8)
 fn shape_processes(t: &[u32], s: &[i32], x: &mut [i32], n: u8)
     ensures { x.new ≡ walk (shapes.process_shaped t.now s.now) 0 n x.old }
 {
-    let mut p: u8 = 0;
-    while p < n {
+    for p in 0..n {
         shape_process(t, s, x, p);
-        p += 1;
     }
 }
 
@@ -99,20 +91,16 @@ fn shape_message(t: &[u32], s: &[i32], x: &mut [i32], c: u32, d: u32, m: u32)
     ensures { x.new ≡ shapes.message_shaped t.now s.now c d m x.old }
 {
     let n = step_ready::fields(t, d);
-    let mut f: u32 = 0;
-    while f < n {
+    for f in 0..n {
         shape_field(s, x, c, m, f);
-        f += 1;
     }
 }
 
 fn shape_messages(t: &[u32], s: &[i32], x: &mut [i32], c: u32, d: u32, n: u32)
     ensures { x.new ≡ walk (shapes.message_shaped t.now s.now c d) 0 n x.old }
 {
-    let mut m: u32 = 0;
-    while m < n {
+    for m in 0..n {
         shape_message(t, s, x, c, d, m);
-        m += 1;
     }
 }
 
@@ -133,10 +121,8 @@ fn shape_channel(t: &[u32], s: &[i32], x: &mut [i32], c: u32)
 fn shape_channels(t: &[u32], s: &[i32], x: &mut [i32], n: u32)
     ensures { x.new ≡ walk (shapes.channel_shaped t.now s.now) 0 n x.old }
 {
-    let mut c: u32 = 0;
-    while c < n {
+    for c in 0..n {
         shape_channel(t, s, x, c);
-        c += 1;
     }
 }
 

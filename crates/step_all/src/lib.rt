@@ -17,9 +17,6 @@ pub enum Verdict {
     Open,
 }
 
-// Past every place.
-const NOWHERE: u32 = 4294967295;
-
 // An offered step; or how many steps are left to pass.
 #[derive(Clone, Copy)]
 pub enum Offer {
@@ -75,12 +72,10 @@ fn is_any(t: &[u32], s: &[i32], late: bool) -> bool
     ensures { result ≡ machine.any_from (machine_in t.now) s.now late 0 (moving.processes s.now) }
 {
     let n = processes(s);
-    let mut p: u32 = 0;
-    while p < n {
+    for p in 0..n {
         if step_offers::is_offered(t, s, p as u8, late) {
             return true;
         }
-        p += 1;
     }
     false
 }
@@ -139,18 +134,15 @@ fn nth_by(t: &[u32], s: &[i32], late: bool, n: u32) -> Offer
     ensures { result ≡ moving.nth_in n (machine.list_from (machine_in t.now) s.now late 0 (moving.processes s.now)) }
 {
     let count = processes(s);
-    let mut shut: u32 = NOWHERE;
+    let mut shut: Option<u32> = None;
     let mut left = n;
-    let mut p: u32 = 0;
-    while p < count {
+    for p in 0..count {
         let q = state_layout::place_of(s, p as u8);
-        if q == shut {
-            p += 1;
+        if shut == Some(q) {
             continue;
         }
         if is_shut(t, s, q as usize) {
-            shut = q;
-            p += 1;
+            shut = Some(q);
             continue;
         }
         let w = step_offers::offered(t, s, p as u8, late, left);
@@ -162,7 +154,6 @@ fn nth_by(t: &[u32], s: &[i32], late: bool, n: u32) -> Offer
                 left = m;
             }
         }
-        p += 1;
     }
     Offer::Beyond(left)
 }
@@ -196,14 +187,12 @@ fn is_ended(t: &[u32], s: &[i32]) -> bool
     ensures { result ≡ machine.ended_from (machine_in t.now) s.now 0 (moving.processes s.now) }
 {
     let n = processes(s);
-    let mut p: u32 = 0;
-    while p < n {
+    for p in 0..n {
         if table_layout::code(t, state_layout::place_of(s, p as u8) as usize)
             != base_codes::END_BODY
         {
             return false;
         }
-        p += 1;
     }
     true
 }

@@ -1,5 +1,5 @@
 -- The laws that the entries cite.
-use Prim.Native.Nat.{ℕ, ◌+◌, ◌-◌, ◌≤◌, ◌<◌}
+use Prim.Native.Nat.{ℕ, ◌+◌, ◌≤◌, ◌<◌}
 use mathlib.Core.Path.{◌≡◌, refl, sym, ◌∙◌, ap, ap₂}
 use mathlib.Core.Bool.{Bool, true, false}
 use mathlib.Core.Option.{Option}
@@ -21,7 +21,7 @@ use Rattle.step_all.specs.declared.Verdict.{Verdict}
 use Rattle.base_bytes.specs.Choice.{pick}
 use Rattle.step_prints.specs.Printing.{Pen, pen, puts}
 use Rattle.base_outcome.specs.declared.Taken.{Taken}
-use Rattle.step_statements.specs.Statements.{Result}
+use Rattle.step_statements.specs.Statements.{Effect}
 use Rattle.step_entry.specs.declared.Stepped.{Stepped}
 use Rattle.step_entry.specs.declared.Standing.{Standing}
 use Rattle.step_entry.specs.declared.Standing.TheVariants.{Refused}
@@ -97,10 +97,10 @@ left-within t s n m e f = let h : n ≡ m + length (offered (machine_in t) s) = 
 -- ---- taking a step
 module _ (w : List ℕ) (s : List ℤ) (x : machine.Step) (out new : List ℕ) (n : ℕ) (e : pen new n ≡ puts ((machine_in w).printed s x) (pen out 0)) (r : Taken) (s' : List ℤ) (f : (r, s') ≡ advance (machine_in w) s x) where
   taken_is : r ≡ (advance (machine_in w) s x).0
-  taken_is = ap (λ (z : Result). z.0) f
+  taken_is = ap (λ (z : Effect). z.0) f
 
   pub move_answer : (a : Stepped) → a ≡ took_by r n → (a ≡ (took_at w s x out).answer) × ((s' ≡ (took_at w s x out).state) × (new ≡ (took_at w s x out).printed))
-  move_answer a h = (h ∙ ap₂ took_by taken_is (ap (λ (z : Pen). z.at) e), (ap (λ (z : Result). z.1) f, ap (λ (z : Pen). z.bytes) e))
+  move_answer a h = (h ∙ ap₂ took_by taken_is (ap (λ (z : Pen). z.at) e), (ap (λ (z : Effect). z.1) f, ap (λ (z : Pen). z.bytes) e))
 
 -- the answer and what is left, by an outcome
 abbrev pub LeftBy : Outcome → Stepped → List ℤ → List ℕ → Type 0

@@ -79,13 +79,15 @@ pub fn start(tables: &[u32], state: &mut [i32]) -> u8
     0
 }
 
-fn standing_of(v: Verdict) -> Standing
-    ensures { result ≡ entries.standing_of v }
-{
-    match v {
-        Verdict::Finished => Standing::Finished,
-        Verdict::Blocked => Standing::Blocked,
-        Verdict::Open => Standing::Open,
+impl From<Verdict> for Standing {
+    ghost from_gives = { λ v r. r ≡ entries.standing_of v };
+
+    fn from(v: Verdict) -> Standing {
+        match v {
+            Verdict::Finished => Standing::Finished,
+            Verdict::Blocked => Standing::Blocked,
+            Verdict::Open => Standing::Open,
+        }
     }
 }
 
@@ -97,7 +99,7 @@ pub fn verdict(tables: &[u32], state: &[i32]) -> Standing
     if x != 0 {
         return Standing::Refused(x);
     }
-    standing_of(step_all::verdict_of(read_genuine::written(tables), state))
+    step_all::verdict_of(read_genuine::written(tables), state).into()
 }
 
 // The n-th step, from 0, of all that are offered, by process number, then text order; where there are no more than n, how many there are.

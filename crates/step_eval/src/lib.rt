@@ -6,21 +6,7 @@ ghost use Rattle.base_values.specs.Operators.{truth};
 ghost use Rattle.step_eval.specs.Variables as variables;
 ghost use Rattle.step_eval.specs.Expressions as expressions;
 
-use base_values::{Answer, Fault};
-
-// Where a variable's number stands in the state, or the fault of its index.
-#[derive(Clone, Copy)]
-pub enum Located {
-    At(usize),
-    Astray(Fault),
-}
-
-// The record of a channel, or why there is none.
-#[derive(Clone, Copy)]
-pub enum Reached {
-    Record(u32),
-    Unmade(Fault),
-}
+use base_values::Fault;
 
 // What the last item of an expression is.
 #[derive(Clone, Copy)]
@@ -72,61 +58,46 @@ pub fn slot(l: u32, p: u8, k: u8) -> usize
 }
 
 // The element with an index that was worked out.
-pub fn element(l: u32, p: u8, a: Answer) -> Located
+pub fn element(l: u32, p: u8, a: Result<i32, Fault>) -> Result<usize, Fault>
     ensures { result ≡ variables.element_of l p a }
 {
-    match a {
-        Answer::Value(i) => {
-            if i < 0 {
-                return Located::Astray(Fault::Index);
-            }
-            if state_layout::natural(i) < size_of(l) {
-                Located::At(slot(l, p, state_layout::natural(i) as u8))
-            } else {
-                Located::Astray(Fault::Index)
-            }
-        }
-        Answer::Fails(f) => Located::Astray(f),
+    let i = a?;
+    if i < 0 {
+        return Err(Fault::Index);
+    }
+    if state_layout::natural(i) < size_of(l) {
+        Ok(slot(l, p, state_layout::natural(i) as u8))
+    } else {
+        Err(Fault::Index)
     }
 }
 
-pub fn load(s: &[i32], x: Located) -> Answer
+pub fn load(s: &[i32], x: Result<usize, Fault>) -> Result<i32, Fault>
     ensures { result ≡ variables.load_of s.now x }
 {
-    match x {
-        Located::At(i) => Answer::Value(state_layout::cell(s, i)),
-        Located::Astray(f) => Answer::Fails(f),
-    }
+    Ok(state_layout::cell(s, x?))
 }
 
 // The record of the channel whose number was worked out.
-pub fn channel(s: &[i32], a: Answer) -> Reached
+pub fn channel(s: &[i32], a: Result<i32, Fault>) -> Result<u32, Fault>
     ensures { result ≡ variables.channel_of s.now a }
 {
-    match a {
-        Answer::Value(v) => {
-            let n = state_layout::natural(v);
-            if n == 0 {
-                return Reached::Unmade(Fault::Channel);
-            }
-            if n <= state_layout::channels(s) {
-                Reached::Record(n - 1)
-            } else {
-                Reached::Unmade(Fault::Channel)
-            }
-        }
-        Answer::Fails(f) => Reached::Unmade(f),
+    let n = state_layout::natural(a?);
+    if n == 0 {
+        return Err(Fault::Channel);
+    }
+    if n <= state_layout::channels(s) {
+        Ok(n - 1)
+    } else {
+        Err(Fault::Channel)
     }
 }
 
 // How many messages it holds.
-pub fn length(s: &[i32], c: Reached) -> Answer
+pub fn length(s: &[i32], c: Result<u32, Fault>) -> Result<i32, Fault>
     ensures { result ≡ variables.length_of s.now c }
 {
-    match c {
-        Reached::Record(n) => Answer::Value(state_layout::waiting_of(s, n) as i32),
-        Reached::Unmade(f) => Answer::Fails(f),
-    }
+    Ok(state_layout::waiting_of(s, c?) as i32)
 }
 
 fn node_of(c: u8) -> Node
@@ -157,64 +128,49 @@ fn node_of(c: u8) -> Node
     }
 }
 
-pub fn is_fault(x: Answer) -> bool
+pub fn is_fault(x: Result<i32, Fault>) -> bool
     ensures { result ≡ expressions.is_fault x }
 {
-    match x {
-        Answer::Value(_) => false,
-        Answer::Fails(_) => true,
-    }
+    x.is_err()
 }
 
 // Is it a value other than 0?
-pub fn holds(x: Answer) -> bool
+pub fn holds(x: Result<i32, Fault>) -> bool
     ensures { result ≡ expressions.holds x }
 {
     match x {
-        Answer::Value(v) => v != 0,
-        Answer::Fails(_) => false,
+        Ok(v) => v != 0,
+        Err(_) => false,
     }
 }
 
 // 0 or 1.
-fn truth(x: Answer) -> Answer
+fn truth(x: Result<i32, Fault>) -> Result<i32, Fault>
     ensures { result ≡ truth x }
 {
-    match x {
-        Answer::Value(v) => Answer::Value((v != 0) as i32),
-        Answer::Fails(f) => Answer::Fails(f),
-    }
+    Ok((x? != 0) as i32)
 }
 
-fn unary(op: u8, x: Answer) -> Answer
+fn unary(op: u8, x: Result<i32, Fault>) -> Result<i32, Fault>
     ensures { result ≡ expressions.unary_by op x }
 {
-    match x {
-        Answer::Value(v) => Answer::Value(base_values::apply_unary(op, v)),
-        Answer::Fails(f) => Answer::Fails(f),
-    }
+    Ok(base_values::apply_unary(op, x?))
 }
 
-fn right(op: u8, a: i32, y: Answer) -> Answer
+fn right(op: u8, a: i32, y: Result<i32, Fault>) -> Result<i32, Fault>
     ensures { result ≡ expressions.right_by op a y }
 {
-    match y {
-        Answer::Value(b) => base_values::apply(op, a, b),
-        Answer::Fails(f) => Answer::Fails(f),
-    }
+    base_values::apply(op, a, y?)
 }
 
-fn both(op: u8, x: Answer, y: Answer) -> Answer
+fn both(op: u8, x: Result<i32, Fault>, y: Result<i32, Fault>) -> Result<i32, Fault>
     ensures { result ≡ expressions.both_by op x y }
 {
-    match x {
-        Answer::Value(a) => right(op, a, y),
-        Answer::Fails(f) => Answer::Fails(f),
-    }
+    right(op, x?, y)
 }
 
 // Does the left operand alone decide?
-fn decided(op: u8, x: Answer) -> bool
+fn decided(op: u8, x: Result<i32, Fault>) -> bool
     ensures { result ≡ expressions.decided op x }
 {
     if is_fault(x) {
@@ -239,31 +195,31 @@ fn start(t: &[u32], from: usize, j: usize) -> usize
 }
 
 // A plain reference to declaration d.
-fn plain(t: &[u32], s: &[i32], p: u8, d: usize) -> Answer
+fn plain(t: &[u32], s: &[i32], p: u8, d: usize) -> Result<i32, Fault>
     ensures { result ≡ expressions.plain_of t.now s.now p d }
 {
     match table_layout::code(t, d) {
-        base_codes::MESSAGE => Answer::Value(state_layout::kept(table_layout::link(t, d))),
-        base_codes::NAME => Answer::Value(p as i32),
-        _ => Answer::Value(state_layout::cell(s, slot(table_layout::link(t, d) as u32, p, 0))),
+        base_codes::MESSAGE => Ok(state_layout::kept(table_layout::link(t, d))),
+        base_codes::NAME => Ok(p as i32),
+        _ => Ok(state_layout::cell(s, slot(table_layout::link(t, d) as u32, p, 0))),
     }
 }
 
-fn eval_at(t: &[u32], s: &[i32], p: u8, h: usize, from: usize, to: usize) -> Answer
+fn eval_at(t: &[u32], s: &[i32], p: u8, h: usize, from: usize, to: usize) -> Result<i32, Fault>
     ensures { result ≡ expressions.eval_t t.now s.now p h from to }
 {
     if h == 0 {
-        return Answer::Value(0);
+        return Ok(0);
     }
     if to <= from {
-        return Answer::Value(0);
+        return Ok(0);
     }
     let j = to - 1;
     let n = node_of(table_layout::code(t, j));
     match n {
-        Node::Number => Answer::Value(state_layout::kept(table_layout::number(t, j))),
-        Node::True => Answer::Value(1),
-        Node::False => Answer::Value(0),
+        Node::Number => Ok(state_layout::kept(table_layout::number(t, j))),
+        Node::True => Ok(1),
+        Node::False => Ok(0),
         Node::Plain => plain(t, s, p, table_layout::link(t, j)),
         Node::Index => {
             let x = eval_at(t, s, p, h - 1, from, j);
@@ -305,25 +261,25 @@ fn eval_at(t: &[u32], s: &[i32], p: u8, h: usize, from: usize, to: usize) -> Ans
                 eval_at(t, s, p, h - 1, c, j)
             }
         }
-        Node::Other => Answer::Value(0),
+        Node::Other => Ok(0),
     }
 }
 
 // The value of the expression that the items from `from` to before `to` hold.
-pub fn eval(t: &[u32], s: &[i32], p: u8, from: usize, to: usize) -> Answer
+pub fn eval(t: &[u32], s: &[i32], p: u8, from: usize, to: usize) -> Result<i32, Fault>
     ensures { result ≡ expressions.eval_of t.now s.now p from to }
 {
     eval_at(t, s, p, base_ceilings::HEIGHT_MOST, from, to)
 }
 
 // Where the reference that they hold stands.
-pub fn locate(t: &[u32], s: &[i32], p: u8, from: usize, to: usize) -> Located
+pub fn locate(t: &[u32], s: &[i32], p: u8, from: usize, to: usize) -> Result<usize, Fault>
     ensures { result ≡ expressions.locate_of t.now s.now p from to }
 {
     let j = minus_one(to);
     if table_layout::code(t, j) == base_codes::INDEX {
         element(variable(t, j), p, eval(t, s, p, from, j))
     } else {
-        Located::At(slot(variable(t, j), p, 0))
+        Ok(slot(variable(t, j), p, 0))
     }
 }

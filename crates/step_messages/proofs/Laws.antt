@@ -1,97 +1,89 @@
 -- Laws that the proofs of `step_messages` cite: a turn of each loop, and what the callees say, put together.
-use Prim.Native.Nat.{ℕ, zero, suc, ◌+◌, ◌-◌, ◌≤◌, ◌<◌, ◌^◌, ◌*◌}
+use Rattle.std.specs.Prelude.{Result, Ok, Err}
+use Prim.Native.Nat.{ℕ, zero, suc, ◌+◌, ◌-◌, ◌<◌, ◌^◌, ◌*◌}
 use mathlib.Core.Path.{◌≡◌, refl, sym, ap, ◌∙◌}
-use mathlib.Core.Bool.{Bool, true, false, not}
+use mathlib.Core.Bool.{Bool, true, false}
 use mathlib.Core.List.{List}
-use native.Mathlib.Omega.{arith}
 use lib.ListN.{get_or, set}
 use lib.IntN.{ℤ, pos}
 use lib.Signed.{mag}
-use lib.Dec.{eqb}
-use borrow.Author.Tests.{ne_eqb, eq-eqb}
+use borrow.Author.Tests.{ne_eqb}
 use mir.Syntax.{w32}
 use mir.Val.{to_z, of_z, SFits}
 use mir.ValLaws.{to_z-of_z}
 use Rattle.base_ceilings.specs.Ceilings.{capacity_most, fields_most}
 use Rattle.base_codes.specs.Codes.{c_end}
-use Rattle.base_bytes.specs.Choice.{pick}
 use Rattle.table_layout.specs.Access.{code_of, link_of}
 use Rattle.base_values.specs.Types.{cast_of}
 use Rattle.base_values.specs.declared.Fault.{Fault}
-use Rattle.base_values.specs.declared.Answer.{Answer}
-use Rattle.base_values.specs.declared.Answer.TheVariants.{Value, Fails}
 use Rattle.state_layout.proofs.Laws.{back}
 use Rattle.state_layout.specs.Layout.{kept, cell_of, channel_at, field_at, declared_of, waiting_of}
 use Rattle.state_layout.specs.Walks.{walk}
-use Rattle.step_eval.specs.declared.Located.{Located}
-use Rattle.step_eval.specs.declared.Located.TheVariants.{At, Astray}
 use Rattle.step_eval.specs.Variables.{variable_of, type_of}
-use Rattle.step_eval.specs.Expressions.{eval_of, locate_of}
+use Rattle.step_eval.specs.Expressions.{eval_of}
 use Rattle.step_ready.specs.Channels.{compared_at, fields_of}
-use Rattle.step_messages.specs.declared.Gathered.{Gathered}
-use Rattle.step_messages.specs.declared.Gathered.TheVariants.{Upto, Failed}
 use Rattle.step_messages.specs.Messages.{field_type, on_value, on_place, gather_end, gather_list, aim_of, aim_end, aim_list, put_in, taken_out, delivered_one, delivered}
 
 -- ---- arguments
 module _ (t : List ℕ) (s : List ℤ) (p : ℕ) where
-  pub gather_end_lem : (n a k : ℕ) (l : List ℤ) → n ≡ 0 → (Upto a ≡ gather_end t s p n a) × (l ≡ gather_list t s p n a k l)
+  pub gather_end_lem : (n a k : ℕ) (l : List ℤ) → n ≡ 0 → (Ok a ≡ gather_end t s p n a) × (l ≡ gather_list t s p n a k l)
   unfolding gather_end gather_list
   gather_end_lem n a k l e = (rw e, rw e)
 
-  pub gather_over : (n a k : ℕ) (l : List ℤ) {c : ℕ} → c ≡ code_of t a → c ≡ c_end → (Upto a ≡ gather_end t s p n a) × (l ≡ gather_list t s p n a k l)
+  pub gather_over : (n a k : ℕ) (l : List ℤ) {c : ℕ} → c ≡ code_of t a → c ≡ c_end → (Ok a ≡ gather_end t s p n a) × (l ≡ gather_list t s p n a k l)
   unfolding gather_end gather_list
   gather_over zero a k l ec e = (refl, refl)
   gather_over (suc n) a k l ec e = (rw (← ec, e), rw (← ec, e))
 
-  module _ (n n1 a k : ℕ) (l : List ℤ) (en : n ≡ suc n1) {c m : ℕ} (ec : c ≡ code_of t a) (h : c ≡ c_end → ⊥) (em : m ≡ link_of t a) {x : Answer} (ex : x ≡ eval_of t s p a m) where
+  module _ (n n1 a k : ℕ) (l : List ℤ) (en : n ≡ suc n1) {c m : ℕ} (ec : c ≡ code_of t a) (h : c ≡ c_end → ⊥) (em : m ≡ link_of t a) {x : Result ℤ Fault} (ex : x ≡ eval_of t s p a m) where
     known : eval_of t s p a (link_of t a) ≡ x
     known = sym (ex ∙ ap (eval_of t s p a) em)
 
-    pub gather_fault : {f : Fault} → x ≡ Fails f → (Failed f ≡ gather_end t s p n a) × (l ≡ gather_list t s p n a k l)
+    pub gather_fault : {f : Fault} → x ≡ Err f → (Err f ≡ gather_end t s p n a) × (l ≡ gather_list t s p n a k l)
     unfolding gather_end gather_list
     gather_fault {f} e = (
-      rw (en, ← ec, ne_eqb c c_end h) (ap (λ y. on_value y (λ v. gather_end t s p n1 (link_of t a + 1)) (λ f. Failed f)) (sym (known ∙ e))),
+      rw (en, ← ec, ne_eqb c c_end h) (ap (λ y. on_value y (λ v. gather_end t s p n1 (link_of t a + 1)) (λ f. Err f)) (sym (known ∙ e))),
       rw (en, ← ec, ne_eqb c c_end h) (ap (λ y. on_value y (λ v. gather_list t s p n1 (link_of t a + 1) (k + 1) (set l k v)) (λ f. l)) (sym (known ∙ e))),
     )
 
-    pub gather_more : {v : ℤ} {l' : List ℤ} → x ≡ Value v → mag v < 2 ^ 31 → l' ≡ set l k (to_z w32 (of_z w32 v))
+    pub gather_more : {v : ℤ} {l' : List ℤ} → x ≡ Ok v → mag v < 2 ^ 31 → l' ≡ set l k (to_z w32 (of_z w32 v))
         → (gather_end t s p n1 (m + 1) ≡ gather_end t s p n a) × (gather_list t s p n1 (m + 1) (k + 1) l' ≡ gather_list t s p n a k l)
     unfolding gather_end gather_list
     gather_more {v} {l'} e g el =
         let el' : l' ≡ set l k v = rw (back {z = v} g) at el in (
           rw (en, ← ec, ne_eqb c c_end h)
-              (ap (λ b. gather_end t s p n1 (b + 1)) em ∙ ap (λ y. on_value y (λ v. gather_end t s p n1 (link_of t a + 1)) (λ f. Failed f)) (sym (known ∙ e))),
+              (ap (λ b. gather_end t s p n1 (b + 1)) em ∙ ap (λ y. on_value y (λ v. gather_end t s p n1 (link_of t a + 1)) (λ f. Err f)) (sym (known ∙ e))),
           rw (en, ← ec, ne_eqb c c_end h)
               ((λ i. gather_list t s p n1 (em i + 1) (k + 1) (el' i))
               ∙ ap (λ y. on_value y (λ v. gather_list t s p n1 (link_of t a + 1) (k + 1) (set l k v)) (λ f. l)) (sym (known ∙ e))),
         )
 
   -- ---- places
-  pub aim_end_lem : (n a k : ℕ) (l : List ℕ) → n ≡ 0 → (Upto a ≡ aim_end t s p n a) × (l ≡ aim_list t s p n a k l)
+  pub aim_end_lem : (n a k : ℕ) (l : List ℕ) → n ≡ 0 → (Ok a ≡ aim_end t s p n a) × (l ≡ aim_list t s p n a k l)
   unfolding aim_end aim_list
   aim_end_lem n a k l e = (rw e, rw e)
 
-  pub aim-over : (n a k : ℕ) (l : List ℕ) {c : ℕ} → c ≡ code_of t a → c ≡ c_end → (Upto a ≡ aim_end t s p n a) × (l ≡ aim_list t s p n a k l)
+  pub aim-over : (n a k : ℕ) (l : List ℕ) {c : ℕ} → c ≡ code_of t a → c ≡ c_end → (Ok a ≡ aim_end t s p n a) × (l ≡ aim_list t s p n a k l)
   unfolding aim_end aim_list
   aim-over zero a k l ec e = (refl, refl)
   aim-over (suc n) a k l ec e = (rw (← ec, e), rw (← ec, e))
 
-  module _ (n n1 a k : ℕ) (l : List ℕ) (en : n ≡ suc n1) {c m : ℕ} (ec : c ≡ code_of t a) (h : c ≡ c_end → ⊥) (em : m ≡ link_of t a) {x : Located} (ex : x ≡ aim_of t s p a m) where
+  module _ (n n1 a k : ℕ) (l : List ℕ) (en : n ≡ suc n1) {c m : ℕ} (ec : c ≡ code_of t a) (h : c ≡ c_end → ⊥) (em : m ≡ link_of t a) {x : Result ℕ Fault} (ex : x ≡ aim_of t s p a m) where
     seen : aim_of t s p a (link_of t a) ≡ x
     seen = sym (ex ∙ ap (aim_of t s p a) em)
 
-    pub aim-fault : {f : Fault} → x ≡ Astray f → (Failed f ≡ aim_end t s p n a) × (l ≡ aim_list t s p n a k l)
+    pub aim-fault : {f : Fault} → x ≡ Err f → (Err f ≡ aim_end t s p n a) × (l ≡ aim_list t s p n a k l)
     unfolding aim_end aim_list
     aim-fault {f} e = (
-      rw (en, ← ec, ne_eqb c c_end h) (ap (λ y. on_place y (λ v. aim_end t s p n1 (link_of t a + 1)) (λ f. Failed f)) (sym (seen ∙ e))),
+      rw (en, ← ec, ne_eqb c c_end h) (ap (λ y. on_place y (λ v. aim_end t s p n1 (link_of t a + 1)) (λ f. Err f)) (sym (seen ∙ e))),
       rw (en, ← ec, ne_eqb c c_end h) (ap (λ y. on_place y (λ v. aim_list t s p n1 (link_of t a + 1) (k + 1) (set l k v)) (λ f. l)) (sym (seen ∙ e))),
     )
 
-    pub aim-more : {v : ℕ} {l' : List ℕ} → x ≡ At v → l' ≡ set l k v → (aim_end t s p n1 (m + 1) ≡ aim_end t s p n a) × (aim_list t s p n1 (m + 1) (k + 1) l' ≡ aim_list t s p n a k l)
+    pub aim-more : {v : ℕ} {l' : List ℕ} → x ≡ Ok v → l' ≡ set l k v → (aim_end t s p n1 (m + 1) ≡ aim_end t s p n a) × (aim_list t s p n1 (m + 1) (k + 1) l' ≡ aim_list t s p n a k l)
     unfolding aim_end aim_list
     aim-more {v} e el = (
       rw (en, ← ec, ne_eqb c c_end h)
-          (ap (λ b. aim_end t s p n1 (b + 1)) em ∙ ap (λ y. on_place y (λ v. aim_end t s p n1 (link_of t a + 1)) (λ f. Failed f)) (sym (seen ∙ e))),
+          (ap (λ b. aim_end t s p n1 (b + 1)) em ∙ ap (λ y. on_place y (λ v. aim_end t s p n1 (link_of t a + 1)) (λ f. Err f)) (sym (seen ∙ e))),
       rw (en, ← ec, ne_eqb c c_end h)
           ((λ i. aim_list t s p n1 (em i + 1) (k + 1) (el i)) ∙ ap (λ y. on_place y (λ v. aim_list t s p n1 (link_of t a + 1) (k + 1) (set l k v)) (λ f. l)) (sym (seen ∙ e))),
     )

@@ -8,21 +8,13 @@ ghost use Rattle.base_values.specs.Types.{cast_of};
 ghost use Rattle.state_layout.specs.Layout as layout;
 ghost use Rattle.step_messages.specs.Messages as messages;
 
-use base_values::{Answer, Fault};
-use step_eval::Located;
+use base_values::Fault;
 
 // The fields of a message.
 const FIELDS_MOST: u32 = base_ceilings::FIELDS_MOST as u32;
 
 // The last message of a full channel.
 const LAST: u32 = base_ceilings::CAPACITY_MOST as u32 - 1;
-
-// The item where arguments end, or the first fault among them.
-#[derive(Clone, Copy)]
-pub enum Gathered {
-    Upto(usize),
-    Failed(Fault),
-}
 
 // The type of field f of the channels that item d declares.
 pub fn field_type(t: &[u32], d: u32, f: u32) -> u8
@@ -33,38 +25,29 @@ pub fn field_type(t: &[u32], d: u32, f: u32) -> u8
 }
 
 // The values of the arguments from item a on, into `values`.
-pub fn gather(t: &[u32], s: &[i32], p: u8, a: usize, values: &mut [i32]) -> Gathered
+pub fn gather(t: &[u32], s: &[i32], p: u8, a: usize, values: &mut [i32]) -> Result<usize, Fault>
     ensures value { result ≡ messages.gather_end t.now s.now p numbers_most a }
     ensures values_after { values.new ≡ messages.gather_list t.now s.now p numbers_most a 0 values.old }
 {
     let mut j = a;
-    let mut k: usize = 0;
-    while k < base_ceilings::NUMBERS_MOST {
+    for k in 0..base_ceilings::NUMBERS_MOST {
         if table_layout::code(t, j) == base_codes::END {
-            return Gathered::Upto(j);
+            return Ok(j);
         }
         let m = table_layout::link(t, j);
-        let x = step_eval::eval(t, s, p, j, m);
-        match x {
-            Answer::Value(v) => {
-                state_layout::put(values, k, v);
-            }
-            Answer::Fails(f) => {
-                return Gathered::Failed(f);
-            }
-        }
+        let v = step_eval::eval(t, s, p, j, m)?;
+        state_layout::put(values, k, v);
         j = m + 1;
-        k += 1;
     }
-    Gathered::Upto(j)
+    Ok(j)
 }
 
 // Where the received argument from item a to before its mark m is stored.
-fn aim_at(t: &[u32], s: &[i32], p: u8, a: usize, m: usize) -> Located
+fn aim_at(t: &[u32], s: &[i32], p: u8, a: usize, m: usize) -> Result<usize, Fault>
     ensures { result ≡ messages.aim_of t.now s.now p a m }
 {
     if step_ready::is_compared(t, m) {
-        Located::At(0)
+        Ok(0)
     } else {
         step_eval::locate(t, s, p, a, m)
     }
@@ -80,30 +63,21 @@ fn note(places: &mut [usize], k: usize, i: usize)
 }
 
 // Where each of the received arguments from item a on is stored, into `places`.
-pub fn aim(t: &[u32], s: &[i32], p: u8, a: usize, places: &mut [usize]) -> Gathered
+pub fn aim(t: &[u32], s: &[i32], p: u8, a: usize, places: &mut [usize]) -> Result<usize, Fault>
     ensures value { result ≡ messages.aim_end t.now s.now p fields_most a }
     ensures places_after { places.new ≡ messages.aim_list t.now s.now p fields_most a 0 places.old }
 {
     let mut j = a;
-    let mut k: usize = 0;
-    while k < base_ceilings::FIELDS_MOST {
+    for k in 0..base_ceilings::FIELDS_MOST {
         if table_layout::code(t, j) == base_codes::END {
-            return Gathered::Upto(j);
+            return Ok(j);
         }
         let m = table_layout::link(t, j);
-        let x = aim_at(t, s, p, j, m);
-        match x {
-            Located::At(i) => {
-                note(places, k, i);
-            }
-            Located::Astray(f) => {
-                return Gathered::Failed(f);
-            }
-        }
+        let i = aim_at(t, s, p, j, m)?;
+        note(places, k, i);
         j = m + 1;
-        k += 1;
     }
-    Gathered::Upto(j)
+    Ok(j)
 }
 
 // The field f of message w of channel c, with a value cast to its type.
@@ -123,10 +97,8 @@ pub fn put(t: &[u32], s: &mut [i32], c: u32, w: u32, values: &[i32])
 {
     let d = state_layout::declared_of(s, c);
     let n = step_ready::fields(t, d);
-    let mut f: u32 = 0;
-    while f < n {
+    for f in 0..n {
         put_field(t, s, d, c, w, f, state_layout::cell(values, f as usize));
-        f += 1;
     }
     state_layout::put_count(s, state_layout::channel_at(c) + 1, w as usize + 1);
 }
@@ -155,14 +127,12 @@ fn move_up(s: &mut [i32], c: u32, w: u32)
     ensures { s.new ≡ walk (λ i x. set x (layout.field_at c w i) (layout.cell_of x (layout.field_at c (w + 1) i))) 0 (fields_most * (capacity_most - 1 - w)) s.old }
 {
     let n = behind(w);
-    let mut i: u32 = 0;
-    while i < n {
+    for i in 0..n {
         copy_cell(
             s,
             state_layout::field_at(c, w, i),
             state_layout::field_at(c, w + 1, i),
         );
-        i += 1;
     }
 }
 
@@ -170,10 +140,8 @@ fn move_up(s: &mut [i32], c: u32, w: u32)
 fn clear_last(s: &mut [i32], c: u32)
     ensures { s.new ≡ walk (λ i x. set x (layout.field_at c (capacity_most - 1) i) (pos 0)) 0 fields_most s.old }
 {
-    let mut i: u32 = 0;
-    while i < FIELDS_MOST {
+    for i in 0..FIELDS_MOST {
         state_layout::put(s, state_layout::field_at(c, LAST, i), 0);
-        i += 1;
     }
 }
 
@@ -213,14 +181,12 @@ pub fn deliver(t: &[u32], s: &mut [i32], a: usize, places: &[usize], values: &[i
     ensures { s.new ≡ messages.delivered t.now fields_most a 0 places.now values.now s.old }
 {
     let mut j = a;
-    let mut k: usize = 0;
-    while k < base_ceilings::FIELDS_MOST {
+    for k in 0..base_ceilings::FIELDS_MOST {
         if table_layout::code(t, j) == base_codes::END {
             return;
         }
         let m = table_layout::link(t, j);
         deliver_one(t, s, m, k, places, values);
         j = m + 1;
-        k += 1;
     }
 }

@@ -8,11 +8,11 @@ ghost use Rattle.state_layout.specs.Layout as layout;
 ghost use Rattle.step_offers.specs.Offers as offers;
 
 // The most options of a selection, and how deep selections nest, with a statement in the last.
-const OPTIONS_MOST: u32 = base_ceilings::STATEMENTS_MOST as u32;
+pub const OPTIONS_MOST: u32 = base_ceilings::STATEMENTS_MOST as u32;
 
-const DEPTH_MOST: u32 = base_ceilings::SELECTIONS_MOST as u32 + 1;
+pub const DEPTH_MOST: u32 = base_ceilings::SELECTIONS_MOST as u32 + 1;
 
-const ITEMS_MOST: u32 = base_ceilings::ITEMS_MOST as u32;
+pub const ITEMS_MOST: u32 = base_ceilings::ITEMS_MOST as u32;
 
 // How far offers are counted.
 const OFFERS_MOST: u32 = 8 * OPTIONS_MOST;
@@ -24,8 +24,8 @@ pub enum Walk {
     Left(u32),
 }
 
-// Passes one.
-fn pick_one(k: u32, q: u32) -> Walk
+// The place q is one more: the one that was looked for, or passed.
+pub fn pick_one(k: u32, q: u32) -> Walk
     ensures { result ≡ offers.pick_at k (q ∷ []) }
 {
     if k == 0 {
@@ -35,30 +35,23 @@ fn pick_one(k: u32, q: u32) -> Walk
     }
 }
 
-fn is_selection(t: &[u32], q: u32) -> bool
+// Does a selection stand at place q?
+pub fn is_selection(t: &[u32], q: u32) -> bool
     ensures { result ≡ offers.is_selection t.now q }
 {
     let c = table_layout::code(t, q as usize);
-    if c == base_codes::IF {
-        true
-    } else {
-        c == base_codes::DO
-    }
+    c == base_codes::IF || c == base_codes::DO
 }
 
 // Is there an option at item m, before `stop`?
-fn is_option(t: &[u32], m: u32, stop: u32) -> bool
+pub fn is_option(t: &[u32], m: u32, stop: u32) -> bool
     ensures { result ≡ offers.is_option t.now m stop }
 {
-    if m < stop {
-        table_layout::code(t, m as usize) == base_codes::OPTION
-    } else {
-        false
-    }
+    m < stop && table_layout::code(t, m as usize) == base_codes::OPTION
 }
 
 // Where the option at item m ends.
-fn end_of(t: &[u32], m: u32, stop: u32) -> u32
+pub fn end_of(t: &[u32], m: u32, stop: u32) -> u32
     requires { (m < stop) × (stop ≤ items_most) }
     ensures value { result ≡ offers.end_of t.now m stop }
     ensures lower_bound { (m < result) × (result ≤ stop) }
@@ -68,7 +61,7 @@ fn end_of(t: &[u32], m: u32, stop: u32) -> u32
 }
 
 // The place of its first statement.
-fn first_of(t: &[u32], m: u32) -> u32
+pub fn first_of(t: &[u32], m: u32) -> u32
     requires { m < items_most }
     ensures value { result ≡ offers.first_of t.now m }
     ensures upper_bound { result < 8196 }
@@ -95,7 +88,7 @@ fn else_at(t: &[u32], q: u32, k: u32) -> Walk
 fn lacking(n: u32, l: u32) -> u32
     ensures { result ≡ n - l }
 {
-    if n < l { 0 } else { n - l }
+    n.saturating_sub(l)
 }
 
 // The k-th of what is offered at place q.

@@ -1,29 +1,28 @@
 -- Laws of the pen, of digits and of a format.
+use Rattle.std.specs.Prelude.{Result, Ok, Err}
 use Prim.Native.Nat.{ℕ, zero, suc, ◌+◌, ◌-◌, ◌/◌, ◌%◌, ◌≤◌, ◌<◌, ◌^◌}
 use mathlib.Core.Path.{◌≡◌, refl, sym, ap, ◌∙◌}
-use mathlib.Core.Bool.{Bool, true, false}
+use mathlib.Core.Bool.{true, false}
 use mathlib.Core.List.{List, [], ◌∷◌, ◌++◌}
 use native.Mathlib.Omega.{arith}
-use lib.ListN.{length, get_or, set, replicate}
+use lib.ListN.{replicate}
 use lib.IntN.{ℤ, pos, negsuc}
 use lib.Signed.{lt_z, mag}
-use lib.Dec.{eqb, ltb}
+use lib.Dec.{ltb}
 use borrow.Author.Tests.{ne_eqb, eq-eqb, lt-ltb, le-ltb, ltb-true}
 use mir.Syntax.{w32}
 use mir.Val.{to_z, of_z, SFits}
 use mir.ValLaws.{to_z-of_z}
 use Rattle.base_ceilings.specs.Ceilings.{numbers_most}
 use Rattle.base_bytes.specs.Choice.{pick}
-use Rattle.table_layout.specs.Access.{code_of, name_length, name_byte}
+use Rattle.table_layout.specs.Access.{code_of, name_byte}
 use Rattle.base_values.specs.declared.Fault.{Fault}
-use Rattle.step_messages.specs.declared.Gathered.{Gathered}
-use Rattle.step_messages.specs.declared.Gathered.TheVariants.{Upto, Failed}
 use Rattle.step_messages.specs.Messages.{gather_end, gather_list}
 use Rattle.base_values.specs.Operators.{unary_of}
 use Rattle.state_layout.proofs.Laws.{back}
 use Rattle.state_layout.specs.Layout.{cell_of}
 use Rattle.base_bytes.specs.Numbers.{nat}
-use Rattle.step_prints.specs.Printing.{Pen, pen, put_p, puts, size_of, written_from, text_of, unless_failed, printed_at}
+use Rattle.step_prints.specs.Printing.{Pen, put_p, puts, size_of, written_from, text_of, unless_failed, printed_at}
 use Rattle.spec_text.specs.Formats.{digits_by, decimal_of, escaped, formatted, opened, counted}
 use Rattle.base_codes.specs.Codes.{c_text}
 
@@ -153,13 +152,13 @@ module _ (t : List ℕ) (s : List ℤ) (p q : ℕ) (w : Pen) {c : ℕ} (ec : c �
   unfolding printed_at
   prints-none h = rw (← ec, ne_eqb c c_text h) (puts_none w)
 
-  module _ (e : c ≡ c_text) {g : Gathered} (eg : g ≡ gather_end t s p numbers_most (q + 1)) where
+  module _ (e : c ≡ c_text) {g : Result ℕ Fault} (eg : g ≡ gather_end t s p numbers_most (q + 1)) where
     chosen : printed_at t s p q ≡ unless_failed g (text_of t (gather_list t s p numbers_most (q + 1) 0 (replicate numbers_most (pos 0))) q)
     unfolding printed_at
     chosen = rw (← ec, e) (ap (λ x. unless_failed x (text_of t (gather_list t s p numbers_most (q + 1) 0 (replicate numbers_most (pos 0))) q)) (sym eg))
 
-    pub prints-fault : {f : Fault} → g ≡ Failed f → w ≡ puts (printed_at t s p q) w
+    pub prints-fault : {f : Fault} → g ≡ Err f → w ≡ puts (printed_at t s p q) w
     prints-fault k = puts_none w ∙ ap (λ l. puts l w) (sym (chosen ∙ ap (λ x. unless_failed x (text_of t (gather_list t s p numbers_most (q + 1) 0 (replicate numbers_most (pos 0))) q)) k))
 
-    pub prints-text : {z : ℕ} {l : List ℤ} {r : Pen} → g ≡ Upto z → l ≡ gather_list t s p numbers_most (q + 1) 0 (replicate numbers_most (pos 0)) → r ≡ puts (text_of t l q) w → r ≡ puts (printed_at t s p q) w
+    pub prints-text : {z : ℕ} {l : List ℤ} {r : Pen} → g ≡ Ok z → l ≡ gather_list t s p numbers_most (q + 1) 0 (replicate numbers_most (pos 0)) → r ≡ puts (text_of t l q) w → r ≡ puts (printed_at t s p q) w
     prints-text k el er = er ∙ ap (λ l. puts (text_of t l q) w) el ∙ ap (λ l. puts l w) (sym (chosen ∙ ap (λ x. unless_failed x (text_of t (gather_list t s p numbers_most (q + 1) 0 (replicate numbers_most (pos 0))) q)) k))

@@ -1,15 +1,14 @@
 -- Mechanism, held to the specification by `demand2` (crate `demands`), but for `size_of`, of a contract alone.
 -- What a printf writes: document 01, "Strings", "a backslash must be followed by `n`, `t`, `"` or a backslash", and row 5, "`%` in a format not followed by `d` or `%`".
 -- A number is written in signed decimal, whatever its type. `l` holds the values of the arguments.
-use Rattle.std.specs.Prelude.{ℕ, zero, suc, ◌+◌, ◌-◌, ◌/◌, ◌%◌, Bool, true, false, List, [], ◌∷◌, ◌++◌, length, get_or, set, replicate, ℤ, pos, negsuc, eqb, ltb}
+use Rattle.std.specs.Prelude.{ℕ, zero, suc, ◌+◌, List, [], ◌∷◌, ◌++◌, length, set, replicate, ℤ, pos, negsuc, eqb, ltb, Result, Ok, Err}
 use Rattle.base_ceilings.specs.Ceilings.{numbers_most}
 use Rattle.base_bytes.specs.Choice.{pick}
 use Rattle.spec_text.specs.Formats.{formatted, opened, counted}
 use Rattle.table_layout.specs.Access.{code_of, name_length, name_byte}
-use Rattle.step_messages.specs.declared.Gathered.{Gathered}
-use Rattle.step_messages.specs.declared.Gathered.TheVariants.{Upto, Failed}
 use Rattle.step_messages.specs.Messages.{gather_end, gather_list}
 use Rattle.base_codes.specs.Codes.{c_text}
+use Rattle.base_values.specs.declared.Fault.{Fault}
 
 -- ## a pen over bytes, which stops at the end
 pub record Pen : Type 0 where
@@ -43,9 +42,9 @@ module _ (t : List ℕ) (l : List ℤ) where
   text_of j = written_from (name_length t j) j 0 0 0
 
 -- the text, unless an argument is at fault: "A failed assertion or fault changes no state and prints nothing"
-abbrev pub unless_failed : Gathered → List ℕ → List ℕ
-unless_failed (Upto e) xs = xs
-unless_failed (Failed f) xs = []
+abbrev pub unless_failed : Result ℕ Fault → List ℕ → List ℕ
+unless_failed (Ok e) xs = xs
+unless_failed (Err f) xs = []
 
 -- what the step of the statement at place q prints, in the state before it: a printf (72) its text, any other nothing
 unfoldable pub printed_at : List ℕ → List ℤ → ℕ → ℕ → List ℕ

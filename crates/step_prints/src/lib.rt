@@ -6,8 +6,6 @@ ghost use Rattle.spec_text.specs.Formats as formats;
 ghost use Rattle.step_prints.specs.Printing as printing;
 ghost use Rattle.step_prints.specs.Printing.{pen, puts};
 
-use step_messages::Gathered;
-
 // Writes a byte and steps on, unless out is full.
 fn put(out: &mut [u8], w: usize, b: u8) -> usize
     ensures { pen out.new result ≡ puts (b ∷ []) (pen out.old w) }
@@ -128,13 +126,11 @@ pub fn print(t: &[u32], values: &[i32], j: usize, out: &mut [u8], w: usize) -> u
     let mut q = w;
     let mut was: u8 = 0;
     let mut k: usize = 0;
-    let mut i: usize = 0;
-    while i < n {
+    for i in 0..n {
         let b = table_layout::name_byte(t, j, i);
         q = put_one(values, was, b, k, out, q);
         k = count_behind(was, b, k);
         was = open_behind(was, b);
-        i += 1;
     }
     q
 }
@@ -149,7 +145,7 @@ pub fn print_at(t: &[u32], s: &[i32], p: u8, q: u32, out: &mut [u8]) -> usize
     let mut values = [0i32; base_ceilings::NUMBERS_MOST];
     let g = step_messages::gather(t, s, p, q as usize + 1, &mut values);
     match g {
-        Gathered::Upto(_) => print(t, &values, q as usize, out, 0),
-        Gathered::Failed(_) => 0,
+        Ok(_) => print(t, &values, q as usize, out, 0),
+        Err(_) => 0,
     }
 }

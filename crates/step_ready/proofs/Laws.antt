@@ -1,4 +1,5 @@
 -- Laws that the proofs of `step_ready` cite: what its callees say, put together.
+use Rattle.std.specs.Prelude.{Result, Ok, Err}
 use Prim.Native.Nat.{ℕ, zero, suc, ◌+◌, ◌-◌, ◌≤◌, ◌<◌, ◌^◌}
 use mathlib.Core.Path.{◌≡◌, refl, sym, ap, ◌∙◌}
 use mathlib.Core.Bool.{Bool, true, false}
@@ -7,38 +8,26 @@ use native.Mathlib.Omega.{arith}
 use native.Mathlib.Nat.{add_assoc}
 use lib.IntN.{ℤ, pos}
 use lib.Signed.{mag}
-use lib.Dec.{eqb, ltb, leb}
-use borrow.Author.Tests.{ne_eqb, eq-eqb, lt-ltb, le-ltb}
+use lib.Dec.{eqb, leb}
+use borrow.Author.Tests.{ne_eqb, lt-ltb, le-ltb}
 use mir.Syntax.{w32}
-use mir.Val.{to_z, of_z, SFits, bool_byte}
+use mir.Val.{to_z, of_z}
 use Rattle.base_ceilings.specs.Ceilings.{channels_most, fields_most, processes_most}
 use Rattle.base_codes.specs.Codes.{c_channel, c_end, c_express, c_into, c_message, c_receive, c_run, c_send, c_timeout}
 use Rattle.base_bytes.specs.Choice.{pick}
-use Rattle.base_bytes.proofs.Tests.{true_false}
 use Rattle.table_layout.specs.Access.{code_of, link_of}
 use Rattle.state_layout.proofs.Laws.{back}
-use Rattle.state_layout.specs.Layout.{processes_of, channels_of, declared_of, waiting_of, field_of}
-use Rattle.base_values.specs.Operators.{is_true, same, equal_by}
+use Rattle.state_layout.specs.Layout.{processes_of, channels_of, field_of}
+use Rattle.base_values.specs.Operators.{is_true, equal_by}
 use Rattle.base_values.specs.declared.Fault.{Fault}
-use Rattle.base_values.specs.declared.Fault.TheVariants.{Fields}
-use Rattle.base_values.specs.declared.Answer.{Answer}
-use Rattle.base_values.specs.declared.Answer.TheVariants.{Value, Fails}
-use Rattle.step_eval.specs.declared.Located.{Located}
-use Rattle.step_eval.specs.declared.Reached.{Reached}
-use Rattle.step_eval.specs.declared.Reached.TheVariants.{Record, Unmade}
 use Rattle.step_eval.specs.Variables.{load_of, channel_of}
 use Rattle.step_eval.specs.Expressions.{holds, eval_of, locate_of}
-use Rattle.step_ready.specs.Channels.{capacity_of, fields_of, arguments_from, compared_at, reached_of, agrees_of, matches_from, matches_of, found_by, finds, tried_of, found_from, addressed_of}
+use Rattle.step_ready.specs.Channels.{arguments_from, compared_at, reached_of, agrees_of, matches_from, matches_of, found_by, finds, found_from}
 use Rattle.step_ready.specs.declared.Found.{Found}
-use Rattle.step_ready.specs.declared.Found.TheVariants.{Message, Nothing, Spoilt}
+use Rattle.step_ready.specs.declared.Found.TheVariants.{Message, Nothing}
 use Rattle.step_ready.specs.Executing.{passes, is_always, channels_from, channels_in, fits_of, sendable, receivable, message_of, ready_by}
-use Rattle.base_values.proofs.Machine.{same_bits}
-use Rattle.step_eval.proofs.Laws.{one_if_lem}
 
 -- ---- comparing
-pub equal_value : {x : Answer} {v : ℤ} (w : ℤ) → x ≡ Value v → mag v < 2 ^ 31 → SFits w32 w → Value (to_z w32 (bool_byte (eqb (of_z w32 v) (of_z w32 w)))) ≡ equal_by x w
-equal_value {x} {v} w e h f = ap Value (ap (λ b. to_z w32 (bool_byte b)) (same_bits v w (record { sfits = h }) f) ∙ one_if_lem (same v w)) ∙ ap (λ a. equal_by a w) (sym e)
-
 module _ (t : List ℕ) (m : ℕ) {c : ℕ} (ec : c ≡ code_of t m) where
   pub compared_into : c ≡ c_into → {k d b : ℕ} → k ≡ m - 1 → d ≡ link_of t k → b ≡ code_of t d → eqb b c_message ≡ compared_at t m
   unfolding compared_at
@@ -49,27 +38,17 @@ module _ (t : List ℕ) (m : ℕ) {c : ℕ} (ec : c ≡ code_of t m) where
   compared_else h = rw (← ec, ne_eqb c c_into h)
 
 module _ (t : List ℕ) (s : List ℤ) (p c w a m f : ℕ) {b : Bool} (eb : b ≡ compared_at t m) where
-  pub agrees_compared : b ≡ true → {x r : Answer} {z : ℤ} → x ≡ eval_of t s p a m → mag z < 2 ^ 31 → z ≡ field_of s c w f → r ≡ equal_by x (to_z w32 (of_z w32 z)) → r ≡ agrees_of t s p c w a m f
+  pub agrees_compared : b ≡ true → {x r : Result ℤ Fault} {z : ℤ} → x ≡ eval_of t s p a m → mag z < 2 ^ 31 → z ≡ field_of s c w f → r ≡ equal_by x (to_z w32 (of_z w32 z)) → r ≡ agrees_of t s p c w a m f
   unfolding agrees_of
   agrees_compared e ex h ez er = rw (← eb, e) (er ∙ (λ i. equal_by (ex i) ((back h ∙ ez) i)))
 
-  pub agrees-stored : b ≡ false → Value (pos 1) ≡ agrees_of t s p c w a m f
+  pub agrees-stored : b ≡ false → Ok (pos 1) ≡ agrees_of t s p c w a m f
   unfolding agrees_of
   agrees-stored e = rw (← eb, e)
 
 -- ---- channels
-pub reached_of_lem : (t : List ℕ) (s : List ℤ) (p from to : ℕ) {x : Located} {y : Answer} {r : Reached} → x ≡ locate_of t s p from to → y ≡ load_of s x → r ≡ channel_of s y → r ≡ reached_of t s p from to
+pub reached_of_lem : (t : List ℕ) (s : List ℤ) (p from to : ℕ) {x : Result ℕ Fault} {y : Result ℤ Fault} {r : Result ℕ Fault} → x ≡ locate_of t s p from to → y ≡ load_of s x → r ≡ channel_of s y → r ≡ reached_of t s p from to
 reached_of_lem t s p from to ex ey er = er ∙ ap (channel_of s) (ey ∙ ap (load_of s) ex)
-
-module _ (t : List ℕ) (s : List ℤ) (n : ℕ) {x : Reached} {c d k : ℕ} (e : x ≡ Record c) (ed : d ≡ declared_of s c) (ek : k ≡ fields_of t d) where
-  fields_of_lem : fields_of t (declared_of s c) ≡ k
-  fields_of_lem = sym (ek ∙ ap (fields_of t) ed)
-
-  pub addressed_well : k ≡ n → Record c ≡ addressed_of t s x n
-  addressed_well q = sym (ap (λ a. addressed_of t s a n) e ∙ ap (λ b. pick b (Record c) (Unmade Fields)) (eq-eqb _ n (fields_of_lem ∙ q)))
-
-  pub addressed_ill : (k ≡ n → ⊥) → Unmade Fields ≡ addressed_of t s x n
-  addressed_ill q = sym (ap (λ a. addressed_of t s a n) e ∙ ap (λ b. pick b (Record c) (Unmade Fields)) (ne_eqb _ n (λ z. q (sym fields_of_lem ∙ z))))
 
 -- ---- arguments
 module _ (t : List ℕ) where
@@ -99,16 +78,16 @@ module _ (t : List ℕ) where
       arguments_turn g e {l} el = let q = arguments-more ((fields_most + 1) - n) ((fields_most + 1) - (n + 1)) j (omega arith) ec e el in omega arith
 
 module _ (t : List ℕ) (s : List ℤ) (p c w : ℕ) where
-  pub matches_end : (n a f : ℕ) → n ≡ 0 → matches_from t s p n c w a f ≡ Value (pos 1)
+  pub matches_end : (n a f : ℕ) → n ≡ 0 → matches_from t s p n c w a f ≡ Ok (pos 1)
   unfolding matches_from
   matches_end n a f e = rw e
 
-  pub matches_over : (n a f : ℕ) {b : ℕ} → b ≡ code_of t a → b ≡ c_end → matches_from t s p n c w a f ≡ Value (pos 1)
+  pub matches_over : (n a f : ℕ) {b : ℕ} → b ≡ code_of t a → b ≡ c_end → matches_from t s p n c w a f ≡ Ok (pos 1)
   unfolding matches_from
   matches_over zero a f eb e = refl
   matches_over (suc n) a f eb e = rw (← eb, e)
 
-  module _ (n k a f : ℕ) (en : n ≡ suc k) {b m : ℕ} (eb : b ≡ code_of t a) (h : b ≡ c_end → ⊥) (em : m ≡ link_of t a) {x : Answer} (ex : x ≡ agrees_of t s p c w a m f) {z : Bool} (ez : z ≡ holds x) where
+  module _ (n k a f : ℕ) (en : n ≡ suc k) {b m : ℕ} (eb : b ≡ code_of t a) (h : b ≡ c_end → ⊥) (em : m ≡ link_of t a) {x : Result ℤ Fault} (ex : x ≡ agrees_of t s p c w a m f) {z : Bool} (ez : z ≡ holds x) where
     turn : matches_from t s p n c w a f ≡ pick (holds x) (matches_from t s p k c w (m + 1) (f + 1)) x
     unfolding matches_from
     turn =
@@ -122,16 +101,6 @@ module _ (t : List ℕ) (s : List ℤ) (p c w : ℕ) where
     matches_stop e = turn ∙ ap (λ b. pick b (matches_from t s p k c w (m + 1) (f + 1)) x) (sym ez ∙ e)
 
 -- ---- what is found
-pub found_here : (w : ℕ) (x : Answer) {b : Bool} → b ≡ holds x → b ≡ true → Message w ≡ found_by w x Nothing
-found_here w (Value v) eb e = rw (← eb, e)
-found_here w (Fails f) eb e = absurd (true_false (sym e ∙ eb))
-
-pub found_not : (w : ℕ) {x : Answer} {v : ℤ} {b : Bool} → x ≡ Value v → b ≡ holds x → b ≡ false → Nothing ≡ found_by w x Nothing
-found_not w {x} {v} ex eb e = ap (λ z. pick z (Message w) Nothing) (sym e ∙ eb ∙ ap holds ex) ∙ ap (λ a. found_by w a Nothing) (sym ex)
-
-pub found_spoilt : (w : ℕ) {x : Answer} {f : Fault} → x ≡ Fails f → Spoilt f ≡ found_by w x Nothing
-found_spoilt w e = ap (λ a. found_by w a Nothing) (sym e)
-
 module _ (t : List ℕ) (s : List ℤ) (p c a : ℕ) where
   pub found_start : (n : ℕ) → found_from t s p (n - 0) c 0 a ≡ found_from t s p n c 0 a
   found_start n = ap (λ k. found_from t s p k c 0 a) (omega arith)
@@ -140,15 +109,15 @@ module _ (t : List ℕ) (s : List ℤ) (p c a : ℕ) where
   unfolding found_from
   found_end n w e = rw e
 
-  turned : (w : ℕ) (y : Answer) (rest : Found) → found_by w y rest ≡ pick (finds (found_by w y Nothing)) (found_by w y Nothing) rest
-  turned w (Value v) rest = go (is_true v)
+  turned : (w : ℕ) (y : Result ℤ Fault) (rest : Found) → found_by w y rest ≡ pick (finds (found_by w y Nothing)) (found_by w y Nothing) rest
+  turned w (Ok v) rest = go (is_true v)
     where
       go : (b : Bool) → pick b (Message w) rest ≡ pick (finds (pick b (Message w) Nothing)) (pick b (Message w) Nothing) rest
       go true = refl
       go false = refl
-  turned w (Fails f) rest = refl
+  turned w (Err f) rest = refl
 
-  module _ (n k w : ℕ) (en : n ≡ suc k) {y : Answer} (ey : y ≡ matches_of t s p c w a) {x : Found} (ex : x ≡ found_by w y Nothing) {b : Bool} (eb : b ≡ finds x) where
+  module _ (n k w : ℕ) (en : n ≡ suc k) {y : Result ℤ Fault} (ey : y ≡ matches_of t s p c w a) {x : Found} (ex : x ≡ found_by w y Nothing) {b : Bool} (eb : b ≡ finds x) where
     found_turn : found_from t s p n c w a ≡ pick b x (found_from t s p k c (w + 1) a)
     unfolding found_from
     found_turn =
@@ -162,13 +131,6 @@ module _ (t : List ℕ) (s : List ℤ) (p c a : ℕ) where
 
     pub found_more : b ≡ false → found_from t s p n c w a ≡ found_from t s p k c (w + 1) a
     found_more e = found_turn ∙ ap (λ z. pick z x (found_from t s p k c (w + 1) a)) e
-
-module _ (s : List ℤ) (c : ℕ) {n : ℕ} (en : n ≡ waiting_of s c) where
-  pub tried_none : n ≡ 0 → 0 ≡ tried_of s c
-  tried_none e = omega (arith, en)
-
-  pub tried_one : (n ≡ 0 → ⊥) → 1 ≡ tried_of s c
-  tried_one e = omega (arith, en)
 
 -- ---- units
 module _ (t : List ℕ) where
@@ -202,24 +164,16 @@ module _ (t : List ℕ) (s : List ℤ) (u : ℕ) {n : ℕ} (en : n ≡ processes
   fits_by h ea eb = rw (← en, lt-ltb n processes_most h) (λ i. leb (ea i + eb i) channels_most)
 
 -- ---- tests
-module _ (t : List ℕ) (s : List ℤ) {x : Reached} {c : ℕ} (e : x ≡ Record c) where
-  pub sendable_by : {n m d : ℕ} → n ≡ waiting_of s c → d ≡ declared_of s c → m ≡ capacity_of t d → ltb n m ≡ sendable t s x
-  sendable_by en ed em = (λ i. ltb (en i) ((em ∙ ap (capacity_of t) ed) i)) ∙ ap (sendable t s) (sym e)
-
-  module _ (p a : ℕ) {n : ℕ} (en : n ≡ tried_of s c) where
-    pub receivable_by : {y : Found} {r : Bool} → y ≡ found_from t s p n c 0 a → r ≡ finds y → r ≡ receivable t s p a x
-    receivable_by ey er = er ∙ ap finds (ey ∙ ap (λ k. found_from t s p k c 0 a) en) ∙ sym (ap (receivable t s p a) e)
-
 module _ (t : List ℕ) (s : List ℤ) (p : ℕ) (late : Bool) (q m : ℕ) {c : ℕ} (ec : c ≡ code_of t m) where
-  pub ready_express : c ≡ c_express → {x : Answer} {r : Bool} → x ≡ eval_of t s p q m → r ≡ passes x → r ≡ ready_by t s p late q m
+  pub ready_express : c ≡ c_express → {x : Result ℤ Fault} {r : Bool} → x ≡ eval_of t s p q m → r ≡ passes x → r ≡ ready_by t s p late q m
   unfolding ready_by
   ready_express e ex er = rw (← ec, e) (er ∙ ap passes ex)
 
-  pub ready_send : c ≡ c_send → {x : Reached} {r : Bool} → x ≡ message_of t s p q m → r ≡ sendable t s x → r ≡ ready_by t s p late q m
+  pub ready_send : c ≡ c_send → {x : Result ℕ Fault} {r : Bool} → x ≡ message_of t s p q m → r ≡ sendable t s x → r ≡ ready_by t s p late q m
   unfolding ready_by
   ready_send e ex er = rw (← ec, e) (er ∙ ap (sendable t s) ex)
 
-  pub ready_receive : c ≡ c_receive → {x : Reached} {r : Bool} → x ≡ message_of t s p q m → r ≡ receivable t s p (m + 1) x → r ≡ ready_by t s p late q m
+  pub ready_receive : c ≡ c_receive → {x : Result ℕ Fault} {r : Bool} → x ≡ message_of t s p q m → r ≡ receivable t s p (m + 1) x → r ≡ ready_by t s p late q m
   unfolding ready_by
   ready_receive e ex er = rw (← ec, e) (er ∙ ap (receivable t s p (m + 1)) ex)
 

@@ -1,18 +1,15 @@
 -- Mechanism, held to the specification by `demand2` (crate `demands`).
 -- Channels as their declarations make them, and the messages that a statement means: document 01, "How it moves", "a channel number that was never made, wrong field
 -- count at run time", "a channel's number and field count are tested first". `t` are tables, `s` a state, p the number of the process.
-use Rattle.std.specs.Prelude.{ℕ, zero, suc, ◌+◌, ◌-◌, min, Bool, true, false, List, ℤ, pos, eqb}
+use Rattle.std.specs.Prelude.{ℕ, zero, suc, ◌+◌, ◌-◌, min, Bool, true, false, List, ℤ, pos, eqb, Result, Ok, Err}
 use Rattle.base_ceilings.specs.Ceilings.{fields_most}
 use Rattle.base_codes.specs.Codes.{c_end, c_field, c_into, c_message}
 use Rattle.base_bytes.specs.Choice.{pick}
 use Rattle.table_layout.specs.Access.{code_of, link_of, number_of}
 use Rattle.state_layout.specs.Layout.{declared_of, waiting_of, field_of}
 use Rattle.base_values.specs.Operators.{is_true, equal_by}
+use Rattle.base_values.specs.declared.Fault.{Fault}
 use Rattle.base_values.specs.declared.Fault.TheVariants.{Fields}
-use Rattle.base_values.specs.declared.Answer.{Answer}
-use Rattle.base_values.specs.declared.Answer.TheVariants.{Value, Fails}
-use Rattle.step_eval.specs.declared.Reached.{Reached}
-use Rattle.step_eval.specs.declared.Reached.TheVariants.{Record, Unmade}
 use Rattle.step_eval.specs.Variables.{load_of, channel_of}
 use Rattle.step_eval.specs.Expressions.{holds, eval_of, locate_of}
 use Rattle.step_ready.specs.declared.Found.{Found}
@@ -43,9 +40,9 @@ module _ (t : List ℕ) where
   compared_at m = pick (eqb (code_of t m) c_into) (eqb (code_of t (link_of t (m - 1))) c_message) true
 
 -- ## what is found: by the test of message w, where `rest` is what is found behind it
-abbrev pub found_by : ℕ → Answer → Found → Found
-found_by w (Value v) rest = pick (is_true v) (Message w) rest
-found_by w (Fails f) rest = Spoilt f
+abbrev pub found_by : ℕ → Result ℤ Fault → Found → Found
+found_by w (Ok v) rest = pick (is_true v) (Message w) rest
+found_by w (Err f) rest = Spoilt f
 
 -- a step is taken, if only to its fault
 abbrev pub finds : Found → Bool
@@ -59,21 +56,21 @@ tried_of s c = min 1 (waiting_of s c)
 
 module _ (t : List ℕ) (s : List ℤ) (p : ℕ) where
   -- the channel that the reference from `from` to before `to` means
-  abbrev pub reached_of : ℕ → ℕ → Reached
+  abbrev pub reached_of : ℕ → ℕ → Result ℕ Fault
   reached_of from to = channel_of s (load_of s (locate_of t s p from to))
 
   -- does the argument from a to before its mark m agree with field f of message w in channel c?
-  unfoldable pub agrees_of : ℕ → ℕ → ℕ → ℕ → ℕ → Answer
-  agrees_of c w a m f = pick (compared_at t m) (equal_by (eval_of t s p a m) (field_of s c w f)) (Value (pos 1))
+  unfoldable pub agrees_of : ℕ → ℕ → ℕ → ℕ → ℕ → Result ℤ Fault
+  agrees_of c w a m f = pick (compared_at t m) (equal_by (eval_of t s p a m) (field_of s c w f)) (Ok (pos 1))
 
   -- do the arguments from a on, from field f? "each constant and `eval` equals its field, tried left to right to the first difference"
-  unfoldable pub matches_from : ℕ → ℕ → ℕ → ℕ → ℕ → Answer
-  matches_from zero c w a f = Value (pos 1)
+  unfoldable pub matches_from : ℕ → ℕ → ℕ → ℕ → ℕ → Result ℤ Fault
+  matches_from zero c w a f = Ok (pos 1)
   matches_from (suc n) c w a f =
-      pick (eqb (code_of t a) c_end) (Value (pos 1))
+      pick (eqb (code_of t a) c_end) (Ok (pos 1))
       (pick (holds (agrees_of c w a (link_of t a) f)) (matches_from n c w (link_of t a + 1) (f + 1)) (agrees_of c w a (link_of t a) f))
 
-  abbrev pub matches_of : ℕ → ℕ → ℕ → Answer
+  abbrev pub matches_of : ℕ → ℕ → ℕ → Result ℤ Fault
   matches_of c w a = matches_from fields_most c w a 0
 
   -- the first of n messages in channel c, from message w on, with which the arguments from a on agree
@@ -86,6 +83,6 @@ module _ (t : List ℕ) (s : List ℤ) (p : ℕ) where
   found_of c a = found_from (tried_of s c) c 0 a
 
 -- the channel, if it has n fields
-abbrev pub addressed_of : List ℕ → List ℤ → Reached → ℕ → Reached
-addressed_of t s (Record c) n = pick (eqb (fields_of t (declared_of s c)) n) (Record c) (Unmade Fields)
-addressed_of t s (Unmade f) n = Unmade f
+abbrev pub addressed_of : List ℕ → List ℤ → Result ℕ Fault → ℕ → Result ℕ Fault
+addressed_of t s (Ok c) n = pick (eqb (fields_of t (declared_of s c)) n) (Ok c) (Err Fields)
+addressed_of t s (Err f) n = Err f

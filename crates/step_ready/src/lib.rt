@@ -11,8 +11,7 @@ ghost use Rattle.step_ready.specs.declared.Found.TheVariants.{Nothing};
 ghost use Rattle.step_ready.specs.Channels as channels;
 ghost use Rattle.step_ready.specs.Executing as executing;
 
-use base_values::{Answer, Fault};
-use step_eval::Reached;
+use base_values::Fault;
 
 // The most fields of a message, processes and channels.
 const FIELDS_MOST: u32 = base_ceilings::FIELDS_MOST as u32;
@@ -64,15 +63,13 @@ pub fn arguments(t: &[u32], a: usize) -> u32
     ensures { result ≡ channels.arguments_of t.now a }
 {
     let mut j = a;
-    let mut n: u32 = 0;
-    while n < TOO_MANY {
+    for n in 0..TOO_MANY {
         if table_layout::code(t, j) == base_codes::END {
             return n;
         }
         j = table_layout::link(t, j) + 1;
-        n += 1;
     }
-    n
+    TOO_MANY
 }
 
 // Is the received argument with the mark m compared, not stored?
@@ -86,40 +83,42 @@ pub fn is_compared(t: &[u32], m: usize) -> bool
     }
 }
 
-fn equal(x: Answer, w: i32) -> Answer
+fn equal(x: Result<i32, Fault>, w: i32) -> Result<i32, Fault>
     ensures { result ≡ equal_by x w }
 {
-    match x {
-        Answer::Value(v) => Answer::Value((v == w) as i32),
-        Answer::Fails(f) => Answer::Fails(f),
-    }
+    Ok((x? == w) as i32)
 }
 
 // The channel that the reference from `from` to before `to` means.
-pub fn reached(t: &[u32], s: &[i32], p: u8, from: usize, to: usize) -> Reached
+pub fn reached(t: &[u32], s: &[i32], p: u8, from: usize, to: usize) -> Result<u32, Fault>
     ensures { result ≡ channels.reached_of t.now s.now p from to }
 {
     step_eval::channel(s, step_eval::load(s, step_eval::locate(t, s, p, from, to)))
 }
 
 // The channel, if it has n fields.
-pub fn addressed(t: &[u32], s: &[i32], c: Reached, n: u32) -> Reached
+pub fn addressed(t: &[u32], s: &[i32], c: Result<u32, Fault>, n: u32) -> Result<u32, Fault>
     ensures { result ≡ channels.addressed_of t.now s.now c n }
 {
-    match c {
-        Reached::Record(k) => {
-            if fields(t, state_layout::declared_of(s, k)) == n {
-                Reached::Record(k)
-            } else {
-                Reached::Unmade(Fault::Fields)
-            }
-        }
-        Reached::Unmade(f) => Reached::Unmade(f),
+    let k = c?;
+    if fields(t, state_layout::declared_of(s, k)) == n {
+        Ok(k)
+    } else {
+        Err(Fault::Fields)
     }
 }
 
 // Does an argument agree with field f of message w in channel c?
-fn agrees(t: &[u32], s: &[i32], p: u8, c: u32, w: u32, a: usize, m: usize, f: u32) -> Answer
+fn agrees(
+    t: &[u32],
+    s: &[i32],
+    p: u8,
+    c: u32,
+    w: u32,
+    a: usize,
+    m: usize,
+    f: u32,
+) -> Result<i32, Fault>
     ensures { result ≡ channels.agrees_of t.now s.now p c w a m f }
 {
     if is_compared(t, m) {
@@ -128,19 +127,18 @@ fn agrees(t: &[u32], s: &[i32], p: u8, c: u32, w: u32, a: usize, m: usize, f: u3
             state_layout::field_of(s, c, w, f),
         )
     } else {
-        Answer::Value(1)
+        Ok(1)
     }
 }
 
 // Do the arguments from a on agree with message w in channel c?
-fn matches(t: &[u32], s: &[i32], p: u8, c: u32, w: u32, a: usize) -> Answer
+fn matches(t: &[u32], s: &[i32], p: u8, c: u32, w: u32, a: usize) -> Result<i32, Fault>
     ensures { result ≡ channels.matches_of t.now s.now p c w a }
 {
     let mut j = a;
-    let mut f: u32 = 0;
-    while f < FIELDS_MOST {
+    for f in 0..FIELDS_MOST {
         if table_layout::code(t, j) == base_codes::END {
-            return Answer::Value(1);
+            return Ok(1);
         }
         let m = table_layout::link(t, j);
         let x = agrees(t, s, p, c, w, j, m, f);
@@ -148,21 +146,20 @@ fn matches(t: &[u32], s: &[i32], p: u8, c: u32, w: u32, a: usize) -> Answer
             return x;
         }
         j = m + 1;
-        f += 1;
     }
-    Answer::Value(1)
+    Ok(1)
 }
 
 // What the test of message w says.
-fn found_by(w: u32, x: Answer) -> Found
+fn found_by(w: u32, x: Result<i32, Fault>) -> Found
     ensures { result ≡ channels.found_by w x Nothing }
 {
     if step_eval::holds(x) {
         return Found::Message(w);
     }
     match x {
-        Answer::Value(_) => Found::Nothing,
-        Answer::Fails(f) => Found::Spoilt(f),
+        Ok(_) => Found::Nothing,
+        Err(f) => Found::Spoilt(f),
     }
 }
 
@@ -180,13 +177,11 @@ fn finds(x: Found) -> bool
 pub fn find(t: &[u32], s: &[i32], p: u8, c: u32, a: usize, n: u32) -> Found
     ensures { result ≡ channels.found_from t.now s.now p n c 0 a }
 {
-    let mut w: u32 = 0;
-    while w < n {
+    for w in 0..n {
         let x = found_by(w, matches(t, s, p, c, w, a));
         if finds(x) {
             return x;
         }
-        w += 1;
     }
     Found::Nothing
 }
@@ -201,7 +196,7 @@ pub fn tried(s: &[i32], c: u32) -> u32
     1
 }
 
-fn passes(x: Answer) -> bool
+fn passes(x: Result<i32, Fault>) -> bool
     ensures { result ≡ executing.passes x }
 {
     if step_eval::is_fault(x) {
@@ -264,11 +259,9 @@ fn channels_in(t: &[u32], u: u32) -> u32
     ensures upper_bound { result ≤ items_most }
 {
     let n = state_start::unit_length(t, u);
-    let mut k: u32 = 0;
     let mut c: u32 = 0;
-    while k < n {
+    for k in 0..n {
         c += makes(t, u as usize + k as usize);
-        k += 1;
     }
     c
 }
@@ -285,29 +278,29 @@ pub fn has_room(t: &[u32], s: &[i32], u: u32) -> bool
 }
 
 // Is the channel not full?
-pub fn can_send(t: &[u32], s: &[i32], c: Reached) -> bool
+pub fn can_send(t: &[u32], s: &[i32], c: Result<u32, Fault>) -> bool
     ensures { result ≡ executing.sendable t.now s.now c }
 {
     match c {
-        Reached::Record(k) => {
+        Ok(k) => {
             (state_layout::waiting_of(s, k) as usize) < capacity(t, state_layout::declared_of(s, k))
         }
-        Reached::Unmade(_) => true,
+        Err(_) => true,
     }
 }
 
 // Is it not empty, and does a message that is tried agree with the arguments from item a on?
-pub fn can_receive(t: &[u32], s: &[i32], p: u8, a: usize, c: Reached) -> bool
+pub fn can_receive(t: &[u32], s: &[i32], p: u8, a: usize, c: Result<u32, Fault>) -> bool
     ensures { result ≡ executing.receivable t.now s.now p a c }
 {
     match c {
-        Reached::Record(k) => finds(find(t, s, p, k, a, tried(s, k))),
-        Reached::Unmade(_) => true,
+        Ok(k) => finds(find(t, s, p, k, a, tried(s, k))),
+        Err(_) => true,
     }
 }
 
 // The channel of the send or receive at place q with the mark m.
-pub fn message(t: &[u32], s: &[i32], p: u8, q: usize, m: u32) -> Reached
+pub fn message(t: &[u32], s: &[i32], p: u8, q: usize, m: u32) -> Result<u32, Fault>
     ensures { result ≡ executing.message_of t.now s.now p q m }
 {
     addressed(

@@ -6,9 +6,6 @@ ghost use Rattle.std.specs.Prelude.{◌≡◌, ◌<◌};
 ghost use Rattle.step_statements.specs.Statements as statements;
 
 use base_outcome::Taken;
-use base_values::Answer;
-use step_eval::{Located, Reached};
-use step_messages::Gathered;
 use step_ready::Found;
 
 // Process p goes on at place q.
@@ -38,8 +35,8 @@ pub fn express(t: &[u32], s: &mut [i32], p: u8, q: usize, m: usize) -> Taken
 {
     let x = step_eval::eval(t, s, p, q, m);
     match x {
-        Answer::Value(_) => pass(t, s, p, m),
-        Answer::Fails(f) => Taken::Faulted(f),
+        Ok(_) => pass(t, s, p, m),
+        Err(f) => Taken::Faulted(f),
     }
 }
 
@@ -48,13 +45,13 @@ pub fn assert_that(t: &[u32], s: &mut [i32], p: u8, q: usize, m: usize) -> Taken
 {
     let x = step_eval::eval(t, s, p, q, m);
     match x {
-        Answer::Value(v) => {
+        Ok(v) => {
             if v == 0 {
                 return Taken::Refuted;
             }
             pass(t, s, p, m)
         }
-        Answer::Fails(f) => Taken::Faulted(f),
+        Err(f) => Taken::Faulted(f),
     }
 }
 
@@ -63,13 +60,13 @@ pub fn step_by(t: &[u32], s: &mut [i32], p: u8, d: i32, q: usize, m: usize) -> T
 {
     let x = step_eval::locate(t, s, p, q, m);
     match x {
-        Located::At(i) => {
+        Ok(i) => {
             let v = base_values::add(state_layout::cell(s, i), d);
             store_at(t, s, m, i, v);
             move_to(s, p, table_layout::link(t, m));
             Taken::Done
         }
-        Located::Astray(f) => Taken::Faulted(f),
+        Err(f) => Taken::Faulted(f),
     }
 }
 
@@ -78,18 +75,18 @@ pub fn assign(t: &[u32], s: &mut [i32], p: u8, q: usize, m: u32, e: usize) -> Ta
 {
     let x = step_eval::locate(t, s, p, q, m as usize);
     match x {
-        Located::At(i) => {
+        Ok(i) => {
             let y = step_eval::eval(t, s, p, m as usize + 1, e);
             match y {
-                Answer::Value(v) => {
+                Ok(v) => {
                     store_at(t, s, m as usize, i, v);
                     move_to(s, p, table_layout::link(t, e));
                     Taken::Done
                 }
-                Answer::Fails(f) => Taken::Faulted(f),
+                Err(f) => Taken::Faulted(f),
             }
         }
-        Located::Astray(f) => Taken::Faulted(f),
+        Err(f) => Taken::Faulted(f),
     }
 }
 
@@ -98,20 +95,20 @@ pub fn send(t: &[u32], s: &mut [i32], p: u8, q: usize, m: u32) -> Taken
 {
     let r = step_ready::message(t, s, p, q, m);
     match r {
-        Reached::Record(c) => {
+        Ok(c) => {
             let mut values = [0i32; base_ceilings::NUMBERS_MOST];
             let g = step_messages::gather(t, s, p, m as usize + 1, &mut values);
             match g {
-                Gathered::Upto(e) => {
+                Ok(e) => {
                     let w = state_layout::waiting_of(s, c);
                     step_messages::put(t, s, c, w, &values);
                     move_to(s, p, table_layout::link(t, e));
                     Taken::Done
                 }
-                Gathered::Failed(f) => Taken::Faulted(f),
+                Err(f) => Taken::Faulted(f),
             }
         }
-        Reached::Unmade(f) => Taken::Faulted(f),
+        Err(f) => Taken::Faulted(f),
     }
 }
 
@@ -132,7 +129,7 @@ fn receive_from(t: &[u32], s: &mut [i32], p: u8, a: usize, c: u32, w: u32) -> Ta
     let mut places = [0usize; base_ceilings::FIELDS_MOST];
     let g = step_messages::aim(t, s, p, a, &mut places);
     match g {
-        Gathered::Upto(e) => {
+        Ok(e) => {
             let mut values = [0i32; base_ceilings::FIELDS_MOST];
             fetch(s, c, w, &mut values);
             step_messages::take(s, c, w);
@@ -140,7 +137,7 @@ fn receive_from(t: &[u32], s: &mut [i32], p: u8, a: usize, c: u32, w: u32) -> Ta
             move_to(s, p, table_layout::link(t, e));
             Taken::Done
         }
-        Gathered::Failed(f) => Taken::Faulted(f),
+        Err(f) => Taken::Faulted(f),
     }
 }
 
@@ -149,7 +146,7 @@ pub fn receive(t: &[u32], s: &mut [i32], p: u8, q: usize, m: u32) -> Taken
 {
     let r = step_ready::message(t, s, p, q, m);
     match r {
-        Reached::Record(c) => {
+        Ok(c) => {
             let x = step_ready::find(t, s, p, c, m as usize + 1, step_ready::tried(s, c));
             match x {
                 Found::Message(w) => receive_from(t, s, p, m as usize + 1, c, w),
@@ -157,7 +154,7 @@ pub fn receive(t: &[u32], s: &mut [i32], p: u8, q: usize, m: u32) -> Taken
                 Found::Spoilt(f) => Taken::Faulted(f),
             }
         }
-        Reached::Unmade(f) => Taken::Faulted(f),
+        Err(f) => Taken::Faulted(f),
     }
 }
 
@@ -167,10 +164,10 @@ pub fn print(t: &[u32], s: &mut [i32], p: u8, m: u32) -> Taken
     let mut values = [0i32; base_ceilings::NUMBERS_MOST];
     let g = step_messages::gather(t, s, p, m as usize + 1, &mut values);
     match g {
-        Gathered::Upto(e) => {
+        Ok(e) => {
             move_to(s, p, table_layout::link(t, e));
             Taken::Done
         }
-        Gathered::Failed(f) => Taken::Faulted(f),
+        Err(f) => Taken::Faulted(f),
     }
 }

@@ -1,5 +1,6 @@
 -- Laws that the proofs of `step_take` cite: what its callees say, put together.
-use Prim.Native.Nat.{ℕ, zero, suc, ◌+◌, ◌-◌, ◌/◌, ◌<◌, ◌^◌}
+use Rattle.std.specs.Prelude.{Result, Ok, Err}
+use Prim.Native.Nat.{ℕ, zero, suc, ◌+◌, ◌/◌, ◌<◌, ◌^◌}
 use mathlib.Core.Path.{◌≡◌, refl, sym, ap, ◌∙◌}
 use mathlib.Core.Bool.{Bool, true, false}
 use mathlib.Core.List.{List}
@@ -19,17 +20,13 @@ use Rattle.base_values.specs.declared.Fault.{Fault}
 use Rattle.state_layout.proofs.Laws.{back}
 use Rattle.state_layout.specs.Layout.{kept, cell_of, processes_of, channels_of}
 use Rattle.state_layout.specs.Walks.{walk}
-use Rattle.step_eval.specs.declared.Located.{Located}
-use Rattle.step_eval.specs.declared.Located.TheVariants.{At, Astray}
 use Rattle.step_eval.specs.Variables.{type_of, slot_of}
 use Rattle.step_eval.specs.Expressions.{locate_of}
 use Rattle.state_start.specs.Starting.{unit_length, process_made}
 use Rattle.step_ready.specs.Executing.{channels_in, fits_of}
-use Rattle.step_messages.specs.declared.Gathered.{Gathered}
-use Rattle.step_messages.specs.declared.Gathered.TheVariants.{Upto, Failed}
 use Rattle.step_messages.specs.Messages.{gather_end, gather_list}
 use Rattle.base_outcome.specs.declared.Taken.TheVariants.{Done, Faulted, Idle}
-use Rattle.step_statements.specs.Statements.{Result, fault, moved, on_end, blank, stored_at, passed, expressed, asserted, stepped, assigned, sent, received, printed}
+use Rattle.step_statements.specs.Statements.{Effect, fault, moved, on_end, blank, stored_at, passed, expressed, asserted, stepped, assigned, sent, received, printed}
 use Rattle.step_statements.proofs.Laws.{outcome, on_at, on_astray, on_upto, on_failed, done_moved}
 use Rattle.step_take.specs.Effects.{end_from, parameter_set, called, ran, set_run_at, set_ran, targeted, taken_as, taken_by}
 use Rattle.base_bytes.proofs.Tests.{both_left}
@@ -82,35 +79,35 @@ module _ (t : List ℕ) (p m : ℕ) (s : List ℤ) where
     unfolding ran
     run_idle e = sym (ap (λ z. pick z (on_end (gather_end t s p numbers_most (m + 1)) (λ e. (Done, moved p (link_of t e) (called t (link_of t m) (gather_list t s p numbers_most (m + 1) 0 blank) s))) (fault s)) (Idle, s)) (fits ∙ e))
 
-    module _ (e : b ≡ true) {g : Gathered} (eg : g ≡ gather_end t s p numbers_most (m + 1)) where
-      run_by_lem : {r : Result} → r ≡ on_end (gather_end t s p numbers_most (m + 1)) (λ e. (Done, moved p (link_of t e) (called t (link_of t m) (gather_list t s p numbers_most (m + 1) 0 blank) s))) (fault s) → r ≡ ran t p m s
+    module _ (e : b ≡ true) {g : Result ℕ Fault} (eg : g ≡ gather_end t s p numbers_most (m + 1)) where
+      run_by_lem : {r : Effect} → r ≡ on_end (gather_end t s p numbers_most (m + 1)) (λ e. (Done, moved p (link_of t e) (called t (link_of t m) (gather_list t s p numbers_most (m + 1) 0 blank) s))) (fault s) → r ≡ ran t p m s
       unfolding ran
       run_by_lem er = er ∙ sym (ap (λ z. pick z (on_end (gather_end t s p numbers_most (m + 1)) (λ e. (Done, moved p (link_of t e) (called t (link_of t m) (gather_list t s p numbers_most (m + 1) 0 blank) s))) (fault s)) (Idle, s)) (fits ∙ e))
 
-      pub run-fault : {f : Fault} → g ≡ Failed f → outcome (Faulted f) s ≡ ran t p m s
+      pub run-fault : {f : Fault} → g ≡ Err f → outcome (Faulted f) s ≡ ran t p m s
       run-fault z = run_by_lem (on_failed (λ e. (Done, moved p (link_of t e) (called t (link_of t m) (gather_list t s p numbers_most (m + 1) 0 blank) s))) (fault s) eg z)
 
-      pub run_done : {d l : ℕ} {v s₁ s₂ : List ℤ} → g ≡ Upto d → v ≡ gather_list t s p numbers_most (m + 1) 0 blank → s₁ ≡ called t u v s → l ≡ link_of t d → s₂ ≡ moved p l s₁ → outcome Done s₂ ≡ ran t p m s
+      pub run_done : {d l : ℕ} {v s₁ s₂ : List ℤ} → g ≡ Ok d → v ≡ gather_list t s p numbers_most (m + 1) 0 blank → s₁ ≡ called t u v s → l ≡ link_of t d → s₂ ≡ moved p l s₁ → outcome Done s₂ ≡ ran t p m s
       run_done {d} {l} {v} {s₁} {s₂} z ev e₁ el e₂ =
           run_by_lem
           (done_moved p (link_of t d) s s₁ s₂ (e₁ ∙ (λ i. called t (eu i) (ev i) s)) el e₂
           ∙ on_upto (λ e. (Done, moved p (link_of t e) (called t (link_of t m) (gather_list t s p numbers_most (m + 1) 0 blank) s))) (fault s) eg z)
 
-module _ (t : List ℕ) (p q m : ℕ) (s : List ℤ) {x : Located} (ex : x ≡ locate_of t s p q m) (e : ℕ) where
-  pub set_run_astray : {f : Fault} → x ≡ Astray f → outcome (Faulted f) s ≡ set_ran t p q m e s
+module _ (t : List ℕ) (p q m : ℕ) (s : List ℤ) {x : Result ℕ Fault} (ex : x ≡ locate_of t s p q m) (e : ℕ) where
+  pub set_run_astray : {f : Fault} → x ≡ Err f → outcome (Faulted f) s ≡ set_ran t p q m e s
   unfolding set_ran
   set_run_astray k = on_astray (λ i. set_run_at t p i m e s) (fault s) ex k
 
-  pub set_run_at_lem : {i : ℕ} {r : Result} → x ≡ At i → r ≡ set_run_at t p i m e s → r ≡ set_ran t p q m e s
+  pub set_run_at_lem : {i : ℕ} {r : Effect} → x ≡ Ok i → r ≡ set_run_at t p i m e s → r ≡ set_ran t p q m e s
   unfolding set_ran
   set_run_at_lem k er = er ∙ on_at (λ i. set_run_at t p i m e s) (fault s) ex k
 
 -- ---- `v = run`, its target in place i
 module _ (t : List ℕ) (p i m e : ℕ) (s : List ℤ) {u : ℕ} (eu : u ≡ link_of t e) {b : Bool} (eb : b ≡ fits_of t s u) where
-  new : ℕ → Result
+  new : ℕ → Effect
   new z = (Done, moved p (link_of t z) (stored_at t m i (kept (processes_of s)) (called t (link_of t e) (gather_list t s p numbers_most (e + 1) 0 blank) s)))
 
-  none : Result
+  none : Effect
   none = (Done, moved p (link_of t (end_from t numbers_most (e + 1))) (stored_at t m i (pos 0) s))
 
   chosen : set_run_at t p i m e s ≡ pick b (on_end (gather_end t s p numbers_most (e + 1)) new (fault s)) none
@@ -122,14 +119,14 @@ module _ (t : List ℕ) (p i m e : ℕ) (s : List ℤ) {u : ℕ} (eu : u ≡ lin
   set_run_none k {a} {l} {s₁} {s₂} e₁ ea el e₂ =
       done_moved p (link_of t (end_from t numbers_most (e + 1))) s s₁ s₂ e₁ (el ∙ ap (link_of t) ea) e₂ ∙ sym (chosen ∙ ap (λ z. pick z (on_end (gather_end t s p numbers_most (e + 1)) new (fault s)) none) k)
 
-  module _ (k : b ≡ true) {g : Gathered} (eg : g ≡ gather_end t s p numbers_most (e + 1)) where
-    whole : {r : Result} → r ≡ on_end (gather_end t s p numbers_most (e + 1)) new (fault s) → r ≡ set_run_at t p i m e s
+  module _ (k : b ≡ true) {g : Result ℕ Fault} (eg : g ≡ gather_end t s p numbers_most (e + 1)) where
+    whole : {r : Effect} → r ≡ on_end (gather_end t s p numbers_most (e + 1)) new (fault s) → r ≡ set_run_at t p i m e s
     whole er = er ∙ sym (chosen ∙ ap (λ z. pick z (on_end (gather_end t s p numbers_most (e + 1)) new (fault s)) none) k)
 
-    pub set_run_fault : {f : Fault} → g ≡ Failed f → outcome (Faulted f) s ≡ set_run_at t p i m e s
+    pub set_run_fault : {f : Fault} → g ≡ Err f → outcome (Faulted f) s ≡ set_run_at t p i m e s
     set_run_fault z = whole (on_failed new (fault s) eg z)
 
-    pub set_run_done : {d n l : ℕ} {v s₁ s₂ s₃ : List ℤ} {w : ℤ} → g ≡ Upto d → v ≡ gather_list t s p numbers_most (e + 1) 0 blank → n ≡ processes_of s → s₁ ≡ called t u v s → mag w < 2 ^ 31 → w ≡ kept n
+    pub set_run_done : {d n l : ℕ} {v s₁ s₂ s₃ : List ℤ} {w : ℤ} → g ≡ Ok d → v ≡ gather_list t s p numbers_most (e + 1) 0 blank → n ≡ processes_of s → s₁ ≡ called t u v s → mag w < 2 ^ 31 → w ≡ kept n
         → s₂ ≡ stored_at t m i (to_z w32 (of_z w32 w)) s₁ → l ≡ link_of t d → s₃ ≡ moved p l s₂ → outcome Done s₃ ≡ set_run_at t p i m e s
     unfolding new
     set_run_done {d} {n} {l} {v} {s₁} {s₂} {s₃} {w} z ev en e₁ h ew e₂ el e₃ =
@@ -138,71 +135,71 @@ module _ (t : List ℕ) (p i m e : ℕ) (s : List ℤ) {u : ℕ} (eu : u ≡ lin
 
 -- ---- which statement
 module _ (t : List ℕ) (p q m : ℕ) (s : List ℤ) {e c : ℕ} (ee : e ≡ link_of t m) (ec : c ≡ code_of t e) where
-  pub target_run : c ≡ c_set_run → {r : Result} → r ≡ set_ran t p q m e s → r ≡ targeted t p q m s
+  pub target_run : c ≡ c_set_run → {r : Effect} → r ≡ set_ran t p q m e s → r ≡ targeted t p q m s
   unfolding targeted
   target_run k er =
       er ∙ ap (λ a. set_ran t p q m a s) ee ∙ sym (ap (λ z. pick z (set_ran t p q m (link_of t m) s) (assigned t p q m (link_of t m) s)) (eq-eqb (code_of t (link_of t m)) c_set_run (sym (ec ∙ ap (code_of t) ee) ∙ k)))
 
-  pub target_assign : (c ≡ c_set_run → ⊥) → {r : Result} → r ≡ assigned t p q m e s → r ≡ targeted t p q m s
+  pub target_assign : (c ≡ c_set_run → ⊥) → {r : Effect} → r ≡ assigned t p q m e s → r ≡ targeted t p q m s
   unfolding targeted
   target_assign k er =
       er ∙ ap (λ a. assigned t p q m a s) ee
       ∙ sym (ap (λ z. pick z (set_ran t p q m (link_of t m) s) (assigned t p q m (link_of t m) s)) (ne_eqb (code_of t (link_of t m)) c_set_run (λ z. k (ec ∙ ap (code_of t) ee ∙ z))))
 
 module _ (t : List ℕ) (p q m : ℕ) (s : List ℤ) {c : ℕ} (ec : c ≡ code_of t m) where
-  pub by_print : c ≡ c_text → {r : Result} → r ≡ printed t p m s → r ≡ taken_by t p q m s
+  pub by_print : c ≡ c_text → {r : Effect} → r ≡ printed t p m s → r ≡ taken_by t p q m s
   unfolding taken_as
   by_print e er = er ∙ ap (λ k. taken_as t p k q m s) (sym e ∙ ec)
 
-  pub by_express : c ≡ c_express → {r : Result} → r ≡ expressed t p q m s → r ≡ taken_by t p q m s
+  pub by_express : c ≡ c_express → {r : Effect} → r ≡ expressed t p q m s → r ≡ taken_by t p q m s
   unfolding taken_as
   by_express e er = er ∙ ap (λ k. taken_as t p k q m s) (sym e ∙ ec)
 
-  pub by_target : c ≡ c_target → {r : Result} → r ≡ targeted t p q m s → r ≡ taken_by t p q m s
+  pub by_target : c ≡ c_target → {r : Effect} → r ≡ targeted t p q m s → r ≡ taken_by t p q m s
   unfolding taken_as
   by_target e er = er ∙ ap (λ k. taken_as t p k q m s) (sym e ∙ ec)
 
-  pub by_more : c ≡ c_increment → {r : Result} → r ≡ stepped t p (pos 1) q m s → r ≡ taken_by t p q m s
+  pub by_more : c ≡ c_increment → {r : Effect} → r ≡ stepped t p (pos 1) q m s → r ≡ taken_by t p q m s
   unfolding taken_as
   by_more e er = er ∙ ap (λ k. taken_as t p k q m s) (sym e ∙ ec)
 
-  pub by_less : c ≡ c_decrement → {r : Result} → r ≡ stepped t p (negsuc 0) q m s → r ≡ taken_by t p q m s
+  pub by_less : c ≡ c_decrement → {r : Effect} → r ≡ stepped t p (negsuc 0) q m s → r ≡ taken_by t p q m s
   unfolding taken_as
   by_less e er = er ∙ ap (λ k. taken_as t p k q m s) (sym e ∙ ec)
 
-  pub by_send : c ≡ c_send → {r : Result} → r ≡ sent t p q m s → r ≡ taken_by t p q m s
+  pub by_send : c ≡ c_send → {r : Effect} → r ≡ sent t p q m s → r ≡ taken_by t p q m s
   unfolding taken_as
   by_send e er = er ∙ ap (λ k. taken_as t p k q m s) (sym e ∙ ec)
 
-  pub by_receive : c ≡ c_receive → {r : Result} → r ≡ received t p q m s → r ≡ taken_by t p q m s
+  pub by_receive : c ≡ c_receive → {r : Effect} → r ≡ received t p q m s → r ≡ taken_by t p q m s
   unfolding taken_as
   by_receive e er = er ∙ ap (λ k. taken_as t p k q m s) (sym e ∙ ec)
 
-  pub by_assert : c ≡ c_assert → {r : Result} → r ≡ asserted t p q m s → r ≡ taken_by t p q m s
+  pub by_assert : c ≡ c_assert → {r : Effect} → r ≡ asserted t p q m s → r ≡ taken_by t p q m s
   unfolding taken_as
   by_assert e er = er ∙ ap (λ k. taken_as t p k q m s) (sym e ∙ ec)
 
-  pub by_skip : c ≡ c_skip → {r : Result} → r ≡ passed t p m s → r ≡ taken_by t p q m s
+  pub by_skip : c ≡ c_skip → {r : Effect} → r ≡ passed t p m s → r ≡ taken_by t p q m s
   unfolding taken_as
   by_skip e er = er ∙ ap (λ k. taken_as t p k q m s) (sym e ∙ ec)
 
-  pub by_goto : c ≡ c_goto → {r : Result} → r ≡ passed t p m s → r ≡ taken_by t p q m s
+  pub by_goto : c ≡ c_goto → {r : Effect} → r ≡ passed t p m s → r ≡ taken_by t p q m s
   unfolding taken_as
   by_goto e er = er ∙ ap (λ k. taken_as t p k q m s) (sym e ∙ ec)
 
-  pub by_break : c ≡ c_break → {r : Result} → r ≡ passed t p m s → r ≡ taken_by t p q m s
+  pub by_break : c ≡ c_break → {r : Effect} → r ≡ passed t p m s → r ≡ taken_by t p q m s
   unfolding taken_as
   by_break e er = er ∙ ap (λ k. taken_as t p k q m s) (sym e ∙ ec)
 
-  pub by_timeout : c ≡ c_timeout → {r : Result} → r ≡ passed t p m s → r ≡ taken_by t p q m s
+  pub by_timeout : c ≡ c_timeout → {r : Effect} → r ≡ passed t p m s → r ≡ taken_by t p q m s
   unfolding taken_as
   by_timeout e er = er ∙ ap (λ k. taken_as t p k q m s) (sym e ∙ ec)
 
-  pub by_else : c ≡ c_else → {r : Result} → r ≡ passed t p m s → r ≡ taken_by t p q m s
+  pub by_else : c ≡ c_else → {r : Effect} → r ≡ passed t p m s → r ≡ taken_by t p q m s
   unfolding taken_as
   by_else e er = er ∙ ap (λ k. taken_as t p k q m s) (sym e ∙ ec)
 
-  pub by_run : c ≡ c_run → {r : Result} → r ≡ ran t p m s → r ≡ taken_by t p q m s
+  pub by_run : c ≡ c_run → {r : Effect} → r ≡ ran t p m s → r ≡ taken_by t p q m s
   unfolding taken_as
   by_run e er = er ∙ ap (λ k. taken_as t p k q m s) (sym e ∙ ec)
 

@@ -15,7 +15,7 @@ use Rattle.state_start.specs.Starting.{unit_length, process_made}
 use Rattle.step_ready.specs.Executing.{mark_of, fits_of}
 use Rattle.step_messages.specs.Messages.{on_place, gather_end, gather_list}
 use Rattle.base_outcome.specs.declared.Taken.TheVariants.{Done, Idle}
-use Rattle.step_statements.specs.Statements.{Result, fault, moved, on_end, blank, stored_at, passed, expressed, asserted, stepped, assigned, sent, received, printed}
+use Rattle.step_statements.specs.Statements.{Effect, fault, moved, on_end, blank, stored_at, passed, expressed, asserted, stepped, assigned, sent, received, printed}
 
 module _ (t : List ℕ) where
   -- where the arguments from item a on end, at most n of them
@@ -33,28 +33,28 @@ module _ (t : List ℕ) where
 
   module _ (p : ℕ) where
     -- arguments are worked out only where there is room
-    unfoldable pub ran : ℕ → List ℤ → Result
+    unfoldable pub ran : ℕ → List ℤ → Effect
     ran m s =
         pick (fits_of t s (link_of t m))
         (on_end (gather_end t s p numbers_most (m + 1)) (λ e. (Done, moved p (link_of t e) (called (link_of t m) (gather_list t s p numbers_most (m + 1) 0 blank) s))) (fault s)) (Idle, s)
 
     -- the target stands in place i: "`v = run` stores 0 where nothing fits"
-    unfoldable pub set_run_at : ℕ → ℕ → ℕ → List ℤ → Result
+    unfoldable pub set_run_at : ℕ → ℕ → ℕ → List ℤ → Effect
     set_run_at i m e s =
         pick (fits_of t s (link_of t e))
         (on_end (gather_end t s p numbers_most (e + 1))
         (λ z. (Done, moved p (link_of t z) (stored_at t m i (kept (processes_of s)) (called (link_of t e) (gather_list t s p numbers_most (e + 1) 0 blank) s)))) (fault s))
         (Done, moved p (link_of t (end_from numbers_most (e + 1))) (stored_at t m i (pos 0) s))
 
-    unfoldable pub set_ran : ℕ → ℕ → ℕ → List ℤ → Result
+    unfoldable pub set_ran : ℕ → ℕ → ℕ → List ℤ → Effect
     set_ran q m e s = on_place (locate_of t s p q m) (λ i. set_run_at i m e s) (fault s)
 
     -- a target's statement: an assignment or `v = run`
-    unfoldable pub targeted : ℕ → ℕ → List ℤ → Result
+    unfoldable pub targeted : ℕ → ℕ → List ℤ → Effect
     targeted q m s = pick (eqb (code_of t (link_of t m)) c_set_run) (set_ran q m (link_of t m) s) (assigned t p q m (link_of t m) s)
 
     -- by the code of its mark
-    unfoldable pub taken_as : ℕ → ℕ → ℕ → List ℤ → Result
+    unfoldable pub taken_as : ℕ → ℕ → ℕ → List ℤ → Effect
     taken_as c q m s =
         pick (eqb c c_text) (printed t p m s)
         (pick (eqb c c_express) (expressed t p q m s)
@@ -72,9 +72,9 @@ module _ (t : List ℕ) where
         (pick (eqb c c_else) (passed t p m s)
         (pick (eqb c c_run) (ran m s) (Idle, s))))))))))))))
 
-    abbrev pub taken_by : ℕ → ℕ → List ℤ → Result
+    abbrev pub taken_by : ℕ → ℕ → List ℤ → Effect
     taken_by q m s = taken_as (code_of t m) q m s
 
     -- the step of the statement at place q
-    abbrev pub taken_of : ℕ → List ℤ → Result
+    abbrev pub taken_of : ℕ → List ℤ → Effect
     taken_of q s = taken_by q (mark_of t q) s

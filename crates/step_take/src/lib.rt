@@ -7,21 +7,17 @@ ghost use Rattle.state_layout.specs.Layout.{processes_of};
 ghost use Rattle.step_take.specs.Effects as effects;
 
 use base_outcome::Taken;
-use step_eval::Located;
-use step_messages::Gathered;
 
 // Where the arguments from item a on end.
 fn end_of(t: &[u32], a: usize) -> usize
     ensures { result ≡ effects.end_from t.now numbers_most a }
 {
     let mut j = a;
-    let mut n: usize = 0;
-    while n < base_ceilings::NUMBERS_MOST {
+    for _n in 0..base_ceilings::NUMBERS_MOST {
         if table_layout::code(t, j) == base_codes::END {
             return j;
         }
         j = table_layout::link(t, j) + 1;
-        n += 1;
     }
     j
 }
@@ -47,10 +43,8 @@ fn call(t: &[u32], s: &mut [i32], u: u32, values: &[i32])
     let p = state_layout::processes(s) as u8;
     state_start::make_process(t, s, u);
     let n = state_start::unit_length(t, u);
-    let mut k: u32 = 0;
-    while k < n {
+    for k in 0..n {
         set_parameter(t, s, p, values, u + k);
-        k += 1;
     }
 }
 
@@ -65,12 +59,12 @@ fn run(t: &[u32], s: &mut [i32], p: u8, m: usize) -> Taken
     let mut values = [0i32; base_ceilings::NUMBERS_MOST];
     let g = step_messages::gather(t, s, p, m + 1, &mut values);
     match g {
-        Gathered::Upto(e) => {
+        Ok(e) => {
             call(t, s, u, &values);
             step_statements::move_to(s, p, table_layout::link(t, e));
             Taken::Done
         }
-        Gathered::Failed(f) => Taken::Faulted(f),
+        Err(f) => Taken::Faulted(f),
     }
 }
 
@@ -89,13 +83,13 @@ fn set_run_at(t: &[u32], s: &mut [i32], p: u8, i: usize, m: usize, e: usize) -> 
     let mut values = [0i32; base_ceilings::NUMBERS_MOST];
     let g = step_messages::gather(t, s, p, e + 1, &mut values);
     match g {
-        Gathered::Upto(z) => {
+        Ok(z) => {
             call(t, s, u, &values);
             step_statements::store_at(t, s, m, i, state_layout::kept(n as usize));
             step_statements::move_to(s, p, table_layout::link(t, z));
             Taken::Done
         }
-        Gathered::Failed(f) => Taken::Faulted(f),
+        Err(f) => Taken::Faulted(f),
     }
 }
 
@@ -105,8 +99,8 @@ fn set_run(t: &[u32], s: &mut [i32], p: u8, q: usize, m: usize, e: usize) -> Tak
 {
     let x = step_eval::locate(t, s, p, q, m);
     match x {
-        Located::At(i) => set_run_at(t, s, p, i, m, e),
-        Located::Astray(f) => Taken::Faulted(f),
+        Ok(i) => set_run_at(t, s, p, i, m, e),
+        Err(f) => Taken::Faulted(f),
     }
 }
 

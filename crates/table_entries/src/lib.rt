@@ -8,14 +8,7 @@ ghost use Rattle.base_pens.specs.Pack.{well};
 ghost use Rattle.table_entries.specs.Sources.{clipped, bytes_of, value_of, entry_at};
 ghost use Rattle.base_pens.specs.Pack as pack;
 
-// n - 1, or 0.
-fn before(n: usize) -> usize
-    ensures { result ≡ n - 1 }
-{
-    if n == 0 { 0 } else { n - 1 }
-}
-
-// The same, of at most 64 bytes.
+// The part of a text from a place to a place, of at most 64 bytes.
 fn clip(text: &[u8], from: usize, to: usize) -> &[u8]
     requires { from ≤ 4294967296 }
     ensures { result.now ≡ clipped text.now from to }
@@ -36,10 +29,9 @@ fn bytes_of(text: &[u8], c: u8, from: usize, to: usize) -> &[u8]
         return clip(text, from, to);
     }
     if c == base_codes::TEXT {
-        return clip(text, from + 1, before(to));
+        return clip(text, from + 1, to.saturating_sub(1));
     }
-    let none: usize = 0;
-    &text[none..none]
+    &text[..0]
 }
 
 // Its value.

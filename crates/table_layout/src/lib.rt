@@ -47,10 +47,8 @@ fn count_bytes(
     ensures upper_bound { result ≤ string_most * n }
 {
     let mut sum: usize = 0;
-    let mut i: usize = 0;
-    while i < n {
+    for i in 0..n {
         sum += table_entries::size_at(text, starts, ends, codes, toks, i);
-        i += 1;
     }
     sum
 }
@@ -69,10 +67,8 @@ fn count_numbers(
     ensures upper_bound { result ≤ n }
 {
     let mut sum: usize = 0;
-    let mut i: usize = 0;
-    while i < n {
+    for i in 0..n {
         sum += one(base_bytes::byte_at(codes, i));
-        i += 1;
     }
     sum
 }
@@ -93,14 +89,12 @@ fn put_items(
     let mut q = p;
     let mut o: usize = 0;
     let mut k: usize = 0;
-    let mut i: usize = 0;
-    while i < n {
+    for i in 0..n {
         let c = base_bytes::byte_at(codes, i);
         let size = table_entries::size_at(text, starts, ends, codes, toks, i);
         q = base_pens::put(out, q, item_word(c, size, o, k));
         o += size;
         k += one(c);
-        i += 1;
     }
     q
 }
@@ -109,10 +103,8 @@ fn put_links(links: &[u32], n: usize, out: &mut [u32], p: usize) -> usize
     ensures { pen out.new result ≡ puts (linked links.now 0 n) (pen out.old p) }
 {
     let mut q = p;
-    let mut i: usize = 0;
-    while i < n {
+    for i in 0..n {
         q = base_pens::put(out, q, base_bytes::word_at(links, i) as u32);
-        i += 1;
     }
     q
 }
@@ -153,10 +145,8 @@ fn put_numbers(
     ensures { pen out.new result ≡ puts (numbers (runs (entry_at text.now starts.now ends.now codes.now toks.now) 0 n)) (pen out.old p) }
 {
     let mut q = p;
-    let mut i: usize = 0;
-    while i < n {
+    for i in 0..n {
         q = put_number(text, starts, ends, codes, toks, i, out, q);
-        i += 1;
     }
     q
 }
@@ -180,10 +170,8 @@ fn put_pool(
         b: 0,
         c: 0,
     };
-    let mut i: usize = 0;
-    while i < n {
+    for i in 0..n {
         w = table_entries::pour_at(text, starts, ends, codes, toks, i, out, w);
-        i += 1;
     }
     base_pens::settle(out, w)
 }

@@ -3,11 +3,7 @@
 
 use run_entry::{Ending, Ran};
 use step_entry::{Standing, Stepped};
-use test_cases::STDOUT_FILENO;
-
-pub fn put(s: &[u8]) {
-    io::write_all(STDOUT_FILENO, s);
-}
+use test_cases::put;
 
 // Shows an answer; does the walk go on?
 pub fn show_step(r: Stepped, printed: &[u8]) -> bool {

@@ -1,16 +1,15 @@
 -- Tests: worked examples and stored cases.
 -- Worked examples on both sides of what statements of a tree can do and do (crate `spec_machine`), computed: document 01, "How it moves". The stage is a small one of its own.
-use Rattle.std.specs.Prelude.{ℕ, ◌+◌, ◌-◌, ◌≡◌, refl, Bool, true, false, List, [], ◌∷◌, get_or, set, ℤ, pos, negsuc, neg_ℤ, eqb}
+use Rattle.std.specs.Prelude.{ℕ, ◌+◌, ◌-◌, ◌≡◌, refl, Bool, true, false, List, [], ◌∷◌, get_or, set, ℤ, pos, negsuc, neg_ℤ, eqb, Result, Ok, Err}
 use Rattle.base_bytes.specs.Choice.{pick}
 use Rattle.base_bytes.specs.Lists.{same}
 use Rattle.base_kinds.specs.Kinds.{bytes}
 use Rattle.base_bytes.specs.Numbers.{nat}
 use Rattle.base_values.specs.Operators.{apply_of, unary_of, divide_of}
+use Rattle.base_values.specs.declared.Fault.{Fault}
 use Rattle.base_values.specs.declared.Fault.TheVariants.{Divide, Index, Channel, Fields}
-use Rattle.base_values.specs.declared.Answer.{Answer}
-use Rattle.base_values.specs.declared.Answer.TheVariants.{Value, Fails}
 use Rattle.base_outcome.specs.declared.Taken.TheVariants.{Done, Refuted, Faulted, Idle}
-use Rattle.step_statements.specs.Statements.{Result}
+use Rattle.step_statements.specs.Statements.{Effect}
 use Rattle.spec_text.specs.Formats.{digits_by, escaped, formatted, opened, counted}
 use Rattle.spec_grammar.specs.Marks.{k_len, k_ask, k_bang}
 use Rattle.spec_grammar.specs.Tree.{Name, Expr, plain, indexed, num, get, query, unary, binary, choice, into, equal, exactly, exactly_true, exactly_false}
@@ -103,14 +102,14 @@ ways = record { next = 9; out = 8; label = λ w. pick (same w L) 7 0 }
 abbrev can : ℕ → Tree action → Bool
 can n s = ready (stage true (with n)) false s
 
-abbrev does : ℕ → Tree action → Result
+abbrev does : ℕ → Tree action → Effect
 does n s = effect (stage true (with n)) ways (with n) s
 
 -- the same where no further process fits
 abbrev crowded : Tree action → Bool
 crowded s = ready (stage false (with 0)) false s
 
-abbrev crowdedly : Tree action → Result
+abbrev crowdedly : Tree action → Effect
 crowdedly s = effect (stage false (with 0)) ways (with 0) s
 
 abbrev var : Name → Expr
@@ -123,36 +122,36 @@ fault = binary 17 (num 1) (num 0)
 abbrev minus_1 : Expr
 minus_1 = unary 15 (num 1)
 
-abbrev worth : Expr → Answer
+abbrev worth : Expr → Result ℤ Fault
 worth x = eval (stage true (with 1)).scene x
 
 -- ## "`&&`, `||` and the conditional evaluate only what they need"
-and_needs : (worth (binary 2 (num 0) fault) ≡ Value (pos 0)) × (worth (binary 2 (num 5) (num 6)) ≡ Value (pos 1)) × (worth (binary 2 (num 1) fault) ≡ Fails Divide)
+and_needs : (worth (binary 2 (num 0) fault) ≡ Ok (pos 0)) × (worth (binary 2 (num 5) (num 6)) ≡ Ok (pos 1)) × (worth (binary 2 (num 1) fault) ≡ Err Divide)
 unfolding moving
 and_needs = (refl, refl, refl)
 
-or_needs : (worth (binary 1 (num 5) fault) ≡ Value (pos 1)) × (worth (binary 1 (num 0) (num 6)) ≡ Value (pos 1)) × (worth (binary 1 (num 0) fault) ≡ Fails Divide)
+or_needs : (worth (binary 1 (num 5) fault) ≡ Ok (pos 1)) × (worth (binary 1 (num 0) (num 6)) ≡ Ok (pos 1)) × (worth (binary 1 (num 0) fault) ≡ Err Divide)
 unfolding moving
 or_needs = (refl, refl, refl)
 
-choice_needs : (worth (choice (num 0) fault (num 6)) ≡ Value (pos 6)) × (worth (choice (num 5) (num 6) fault) ≡ Value (pos 6))
-    × (worth (choice (num 0) (num 6) fault) ≡ Fails Divide) × (worth (choice fault (num 6) (num 6)) ≡ Fails Divide)
+choice_needs : (worth (choice (num 0) fault (num 6)) ≡ Ok (pos 6)) × (worth (choice (num 5) (num 6) fault) ≡ Ok (pos 6))
+    × (worth (choice (num 0) (num 6) fault) ≡ Err Divide) × (worth (choice fault (num 6) (num 6)) ≡ Err Divide)
 unfolding moving
 choice_needs = (refl, refl, refl, refl)
 
 -- both operands, the left one first, then the divisor
-left_fault_first : (worth (binary 17 (get (indexed a (num 2))) (num 0)) ≡ Fails Index) × (worth (binary 17 fault (get (indexed a (num 2)))) ≡ Fails Divide)
-    × (worth (binary 17 (num 1) (get (indexed a (num 2)))) ≡ Fails Index)
+left_fault_first : (worth (binary 17 (get (indexed a (num 2))) (num 0)) ≡ Err Index) × (worth (binary 17 fault (get (indexed a (num 2)))) ≡ Err Divide)
+    × (worth (binary 17 (num 1) (get (indexed a (num 2)))) ≡ Err Index)
 unfolding moving
 left_fault_first = (refl, refl, refl)
 
 -- ## "index out of range, a channel number that was never made .. (H: `len` of an unmade channel too.)"
-index_ends : (worth (get (indexed a (num 0))) ≡ Value (pos 0)) × (worth (get (indexed a (num 1))) ≡ Value (pos 0)) × (worth (get (indexed a (num 2))) ≡ Fails Index)
-    × (worth (get (indexed a (minus_1))) ≡ Fails Index)
+index_ends : (worth (get (indexed a (num 0))) ≡ Ok (pos 0)) × (worth (get (indexed a (num 1))) ≡ Ok (pos 0)) × (worth (get (indexed a (num 2))) ≡ Err Index)
+    × (worth (get (indexed a (minus_1))) ≡ Err Index)
 unfolding moving
 index_ends = (refl, refl, refl, refl)
 
-length : (worth (query k_len (plain c)) ≡ Value (pos 1)) × (worth (query k_len (plain e)) ≡ Fails Channel)
+length : (worth (query k_len (plain c)) ≡ Ok (pos 1)) × (worth (query k_len (plain e)) ≡ Err Channel)
 unfolding moving
 length = (refl, refl)
 

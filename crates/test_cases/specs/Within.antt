@@ -1,9 +1,7 @@
 -- Tests: worked examples and stored cases.
 -- A case that was read lies within its buffer of n bytes.
-use Rattle.std.specs.Prelude.{ℕ, ◌≤◌}
-use Rattle.test_cases.specs.declared.Case.{Case}
-use Rattle.test_cases.specs.declared.Case.TheVariants.{Bytes, End}
+use Rattle.std.specs.Prelude.{ℕ, ◌≤◌, Option, Some, None}
 
-abbrev pub Within : ℕ → Case → Type 0
-Within n (Bytes m) = m ≤ n
-Within n End = Unit {0}
+abbrev pub Within : ℕ → Option ℕ → Type 0
+Within n (Some m) = m ≤ n
+Within n None = Unit {0}

@@ -5,14 +5,7 @@ ghost use Rattle.std.specs.Prelude.{◌≡◌, min, length, take};
 ghost use Rattle.test_cases.specs.Within.{Within};
 
 // The descriptor of standard output.
-pub const STDOUT_FILENO: i32 = 1;
-
-#[derive(Drop)]
-pub enum Case {
-    // How many bytes of the buffer are the case.
-    Bytes(usize),
-    End,
-}
+const STDOUT_FILENO: i32 = 1;
 
 fn wide(b: u8) -> usize {
     b as usize
@@ -25,10 +18,8 @@ fn wider(x: u32) -> usize {
 // The digits at the front of a line, taken as a number; any other byte counts as its last digit.
 fn length_of(head: &[u8; 6]) -> usize {
     let mut n: usize = 0;
-    let mut i: usize = 0;
-    while i < 5 {
-        n = n % 10000 * 10 + wide(head[i]) % 16 % 10;
-        i += 1;
+    for b in &head[..5] {
+        n = n % 10000 * 10 + wide(*b) % 16 % 10;
     }
     n
 }
@@ -39,18 +30,30 @@ fn take_in(buffer: &mut [u8], n: usize) -> usize {
     io::read_full(0, &mut buffer[..most])
 }
 
-// The next case, as far as there is room for it.
-pub fn next(buffer: &mut [u8]) -> Case
+// Reads the next case, as far as there is room for it, and answers how many bytes of the buffer it has; None at the end of the cases.
+pub fn next(buffer: &mut [u8]) -> Option<usize>
     ensures { Within (length buffer.old) result }
 {
     let mut head = [0u8; 6];
     if io::read_full(0, &mut head) < 6 {
-        return Case::End;
+        return None;
     }
     let got = take_in(buffer, length_of(&head));
     let mut end = [0u8; 1];
     io::read_full(0, &mut end);
-    Case::Bytes(base_bytes::least(got, buffer.len()))
+    Some(base_bytes::least(got, buffer.len()))
+}
+
+// Shows each case in its turn: at most a million, so that this ends.
+pub fn for_each<Show: Fn(&[u8])>(buffer: &mut [u8], show: Show)
+    requires { Show.IsAlwaysCallable show }
+{
+    for _ in 0..1000000 {
+        let Some(n) = next(buffer) else {
+            return;
+        };
+        show(&buffer[..n]);
+    }
 }
 
 // The first n bytes of a buffer, as far as there are so many.
@@ -61,23 +64,21 @@ pub fn front(buffer: &[u8], n: usize) -> &[u8]
     &buffer[..m]
 }
 
+pub fn put(s: &[u8]) {
+    io::write_all(STDOUT_FILENO, s);
+}
+
 // A number behind a byte.
 pub fn number(before: u8, n: usize) {
-    io::write_all(STDOUT_FILENO, &[before]);
+    put(&[before]);
     io::print_decimal(STDOUT_FILENO, n as u64);
 }
 
 // The first n of three arrays side by side, as ` a@b-c`.
 pub fn triples(a: &[u8], b: &[u32], c: &[u32], n: usize) {
-    let most = base_bytes::least(
-        base_bytes::least(n, a.len()),
-        base_bytes::least(b.len(), c.len()),
-    );
-    let mut i: usize = 0;
-    while i < most {
-        number(b' ', wide(a[i]));
-        number(b'@', wider(b[i]));
-        number(b'-', wider(c[i]));
-        i += 1;
+    for ((kind, from), to) in a.iter().zip(b).zip(c).take(n) {
+        number(b' ', wide(*kind));
+        number(b'@', wider(*from));
+        number(b'-', wider(*to));
     }
 }

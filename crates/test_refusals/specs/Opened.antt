@@ -1,5 +1,5 @@
 -- Mechanism: the definitions that texts are read and judged with, so that their answers are computed, and the way the examples are written; held to nothing else.
-use Rattle.std.specs.Prelude.{◌≡◌, List, [], ◌++◌, map, ℕ, zero, suc}
+use Rattle.std.specs.Prelude.{◌≡◌, List, [], ◌++◌, map, ℕ, zero, suc, Result}
 use Prim.Native.String.{String}
 use Rattle.base_kinds.specs.Kinds.{bytes}
 use Rattle.base_bytes.specs.Lists as base
@@ -25,7 +25,7 @@ use Rattle.rule_least.specs.Faults as faults
 use Rattle.rule_ceilings.specs.Ceilings as ceilings
 use Rattle.read_passes.specs.Judging as judging
 use Rattle.read_passes.specs.Judging.{judge_of}
-use Rattle.read_passes.specs.declared.Judged.{Judged}
+use Rattle.base_refusal.specs.declared.Refusal.{Refusal}
 
 -- to unfold this is to unfold all that the texts are read and judged with
 unfoldable pub reads : Unit {0}
@@ -52,7 +52,7 @@ unfolding
 reads = tt
 
 -- each text beside its answer
-abbrev pub right : List (List ℕ × Judged) → Type 0
+abbrev pub right : List (List ℕ × Result (Unit {0}) Refusal) → Type 0
 right l = map (λ p. judge_of p.0) l ≡ map (λ p. p.1) l
 
 -- s n times

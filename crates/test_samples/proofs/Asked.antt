@@ -7,8 +7,8 @@ use lib.ListN.{length, drop, length-append, length-drop, length-replicate}
 use lib.IntN.{ℤ, pos}
 use lib.Dec.{eqb}
 use Rattle.base_bytes.specs.Choice.{pick}
-use Rattle.read_passes.specs.declared.Judged.{Judged}
-use Rattle.read_passes.specs.declared.Judged.TheVariants.{Accepted}
+use Rattle.std.specs.Prelude.{Result, Ok}
+use Rattle.base_refusal.specs.declared.Refusal.{Refusal}
 use Rattle.read_passes.specs.Judging.{judge_of, tables_text}
 use Rattle.read_entry.specs.Entries.{read_of, stays, left_of}
 use Rattle.read_accepts_proof.specs.Meaning.{Accepts}
@@ -30,11 +30,11 @@ use Rattle.base_ceilings.specs.Ceilings.{state_room, tables_room}
 use Rattle.step_entry.specs.declared.Standing.TheVariants as standing
 use Rattle.spec_machine.specs.Begins as plain
 
-module _ (t : List ℕ) (acc : read_of t lent ≡ Accepted) where
+module _ (t : List ℕ) (acc : read_of t lent ≡ Ok tt) where
   long : length lent ≡ 16384
   long = length-replicate {A = ℕ} 16384 0
 
-  judged : judge_of t ≡ Accepted
+  judged : judge_of t ≡ Ok tt
   judged = sym (judged_is t lent (tables t) (read_of t lent) long refl refl) ∙ acc
 
   accepts : Accepts t
@@ -45,7 +45,7 @@ module _ (t : List ℕ) (acc : read_of t lent ≡ Accepted) where
 
   as_left : tables t ≡ tables_text t ++ drop (length (tables_text t)) lent
   unfolding left_of
-  as_left = ap (λ (j : Judged). stays j (tables_text t) lent) acc
+  as_left = ap (λ (j : Result (Unit {0}) Refusal). stays j (tables_text t) lent) acc
 
   tables_long : tables_room ≤ length (tables t)
   tables_long =

@@ -6,7 +6,7 @@ use lib.ListN.{take, drop}
 use lib.IntN.{ℤ}
 use Rattle.base_kinds.specs.Kinds.{bytes}
 use Rattle.base_values.specs.declared.Fault.{Fault}
-use Rattle.read_passes.specs.declared.Judged.TheVariants.{Accepted}
+use Rattle.std.specs.Prelude.{Ok}
 use Rattle.read_passes.specs.Judging.{tables_text}
 use Rattle.read_entry.specs.Entries.{read_of}
 use Rattle.state_layout.specs.Layout.{global_at_lem, cell_of}
@@ -31,13 +31,13 @@ both (suc n) (x ∷ l) h k = (h.0, both n l h.1 k)
 abbrev by_tables : Bytes → Outcome
 by_tables m = outcome_by (asked_in (tables_text m) (initial_of (tables_text m) cleared) 0 1) (tables_text m) (initial_of (tables_text m) cleared) paper
 
-stored_so : (m : Bytes) (z : ℤ) → read_of m lent ≡ Accepted → (by_tables m).answer ≡ Took 0 → cell_of (by_tables m).state (global_at_lem 0) ≡ z → Stored m z
+stored_so : (m : Bytes) (z : ℤ) → read_of m lent ≡ Ok tt → (by_tables m).answer ≡ Took 0 → cell_of (by_tables m).state (global_at_lem 0) ≡ z → Stored m z
 stored_so m z a e f = (a, ap (λ (o : Outcome). o.answer) (step-asked m a) ∙ e, ap (λ (o : Outcome). cell_of o.state (global_at_lem 0)) (step-asked m a) ∙ f)
 
-faulted_so : (m : Bytes) (x : Fault) → read_of m lent ≡ Accepted → (by_tables m).answer ≡ stepped.Fault x → Faulted m x
+faulted_so : (m : Bytes) (x : Fault) → read_of m lent ≡ Ok tt → (by_tables m).answer ≡ stepped.Fault x → Faulted m x
 faulted_so m x a e = (a, ap (λ (o : Outcome). o.answer) (step-asked m a) ∙ e)
 
-blocked_so : (m : Bytes) → read_of m lent ≡ Accepted → verdict_as (verdict (machine_in (tables_text m)) (initial_of (tables_text m) cleared)) ≡ Blocked → Holds (blocks m)
+blocked_so : (m : Bytes) → read_of m lent ≡ Ok tt → verdict_as (verdict (machine_in (tables_text m)) (initial_of (tables_text m) cleared)) ≡ Blocked → Holds (blocks m)
 blocked_so m a e = (a, verdict-asked m a ∙ ap standing_of e)
 
 -- P1 to P5

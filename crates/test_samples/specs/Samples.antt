@@ -2,13 +2,12 @@
 -- The sample sheet of document 01 as one list: "Sample sheet (P: prove as one list, one result for all)". Each sample has its text, what it asks and the answer that the
 -- sheet gives; that all of them hold is `samples_hold` (proofs/Sheet.antt). All is worked out from the bytes of the text, by the definitions that contracts name.
 -- Each is asked of the public entries: `read` on room for tables, `start` on room for a state, then `step` or `verdict`; refusals of `read`, normal text of `normal`.
-use Rattle.std.specs.Prelude.{List, [], ◌∷◌, ◌++◌, ◌≡◌, ℕ, length, replicate, ℤ, pos, neg_ℤ}
+use Rattle.std.specs.Prelude.{List, [], ◌∷◌, ◌++◌, ◌≡◌, ℕ, length, replicate, ℤ, pos, neg_ℤ, Ok, Err}
 use Rattle.base_ceilings.specs.Ceilings.{print_room, state_room, tables_room}
 use Rattle.base_kinds.specs.Kinds.{bytes}
-use Rattle.read_passes.specs.declared.Judged.TheVariants.{Accepted, Refused}
+use Rattle.base_refusal.specs.Refusals.{refusal}
 use Rattle.read_entry.specs.Entries.{read_of}
 use Rattle.read_entry.specs.Entries.{left_of as tables_left}
-use Rattle.normal_entry.specs.declared.Written.TheVariants.{Text}
 use Rattle.normal_entry.specs.Entries.{answer_of, left_of}
 use Rattle.base_values.specs.declared.Fault.{Fault}
 use Rattle.base_values.specs.declared.Fault.TheVariants.{Divide, Shift}
@@ -94,11 +93,11 @@ storing e w = w ++ (bytes " x;init{x=" ++ (e ++ bytes "}"))
 
 -- it is accepted, the step is taken, prints nothing, and leaves this in x, the first global number
 abbrev pub Stored : Bytes → ℤ → Type 0
-Stored m z = (read_of m lent ≡ Accepted) × ((first_step m).answer ≡ Took 0) × (cell_of (first_step m).state (global_at_lem 0) ≡ z)
+Stored m z = (read_of m lent ≡ Ok tt) × ((first_step m).answer ≡ Took 0) × (cell_of (first_step m).state (global_at_lem 0) ≡ z)
 
 -- it is accepted, and the step is this fault
 abbrev pub Faulted : Bytes → Fault → Type 0
-Faulted m f = (read_of m lent ≡ Accepted) × ((first_step m).answer ≡ stepped.Fault f)
+Faulted m f = (read_of m lent ≡ Ok tt) × ((first_step m).answer ≡ stepped.Fault f)
 
 -- normal text: where just its room is lent, it is all that is there afterwards
 abbrev pub room_for : Bytes → List ℕ
@@ -109,9 +108,9 @@ abbrev pub Holds : Sample → Type 0
 Holds (gives e v) = Stored (storing e (bytes "int")) v
 Holds (faults e f) = Faulted (storing e (bytes "int")) f
 Holds (stores e w z) = Stored (storing e w) z
-Holds (blocks m) = (read_of m lent ≡ Accepted) × (verdict_for (tables m) (started m) ≡ Blocked)
-Holds (refuses m x i n) = read_of m lent ≡ Refused x i n
-Holds (becomes m u) = (answer_of m (room_for u) ≡ Text (length u)) × (left_of m (room_for u) ≡ u)
+Holds (blocks m) = (read_of m lent ≡ Ok tt) × (verdict_for (tables m) (started m) ≡ Blocked)
+Holds (refuses m x i n) = read_of m lent ≡ Err (refusal x i n)
+Holds (becomes m u) = (answer_of m (room_for u) ≡ Ok (length u)) × (left_of m (room_for u) ≡ u)
 
 -- each of a list
 abbrev pub All : List Sample → Type 0

@@ -15,19 +15,15 @@ fn line(name: &[u8]) {
 }
 
 fn all(t: &[u32]) {
-    let mut i: usize = 0;
-    while i < t.len() {
-        number(base_bytes::word_at(t, i));
-        i += 1;
+    for x in t {
+        number(*x as usize);
     }
 }
 
 fn spelled(t: &[u32], i: usize) {
     let n = table_layout::name_length(t, i);
-    let mut k: usize = 0;
-    while k <= n {
+    for k in 0..=n {
         number(table_layout::name_byte(t, i, k) as usize);
-        k += 1;
     }
 }
 
@@ -62,10 +58,8 @@ fn main() {
     line(b"length, items");
     number(table_layout::length_of(&t));
     number(table_layout::items(&t));
-    let mut i: usize = 0;
-    while i < 5 {
+    for i in 0..5 {
         item(&t, i);
-        i += 1;
     }
     item(&t, 18446744073709551615);
     let mut short = [3u32; 13];

@@ -1,23 +1,19 @@
 // Prints operators, stores and levels on both sides of each boundary; crates/test_values/stdout has what is expected.
 #![tactic(auto)]
 
-use base_values::Answer;
+use base_values::Fault;
 
 fn number(v: i32) {
     if v < 0 {
         io::write_all(1, b"-");
-        io::print_decimal(1, (0 - v as i64) as u64);
-    } else {
-        io::print_decimal(1, v as u64);
     }
+    io::print_decimal(1, v.unsigned_abs() as u64);
 }
 
 // The bytes of a table from one place to another.
 fn word(table: &[u8], from: usize, to: usize) {
-    if from <= to {
-        if to <= table.len() {
-            io::write_all(1, &table[from..to]);
-        }
+    if let Some(bytes) = table.get(from..to) {
+        io::write_all(1, bytes);
     }
 }
 
@@ -45,12 +41,12 @@ fn type_name(ty: u8) {
     }
 }
 
-fn answer(x: Answer) {
+fn answer(x: Result<i32, Fault>) {
     match x {
-        Answer::Value(v) => number(v),
-        Answer::Fails(f) => {
+        Ok(v) => number(v),
+        Err(f) => {
             io::write_all(1, b"fault ");
-            io::print_decimal(1, base_values::fault_number(f) as u64);
+            io::print_decimal(1, u8::from(f) as u64);
         }
     }
 }

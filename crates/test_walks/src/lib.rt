@@ -40,14 +40,12 @@ fn choice(i: usize, n: u32) -> u32 {
 }
 
 pub fn walk(tables: &[u32], state: &mut [i32]) {
-    let mut i: usize = 0;
-    while i < MOVES {
+    for i in 0..MOVES {
         let n = how_many(tables, state);
         if !move_on(tables, state, choice(i, n)) {
             return;
         }
         test_cases::number(b'/', n as usize);
-        i += 1;
     }
 }
 

@@ -1,76 +1,58 @@
 // Reads each of the small models on standard input three hundred times; with any argument it looks up their words instead, as often. Time both to see what part of a reading the lookup is.
 #![tactic(auto)]
 
-use read_passes::Judged;
 use std::env::FillError;
 use std::rt::Env;
-use test_cases::{Case, STDOUT_FILENO};
-use text_tokens::Lexed;
 
 const TIMES: usize = 300;
 
-// 1 for an accepted text, else 0.
-fn accepted(text: &[u8]) -> u32 {
+fn is_accepted(text: &[u8]) -> bool {
     let mut tables = [0u32; base_ceilings::TABLES_ROOM];
-    match read_entry::read(text, &mut tables) {
-        Judged::Accepted => 1,
-        Judged::Refused(_, _, _) => 0,
-    }
+    read_entry::read(text, &mut tables).is_ok()
 }
 
-// How many of n tokens are keywords: each that is a word is looked up.
-fn keywords(text: &[u8], kinds: &[u8], starts: &[u32], ends: &[u32], n: usize) -> u32 {
-    let mut count: u32 = 0;
-    let mut i: usize = 0;
-    while i < n {
-        let k = base_bytes::byte_at(kinds, i);
-        if base_bytes::both(base_kinds::BIT <= k, k <= base_kinds::NAME) {
-            let from = base_bytes::word_at(starts, i);
-            let to = base_bytes::word_at(ends, i);
-            if text_spellings::keyword(base_bytes::part(text, from, to)) != 0 {
-                count = std::num::wrapping_add_u32(count, 1);
-            }
-        }
-        i += 1;
-    }
-    count
+// Is a token of this kind, from a place to a place, a keyword? It is looked up if it is a word.
+fn is_keyword(text: &[u8], kind: u8, from: u32, to: u32) -> bool {
+    let is_word = base_bytes::both(base_kinds::BIT <= kind, kind <= base_kinds::NAME);
+    is_word && text_spellings::keyword(base_bytes::part(text, from as usize, to as usize)).is_some()
 }
 
-fn read_often(text: &[u8]) -> u32 {
-    let mut count: u32 = 0;
-    let mut left: usize = TIMES;
-    while left > 0 {
-        left -= 1;
-        count = std::num::wrapping_add_u32(count, accepted(text));
-    }
-    count
+// How many of the tokens are keywords.
+fn keywords(text: &[u8], kinds: &[u8], starts: &[u32], ends: &[u32]) -> usize {
+    let tokens = kinds.iter().zip(starts).zip(ends);
+    tokens
+        .filter(|((kind, from), to)| is_keyword(text, **kind, **from, **to))
+        .count()
 }
 
-fn look_up_often(text: &[u8]) -> u32 {
+fn read_often(text: &[u8]) -> usize {
+    (0..TIMES).filter(|_| is_accepted(text)).count()
+}
+
+fn look_up_often(text: &[u8]) -> usize {
     let mut kinds = [0u8; base_ceilings::TOKENS_MOST];
     let mut starts = [0u32; base_ceilings::TOKENS_MOST];
     let mut ends = [0u32; base_ceilings::TOKENS_MOST];
-    let Lexed::Tokens(n) = text_tokens::lex(text, &mut kinds, &mut starts, &mut ends) else {
+    let Ok(n) = text_tokens::lex(text, &mut kinds, &mut starts, &mut ends) else {
         return 0;
     };
-    let mut count: u32 = 0;
-    let mut left: usize = TIMES;
-    while left > 0 {
-        left -= 1;
-        count = std::num::wrapping_add_u32(count, keywords(text, &kinds, &starts, &ends, n));
+    let tokens = base_bytes::least(n, base_ceilings::TOKENS_MOST);
+    let mut count: usize = 0;
+    for _ in 0..TIMES {
+        count = count.wrapping_add(keywords(text, &kinds[..tokens], &starts, &ends));
     }
     count
 }
 
 fn show(text: &[u8], words: bool) {
     if words {
-        io::write_all(STDOUT_FILENO, b"keywords");
-        test_cases::number(b' ', look_up_often(text) as usize);
+        test_cases::put(b"keywords");
+        test_cases::number(b' ', look_up_often(text));
     } else {
-        io::write_all(STDOUT_FILENO, b"accepted");
-        test_cases::number(b' ', read_often(text) as usize);
+        test_cases::put(b"accepted");
+        test_cases::number(b' ', read_often(text));
     }
-    io::write_all(STDOUT_FILENO, b"\n");
+    test_cases::put(b"\n");
 }
 
 // Is there an argument behind the program's name?
@@ -85,15 +67,8 @@ fn is_given(rt: &impl Env) -> bool {
 
 fn main(rt: HostRuntime) {
     let words = is_given(&rt);
-    let mut text = [0u8; base_ceilings::NORMAL_MOST];
-    let mut left: usize = 1000000;
-    while left > 0 {
-        left -= 1;
-        match test_cases::next(&mut text) {
-            Case::End => {
-                return;
-            }
-            Case::Bytes(n) => show(test_cases::front(&text, n), words),
-        }
-    }
+    test_cases::for_each(
+        &mut [0u8; base_ceilings::NORMAL_MOST],
+        |text| show(text, words),
+    );
 }

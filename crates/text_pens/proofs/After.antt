@@ -1,12 +1,11 @@
 -- WRITING BY KINDS ALONE IS WRITING: what is known of the token before, its kind, is enough to decide on the space.
 use Prim.Native.Nat.{ℕ}
-use mathlib.Core.Path.{◌≡◌, refl, ◌∙◌, ap, ap₂}
+use mathlib.Core.Path.{◌≡◌, refl, ap}
 use mathlib.Core.List.{List, [], ◌∷◌, ◌++◌}
 use lib.ListN.{get_or}
-use Rattle.base_bytes.specs.Choice.{pick}
 use Rattle.base_kinds.specs.Kinds.{Token, sym, name, number, text, kind_of}
 use Rattle.spec_text.specs.Spelled.{joins}
-use Rattle.spec_text.specs.Writing.{spell, apart, write_behind, write}
+use Rattle.spec_text.specs.Writing.{spell, write_behind, write}
 use Rattle.text_pens.specs.After.{joins_by, write_after}
 
 pub kind_decides : (a : Token) (c : ℕ) → joins (kind_of a) (spell a) c ≡ joins_by (kind_of a) c

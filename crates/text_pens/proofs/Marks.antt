@@ -1,20 +1,21 @@
 -- When a byte joins what stands before it, by the kind alone: a mark of two bytes joins none, a mark of one byte where the two are a mark or open a comment.
 use Prim.Native.Nat.{ℕ, zero, suc, ◌+◌, ◌-◌, ◌≤◌, ◌<◌}
-use mathlib.Core.Path.{◌≡◌, refl, sym, ◌∙◌, ap, subst}
+use mathlib.Core.Path.{◌≡◌, refl, sym, ◌∙◌, ap}
 use mathlib.Core.Bool.{Bool, true, false, not}
-use mathlib.Core.Logic.{◌⊎◌, inl, inr}
-use mathlib.Core.List.{List, [], ◌∷◌, ◌++◌}
+use mathlib.Core.List.{List, [], ◌∷◌}
 use native.Mathlib.Omega.{arith}
 use lib.ListN.{length, get_or, get_or-append}
 use lib.Dec.{eqb, ltb}
-use borrow.Author.Tests.{lt-ltb, le-ltb, eq-eqb, ne_eqb, eqb-true}
-use Rattle.base_bytes.specs.Choice.{pick, both, either}
+use borrow.Author.Tests.{lt-ltb, le-ltb, eq-eqb, ne_eqb}
+use Rattle.base_bytes.specs.Choice.{both, either}
 use Rattle.base_bytes.specs.Lists.{same}
 use Rattle.base_bytes.proofs.Tests.{true_false, both_true, both_no}
 use Rattle.base_kinds.specs.Kinds.{marks, keywords}
+use Rattle.std.specs.Option.{is_some}
 use Rattle.spec_text.specs.Find.{find}
 use Rattle.spec_text.specs.Bytes.{is_word, is_digit}
-use Rattle.spec_text.specs.Spelled.{joins, mark_joins}
+use Rattle.spec_text.specs.Spelled.{mark_joins}
+use Rattle.text_spellings.specs.First.{listed}
 use Rattle.text_pens.specs.Sheet.{spelled_by}
 use Rattle.text_pens.specs.After.{joins_by}
 
@@ -104,6 +105,14 @@ module _ (k c : ℕ) (h : k < 38) where
 
   pub joined-none : (b a m : ℕ) → b ≡ get_or (spelled_by k) 1 0 → b ≡ 0 → a ≡ get_or (spelled_by k) 0 0 → m ≡ find (a ∷ c ∷ []) marks 1 → m ≡ 0 → (a ≡ 47 → ⊥) → false ≡ joins_by k c
   joined-none b a m e n p q z w = sym (one_byte b a m e n p q ∙ rw (z, ne_eqb a 47 w))
+
+-- ---- is a place listed?
+pub is-mark : (m : ℕ) → is_some (listed m) ≡ true → m ≡ 0 → ⊥
+is-mark m e z = true_false (sym e ∙ rw z refl)
+
+pub no-mark : (m : ℕ) → is_some (listed m) ≡ false → m ≡ 0
+no-mark zero e = refl
+no-mark (suc m) e = absurd (true_false (rw (ne_eqb (suc m) 0 (λ h. omega arith)) at e))
 
 -- ---- the other kinds
 pub word-joins : (k c : ℕ) → 38 ≤ k → k < 71 → is_word c ≡ joins_by k c

@@ -46,10 +46,8 @@ pub fn put_all(s: &[u8], out: &mut [u8], p: usize) -> usize
     ensures { pen out.new result ≡ puts s.now (pen out.old p) }
 {
     let mut q = p;
-    let mut k: usize = 0;
-    while k < s.len() {
-        q = put(out, q, s[k]);
-        k += 1;
+    for b in s {
+        q = put(out, q, *b);
     }
     q
 }
@@ -59,10 +57,8 @@ pub fn put_times(b: u8, n: usize, out: &mut [u8], p: usize) -> usize
     ensures { pen out.new result ≡ puts (replicate n b) (pen out.old p) }
 {
     let mut q = p;
-    let mut k: usize = 0;
-    while k < n {
+    for _ in 0..n {
         q = put(out, q, b);
-        k += 1;
     }
     q
 }
@@ -88,12 +84,6 @@ pub fn put_digits(n: u32, fuel: usize, out: &mut [u8], p: usize) -> usize
     }
 }
 
-fn before(n: usize) -> usize
-    ensures { result ≡ n - 1 }
-{
-    if n == 0 { 0 } else { n - 1 }
-}
-
 fn sheet_at(i: usize) -> u8
     ensures { result ≡ get_or sheet i 0 }
 {
@@ -111,7 +101,7 @@ fn letter(k: u8, j: usize) -> u8
     ensures { result ≡ get_or (spelled_by k) j 0 }
 {
     if j < 8 {
-        sheet_at(8 * before(k as usize) + j)
+        sheet_at(8 * (k as usize).saturating_sub(1) + j)
     } else {
         0
     }
@@ -121,7 +111,7 @@ fn letter(k: u8, j: usize) -> u8
 fn size_of(k: u8) -> usize
     ensures { result ≡ length (spelled_by k) }
 {
-    size_at(before(k as usize)) as usize
+    size_at((k as usize).saturating_sub(1)) as usize
 }
 
 // Writes the spelling of kind k.
@@ -130,10 +120,8 @@ pub fn put_fixed(k: u8, out: &mut [u8], p: usize) -> usize
 {
     let n = size_of(k);
     let mut q = p;
-    let mut j: usize = 0;
-    while j < n {
+    for j in 0..n {
         q = put(out, q, letter(k, j));
-        j += 1;
     }
     q
 }
@@ -141,11 +129,7 @@ pub fn put_fixed(k: u8, out: &mut [u8], p: usize) -> usize
 fn is_word(b: u8) -> bool
     ensures { result ≡ is_word b }
 {
-    if text_pieces::is_digit(b) {
-        true
-    } else {
-        text_pieces::is_letter(b)
-    }
+    text_pieces::is_digit(b) || text_pieces::is_letter(b)
 }
 
 // Would the byte c join a mark of kind k before it? Two bytes that are no mark together do not, but for a comment's opening.
@@ -157,10 +141,10 @@ fn mark_joins(k: u8, c: u8) -> bool
         return false;
     }
     let a = letter(k, 0);
-    if text_spellings::mark_of_two(a, c) != 0 {
+    if text_spellings::mark_of_two(a, c).is_some() {
         return true;
     }
-    if a == b'/' { c == b'*' } else { false }
+    a == b'/' && c == b'*'
 }
 
 // Would the byte c join a token of kind k before it?
@@ -173,9 +157,5 @@ pub fn joins(k: u8, c: u8) -> bool
     if k < 71 {
         return is_word(c);
     }
-    if k == 71 {
-        text_pieces::is_digit(c)
-    } else {
-        false
-    }
+    k == 71 && text_pieces::is_digit(c)
 }

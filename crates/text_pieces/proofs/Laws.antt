@@ -19,8 +19,7 @@ use Rattle.base_bytes.proofs.Tests.{both_true, either_no}
 use lib.ListN.{get_or-eq_default, length-drop}
 use native.Mathlib.Decide.{dec_le}
 use borrow.Author.Tests.{eqb-true}
-use Rattle.text_pieces.specs.declared.Close.{Close}
-use Rattle.text_pieces.specs.declared.Close.TheVariants.{After, Never}
+use Rattle.std.specs.Prelude.{Option, Some, None}
 use Rattle.text_pieces.specs.declared.Quoted.{Quoted}
 use Rattle.text_pieces.specs.declared.Quoted.TheVariants.{Closed, Spoiled, Unclosed}
 use Rattle.text_pieces.specs.declared.Move.{Move}
@@ -79,22 +78,22 @@ module _ (most : ℕ) where
   cut_end s i v h k = rw (drop_of_length-le s h) (omega arith)
 
 -- ---- a comment
-abbrev pub later : ℕ → Close → Close
-later i (After n) = After (i + n)
-later i Never = Never
+abbrev pub later : ℕ → Option ℕ → Option ℕ
+later i (Some n) = Some (i + n)
+later i None = None
 
-later-zero : (x : Close) → later 0 x ≡ x
-later-zero (After n) = ap After (omega arith)
-later-zero Never = refl
+later-zero : (x : Option ℕ) → later 0 x ≡ x
+later-zero (Some n) = ap Some (omega arith)
+later-zero None = refl
 
-later_more : (i : ℕ) (x : Close) → later i (one_more x) ≡ later (i + 1) x
-later_more i (After n) = ap After (omega arith)
-later_more i Never = refl
+later_more : (i : ℕ) (x : Option ℕ) → later i (one_more x) ≡ later (i + 1) x
+later_more i (Some n) = ap Some (omega arith)
+later_more i None = refl
 
 pub closing-start : (s : List ℕ) → later 0 (closing false s) ≡ closing false s
 closing-start s = later-zero (closing false s)
 
-pub closing-here : (starred : Bool) (s : List ℕ) (i : ℕ) → i < length s → both starred (eqb (get_or s i 0) slash) ≡ true → later i (closing starred (drop i s)) ≡ After (i + 1)
+pub closing-here : (starred : Bool) (s : List ℕ) (i : ℕ) → i < length s → both starred (eqb (get_or s i 0) slash) ≡ true → later i (closing starred (drop i s)) ≡ Some (i + 1)
 unfolding closing
 closing-here starred s i h e = rw (drop-cons s i 0 h, e)
 
@@ -103,7 +102,7 @@ pub closing-more : (starred : Bool) (s : List ℕ) (i : ℕ) → i < length s �
 unfolding closing
 closing-more starred s i h e = rw (drop-cons s i 0 h, e, later_more i (closing (eqb (get_or s i 0) star) (drop (suc i) s)), ← add-one i)
 
-pub closing_end : (starred : Bool) (s : List ℕ) (i : ℕ) → length s ≤ i → later i (closing starred (drop i s)) ≡ Never
+pub closing_end : (starred : Bool) (s : List ℕ) (i : ℕ) → length s ≤ i → later i (closing starred (drop i s)) ≡ None
 unfolding closing
 closing_end starred s i h = rw (drop_of_length-le s h)
 
@@ -146,17 +145,17 @@ unfolding quoted
 quoted_end escaped s i h = rw (drop_of_length-le s h)
 
 -- ---- how far a comment and a string can reach
-close_le : (s : List ℕ) (starred : Bool) (n : ℕ) → closing starred s ≡ After n → n ≤ length s
+close_le : (s : List ℕ) (starred : Bool) (n : ℕ) → closing starred s ≡ Some n → n ≤ length s
 unfolding closing
 close_le [] starred n e = absurd (let z : ◌≡◌ {A = ℕ} 0 1 = cc in omega arith)
 close_le (b ∷ s) starred n e = go (both starred (eqb b slash)) (closing (eqb b star) s) (close_le s (eqb b star)) e
   where
-    go : (t : Bool) (x : Close) → ((m : ℕ) → x ≡ After m → m ≤ length s) → pick t (After 1) (one_more x) ≡ After n → n ≤ suc (length s)
+    go : (t : Bool) (x : Option ℕ) → ((m : ℕ) → x ≡ Some m → m ≤ length s) → pick t (Some 1) (one_more x) ≡ Some n → n ≤ suc (length s)
     go true x f q = let h : 1 ≡ n = cc in omega arith
-    go false (After m) f q = let h : m + 1 ≡ n = cc in omega (arith, f m refl)
-    go false Never f q = absurd (let z : ◌≡◌ {A = ℕ} 0 1 = cc in omega arith)
+    go false (Some m) f q = let h : m + 1 ≡ n = cc in omega (arith, f m refl)
+    go false None f q = absurd (let z : ◌≡◌ {A = ℕ} 0 1 = cc in omega arith)
 
-pub closed-within : (x : Close) (s : List ℕ) (n : ℕ) → x ≡ closing false s → x ≡ After n → n ≤ length s
+pub closed-within : (x : Option ℕ) (s : List ℕ) (n : ℕ) → x ≡ closing false s → x ≡ Some n → n ≤ length s
 closed-within x s n e q = close_le s false n (sym e ∙ q)
 
 reach : Quoted → ℕ

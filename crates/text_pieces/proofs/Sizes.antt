@@ -19,8 +19,7 @@ use Rattle.spec_text.specs.Digits.{decimal}
 use Rattle.text_pieces.specs.Pieces.{word_of, number_of, string_of, comment_of, mark_of, piece_of}
 use Rattle.text_pieces.specs.declared.Piece.{Piece}
 use Rattle.text_pieces.specs.declared.Piece.TheVariants.{Skip, Take, Stop}
-use Rattle.text_pieces.specs.declared.Close.{Close}
-use Rattle.text_pieces.specs.declared.Close.TheVariants.{After, Never}
+use Rattle.std.specs.Prelude.{Option, Some, None}
 use Rattle.text_pieces.specs.declared.Quoted.{Quoted}
 use Rattle.text_pieces.specs.declared.Quoted.TheVariants.{Closed, Spoiled, Unclosed}
 use Rattle.text_pieces.proofs.Laws.{span_le, closed-within, string_within, spoiled_within}
@@ -57,10 +56,10 @@ string_sized s (Closed n) e =
 string_sized s (Spoiled n) e = let h = spoiled_within (Spoiled n) s n e refl in (omega arith, omega arith)
 string_sized s Unclosed e = (omega arith, omega arith)
 
-comment_sized : (s : List ℕ) (x : Close) → get_or s 0 0 ≡ star → x ≡ closing false (drop 1 s) → Sized (suc (length s)) (comment_of x (length (drop 1 s)))
+comment_sized : (s : List ℕ) (x : Option ℕ) → get_or s 0 0 ≡ star → x ≡ closing false (drop 1 s) → Sized (suc (length s)) (comment_of x (length (drop 1 s)))
 comment_sized [] x h e = absurd (omega arith)
-comment_sized (b ∷ s) (After n) h e = let k = closed-within (After n) s n e refl in (omega arith, omega arith)
-comment_sized (b ∷ s) Never h e = (omega arith, omega arith)
+comment_sized (b ∷ s) (Some n) h e = let k = closed-within (Some n) s n e refl in (omega arith, omega arith)
+comment_sized (b ∷ s) None h e = (omega arith, omega arith)
 
 -- no mark has the byte 0, which stands for the end of the text
 abbrev whole : List ℕ → Bool

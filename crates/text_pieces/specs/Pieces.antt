@@ -1,7 +1,7 @@
 -- Mechanism, held to the specification by `reading_exact` (crate `text_spacing_proof`) and `reading_spoils` (crate `text_spoils_proof`).
 -- One piece at the front of a text: a blank or a comment to skip, a token to take, or a refusal.
 -- Document 01, "The edition we read", Bytes and Keywords; "Ceilings"; rows 1 and 2 of "What is answered".
-use Rattle.std.specs.Prelude.{Bool, List, [], ◌∷◌, ℕ, ◌+◌, ◌-◌, eqb, ltb, length, get_or, take, drop}
+use Rattle.std.specs.Prelude.{Option, Some, None, Bool, List, [], ◌∷◌, ℕ, ◌+◌, eqb, ltb, length, get_or, take, drop}
 use Rattle.base_ceilings.specs.Ceilings.{number_most, string_most, word_most}
 use Rattle.base_bytes.specs.Choice.{pick, both}
 use Rattle.base_kinds.specs.Kinds.{marks, number_kind, string_kind}
@@ -11,8 +11,6 @@ use Rattle.text_pieces.specs.Spans.{span, closing, quoted}
 use Rattle.spec_text.specs.Digits.{decimal}
 use Rattle.text_pieces.specs.declared.Piece.{Piece}
 use Rattle.text_pieces.specs.declared.Piece.TheVariants.{Skip, Take, Stop}
-use Rattle.text_pieces.specs.declared.Close.{Close}
-use Rattle.text_pieces.specs.declared.Close.TheVariants.{After, Never}
 use Rattle.text_pieces.specs.declared.Quoted.{Quoted}
 use Rattle.text_pieces.specs.declared.Quoted.TheVariants.{Closed, Spoiled, Unclosed}
 
@@ -31,9 +29,9 @@ string_of (Spoiled n) m = Stop 1 (n + 1)
 string_of Unclosed m = Stop 1 (m + 1)
 
 -- a comment, m bytes being left behind its opening `/*`
-abbrev pub comment_of : Close → ℕ → Piece
-comment_of (After n) m = Skip (n + 2)
-comment_of Never m = Stop 1 (m + 2)
+abbrev pub comment_of : Option ℕ → ℕ → Piece
+comment_of (Some n) m = Skip (n + 2)
+comment_of None m = Stop 1 (m + 2)
 
 -- "Marks: .. The longest token wins": two bytes if they are a mark, else one; 0 stands for the end of the text, and is no byte of a mark
 abbrev pub mark_of : ℕ → ℕ → Piece

@@ -1,10 +1,8 @@
 -- Mechanism, held to the specification by `reading_exact` (crate `text_spacing_proof`) and `reading_spoils` (crate `text_spoils_proof`), but for `in_run`, of contracts alone.
 -- How far a word, a number, a string or a comment reaches: document 01, "The edition we read", Bytes.
-use Rattle.std.specs.Prelude.{Bool, true, false, List, [], ◌∷◌, ℕ, suc, ◌+◌, ◌-◌, ◌*◌, eqb}
+use Rattle.std.specs.Prelude.{Option, Some, None, Bool, true, false, List, [], ◌∷◌, ℕ, suc, ◌+◌, eqb}
 use Rattle.base_bytes.specs.Choice.{pick, both, either}
 use Rattle.spec_text.specs.Bytes.{is_digit, is_letter, is_plain, is_escape, quote, backslash, slash, star}
-use Rattle.text_pieces.specs.declared.Close.{Close}
-use Rattle.text_pieces.specs.declared.Close.TheVariants.{After, Never}
 use Rattle.text_pieces.specs.declared.Quoted.{Quoted}
 use Rattle.text_pieces.specs.declared.Quoted.TheVariants.{Closed, Spoiled, Unclosed}
 use Rattle.text_pieces.specs.declared.Move.{Move}
@@ -20,13 +18,13 @@ span p [] = 0
 span p (b ∷ s) = pick (p b) (suc (span p s)) 0
 
 -- "Comments run from `/*` to the next `*/` and hold any bytes": how many bytes through the next `*/`; `starred` if the byte before is a star
-abbrev pub one_more : Close → Close
-one_more (After n) = After (n + 1)
-one_more Never = Never
+abbrev pub one_more : Option ℕ → Option ℕ
+one_more (Some n) = Some (n + 1)
+one_more None = None
 
-unfoldable pub closing : Bool → List ℕ → Close
-closing starred [] = Never
-closing starred (b ∷ s) = pick (both starred (eqb b slash)) (After 1) (one_more (closing (eqb b star) s))
+unfoldable pub closing : Bool → List ℕ → Option ℕ
+closing starred [] = None
+closing starred (b ∷ s) = pick (both starred (eqb b slash)) (Some 1) (one_more (closing (eqb b star) s))
 
 -- what a byte of a string does; `escaped` if a backslash before it wants it
 abbrev pub move_of : Bool → ℕ → Move

@@ -20,13 +20,6 @@ pub enum Piece {
     Stop(u8, usize),
 }
 
-// Where a comment ends.
-#[derive(Drop)]
-pub enum Close {
-    After(usize),
-    Never,
-}
-
 // How a string ends.
 #[derive(Drop)]
 pub enum Quoted {
@@ -50,82 +43,50 @@ const NUMBER_MOST: u64 = base_ceilings::NUMBER_MOST as u64;
 fn is_blank(b: u8) -> bool
     ensures { result ≡ is_blank b }
 {
-    match b {
-        b' ' => true,
-        b'\t' => true,
-        b'\r' => true,
-        b'\n' => true,
-        _ => false,
-    }
+    matches!(b, b' ' | b'\t' | b'\r' | b'\n')
 }
 
 pub fn is_digit(b: u8) -> bool
     ensures { result ≡ is_digit b }
 {
-    match b {
-        b'0'..=b'9' => true,
-        _ => false,
-    }
+    b.is_ascii_digit()
 }
 
 pub fn is_letter(b: u8) -> bool
     ensures { result ≡ is_letter b }
 {
-    match b {
-        b'A'..=b'Z' => true,
-        b'_' => true,
-        b'a'..=b'z' => true,
-        _ => false,
-    }
+    matches!(b, b'A'..=b'Z' | b'_' | b'a'..=b'z')
 }
 
 fn is_plain(b: u8) -> bool
     ensures { result ≡ is_plain b }
 {
-    match b {
-        32..=126 => true,
-        128..=255 => true,
-        _ => false,
-    }
+    matches!(b, 32..=126 | 128..=255)
 }
 
 fn is_escape(b: u8) -> bool
     ensures { result ≡ is_escape b }
 {
-    match b {
-        b'n' => true,
-        b't' => true,
-        b'"' => true,
-        b'\\' => true,
-        _ => false,
-    }
+    matches!(b, b'n' | b't' | b'"' | b'\\')
 }
 
 // A byte of a number, or where letters count too of a word.
 fn is_run(b: u8, letters: bool) -> bool
     ensures { result ≡ in_run letters b }
 {
-    if is_digit(b) {
-        return true;
-    }
-    if letters {
-        return is_letter(b);
-    }
-    false
+    is_digit(b) || letters && is_letter(b)
 }
 
 // How many bytes at the front are of a number, or of a word.
 fn run(s: &[u8], letters: bool) -> usize
     ensures { result ≡ span (in_run letters) s.now }
 {
-    let mut i: usize = 0;
-    while i < s.len() {
-        if !is_run(s[i], letters) {
+    for (i, b) in s.iter().enumerate() {
+        if !is_run(*b, letters) {
             return i;
         }
-        i += 1;
     }
-    i
+    s.len()
 }
 
 // How many digits stand at the front.
@@ -138,16 +99,7 @@ pub fn digits(s: &[u8]) -> usize
 fn digit(b: u8) -> u64
     ensures { result ≡ b - 48 }
 {
-    if b < 48 {
-        return 0;
-    }
-    (b - 48) as u64
-}
-
-fn lesser(a: u64, b: u64) -> u64
-    ensures { result ≡ min a b }
-{
-    if a < b { a } else { b }
+    b.saturating_sub(b'0') as u64
 }
 
 // The number that these digits write; every number past the most counts as one past it.
@@ -155,10 +107,8 @@ pub fn value(s: &[u8]) -> u64
     ensures { result ≡ min (number_most + 1) (decimal s.now) }
 {
     let mut v: u64 = 0;
-    let mut i: usize = 0;
-    while i < s.len() {
-        v = lesser(NUMBER_MOST + 1, v * 10 + digit(s[i]));
-        i += 1;
+    for b in s {
+        v = (NUMBER_MOST + 1).min(v * 10 + digit(*b));
     }
     v
 }
@@ -171,11 +121,8 @@ fn word(s: &[u8], n: usize) -> Piece
     if base_ceilings::WORD_MOST < n {
         return Piece::Stop(2, n);
     }
-    let k = text_spellings::keyword(&s[..n]);
-    if k == 0 {
-        return Piece::Take(base_kinds::NAME, n);
-    }
-    Piece::Take(k, n)
+    let kind = text_spellings::keyword(&s[..n]).unwrap_or(base_kinds::NAME);
+    Piece::Take(kind, n)
 }
 
 // A number of n digits at the front.
@@ -216,10 +163,8 @@ fn quoted_from(s: &[u8]) -> Quoted
     ensures { result ≡ quoted false s.now }
 {
     let mut escaped = false;
-    let mut i: usize = 0;
-    while i < s.len() {
-        let m = move_on(escaped, s[i]);
-        match m {
+    for (i, b) in s.iter().enumerate() {
+        match move_on(escaped, *b) {
             Move::On(next) => {
                 escaped = next;
             }
@@ -230,7 +175,6 @@ fn quoted_from(s: &[u8]) -> Quoted
                 return Quoted::Spoiled(i + 1);
             }
         }
-        i += 1;
     }
     Quoted::Unclosed
 }
@@ -238,8 +182,7 @@ fn quoted_from(s: &[u8]) -> Quoted
 fn string(s: &[u8]) -> Piece
     ensures { result ≡ string_of (quoted false s.now) (length s.now) }
 {
-    let q = quoted_from(s);
-    match q {
+    match quoted_from(s) {
         Quoted::Closed(n) => {
             if base_ceilings::STRING_MOST + 1 < n {
                 return Piece::Stop(2, n + 1);
@@ -255,36 +198,29 @@ fn string(s: &[u8]) -> Piece
 fn closes(starred: bool, b: u8) -> bool
     ensures { result ≡ both starred (eqb b slash) }
 {
-    if starred {
-        return b == b'/';
-    }
-    false
+    starred && b == b'/'
 }
 
-// A comment, from behind its opening `/*` on.
-fn closing_in(s: &[u8]) -> Close
+// Where a comment ends, from behind its opening `/*` on; it may never.
+fn closing_in(s: &[u8]) -> Option<usize>
     ensures { result ≡ closing false s.now }
 {
     let mut starred = false;
-    let mut i: usize = 0;
-    while i < s.len() {
-        let b = s[i];
-        if closes(starred, b) {
-            return Close::After(i + 1);
+    for (i, b) in s.iter().enumerate() {
+        if closes(starred, *b) {
+            return Some(i + 1);
         }
-        starred = b == b'*';
-        i += 1;
+        starred = *b == b'*';
     }
-    Close::Never
+    None
 }
 
 fn comment(s: &[u8]) -> Piece
     ensures { result ≡ comment_of (closing false s.now) (length s.now) }
 {
-    let c = closing_in(s);
-    match c {
-        Close::After(n) => Piece::Skip(n + 2),
-        Close::Never => Piece::Stop(1, s.len() + 2),
+    match closing_in(s) {
+        Some(n) => Piece::Skip(n + 2),
+        None => Piece::Stop(1, s.len() + 2),
     }
 }
 
@@ -292,25 +228,20 @@ fn comment(s: &[u8]) -> Piece
 fn mark(a: u8, b: u8) -> Piece
     ensures { result ≡ mark_of a b }
 {
-    let two = text_spellings::mark_of_two(a, b);
-    if two != 0 {
-        return Piece::Take(two, 2);
+    if let Some(kind) = text_spellings::mark_of_two(a, b) {
+        return Piece::Take(kind, 2);
     }
-    let one = text_spellings::mark_of_one(a);
-    if one != 0 {
-        return Piece::Take(one, 1);
+    match text_spellings::mark_of_one(a) {
+        Some(kind) => Piece::Take(kind, 1),
+        None => Piece::Stop(1, 1),
     }
-    Piece::Stop(1, 1)
 }
 
 // Do these two bytes open a comment?
 fn opens(a: u8, b: u8) -> bool
     ensures { result ≡ both (eqb a slash) (eqb b star) }
 {
-    if a == b'/' {
-        return b == b'*';
-    }
-    false
+    a == b'/' && b == b'*'
 }
 
 // The piece at the front of a text; of an empty one, nothing to skip.

@@ -11,15 +11,14 @@ use lib.ListN.{length, length-append}
 use Rattle.base_bytes.specs.Choice.{both}
 use Rattle.spec_text.specs.Bytes.{slash, star}
 use Rattle.text_pieces.specs.Spans.{closing}
-use Rattle.text_pieces.specs.declared.Close.{Close}
-use Rattle.text_pieces.specs.declared.Close.TheVariants.{After, Never}
+use Rattle.std.specs.Prelude.{Option, Some, None}
 use Rattle.text_spacing_proof.proofs.Spans.{closing-more, Comment, comment_ends}
 use Rattle.spec_text.specs.Layout.{Unended}
 
 -- a text that holds a `*/` closes there at the latest
 record Closes (starred : Bool) (c : List ℕ) (most : ℕ) : Type 0 where
   at : ℕ
-  is : closing starred c ≡ After at
+  is : closing starred c ≡ Some at
   early : at ≤ most
 
 one_later : (b : ℕ) (starred : Bool) (s : List ℕ) (m k : ℕ) → m < k → Closes (eqb b star) s m → Closes starred (b ∷ s) k
@@ -39,15 +38,15 @@ closes_by starred [] y = one_later star starred (slash ∷ y) 1 2 (omega arith) 
 closes_by starred (b ∷ x) y = one_later b starred (x ++ star ∷ slash ∷ y) (length x + 2) (length (b ∷ x) + 2) (omega arith) (closes_by (eqb b star) x y)
 
 -- a comment is unclosed exactly where no `*/` is
-pub never_unended : (c : List ℕ) → (closing false c ≡ Never) ↔ Unended c
+pub never_unended : (c : List ℕ) → (closing false c ≡ None) ↔ Unended c
 never_unended c = (to, λ u. from (closing false c) refl u)
   where
-    to : closing false c ≡ Never → Unended c
-    to e x y w = let z = closes_by false x y in absurd (let q : After z.at ≡ Never = sym z.is ∙ ap (closing false) (sym w) ∙ e in let o : ◌≡◌ {A = ℕ} 0 1 = cc in omega arith)
+    to : closing false c ≡ None → Unended c
+    to e x y w = let z = closes_by false x y in absurd (let q : Some z.at ≡ None = sym z.is ∙ ap (closing false) (sym w) ∙ e in let o : ◌≡◌ {A = ℕ} 0 1 = cc in omega arith)
 
-    from : (k : Close) → closing false c ≡ k → Unended c → k ≡ Never
-    from (After n) e u = let z = comment_ends c n e in absurd (u z.inside z.rest z.whole)
-    from Never e u = refl
+    from : (k : Option ℕ) → closing false c ≡ k → Unended c → k ≡ None
+    from (Some n) e u = let z = comment_ends c n e in absurd (u z.inside z.rest z.whole)
+    from None e u = refl
 
 -- a `*/` that ends before the last one stands before the last byte
 within : (c x y : List ℕ) → length x < length c → c ++ star ∷ slash ∷ [] ≡ x ++ star ∷ slash ∷ y → (z : List ℕ) × (c ++ star ∷ [] ≡ x ++ star ∷ slash ∷ z)
@@ -64,25 +63,25 @@ within (b ∷ c) (a ∷ x) y h e =
     (z, rw (p, w))
 
 -- a `*/` closes a comment exactly where no other comes before: so this is what `Gap` says of comments
-pub closing-next : (c : List ℕ) → (closing false (c ++ star ∷ slash ∷ []) ≡ After (length c + 2)) ↔ Unended (c ++ star ∷ [])
+pub closing-next : (c : List ℕ) → (closing false (c ++ star ∷ slash ∷ []) ≡ Some (length c + 2)) ↔ Unended (c ++ star ∷ [])
 closing-next c = (to, from)
   where
-    to : closing false (c ++ star ∷ slash ∷ []) ≡ After (length c + 2) → Unended (c ++ star ∷ [])
+    to : closing false (c ++ star ∷ slash ∷ []) ≡ Some (length c + 2) → Unended (c ++ star ∷ [])
     to e x y w =
         let z = closes_by false x [] in
         let l : length x + 1 ≤ length c = omega (arith, ap length w, length-append c (star ∷ []), length-append x (star ∷ slash ∷ y)) in
         let v : c ++ star ∷ slash ∷ [] ≡ (x ++ star ∷ slash ∷ []) ++ (y ++ slash ∷ []) =
         sym (append_assoc c (star ∷ []) (slash ∷ [])) ∙ ap (◌++ (slash ∷ [])) w ∙ append_assoc x (star ∷ slash ∷ y) (slash ∷ []) ∙ sym (append_assoc x (star ∷ slash ∷ []) (y ++ slash ∷ [])) in
-        let q : After z.at ≡ After (length c + 2) = sym (closing-more false (x ++ star ∷ slash ∷ []) (y ++ slash ∷ []) z.at z.is) ∙ ap (closing false) (sym v) ∙ e in
+        let q : Some z.at ≡ Some (length c + 2) = sym (closing-more false (x ++ star ∷ slash ∷ []) (y ++ slash ∷ []) z.at z.is) ∙ ap (closing false) (sym v) ∙ e in
         let k : z.at ≡ length c + 2 = cc in
         omega (arith, z.early)
 
-    from : Unended (c ++ star ∷ []) → closing false (c ++ star ∷ slash ∷ []) ≡ After (length c + 2)
+    from : Unended (c ++ star ∷ []) → closing false (c ++ star ∷ slash ∷ []) ≡ Some (length c + 2)
     from u =
         let z = closes_by false c [] in
         let m = comment_ends (c ++ star ∷ slash ∷ []) z.at z.is in
         go z m (ℕ_discrete (length m.inside) (length c))
       where
-        go : (z : Closes false (c ++ star ∷ slash ∷ []) (length c + 2)) (m : Comment (c ++ star ∷ slash ∷ []) z.at) → Dec (length m.inside ≡ length c) → closing false (c ++ star ∷ slash ∷ []) ≡ After (length c + 2)
-        go z m (yes e) = z.is ∙ ap After (omega (arith, m.size))
+        go : (z : Closes false (c ++ star ∷ slash ∷ []) (length c + 2)) (m : Comment (c ++ star ∷ slash ∷ []) z.at) → Dec (length m.inside ≡ length c) → closing false (c ++ star ∷ slash ∷ []) ≡ Some (length c + 2)
+        go z m (yes e) = z.is ∙ ap Some (omega (arith, m.size))
         go z m (no h) = let (y, w) = within c m.inside m.rest (omega (arith, m.size, z.early)) m.whole in absurd (u m.inside y w)

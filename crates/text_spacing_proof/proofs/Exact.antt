@@ -16,7 +16,7 @@ use Rattle.text_pieces.specs.Spans.{closing}
 use Rattle.text_pieces.specs.Pieces.{piece_of}
 use Rattle.text_pieces.specs.declared.Piece.{Piece}
 use Rattle.text_pieces.specs.declared.Piece.TheVariants.{Skip, Take, Stop}
-use Rattle.text_pieces.specs.declared.Close.TheVariants.{After}
+use Rattle.std.specs.Prelude.{Some}
 use Rattle.text_pieces.proofs.Sizes.{Sized, piece-sized, by_test}
 use Rattle.text_tokens.specs.Reading.{Reading, tokens, refused, before, follow, read_from, reading}
 use Rattle.spec_text.specs.Placed.{Placed, placed}
@@ -47,7 +47,7 @@ unfolding read_from
 past_take i left k n b s e h = rw e (ap (before (placed k i n)) (behind i left n b s h))
 
 -- ---- from the layout to the reading
-commented : (c g s : List ℕ) → closing false (c ++ star ∷ slash ∷ []) ≡ After (length c + 2) → piece_of (slash ∷ star ∷ (c ++ star ∷ slash ∷ g) ++ s) ≡ Skip (length c + 2 + 2)
+commented : (c g s : List ℕ) → closing false (c ++ star ∷ slash ∷ []) ≡ Some (length c + 2) → piece_of (slash ∷ star ∷ (c ++ star ∷ slash ∷ g) ++ s) ≡ Skip (length c + 2 + 2)
 unfolding piece_of
 commented c g s e =
     rw (append_assoc c (star ∷ slash ∷ g) s)

@@ -20,8 +20,7 @@ use Rattle.spec_text.specs.Digits.{decimal}
 use Rattle.text_pieces.specs.Pieces.{word_of, number_of, string_of, comment_of, mark_of, piece_of}
 use Rattle.text_pieces.specs.declared.Piece.{Piece}
 use Rattle.text_pieces.specs.declared.Piece.TheVariants.{Skip, Take, Stop}
-use Rattle.text_pieces.specs.declared.Close.{Close}
-use Rattle.text_pieces.specs.declared.Close.TheVariants.{After, Never}
+use Rattle.std.specs.Prelude.{Option, Some, None}
 use Rattle.text_pieces.specs.declared.Quoted.{Quoted}
 use Rattle.text_pieces.specs.declared.Quoted.TheVariants.{Closed, Spoiled, Unclosed}
 use Rattle.text_pieces.proofs.Laws.{span_le}
@@ -260,9 +259,9 @@ mark-taken b s k n c e = go (find (b ∷ get_or s 0 0 ∷ []) marks 1) refl (fin
     go zero p (suc j) q e = same-take (rw (some j) at e) (one-taken b s j c p q)
     go (suc j) p y q e = same-take (rw (some j) at e) (two-taken b s j p)
 
-not_commented : {X : Type 0} (x : Close) (m k n : ℕ) → comment_of x m ≡ Take k n → X
-not_commented (After i) m k n e = not_taken e
-not_commented Never m k n e = not_stopped e
+not_commented : {X : Type 0} (x : Option ℕ) (m k n : ℕ) → comment_of x m ≡ Take k n → X
+not_commented (Some i) m k n e = not_taken e
+not_commented None m k n e = not_stopped e
 
 pub front-sound : (b : ℕ) (s : List ℕ) (k n : ℕ) → piece_of (b ∷ s) ≡ Take k n → FrontToken (b ∷ s) k n
 unfolding piece_of
@@ -295,8 +294,8 @@ no_string {X} (Closed i) m n e = by_test (λ (p : Piece). p ≡ Skip n → X) (l
 no_string (Spoiled i) m n e = not-passed e
 no_string Unclosed m n e = not-passed e
 
-comment_skipped : (s : List ℕ) (m n : ℕ) (y : Close) → closing false s ≡ y → comment_of y m ≡ Skip n → Skipped (slash ∷ star ∷ s) n
-comment_skipped s m n (After j) q e =
+comment_skipped : (s : List ℕ) (m n : ℕ) (y : Option ℕ) → closing false s ≡ y → comment_of y m ≡ Skip n → Skipped (slash ∷ star ∷ s) n
+comment_skipped s m n (Some j) q e =
     let z = comment_ends s j q in
     let l : j + 2 ≡ n = cc in
     record {
@@ -306,7 +305,7 @@ comment_skipped s m n (After j) q e =
       size = omega (arith, length-append z.inside (star ∷ slash ∷ []), z.size);
       gap = λ h G. rw (append_assoc z.inside (star ∷ slash ∷ []) h) (comment z.inside ((closing-next z.inside).0 z.alone) G);
     }
-comment_skipped s m n Never q e = not-passed e
+comment_skipped s m n None q e = not-passed e
 
 starred : (b : ℕ) (s : List ℕ) (n : ℕ) → b ≡ slash → get_or s 0 0 ≡ star → comment_of (closing false (drop 1 s)) (length (drop 1 s)) ≡ Skip n → Skipped (b ∷ s) n
 starred b [] n p q e = absurd (omega arith)

@@ -12,8 +12,7 @@ use Rattle.base_bytes.specs.Choice.{pick, both}
 use Rattle.base_bytes.proofs.Tests.{both_true, true_false}
 use Rattle.spec_text.specs.Bytes.{is_plain, is_escape, quote, backslash, slash, star}
 use Rattle.text_pieces.specs.Spans.{span, closing, one_more, quoted, move_of, moved, further}
-use Rattle.text_pieces.specs.declared.Close.{Close}
-use Rattle.text_pieces.specs.declared.Close.TheVariants.{After, Never}
+use Rattle.std.specs.Prelude.{Option, Some, None}
 use Rattle.text_pieces.specs.declared.Quoted.{Quoted}
 use Rattle.text_pieces.specs.declared.Quoted.TheVariants.{Closed, Spoiled, Unclosed}
 use Rattle.text_pieces.specs.declared.Move.TheVariants.{On, End, Bad}
@@ -104,16 +103,16 @@ quoted-ends (b ∷ c ∷ s) n e = go (eqb b quote) refl (eqb b backslash) refl (
 
 -- ---- comments
 -- what closes a text closes it with more behind
-pub closing-more : (starred : Bool) (x g : List ℕ) (n : ℕ) → closing starred x ≡ After n → closing starred (x ++ g) ≡ After n
+pub closing-more : (starred : Bool) (x g : List ℕ) (n : ℕ) → closing starred x ≡ Some n → closing starred (x ++ g) ≡ Some n
 unfolding closing
 closing-more starred [] g n e = absurd (let z : ◌≡◌ {A = ℕ} 0 1 = cc in omega arith)
 closing-more starred (b ∷ x) g n e = go (both starred (eqb b slash)) (closing (eqb b star) x) refl e (closing-more (eqb b star) x g)
   where
-    go : (t : Bool) (y : Close) → closing (eqb b star) x ≡ y → pick t (After 1) (one_more y) ≡ After n → ((m : ℕ) → closing (eqb b star) x ≡ After m → closing (eqb b star) (x ++ g) ≡ After m) →
-        pick t (After 1) (one_more (closing (eqb b star) (x ++ g))) ≡ After n
+    go : (t : Bool) (y : Option ℕ) → closing (eqb b star) x ≡ y → pick t (Some 1) (one_more y) ≡ Some n → ((m : ℕ) → closing (eqb b star) x ≡ Some m → closing (eqb b star) (x ++ g) ≡ Some m) →
+        pick t (Some 1) (one_more (closing (eqb b star) (x ++ g))) ≡ Some n
     go true y q e r = e
-    go false (After m) q e r = rw (r m q) e
-    go false Never q e r = absurd (let z : ◌≡◌ {A = ℕ} 0 1 = cc in omega arith)
+    go false (Some m) q e r = rw (r m q) e
+    go false None q e r = absurd (let z : ◌≡◌ {A = ℕ} 0 1 = cc in omega arith)
 
 -- is the last byte a star, or the one before where there is none?
 abbrev ends_starred : Bool → List ℕ → Bool
@@ -126,25 +125,25 @@ record Shut (starred : Bool) (s : List ℕ) (n : ℕ) : Type 0 where
   whole : s ≡ inside ++ slash ∷ rest
   size : length inside + 1 ≡ n
   last : ends_starred starred inside ≡ true
-  alone : closing starred (inside ++ slash ∷ []) ≡ After n
+  alone : closing starred (inside ++ slash ∷ []) ≡ Some n
 
-one_out : (x : Close) (n : ℕ) → one_more x ≡ After n → (m : ℕ) × (x ≡ After m) × (m + 1 ≡ n)
-one_out (After m) n e = (m, refl, cc)
-one_out Never n e = absurd (let z : ◌≡◌ {A = ℕ} 0 1 = cc in omega arith)
+one_out : (x : Option ℕ) (n : ℕ) → one_more x ≡ Some n → (m : ℕ) × (x ≡ Some m) × (m + 1 ≡ n)
+one_out (Some m) n e = (m, refl, cc)
+one_out None n e = absurd (let z : ◌≡◌ {A = ℕ} 0 1 = cc in omega arith)
 
-shut : (starred : Bool) (s : List ℕ) (n : ℕ) → closing starred s ≡ After n → Shut starred s n
+shut : (starred : Bool) (s : List ℕ) (n : ℕ) → closing starred s ≡ Some n → Shut starred s n
 unfolding closing
 shut starred [] n e = absurd (let z : ◌≡◌ {A = ℕ} 0 1 = cc in omega arith)
 shut starred (b ∷ s) n e = go (both starred (eqb b slash)) refl e (shut (eqb b star) s)
   where
-    go : (t : Bool) → both starred (eqb b slash) ≡ t → pick t (After 1) (one_more (closing (eqb b star) s)) ≡ After n → ((m : ℕ) → closing (eqb b star) s ≡ After m → Shut (eqb b star) s m) → Shut starred (b ∷ s) n
+    go : (t : Bool) → both starred (eqb b slash) ≡ t → pick t (Some 1) (one_more (closing (eqb b star) s)) ≡ Some n → ((m : ℕ) → closing (eqb b star) s ≡ Some m → Shut (eqb b star) s m) → Shut starred (b ∷ s) n
     go true f e r =
         let (u, v) = both_true starred (eqb b slash) f in
         record { inside = []; rest = s; whole = ap (◌∷ s) (eqb-true b slash v); size = cc; last = u; alone = rw u e }
     go false f e r =
         let (m, u, v) = one_out (closing (eqb b star) s) n e in
         let y = r m u in
-        record { inside = b ∷ y.inside; rest = y.rest; whole = ap (b ∷◌) y.whole; size = omega (arith, y.size); last = y.last; alone = rw (f, y.alone) (ap After v) }
+        record { inside = b ∷ y.inside; rest = y.rest; whole = ap (b ∷◌) y.whole; size = omega (arith, y.size); last = y.last; alone = rw (f, y.alone) (ap Some v) }
 
 -- a list whose last is a star
 star-last : (d : List ℕ) → ends_starred false d ≡ true → (c : List ℕ) × (d ≡ c ++ star ∷ [])
@@ -158,9 +157,9 @@ pub record Comment (s : List ℕ) (n : ℕ) : Type 0 where
   pub rest : List ℕ
   pub whole : s ≡ inside ++ star ∷ slash ∷ rest
   pub size : length inside + 2 ≡ n
-  pub alone : closing false (inside ++ star ∷ slash ∷ []) ≡ After (length inside + 2)
+  pub alone : closing false (inside ++ star ∷ slash ∷ []) ≡ Some (length inside + 2)
 
-parts : (s d rest c : List ℕ) (n : ℕ) → s ≡ d ++ slash ∷ rest → length d + 1 ≡ n → closing false (d ++ slash ∷ []) ≡ After n → d ≡ c ++ star ∷ [] → Comment s n
+parts : (s d rest c : List ℕ) (n : ℕ) → s ≡ d ++ slash ∷ rest → length d + 1 ≡ n → closing false (d ++ slash ∷ []) ≡ Some n → d ≡ c ++ star ∷ [] → Comment s n
 parts s d rest c n w l a q =
     let k : length c + 2 ≡ n = omega (arith, ap length q, length-append c (star ∷ [])) in
     record {
@@ -171,7 +170,7 @@ parts s d rest c n w l a q =
       alone = rw k (rw (q, append_assoc c (star ∷ []) (slash ∷ [])) at a);
     }
 
-pub comment_ends : (s : List ℕ) (n : ℕ) → closing false s ≡ After n → Comment s n
+pub comment_ends : (s : List ℕ) (n : ℕ) → closing false s ≡ Some n → Comment s n
 comment_ends s n e =
     let z = shut false s n e in
     let (c, q) = star-last z.inside z.last in

@@ -1,4 +1,4 @@
-// What the fixed spellings of marks and keywords are called: the kind of a word or a mark, 0 where it is none.
+// What the fixed spellings of marks and keywords are called: the kind of a word or a mark, if it is one.
 #![tactic(auto)]
 
 ghost use Rattle.std.specs.Prelude.{◌≡◌, [], ◌∷◌};
@@ -6,7 +6,14 @@ ghost use Rattle.base_bytes.specs.Choice.{pick};
 ghost use Rattle.base_bytes.specs.Lists.{same};
 ghost use Rattle.base_kinds.specs.Kinds.{marks, keywords};
 ghost use Rattle.spec_text.specs.Find.{find, keyword_of};
-ghost use Rattle.text_spellings.specs.First.{among};
+ghost use Rattle.text_spellings.specs.First.{among, listed};
+
+// The place in a table as the specification's `find` has it, where 0 stands for a spelling that is not there.
+fn listed(k: u8) -> Option<u8>
+    ensures { result ≡ listed k }
+{
+    if k == 0 { None } else { Some(k) }
+}
 
 // A word that may be one keyword: its kind, 0 where it is spelled otherwise.
 fn only(w: &[u8], x: &[u8], k: u8) -> u8
@@ -202,7 +209,7 @@ fn from_u(w: &[u8]) -> u8
 }
 
 // The kind of a word that is a keyword, or 0: by its first letter, then by its length.
-pub fn keyword(w: &[u8]) -> u8
+fn keyword_place(w: &[u8]) -> u8
     ensures { result ≡ keyword_of w.now }
 {
     if w.len() < 2 {
@@ -229,8 +236,15 @@ pub fn keyword(w: &[u8]) -> u8
     }
 }
 
+// The kind of a word that is a keyword.
+pub fn keyword(w: &[u8]) -> Option<u8>
+    ensures { result ≡ listed (keyword_of w.now) }
+{
+    listed(keyword_place(w))
+}
+
 // The kind of a mark of two bytes, or 0.
-pub fn mark_of_two(a: u8, b: u8) -> u8
+fn place_of_two(a: u8, b: u8) -> u8
     ensures { result ≡ find (a ∷ b ∷ []) marks 1 }
 {
     let both = a as u32 * 256 + b as u32;
@@ -253,8 +267,15 @@ pub fn mark_of_two(a: u8, b: u8) -> u8
     }
 }
 
+// The kind of a mark of two bytes.
+pub fn mark_of_two(a: u8, b: u8) -> Option<u8>
+    ensures { result ≡ listed (find (a ∷ b ∷ []) marks 1) }
+{
+    listed(place_of_two(a, b))
+}
+
 // The kind of a mark of one byte, or 0.
-pub fn mark_of_one(a: u8) -> u8
+fn place_of_one(a: u8) -> u8
     ensures { result ≡ find (a ∷ []) marks 1 }
 {
     match a {
@@ -283,4 +304,11 @@ pub fn mark_of_one(a: u8) -> u8
         b'?' => base_kinds::QUERY,
         _ => 0,
     }
+}
+
+// The kind of a mark of one byte.
+pub fn mark_of_one(a: u8) -> Option<u8>
+    ensures { result ≡ listed (find (a ∷ []) marks 1) }
+{
+    listed(place_of_one(a))
 }

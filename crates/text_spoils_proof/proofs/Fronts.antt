@@ -18,8 +18,7 @@ use Rattle.text_pieces.specs.Spans.{span, closing, quoted, moved, further}
 use Rattle.text_pieces.specs.Pieces.{word_of, number_of, string_of, comment_of, piece_of}
 use Rattle.text_pieces.specs.declared.Piece.{Piece}
 use Rattle.text_pieces.specs.declared.Piece.TheVariants.{Skip, Take, Stop}
-use Rattle.text_pieces.specs.declared.Close.{Close}
-use Rattle.text_pieces.specs.declared.Close.TheVariants.{After, Never}
+use Rattle.std.specs.Prelude.{Option, Some, None}
 use Rattle.text_pieces.specs.declared.Quoted.{Quoted}
 use Rattle.text_pieces.specs.declared.Quoted.TheVariants.{Closed, Spoiled, Unclosed}
 use Rattle.text_pieces.specs.declared.Move.TheVariants.{On, End, Bad}
@@ -192,9 +191,9 @@ string_wrong x n (misescaped {x = y} m b s z e g) h = alike (ap (Stop 1) (omega 
 string_wrong x n (unclosed z) h = alike h (unclosed_string z)
 string_wrong x n (escaping {x = y} z) h = alike (ap (Stop 1) (omega (arith, length-append y (backslash ∷ []))) ∙ h) (unclosed_escape z)
 
-comment_wrong : (s : List ℕ) (k : Close) → closing false s ≡ k → (x n : ℕ) → comment_of k (length s) ≡ Stop x n → Wrong (slash ∷ star ∷ s) x n
-comment_wrong s (After m) e x n h = not_skipped h
-comment_wrong s Never e x n h = alike h (unclosed_comment s ((never_unended s).0 e))
+comment_wrong : (s : List ℕ) (k : Option ℕ) → closing false s ≡ k → (x n : ℕ) → comment_of k (length s) ≡ Stop x n → Wrong (slash ∷ star ∷ s) x n
+comment_wrong s (Some m) e x n h = not_skipped h
+comment_wrong s None e x n h = alike h (unclosed_comment s ((never_unended s).0 e))
 
 starred : (b : ℕ) (s : List ℕ) (x n : ℕ) → b ≡ slash → get_or s 0 0 ≡ star → comment_of (closing false (drop 1 s)) (length (drop 1 s)) ≡ Stop x n → Wrong (b ∷ s) x n
 starred b [] x n p q e = absurd (omega arith)

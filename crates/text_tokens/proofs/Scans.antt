@@ -1,11 +1,10 @@
 -- The laws that the pass over the text cites: what has been read so far, and one piece more.
 use mathlib.Core.Path.{◌≡◌, refl, sym, ap, ◌∙◌}
-use mathlib.Core.Bool.{Bool, true, false}
 use mathlib.Core.List.{List, [], ◌∷◌, ◌++◌, map}
 use Prim.Native.Nat.{ℕ, zero, suc, ◌+◌, ◌-◌, ◌≤◌, ◌<◌}
 use native.Mathlib.Omega.{arith}
 use native.Mathlib.Numerals.{add-one}
-use lib.ListN.{length, get_or, take, drop, set, length-append, length-set, length-map, drop_of_length-le, length-drop}
+use lib.ListN.{length, get_or, take, drop, set, length-append, length-set, drop_of_length-le, length-drop}
 use lib.Seq.{drop-cons, drop-drop, take-suc-set, take_all}
 use Rattle.base_ceilings.specs.Ceilings.{tokens_most}
 use Rattle.text_pieces.specs.Pieces.{piece_of}
@@ -14,10 +13,9 @@ use Rattle.text_pieces.specs.declared.Piece.TheVariants.{Skip, Take, Stop}
 use Rattle.text_pieces.proofs.Sizes.{size, Sized, piece-sized}
 use Rattle.text_tokens.specs.Reading.{Reading, tokens, refused, before, follow, read_from}
 use Rattle.spec_text.specs.Placed.{Placed, placed}
-use Rattle.text_tokens.specs.Answers.{answer_of}
-use Rattle.text_tokens.specs.Scans.{read_in, Scanned}
-use Rattle.text_tokens.specs.declared.Lexed.{Lexed}
-use Rattle.text_tokens.specs.declared.Lexed.TheVariants.{Tokens, Refused}
+use Rattle.text_tokens.specs.Scans.{Scanned}
+use Rattle.std.specs.Prelude.{Ok, Err}
+use Rattle.base_refusal.specs.Refusals.{refusal}
 
 -- the bytes of a piece are passed one by one, or all at once
 pub pass : (i left k : ℕ) (s : List ℕ) → read_from i left k s ≡ read_from (i + k) left 0 (drop k s)
@@ -148,25 +146,25 @@ module _ {t ks ss es : List ℕ} {i n : ℕ} (z : SoFar t ks ss es i n) where
         ends = kept_more (placed k i m) l z.ends;
       }
 
-  refused_at : (x j m : ℕ) → read_from i (tokens_most - n) 0 (drop i t) ≡ refused x j m → Scanned (read_from 0 tokens_most 0 t) (Refused x j m) ks ss es
+  refused_at : (x j m : ℕ) → read_from i (tokens_most - n) 0 (drop i t) ≡ refused x j m → Scanned (read_from 0 tokens_most 0 t) (Err (refusal x j m)) ks ss es
   refused_at x j m e =
       rw (z.whole ∙ ap (befores z.ps) e ∙ befores_refused z.ps x j m)
       (record { answer = refl; room = omega arith; kinds = refl; starts = refl; ends = refl })
 
-  pub stopped : (x m : ℕ) → i < length t → piece_of (drop i t) ≡ Stop x m → Scanned (read_from 0 tokens_most 0 t) (Refused x i m) ks ss es
+  pub stopped : (x m : ℕ) → i < length t → piece_of (drop i t) ≡ Stop x m → Scanned (read_from 0 tokens_most 0 t) (Err (refusal x i m)) ks ss es
   stopped x m h e = refused_at x i m (turn_stop t i (tokens_most - n) h x m e)
 
-  pub full : (k m : ℕ) → i < length t → n ≡ tokens_most → piece_of (drop i t) ≡ Take k m → Scanned (read_from 0 tokens_most 0 t) (Refused 2 i m) ks ss es
+  pub full : (k m : ℕ) → i < length t → n ≡ tokens_most → piece_of (drop i t) ≡ Take k m → Scanned (read_from 0 tokens_most 0 t) (Err (refusal 2 i m)) ks ss es
   full k m h d e =
       let s : tokens_most - n ≡ 0 = omega arith in
       refused_at 2 i m (rw s (turn_full t i k m h e))
 
-  pub finished : length t ≤ i → Scanned (read_from 0 tokens_most 0 t) (Tokens n) ks ss es
+  pub finished : length t ≤ i → Scanned (read_from 0 tokens_most 0 t) (Ok n) ks ss es
   unfolding read_from
   finished h =
       rw (z.whole ∙ ap (λ (s : List ℕ). befores z.ps (read_from i (tokens_most - n) 0 s)) (drop_of_length-le t h) ∙ befores_end z.ps)
       (record {
-        answer = ap Tokens (sym z.count);
+        answer = ap Ok (sym z.count);
         room = omega (arith, z.count, z.most);
         kinds = rw z.count z.kinds.front;
         starts = rw z.count z.starts.front;

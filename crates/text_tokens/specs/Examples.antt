@@ -1,6 +1,6 @@
 -- Mechanism: worked examples, computed from its definitions; they are held to nothing else.
 -- Readings of small texts, the sample sheet's P9 among them.
-use Rattle.std.specs.Prelude.{◌≡◌, refl, List, [], ◌∷◌, ◌++◌, ℕ, replicate}
+use Rattle.std.specs.Prelude.{◌≡◌, refl, [], ◌∷◌}
 use Rattle.base_bytes.specs.Lists.{same}
 use Rattle.base_kinds.specs.Kinds.{bytes}
 use Rattle.spec_text.specs.Find.{find}

@@ -8,14 +8,8 @@ ghost use Rattle.text_tokens.specs.Answers.{lexing, Answered};
 ghost use Rattle.text_tokens.specs.Lines.{position_of};
 ghost use Rattle.text_tokens.specs.Scans.{Scanned};
 
+use base_refusal::Refusal;
 use text_pieces::Piece;
-
-// The answer: how many tokens there are, or the refusal's number, its place and its length.
-#[derive(Drop)]
-pub enum Lexed {
-    Tokens(usize),
-    Refused(u8, usize, usize),
-}
 
 // A place as a clerk counts it, from 1.
 #[derive(Drop)]
@@ -24,13 +18,19 @@ pub struct Position {
     pub column: usize,
 }
 
-// The pass itself, over arrays of its caller's own that have room for every token.
-fn scan(text: &[u8], kinds: &mut [u8], starts: &mut [u32], ends: &mut [u32]) -> Lexed
+// The pass itself, and how many tokens there are, over arrays of its caller's own that have room for every token.
+fn scan(
+    text: &[u8],
+    kinds: &mut [u8],
+    starts: &mut [u32],
+    ends: &mut [u32],
+) -> Result<usize, Refusal>
     requires { (length text.now ≤ text_most) × (length kinds.old ≡ tokens_most) × (length starts.old ≡ tokens_most) × (length ends.old ≡ tokens_most) }
     ensures { Scanned (read_from 0 tokens_most 0 text.now) result kinds.new starts.new ends.new }
 {
     let mut i: usize = 0;
     let mut n: usize = 0;
+    // The step is the piece's own length, so no range counts it.
     while i < text.len() {
         let p = text_pieces::front(&text[i..]);
         match p {
@@ -39,7 +39,11 @@ fn scan(text: &[u8], kinds: &mut [u8], starts: &mut [u32], ends: &mut [u32]) -> 
             }
             Piece::Take(k, m) => {
                 if n == base_ceilings::TOKENS_MOST {
-                    return Lexed::Refused(2, i, m);
+                    return Err(Refusal {
+                        number: 2,
+                        place: i,
+                        length: m,
+                    });
                 }
                 kinds[n] = k;
                 starts[n] = i as u32;
@@ -48,60 +52,61 @@ fn scan(text: &[u8], kinds: &mut [u8], starts: &mut [u32], ends: &mut [u32]) -> 
                 i += m;
             }
             Piece::Stop(x, m) => {
-                return Lexed::Refused(x, i, m);
+                return Err(Refusal {
+                    number: x,
+                    place: i,
+                    length: m,
+                });
             }
         }
     }
-    Lexed::Tokens(n)
+    Ok(n)
 }
 
-// The tokens of a text: kind, place of the first byte and place behind the last byte of each, in arrays of at least 2,048.
-pub fn lex(text: &[u8], kinds: &mut [u8], starts: &mut [u32], ends: &mut [u32]) -> Lexed
+// How many tokens a text has, or its refusal; and the tokens: kind, place of the first byte and place behind the last byte of each, in arrays of at least 2,048.
+pub fn lex(
+    text: &[u8],
+    kinds: &mut [u8],
+    starts: &mut [u32],
+    ends: &mut [u32],
+) -> Result<usize, Refusal>
     ensures { Answered (lexing text.now kinds.old starts.old ends.old) result kinds.old kinds.new starts.old starts.new ends.old ends.new }
 {
     if kinds.len() < base_ceilings::TOKENS_MOST {
-        return Lexed::Refused(7, 0, 0);
+        return Err(Refusal::of_no_part(7));
     }
     if starts.len() < base_ceilings::TOKENS_MOST {
-        return Lexed::Refused(7, 0, 0);
+        return Err(Refusal::of_no_part(7));
     }
     if ends.len() < base_ceilings::TOKENS_MOST {
-        return Lexed::Refused(7, 0, 0);
+        return Err(Refusal::of_no_part(7));
     }
     if base_ceilings::TEXT_MOST < text.len() {
-        return Lexed::Refused(2, 0, 0);
+        return Err(Refusal::of_no_part(2));
     }
     let mut k = [0u8; base_ceilings::TOKENS_MOST];
     let mut s = [0u32; base_ceilings::TOKENS_MOST];
     let mut e = [0u32; base_ceilings::TOKENS_MOST];
-    let a = scan(text, &mut k, &mut s, &mut e);
-    match a {
-        Lexed::Tokens(n) => {
-            base_bytes::copy_bytes(kinds, &k, n);
-            base_bytes::copy_words(starts, &s, n);
-            base_bytes::copy_words(ends, &e, n);
-            Lexed::Tokens(n)
-        }
-        Lexed::Refused(x, p, l) => Lexed::Refused(x, p, l),
-    }
+    let n = scan(text, &mut k, &mut s, &mut e)?;
+    base_bytes::copy(kinds, &k, n);
+    base_bytes::copy(starts, &s, n);
+    base_bytes::copy(ends, &e, n);
+    Ok(n)
 }
 
 // The line and column of the byte at a place.
 pub fn located(text: &[u8], place: usize) -> Position
     ensures { result ≡ position_of text.now place }
 {
-    let most = base_bytes::least(place, text.len());
+    let most = place.min(text.len());
     let mut line: usize = 1;
     let mut column: usize = 1;
-    let mut i: usize = 0;
-    while i < most {
-        if text[i] == b'\n' {
+    for b in &text[..most] {
+        if *b == b'\n' {
             line += 1;
             column = 1;
-            i += 1;
         } else {
             column += 1;
-            i += 1;
         }
     }
     Position { line, column }

@@ -1,6 +1,6 @@
 -- The laws that a step's line, read in one pass, cites: a number of one or two digits, and the line that two of them make.
 use mathlib.Core.Path.{◌≡◌, refl, sym, ap, ap₂, subst, ◌∙◌}
-use mathlib.Core.Bool.{Bool, true, not}
+use mathlib.Core.Bool.{Bool, true}
 use mathlib.Core.List.{List, [], ◌∷◌, ◌++◌, append_assoc}
 use Prim.Native.Nat.{ℕ, zero, suc, ◌+◌, ◌-◌, ◌*◌, ◌≤◌, ◌<◌}
 use native.Mathlib.Omega.{arith}
@@ -26,11 +26,7 @@ digit_low b e = leb-true 48 b (both_true (leb 48 b) (leb b 57) e).0
 
 -- what is known of a number of n digits and value v, at the front of two bytes
 abbrev pub Short : ℕ → ℕ → ℕ → ℕ → Type 0
-Short a b n v = (n ≤ 2) × ((not (eqb n 0) ≡ well_formed (take n (a ∷ b ∷ []))) × (v ≡ decimal (take n (a ∷ b ∷ []))))
-
-pub no_number : (a b : ℕ) → Short a b 0 0
-unfolding span decimal_from
-no_number a b = (omega arith, (refl, refl))
+Short a b n v = (n ≤ 2) × ((well_formed (take n (a ∷ b ∷ [])) ≡ true) × (v ≡ decimal (take n (a ∷ b ∷ []))))
 
 pub one-digit : (a b : ℕ) → is_digit a ≡ true → Short a b 1 (a - 48)
 unfolding span decimal_from
@@ -73,8 +69,8 @@ two_fields u v rest hu hv s e =
 
 -- `S`, a tab, a number, a tab, a number, a line end
 module _ (s : List ℕ) (h : 8 ≤ length s) {begun : Bool} (eb : begun ≡ both (eqb (get_or s 0 0) 83) (eqb (get_or s 1 0) tab)) (tb : begun ≡ true) (a b p k : ℕ)
-    (fa : Short (get_or s 2 0) (get_or s 3 0) a p) (na : a ≡ 0 → ⊥) (ta : get_or s (2 + a) 0 ≡ 9)
-    (fb : Short (get_or s (2 + a + 1) 0) (get_or s (2 + a + 2) 0) b k) (nb : b ≡ 0 → ⊥) (te : get_or s (2 + a + 1 + b) 0 ≡ 10) where
+    (fa : Short (get_or s 2 0) (get_or s 3 0) a p) (ta : get_or s (2 + a) 0 ≡ 9)
+    (fb : Short (get_or s (2 + a + 1) 0) (get_or s (2 + a + 2) 0) b k) (te : get_or s (2 + a + 1 + b) 0 ≡ 10) where
   abbrev one : List ℕ
   one = take a (drop 2 s)
 
@@ -88,10 +84,10 @@ module _ (s : List ℕ) (h : 8 ≤ length s) {begun : Bool} (eb : begun ≡ both
   two_is = two_bytes s (2 + a + 1) (2 + a + 2) b (omega arith) (omega (arith, h, fa.0)) fb.0
 
   one_formed : well_formed one ≡ true
-  one_formed = ap well_formed (sym one_is) ∙ (sym fa.1.0 ∙ ap not (ne_eqb a 0 na))
+  one_formed = ap well_formed (sym one_is) ∙ fa.1.0
 
   two_formed : well_formed two ≡ true
-  two_formed = ap well_formed (sym two_is) ∙ (sym fb.1.0 ∙ ap not (ne_eqb b 0 nb))
+  two_formed = ap well_formed (sym two_is) ∙ fb.1.0
 
   front : s ≡ 83 ∷ tab ∷ drop 2 s
   front =

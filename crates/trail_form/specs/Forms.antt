@@ -1,7 +1,7 @@
 -- Mechanism, held to the specification by `form_exact` (crate `trail_form`), `demand2` (crate `demands`), but for `answer_of`, of contracts alone.
 -- The form of a whole trail: document 01, "Trail lines", "Ceilings" ("Trail 32,768 bytes and 2,048 steps") and the order of replay's refusals
 -- ("length, .. form (10, or 2 at the first well-formed step record past 2,048, the smaller line first)").
-use Rattle.std.specs.Prelude.{Bool, List, [], ◌∷◌, ℕ, zero, suc, ◌+◌, ◌-◌, eqb, ltb, length, take, drop}
+use Rattle.std.specs.Prelude.{List, [], ◌∷◌, ℕ, zero, suc, ◌+◌, ◌-◌, eqb, ltb, length, take}
 use Rattle.base_ceilings.specs.Ceilings.{steps_most, trail_most}
 use Rattle.base_bytes.specs.Choice.{pick}
 use Rattle.spec_trails.specs.Trails.{Recorded, line_end}

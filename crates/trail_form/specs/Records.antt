@@ -1,6 +1,6 @@
 -- Mechanism, held to the specification by `demand2` (crate `demands`).
 -- One record of a trail: document 01, "Trail lines".
-use Rattle.std.specs.Prelude.{Bool, true, false, not, List, [], ◌∷◌, ℕ, suc, ◌+◌, eqb, leb, length, get_or, take, drop}
+use Rattle.std.specs.Prelude.{Bool, not, List, ℕ, ◌+◌, eqb, leb, length, get_or, take, drop}
 use Rattle.base_bytes.specs.Choice.{pick, both, either}
 use Rattle.spec_text.specs.Find.{find}
 use Rattle.spec_trails.specs.Trails.{tab, verdicts}

@@ -1,7 +1,7 @@
 // The records of a trail, and the form of a whole one (document 01, "Trail lines").
 #![tactic(auto)]
 
-ghost use Rattle.std.specs.Prelude.{◌≡◌, not, [], ◌∷◌, ◌+◌, ◌≤◌, min, get_or, take, eqb};
+ghost use Rattle.std.specs.Prelude.{◌≡◌, true, IfSome, [], ◌∷◌, ◌+◌, ◌≤◌, min, get_or, take, eqb};
 ghost use Rattle.base_ceilings.specs.Ceilings.{number_most};
 ghost use Rattle.base_bytes.specs.Choice.{both};
 ghost use Rattle.text_pieces.specs.Spans.{span};
@@ -27,7 +27,7 @@ pub struct Line {
     pub record: Record,
 }
 
-// A number of one or two digits: how many they are, 0 where there is no such number, and what they write.
+// A number of one or two digits: how many they are, and what they write.
 #[derive(Drop)]
 struct Number {
     count: usize,
@@ -53,14 +53,12 @@ const SHORT_LINE: usize = 8;
 fn up_to(s: &[u8], c: u8) -> usize
     ensures { result ≡ span (is_not c) s.now }
 {
-    let mut i: usize = 0;
-    while i < s.len() {
-        if s[i] == c {
+    for (i, b) in s.iter().enumerate() {
+        if *b == c {
             return i;
         }
-        i += 1;
     }
-    i
+    s.len()
 }
 
 // Are these 1 to 5 digits, with no zero in front of others?
@@ -150,28 +148,28 @@ pub fn record_of(x: &[u8]) -> Record
 }
 
 // The number of one or two digits that these two bytes begin with.
-fn short_number(a: u8, b: u8) -> Number
-    ensures count_bound { result.count ≤ 2 }
-    ensures count_value { not (eqb result.count 0) ≡ well_formed (take result.count (a ∷ b ∷ [])) }
-    ensures value_value { result.value ≡ decimal (take result.count (a ∷ b ∷ [])) }
+fn short_number(a: u8, b: u8) -> Option<Number>
+    ensures count_bound { IfSome result (λ n. n.count ≤ 2) }
+    ensures count_value { IfSome result (λ n. well_formed (take n.count (a ∷ b ∷ [])) ≡ true) }
+    ensures value_value { IfSome result (λ n. n.value ≡ decimal (take n.count (a ∷ b ∷ []))) }
 {
     if !text_pieces::is_digit(a) {
-        return Number { count: 0, value: 0 };
+        return None;
     }
     let first = (a - 48) as u32;
     if !text_pieces::is_digit(b) {
-        return Number {
+        return Some(Number {
             count: 1,
             value: first,
-        };
+        });
     }
     if first == 0 {
-        return Number { count: 0, value: 0 };
+        return None;
     }
-    Number {
+    Some(Number {
         count: 2,
         value: first * 10 + (b - 48) as u32,
-    }
+    })
 }
 
 // The line at the front, whatever it is.
@@ -197,18 +195,16 @@ pub fn line_of(s: &[u8]) -> Line
     if !begins(s, b'S') {
         return any_line(s);
     }
-    let a = short_number(s[2], s[3]);
-    if a.count == 0 {
+    let Some(a) = short_number(s[2], s[3]) else {
         return any_line(s);
-    }
+    };
     let m = 2 + a.count;
     if s[m] != b'\t' {
         return any_line(s);
     }
-    let b = short_number(s[m + 1], s[m + 2]);
-    if b.count == 0 {
+    let Some(b) = short_number(s[m + 1], s[m + 2]) else {
         return any_line(s);
-    }
+    };
     let e = m + 1 + b.count;
     if s[e] != b'\n' {
         return any_line(s);
@@ -229,6 +225,7 @@ pub fn form(trail: &[u8]) -> Formed
     let mut at: usize = 0;
     let mut line: usize = 1;
     let mut steps: usize = 0;
+    // Each line has its own length, so no range counts where the next one begins.
     while at < trail.len() {
         let here = line_of(&trail[at..]);
         let end = at + here.length;

@@ -80,8 +80,7 @@ fn follow(t: &[u32], s: &mut [i32], trail: &[u8], n: usize, claim: u8) -> Replay
 {
     let mut failed: u8 = 0;
     let mut at: usize = 0;
-    let mut i: usize = 0;
-    while i < n {
+    for i in 0..n {
         let here = trail_form::line_of(&trail[at..]);
         let m = here.length;
         let r = here.record;
@@ -96,7 +95,6 @@ fn follow(t: &[u32], s: &mut [i32], trail: &[u8], n: usize, claim: u8) -> Replay
                 }
                 failed = x;
                 at = at + m + 1;
-                i += 1;
             }
             Record::Claim(_) => {
                 return Replayed::Refused(10, i + 1);

@@ -1,18 +1,17 @@
 -- Tokens spelled and written one after the other.
-use Prim.Native.Nat.{ℕ, zero, suc, ◌+◌, ◌-◌, ◌*◌, ◌/◌, ◌%◌, ◌≤◌, ◌<◌, min}
+use Prim.Native.Nat.{ℕ, zero, suc, ◌+◌, ◌-◌, ◌/◌, ◌%◌, ◌≤◌, ◌<◌}
 use mathlib.Core.Path.{◌≡◌, refl, sym, ◌∙◌, ap}
 use mathlib.Core.Bool.{Bool, true, false}
-use mathlib.Core.List.{List, [], ◌∷◌, ◌++◌, append_assoc, append-nil, map}
+use mathlib.Core.List.{List, [], ◌∷◌, ◌++◌, append_assoc, map}
 use native.Mathlib.Omega.{arith}
 use native.Mathlib.Numerals.{add-one}
-use lib.ListN.{length, get_or, take, drop, set, length-set, length-append, length-drop, drop_of_length-le}
-use lib.Seq.{take-suc-set, append_snoc, take_at, take_all, drop-cons}
+use lib.ListN.{length, get_or, take, drop, length-append, drop_of_length-le}
+use lib.Seq.{take_at, drop-cons}
 use lib.Dec.{eqb, ltb}
-use borrow.Author.Tests.{lt-ltb, le-ltb, eq-eqb, ne_eqb}
+use borrow.Author.Tests.{lt-ltb, le-ltb, ne_eqb}
 use Rattle.base_codes.specs.Codes.{c_number, c_text}
 use Rattle.base_bytes.specs.Choice.{pick}
-use Rattle.base_kinds.specs.Kinds.{Token, sym as symbol, name, number, text, kind_of}
-use Rattle.spec_text.specs.Bytes.{quote}
+use Rattle.base_kinds.specs.Kinds.{sym as symbol, name, number, text, kind_of}
 use Rattle.spec_text.specs.Writing.{spell, write}
 use Rattle.spec_text.specs.Formats.{digits_by}
 use Rattle.base_pens.specs.Pen.{Pen, pen, write as write-one, puts}
@@ -21,7 +20,7 @@ use Rattle.text_pens.specs.Sheet.{spelled_by}
 use Rattle.text_pens.specs.After.{joins_by, write_after}
 use Rattle.text_pens.proofs.After.{write-after}
 use Rattle.text_pens.proofs.Sheet.{spelled-short}
-use Rattle.table_layout.specs.Access.{items_of, code_of, number_of, name_length, name_byte}
+use Rattle.table_layout.specs.Access.{code_of, number_of, name_length, name_byte}
 use Rattle.table_layout.specs.Back.{upto}
 use Rattle.write_letters.specs.Tokens.{behind, spelled, held_of, token_by}
 

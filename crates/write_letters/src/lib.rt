@@ -14,10 +14,8 @@ pub fn put_name(t: &[u32], i: usize, out: &mut [u8], p: usize) -> usize
 {
     let n = table_layout::name_length(t, i);
     let mut q = p;
-    let mut k: usize = 0;
-    while k < n {
+    for k in 0..n {
         q = text_pens::put(out, q, table_layout::name_byte(t, i, k));
-        k += 1;
     }
     q
 }
@@ -42,7 +40,7 @@ fn put_held(t: &[u32], i: usize, out: &mut [u8], p: usize) -> usize
 fn item_of(v: u32) -> usize
     ensures { result ≡ v - 256 }
 {
-    if v < 256 { 0 } else { (v - 256) as usize }
+    v.saturating_sub(256) as usize
 }
 
 // Writes the token of number v.
@@ -92,12 +90,9 @@ pub fn put_tokens(t: &[u32], toks: &[u32], out: &mut [u8], p: usize) -> usize
 {
     let mut k: u8 = 72;
     let mut q = p;
-    let mut j: usize = 0;
-    while j < toks.len() {
-        let v = toks[j];
-        q = put_token(t, k, v, out, q);
-        k = kind_by(t, v);
-        j += 1;
+    for v in toks {
+        q = put_token(t, k, *v, out, q);
+        k = kind_by(t, *v);
     }
     q
 }

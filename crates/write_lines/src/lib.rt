@@ -182,17 +182,15 @@ pub fn put_lines(t: &[u32], toks: &[u32], out: &mut [u8], p: usize) -> usize
     let mut open: usize = 0;
     let mut ended = false;
     let mut q = p;
-    let mut j: usize = 0;
-    while j < toks.len() {
-        let v = toks[j];
-        let b = write_letters::kind_by(t, v);
+    for v in toks {
+        let b = write_letters::kind_by(t, *v);
         q = put_next(
             t,
             base_bytes::either(ended, starts_line(place, b)),
             k,
             place,
             open,
-            v,
+            *v,
             b,
             out,
             q,
@@ -201,7 +199,6 @@ pub fn put_lines(t: &[u32], toks: &[u32], out: &mut [u8], p: usize) -> usize
         place = place_behind(place, b);
         open = open_behind(b, open);
         k = b;
-        j += 1;
     }
     text_pens::put(out, q, b'\n')
 }

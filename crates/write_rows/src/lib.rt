@@ -10,7 +10,7 @@ ghost use Rattle.write_rows.specs.Rules.{cells};
 pub fn lay_cells(out: &mut [u8])
     ensures { out.new ≡ pasted 1340 cells out.old }
 {
-    base_bytes::copy_bytes(
+    base_bytes::copy(
         out,
         b"\
 \x65\x47\x63\x00\x00\x00\x00\x00\x00\x00\x65\xb2\x41\x00\x00\x00\x00\x00\x00\x00\x65\xb3\x34\x00\x00\x00\x00\x00\x00\x00\

@@ -6,7 +6,7 @@ use mathlib.Core.List.{List, [], ◌∷◌}
 use native.Mathlib.Omega.{arith}
 use lib.ListN.{length, get_or}
 use lib.Dec.{eqb}
-use borrow.Author.Tests.{lt-ltb, le-ltb, eq-eqb, ne_eqb}
+use borrow.Author.Tests.{lt-ltb, le-ltb}
 use Rattle.base_bytes.specs.Choice.{pick, both}
 use Rattle.base_bytes.proofs.Tests.{true_false}
 use Rattle.text_pens.proofs.Sheet.{wide, flat_at}
@@ -24,12 +24,6 @@ rows-count = refl
 pub cell_is : (t : List ℕ) (r k v w : ℕ) → t ≡ cells → k < 10 → w ≡ get_or t (10 * r + k) 0 → v ≡ w → v ≡ cell r k
 unfolding cells cell
 cell_is t r k v w q h e f = f ∙ e ∙ ap (λ (l : List ℕ). get_or l (10 * r + k) 0) q ∙ flat_at 10 rows rows-wide r k (10 * r + k) h refl
-
-pub is_row_lem : (s c r a b d : ℕ) → a ≡ cell r 0 → b ≡ cell r 1 → d ≡ c → a ≡ s → eqb b d ≡ is_row s c r
-is_row_lem s c r a b d e f g h = rw (← e, ← f, eq-eqb a s h, g)
-
-pub is_no_row : (s c r a : ℕ) → a ≡ cell r 0 → (a ≡ s → ⊥) → false ≡ is_row s c r
-is_no_row s c r a e h = rw (← e, ne_eqb a s h)
 
 -- ---- the search: rows before r are not it
 module _ (s c : ℕ) where

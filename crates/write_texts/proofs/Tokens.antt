@@ -1,29 +1,21 @@
 -- The marked codes, and the whole of the text.
-use Prim.Native.Nat.{ℕ, zero, suc, ◌+◌, ◌-◌, ◌*◌, ◌/◌, ◌%◌, ◌≤◌, ◌<◌, min}
+use Prim.Native.Nat.{ℕ, zero, suc, ◌+◌, ◌-◌, ◌<◌, min}
 use mathlib.Core.Path.{◌≡◌, refl, sym, ◌∙◌, ap}
 use mathlib.Core.Bool.{Bool, true, false}
-use mathlib.Core.List.{List, [], ◌∷◌, ◌++◌, append_assoc, append-nil, map}
+use mathlib.Core.List.{List, [], ◌∷◌, ◌++◌, append-nil, map}
 use native.Mathlib.Omega.{arith}
 use native.Mathlib.Numerals.{add-one}
-use lib.ListN.{length, get_or, take, drop, set, length-set, length-append, length-drop, drop_of_length-le}
-use lib.Seq.{take-suc-set, append_snoc, take_at, take_all, drop-cons}
-use lib.Dec.{eqb, ltb}
+use lib.ListN.{length, get_or, take, drop, set, length-drop}
+use lib.Seq.{take-suc-set, append_snoc, take_all}
+use lib.Dec.{ltb}
 use native.Mathlib.Decide.{dec_lt}
-use borrow.Author.Tests.{lt-ltb, le-ltb, eq-eqb, ne_eqb}
+use borrow.Author.Tests.{lt-ltb, le-ltb}
 use Rattle.base_ceilings.specs.Ceilings.{items_most}
 use Rattle.base_bytes.specs.Choice.{pick}
-use Rattle.base_kinds.specs.Kinds.{Token, sym as symbol, name, number, text, kind_of}
-use Rattle.spec_text.specs.Bytes.{quote}
-use Rattle.spec_text.specs.Writing.{spell, write}
-use Rattle.spec_text.specs.Formats.{digits_by}
-use Rattle.base_pens.specs.Pen.{Pen, pen, write as write-one, puts}
-use Rattle.base_pens.proofs.Pen.{puts-append, puts_fit}
-use Rattle.text_pens.specs.Sheet.{spelled_by}
-use Rattle.text_pens.specs.After.{joins_by, write_after}
-use Rattle.text_pens.proofs.After.{write-after}
-use Rattle.text_pens.proofs.Sheet.{spelled-short}
-use Rattle.table_layout.specs.Access.{items_of, code_of, number_of, name_length, name_byte}
-use Rattle.table_layout.specs.Back.{upto}
+use Rattle.base_kinds.specs.Kinds.{Token}
+use Rattle.spec_text.specs.Writing.{write}
+use Rattle.base_pens.specs.Pen.{Pen, puts}
+use Rattle.table_layout.specs.Access.{items_of, code_of}
 use Rattle.write_texts.specs.Turning.{unless_none, is_token, turned, kept, told, walk, whole_by, marked, after, marks, blanked, turn_room}
 use Rattle.write_letters.specs.Tokens.{token_by}
 use Rattle.write_lines.specs.Lines.{lay_all}
@@ -48,9 +40,6 @@ blanked-more from i c v cs e = go (dec_lt i from)
 
 pub mark-start : (t codes : List ℕ) (from n : ℕ) → take 0 codes ++ blanked (from - 0) (marks false (code_of t) 0 (n - 0)) ≡ blanked from (marks false (code_of t) 0 n)
 mark-start t codes from n = let q : n - 0 ≡ n = omega arith in let r : from - 0 ≡ from = omega arith in rw (q, r)
-
-pub set-size : (l : List ℕ) (i v : ℕ) → length (set l i v) ≡ length l
-set-size l i v = length-set l i v
 
 pub mark-more : (t codes : List ℕ) (b d : Bool) (from i n c u v : ℕ) → i < n → i < length codes → c ≡ code_of t i → u ≡ marked b c → v ≡ pick (ltb i from) 0 u → d ≡ after b c
     → take (i + 1) (set codes i v) ++ blanked (from - (i + 1)) (marks d (code_of t) (i + 1) (n - (i + 1))) ≡ take i codes ++ blanked (from - i) (marks b (code_of t) i (n - i))

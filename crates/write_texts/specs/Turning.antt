@@ -1,7 +1,7 @@
 -- Mechanism, held to the specification by `text-normal` (crate `normal_proof`), and `blanked` by `statement_shown` (crate `agree_texts`), but for `turn_room`, of contracts alone.
 -- Items turned into tokens from the back, by the rows of specs/Rules.antt of `write_rows`. Binary operators by their levels (document 01, "Operators follow table 3.2 of 002"):
 -- parentheses exactly around what is looser than what is asked for, so a right operand of the same level keeps them.
-use Rattle.std.specs.Prelude.{Bool, true, false, List, [], ◌∷◌, ◌++◌, ℕ, zero, suc, ◌+◌, ◌-◌, ◌*◌, length, get_or, drop, eqb, ltb}
+use Rattle.std.specs.Prelude.{Bool, true, false, List, [], ◌∷◌, ℕ, zero, suc, ◌+◌, ◌-◌, ◌*◌, length, get_or, drop, eqb, ltb}
 use Rattle.base_ceilings.specs.Ceilings.{items_most}
 use Rattle.base_codes.specs.Codes.{c_end, c_end_closed, c_negate, c_receive, c_run, c_send, c_set_run, c_text}
 use Rattle.base_bytes.specs.Choice.{pick, both, either}

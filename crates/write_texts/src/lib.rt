@@ -47,11 +47,7 @@ fn is_row(rows: &[u8], s: u32, c: u8, r: usize) -> bool
     requires { (rows.now ≡ cells) × (r < 134) }
     ensures { result ≡ turning.is_row s c r }
 {
-    if cell(rows, r, 0) == s {
-        cell(rows, r, 1) == wide(c)
-    } else {
-        false
-    }
+    cell(rows, r, 0) == s && cell(rows, r, 1) == wide(c)
 }
 
 // All levels share the rows of level 1.
@@ -70,14 +66,12 @@ fn row_of(rows: &[u8], s: u32, c: u8) -> usize
     ensures upper_bound { result ≤ 134 }
 {
     let a = shared(s);
-    let mut r: usize = 0;
-    while r < ROWS {
+    for r in 0..ROWS {
         if is_row(rows, a, c, r) {
             return r;
         }
-        r += 1;
     }
-    r
+    ROWS
 }
 
 // Puts a symbol on the stack, unless it is 0.
@@ -107,9 +101,7 @@ fn lay(rows: &[u8], stack: &mut [u32], sp: usize, r: usize, i: usize) -> usize
     ensures { Pushed stack.old sp stack.new result (laid r i 8 (drop sp stack.old)) 8 }
 {
     let mut p = sp;
-    let mut k: usize = 8;
-    while 0 < k {
-        k -= 1;
+    for k in (0..8).rev() {
         p = push(stack, p, said(i, cell(rows, r, 2 + k)));
     }
     p
@@ -140,20 +132,13 @@ fn operate(stack: &mut [u32], sp: usize, s: u32, o: u8) -> usize
 fn is_binary(s: u32, c: u8) -> bool
     ensures { result ≡ is_binary s c }
 {
-    if shared(s) != 101 {
-        return false;
-    }
-    if c <= 146 {
-        false
-    } else {
-        c < base_codes::NEGATE
-    }
+    shared(s) == 101 && 146 < c && c < base_codes::NEGATE
 }
 
 fn operator(c: u8) -> u8
     ensures { result ≡ c - 146 }
 {
-    if c < 146 { 0 } else { c - 146 }
+    c.saturating_sub(146)
 }
 
 // What the symbol s becomes at item i of code c. No row has code 0.
@@ -174,7 +159,7 @@ fn step(rows: &[u8], stack: &mut [u32], sp: usize, s: u32, c: u8, i: usize) -> u
 fn is_token(v: u32) -> bool
     ensures { result ≡ turning.is_token v }
 {
-    if v < 70 { true } else { 255 < v }
+    v < 70 || 255 < v
 }
 
 // Tokens on top of the stack go in front of the tokens.
@@ -182,9 +167,8 @@ fn flush(stack: &[u32], sp: usize, toks: &mut [u32], tp: usize) -> Ends
     requires { (sp ≤ length stack.now) × (length stack.now ≤ sp + tp) × (tp ≤ length toks.old) }
     ensures { Flushed stack.now sp toks.old tp toks.new result.stack result.tokens }
 {
-    let mut p = sp;
     let mut q = tp;
-    while p < stack.len() {
+    for p in sp..stack.len() {
         let v = stack[p];
         if !is_token(v) {
             return Ends {
@@ -194,10 +178,9 @@ fn flush(stack: &[u32], sp: usize, toks: &mut [u32], tp: usize) -> Ends
         }
         q -= 1;
         toks[q] = v;
-        p += 1;
     }
     Ends {
-        stack: p,
+        stack: stack.len(),
         tokens: q,
     }
 }
@@ -224,9 +207,7 @@ fn turn(rows: &[u8], codes: &[u8], symbol: u32, stack: &mut [u32], toks: &mut [u
 {
     let mut sp = push(stack, ROOM, symbol);
     let mut tp = ROOM;
-    let mut i = codes.len();
-    while 0 < i {
-        i -= 1;
+    for i in (0..codes.len()).rev() {
         let e = flush(stack, sp, toks, tp);
         let top = e.stack;
         tp = e.tokens;
@@ -279,12 +260,10 @@ fn mark(t: &[u32], codes: &mut [u8], from: usize, n: usize)
     ensures { take n codes.new ≡ blanked from (marks false (code_of t.now) 0 n) }
 {
     let mut b = false;
-    let mut i: usize = 0;
-    while i < n {
+    for i in 0..n {
         let c = table_layout::code(t, i);
         codes[i] = unless_before(i, from, marked(b, c));
         b = after(b, c);
-        i += 1;
     }
 }
 

@@ -1,6 +1,5 @@
-use Rattle.std.proofs.Common.{sym, ap, ◌∙◌}
+use Rattle.std.proofs.Common.{sym, ap, ◌∙◌, Ok}
 use lib.Signed.{quot_z}
-use Rattle.base_values.specs.declared.Answer.TheVariants.{Value}
 use Rattle.base_values.specs.Operators.{divide_of}
 use Rattle.base_values.proofs.Wrap.{wrap_id}
 use Rattle.base_values.proofs.Dividing.{by_zero, not_by_zero, is_least, given, quot_small, asks}
@@ -20,4 +19,4 @@ nonzero_div-result c = asks c.ranges.a c.ranges.b c.if-a-b.false c.if-b-eq0.fals
 
 pub returns : goal.returns
 unfolding divide_of
-returns c = let h = quot_small c.ranges.a c.ranges.b c.if-a-b.false in rw (not_by_zero c.ranges.b c.if-b-eq0.false) (ap Value (given c.ranges.a c.ranges.b quot_z h ∙ sym (wrap_id 31 _ h)))
+returns c = let h = quot_small c.ranges.a c.ranges.b c.if-a-b.false in rw (not_by_zero c.ranges.b c.if-b-eq0.false) (ap Ok (given c.ranges.a c.ranges.b quot_z h ∙ sym (wrap_id 31 _ h)))

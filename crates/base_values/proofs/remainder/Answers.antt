@@ -1,6 +1,5 @@
-use Rattle.std.proofs.Common.{ap, lt_of_le_of_lt}
+use Rattle.std.proofs.Common.{ap, lt_of_le_of_lt, Ok}
 use lib.Signed.{rem_z, mag_rem}
-use Rattle.base_values.specs.declared.Answer.TheVariants.{Value}
 use Rattle.base_values.specs.Operators.{remainder_of}
 use Rattle.base_values.proofs.Dividing.{by_zero, not_by_zero, is_least, given, asks}
 use Rattle.base_values.proofs.remainder.Goals as goal
@@ -19,4 +18,4 @@ nonzero_rem-result c = asks c.ranges.a c.ranges.b c.if-a-b.false c.if-b-eq0.fals
 
 pub returns : goal.returns
 unfolding remainder_of
-returns c = rw (not_by_zero c.ranges.b c.if-b-eq0.false) (ap Value (given c.ranges.a c.ranges.b rem_z (lt_of_le_of_lt (mag_rem c.args.a c.args.b) c.ranges.a.sfits)))
+returns c = rw (not_by_zero c.ranges.b c.if-b-eq0.false) (ap Ok (given c.ranges.a c.ranges.b rem_z (lt_of_le_of_lt (mag_rem c.args.a c.args.b) c.ranges.a.sfits)))

@@ -1,5 +1,4 @@
-use Rattle.std.proofs.Common.{◌^◌, pos, ◌*ℤ◌, ap, ◌∙◌}
-use Rattle.base_values.specs.declared.Answer.TheVariants.{Value}
+use Rattle.std.proofs.Common.{◌^◌, pos, ◌*ℤ◌, ap, ◌∙◌, Ok}
 use Rattle.base_values.specs.Operators.{shift_left_of}
 use Rattle.base_values.specs.Bits.{wrap32}
 use Rattle.base_values.proofs.Wrapping.{left_bits}
@@ -16,4 +15,4 @@ overflow_shl-result c = amount c.ranges.b c.if-b.false
 
 pub returns : goal.returns
 unfolding shift_left_of
-returns c = ap Value (left_bits _ c.ranges.a) ∙ shifted c.ranges.b c.if-b.false (λ n. wrap32 (c.args.a *ℤ pos (2 ^ n)))
+returns c = ap Ok (left_bits _ c.ranges.a) ∙ shifted c.ranges.b c.if-b.false (λ n. wrap32 (c.args.a *ℤ pos (2 ^ n)))

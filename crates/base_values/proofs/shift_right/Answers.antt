@@ -1,6 +1,5 @@
-use Rattle.std.proofs.Common.{◌^◌, ap, ◌∙◌, lt_of_le_of_lt}
+use Rattle.std.proofs.Common.{◌^◌, ap, ◌∙◌, lt_of_le_of_lt, Ok}
 use lib.Signed.{shr_z, mag_shr}
-use Rattle.base_values.specs.declared.Answer.TheVariants.{Value}
 use Rattle.base_values.specs.Operators.{shift_right_of}
 use Rattle.base_values.proofs.Machine.{small, back}
 use Rattle.base_values.proofs.Shifting.{shift_fails, amount, shifted}
@@ -16,4 +15,4 @@ overflow_shr-result c = amount c.ranges.b c.if-b.false
 
 pub returns : goal.returns
 unfolding shift_right_of
-returns c = rw (back c.ranges.a) (ap Value (back (small (lt_of_le_of_lt (mag_shr c.args.a _) c.ranges.a.sfits))) ∙ shifted c.ranges.b c.if-b.false (λ n. shr_z c.args.a (2 ^ n)))
+returns c = rw (back c.ranges.a) (ap Ok (back (small (lt_of_le_of_lt (mag_shr c.args.a _) c.ranges.a.sfits))) ∙ shifted c.ranges.b c.if-b.false (λ n. shr_z c.args.a (2 ^ n)))

@@ -1,11 +1,7 @@
 use Rattle.link_items.specs.Links.{filled_back}
 use lib.ListN.{length}
-use Prim.Native.Nat.{◌-◌, ◌≤◌}
 use mathlib.Core.Path.{◌≡◌}
 use Rattle.link_items.proofs.fill_back.Given as goal
 
 abbrev pub invariant-loop-j : goal.invariant-loop-j
-invariant-loop-j l = (l.j ≤ length l.codes) × (length l.links ≡ length l.initial.links) × (filled_back l.codes l.args l.homes l.starts l.j l.links ≡ filled_back l.codes l.args l.homes l.starts (length l.codes) l.initial.links)
-
-abbrev pub decreases-loop-j : goal.decreases-loop-j
-decreases-loop-j l = l.j
+invariant-loop-j l = filled_back l.codes l.args l.homes l.starts l.j l.links ≡ filled_back l.codes l.args l.homes l.starts (length l.codes) l.initial.links

@@ -1,7 +1,8 @@
 use native.Mathlib.Omega.{arith}
 use Prim.Native.Nat.{min}
 use lib.ListN.{length}
-use Rattle.parse_items.proofs.Runs.{refusing, no_room, too_long, deep-first, fault-first, deep-text, exhausted, small, accepting}
+use mathlib.Core.Path.{refl}
+use Rattle.parse_items.proofs.Runs.{refusing, no_room, too_long, deep-first, fault-first, deep-text, exhausted, accepting, deep_is, deep-inside, none_deep, stop-inside}
 use Rattle.parse_items.proofs.parse.Goals as goal
 
 pub returns-then-least-lt-ITEMS_MOST : goal.returns-then-least-lt-ITEMS_MOST
@@ -10,20 +11,20 @@ returns-then-least-lt-ITEMS_MOST c = refusing c.args.kinds.now c.args.codes.now 
 pub returns-then-kinds-gt-TOKENS_MOST : goal.returns-then-kinds-gt-TOKENS_MOST
 returns-then-kinds-gt-TOKENS_MOST c = refusing c.args.kinds.now c.args.codes.now c.args.tokens.now c.args.sizes.now _ _ _ (too_long c.args.kinds.now c.args.codes.now c.args.tokens.now c.args.sizes.now _ (omega arith) c.if-kinds-gt-TOKENS_MOST.true)
 
-pub returns-then-d-kinds : goal.returns-then-d-kinds
-returns-then-d-kinds c = refusing c.args.kinds.now c.args.codes.now c.args.tokens.now c.args.sizes.now _ _ _ (deep-text c.args.kinds.now c.args.codes.now c.args.tokens.now c.args.sizes.now _ (omega arith) c.if-kinds-gt-TOKENS_MOST.false c.first_too_deep-d.result c.first_too_deep-d.ensures c.drive-a.result c.drive-a.new.out c.drive-a.ensures _ c.in-Accepted.is c.if-d-kinds.true)
+pub returns-in-Some-d : goal.returns-in-Some-d
+returns-in-Some-d c = refusing c.args.kinds.now c.args.codes.now c.args.tokens.now c.args.sizes.now _ _ _ (deep-text c.args.kinds.now c.args.codes.now c.args.tokens.now c.args.sizes.now _ (omega arith) c.if-kinds-gt-TOKENS_MOST.false _ (deep_is c.args.kinds.now c.first_too_deep-d.ensures _ c.in-Some-d.is) c.drive-a.result c.drive-a.new.out c.drive-a.ensures _ c.in-Accepted.is (deep-inside c.args.kinds.now c.first_too_deep-d.ensures _ c.in-Some-d.is))
 
-pub spread-requires : goal.spread-requires
-spread-requires c = let w = small c.args.kinds.now c.args.codes.now c.args.tokens.now c.args.sizes.now (min (length c.args.codes.now) (min (length c.args.tokens.now) (length c.args.sizes.now))) (omega arith) c.if-kinds-gt-TOKENS_MOST.false c.first_too_deep-d.result c.first_too_deep-d.ensures c.drive-a.result c.drive-a.new.out c.drive-a.ensures _ c.in-Accepted.is in (omega (arith, w, c.drive-a.auto.out), omega (arith, w), omega (arith, w), omega (arith, w))
+pub returns-in-None : goal.returns-in-None
+returns-in-None c = refusing c.args.kinds.now c.args.codes.now c.args.tokens.now c.args.sizes.now _ _ _ (fault-first c.args.kinds.now c.args.codes.now c.args.tokens.now c.args.sizes.now _ (omega arith) c.if-kinds-gt-TOKENS_MOST.false _ refl c.drive-a.result c.drive-a.new.out c.drive-a.ensures _ c.in-Stopped.is (omega (arith, stop-inside c.args.kinds.now _ c.if-kinds-gt-TOKENS_MOST.false c.drive-a.ensures _ c.in-Stopped.is, none_deep c.args.kinds.now c.first_too_deep-d.ensures c.in-None.is)))
 
-pub returns-then-d-i : goal.returns-then-d-i
-returns-then-d-i c = refusing c.args.kinds.now c.args.codes.now c.args.tokens.now c.args.sizes.now _ _ _ (deep-first c.args.kinds.now c.args.codes.now c.args.tokens.now c.args.sizes.now _ (omega arith) c.if-kinds-gt-TOKENS_MOST.false c.first_too_deep-d.result c.first_too_deep-d.ensures c.drive-a.result c.drive-a.new.out c.drive-a.ensures _ c.in-Stopped.is c.if-d-i.true)
+pub returns-then-k-i : goal.returns-then-k-i
+returns-then-k-i c = refusing c.args.kinds.now c.args.codes.now c.args.tokens.now c.args.sizes.now _ _ _ (deep-first c.args.kinds.now c.args.codes.now c.args.tokens.now c.args.sizes.now _ (omega arith) c.if-kinds-gt-TOKENS_MOST.false _ (deep_is c.args.kinds.now c.first_too_deep-d.ensures _ c.in-Some.is) c.drive-a.result c.drive-a.new.out c.drive-a.ensures _ c.in-Stopped.is c.if-k-i.true)
 
-pub returns-else-d-i : goal.returns-else-d-i
-returns-else-d-i c = refusing c.args.kinds.now c.args.codes.now c.args.tokens.now c.args.sizes.now _ _ _ (fault-first c.args.kinds.now c.args.codes.now c.args.tokens.now c.args.sizes.now _ (omega arith) c.if-kinds-gt-TOKENS_MOST.false c.first_too_deep-d.result c.first_too_deep-d.ensures c.drive-a.result c.drive-a.new.out c.drive-a.ensures _ c.in-Stopped.is c.if-d-i.false)
+pub returns-else-k-i : goal.returns-else-k-i
+returns-else-k-i c = refusing c.args.kinds.now c.args.codes.now c.args.tokens.now c.args.sizes.now _ _ _ (fault-first c.args.kinds.now c.args.codes.now c.args.tokens.now c.args.sizes.now _ (omega arith) c.if-kinds-gt-TOKENS_MOST.false _ (deep_is c.args.kinds.now c.first_too_deep-d.ensures _ c.in-Some.is) c.drive-a.result c.drive-a.new.out c.drive-a.ensures _ c.in-Stopped.is c.if-k-i.false)
 
-pub returns-else-d-kinds : goal.returns-else-d-kinds
-returns-else-d-kinds c = accepting c.args.kinds.now c.args.codes.now c.args.tokens.now c.args.sizes.now (min (length c.args.codes.now) (min (length c.args.tokens.now) (length c.args.sizes.now))) (omega arith) c.if-kinds-gt-TOKENS_MOST.false c.first_too_deep-d.result c.first_too_deep-d.ensures c.drive-a.result c.drive-a.new.out c.drive-a.ensures _ c.in-Accepted.is c.if-d-kinds.false c.drive-a.auto.out _ _ _ c.spread.ensures
+pub returns-in_default : goal.returns-in_default
+returns-in_default c = accepting c.args.kinds.now c.args.codes.now c.args.tokens.now c.args.sizes.now (min (length c.args.codes.now) (min (length c.args.tokens.now) (length c.args.sizes.now))) (omega arith) c.if-kinds-gt-TOKENS_MOST.false _ refl c.drive-a.result c.drive-a.new.out c.drive-a.ensures _ c.in-Accepted.is (none_deep c.args.kinds.now c.first_too_deep-d.ensures c.in_default.is) c.drive-a.auto.out _ _ _ c.spread.ensures
 
 pub returns-in-Exhausted : goal.returns-in-Exhausted
-returns-in-Exhausted c = refusing c.args.kinds.now c.args.codes.now c.args.tokens.now c.args.sizes.now _ _ _ (exhausted c.args.kinds.now c.args.codes.now c.args.tokens.now c.args.sizes.now _ (omega arith) c.if-kinds-gt-TOKENS_MOST.false c.first_too_deep-d.result c.first_too_deep-d.ensures c.drive-a.result c.drive-a.new.out c.drive-a.ensures c.in-Exhausted.is)
+returns-in-Exhausted c = refusing c.args.kinds.now c.args.codes.now c.args.tokens.now c.args.sizes.now _ _ _ (exhausted c.args.kinds.now c.args.codes.now c.args.tokens.now c.args.sizes.now _ (omega arith) c.if-kinds-gt-TOKENS_MOST.false _ refl c.drive-a.result c.drive-a.new.out c.drive-a.ensures c.in-Exhausted.is)

@@ -23,7 +23,7 @@ pub returns-then-x-lt-NONTERMINALS : goal.returns-then-x-lt-NONTERMINALS
 returns-then-x-lt-NONTERMINALS c = as_step _ _ c.write.result c.args.stack.now c.write.new.out (eat_write_law c.args.kinds.now c.args.stack.now c.args.out.now c.args.s (omega arith) c.symbol_of-x.result c.column-k.result c.symbol_of-x.ensures c.column-k.ensures c.if-x-lt-NONTERMINALS.true c.if-pos-kinds-2.false c.if-x-k.false c.if-x-lt-NAME.false) (c.write.ensures c.args.stack.now)
 
 pub returns-then-x-lt-WRITTEN : goal.returns-then-x-lt-WRITTEN
-returns-then-x-lt-WRITTEN c = as_step _ _ c.expand.result c.expand.new.stack c.args.out.now (nonterminal_law c.args.kinds.now c.args.stack.now c.args.out.now c.args.s (omega arith) c.symbol_of-x.result c.column-k.result c.symbol_of-x.ensures c.column-k.ensures c.if-x-lt-NONTERMINALS.false c.if-x-lt-WRITTEN.true c.production.result (by_choices c.args.rows.now _ _ _ c.requires.0 c.production.ensures.is)) (c.expand.ensures c.args.out.now c.requires.7)
+returns-then-x-lt-WRITTEN c = as_step _ _ c.expand.result c.expand.new.stack c.args.out.now (nonterminal_law c.args.kinds.now c.args.stack.now c.args.out.now c.args.s (omega arith) c.symbol_of-x.result c.column-k.result c.symbol_of-x.ensures c.column-k.ensures c.if-x-lt-NONTERMINALS.false c.if-x-lt-WRITTEN.true _ (by_choices c.args.rows.now _ _ _ c.requires.0 c.production.ensures.number.is)) (c.expand.ensures c.args.out.now c.requires.7)
 
 pub returns : goal.returns
 returns c = as_step _ _ c.write-2.result c.args.stack.now c.write-2.new.out (act_law c.args.kinds.now c.args.stack.now c.args.out.now c.args.s (omega arith) c.symbol_of-x.result c.column-k.result c.symbol_of-x.ensures c.column-k.ensures c.if-x-lt-WRITTEN.false) (c.write-2.ensures c.args.stack.now)

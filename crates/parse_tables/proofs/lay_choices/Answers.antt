@@ -3,4 +3,4 @@ use Rattle.parse_tables.proofs.lay_choices.Goals as goal
 
 pub returns : goal.returns
 unfolding choices
-returns c = c.copy_bytes.ensures
+returns c = c.copy.ensures

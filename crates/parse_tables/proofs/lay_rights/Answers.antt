@@ -3,4 +3,4 @@ use Rattle.parse_tables.proofs.lay_rights.Goals as goal
 
 pub returns : goal.returns
 unfolding rights
-returns c = c.copy_bytes.ensures
+returns c = c.copy.ensures

@@ -1,21 +1,6 @@
-use Rattle.base_bytes.proofs.Lists as laws
-use mathlib.Core.Path.{refl, sym, ◌∙◌}
-use native.Mathlib.Omega.{arith}
-use Prim.Native.Nat.{◌-◌}
-use borrow.Author.Rules.{rules}
+use mathlib.Core.Path.{◌∙◌}
+use Rattle.base_bytes.proofs.Lists.{same_pointwise}
 use Rattle.read_genuine.proofs.same_words.Goals as goal
 
-pub returns-then-x-y : goal.returns-then-x-y
-returns-then-x-y c = sym (laws.same-differ c.args.x.now c.args.y.now c.if-x-y.true)
-
-pub loop-k-init : goal.loop-k-init
-loop-k-init c = (search rules, refl)
-
-pub returns-then-x-k : goal.returns-then-x-k
-returns-then-x-k c = sym (sym c.loop-k.invariant.1 ∙ laws.same_stop c.args.x.now c.args.y.now c.loop-k.k (search rules) (omega arith) c.if-x-k.true)
-
-pub loop-k-preserved : goal.loop-k-preserved
-loop-k-preserved c = (search rules, sym (laws.same_more c.args.x.now c.args.y.now c.loop-k.k (search rules) (omega arith) c.if-x-k.false) ∙ c.loop-k.invariant.1)
-
 pub returns : goal.returns
-returns c = sym (sym c.loop-k.invariant.1 ∙ laws.same_end c.args.x.now c.args.y.now c.loop-k.k (search rules) (omega arith))
+returns c = c.eq.ensures ∙ same_pointwise c.args.x.now c.args.y.now

@@ -1,20 +1,16 @@
 use Rattle.rule_ceilings.specs.Ceilings as tops
 use Rattle.rule_sheets.proofs.Walks as laws
 use lib.ListN.{length}
-use Prim.Native.Nat.{◌-◌}
 use mathlib.Core.Path.{◌∙◌}
 use native.Mathlib.Omega.{arith}
 use Rattle.rule_ceilings.proofs.total.Goals as goal
 
 pub loop-j-init : goal.loop-j-init
 unfolding tops.total
-loop-j-init c = (omega arith, omega arith, laws.sum_from_start (tops.weight c.args.codes.now c.args.args.now c.args.homes.now c.args.which) (length c.args.codes.now))
-
-pub overflow_add-n : goal.overflow_add-n
-overflow_add-n c = omega (arith, c.weight-n.ensures.upper_bound)
+loop-j-init c = (omega arith, laws.sum_from_start (tops.weight c.args.codes.now c.args.args.now c.args.homes.now c.args.which) (length c.args.codes.now))
 
 pub loop-j-preserved : goal.loop-j-preserved
-loop-j-preserved c = (omega arith, omega (arith, c.weight-n.ensures.upper_bound), laws.sum_more (tops.weight c.args.codes.now c.args.args.now c.args.homes.now c.args.which) c.loop-j.j (length c.args.codes.now) c.loop-j.n (omega arith) c.weight-n.ensures.value ∙ c.loop-j.invariant.2)
+loop-j-preserved c = (omega (arith, c.weight-n.ensures.upper_bound), laws.sum_more (tops.weight c.args.codes.now c.args.args.now c.args.homes.now c.args.which) c.loop-j.j (length c.args.codes.now) c.loop-j.n (omega arith) c.weight-n.ensures.value ∙ c.loop-j.invariant.1)
 
 pub returns : goal.returns
-returns c = laws.sum_end (tops.weight c.args.codes.now c.args.args.now c.args.homes.now c.args.which) c.loop-j.j (length c.args.codes.now) c.loop-j.n (omega arith) ∙ c.loop-j.invariant.2
+returns c = laws.sum_end (tops.weight c.args.codes.now c.args.args.now c.args.homes.now c.args.which) c.loop-j.j (length c.args.codes.now) c.loop-j.n (omega arith) ∙ c.loop-j.invariant.1

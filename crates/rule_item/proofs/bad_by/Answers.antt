@@ -1,7 +1,6 @@
 use Rattle.rule_item.specs.Rules as rules
 use borrow.Author.Tests.{ne_eqb}
 use native.Mathlib.Omega.{arith}
-use borrow.Author.Rules.{rules}
 use Rattle.rule_item.proofs.bad_by.Goals as goal
 
 pub returns-in-1 : goal.returns-in-1

@@ -1,6 +1,5 @@
 use Rattle.rule_item.specs.Rules as rules
 use borrow.Author.Tests.{ne_eqb}
-use borrow.Author.Rules.{rules}
 use Rattle.rule_item.proofs.bad_count.Goals as goal
 
 pub returns-in-72 : goal.returns-in-72

@@ -1,6 +1,5 @@
 use Rattle.rule_item.specs.Rules as rules
 use borrow.Author.Tests.{eq-eqb, ne_eqb}
-use borrow.Author.Rules.{rules}
 use Rattle.rule_item.proofs.bad_use.Goals as goal
 
 pub returns-then-w-eq0 : goal.returns-then-w-eq0

@@ -1,5 +1,4 @@
 use Rattle.rule_item.specs.Rules as rules
-use borrow.Author.Rules.{rules}
 use Rattle.rule_item.proofs.bad_variable.Goals as goal
 
 pub returns : goal.returns

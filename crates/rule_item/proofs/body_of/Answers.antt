@@ -1,6 +1,5 @@
 use Rattle.rule_item.specs.Rules as rules
 use borrow.Author.Tests.{lt-ltb, le-ltb}
-use borrow.Author.Rules.{rules}
 use Rattle.rule_item.proofs.body_of.Goals as goal
 
 pub returns-then-g-codes : goal.returns-then-g-codes

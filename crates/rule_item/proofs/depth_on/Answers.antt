@@ -1,7 +1,6 @@
 use Rattle.rule_item.specs.Rules as rules
 use native.Mathlib.Omega.{arith}
 use borrow.Author.Tests.{eq-eqb, ne_eqb}
-use borrow.Author.Rules.{rules}
 use Rattle.rule_item.proofs.depth_on.Goals as goal
 
 pub returns-then-d-eq0 : goal.returns-then-d-eq0

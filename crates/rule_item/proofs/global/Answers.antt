@@ -1,6 +1,5 @@
 use Rattle.rule_item.specs.Rules as rules
 use native.Mathlib.Omega.{arith}
-use borrow.Author.Rules.{rules}
 use Rattle.rule_item.proofs.global.Goals as goal
 
 pub returns : goal.returns

@@ -1,11 +1,7 @@
 use Rattle.rule_item.specs.Rules as rules
-use Prim.Native.Nat.{◌+◌, ◌-◌, ◌≤◌}
+use Prim.Native.Nat.{◌+◌, ◌≤◌}
 use mathlib.Core.Path.{◌≡◌}
-use borrow.Author.Rules.{rules}
 use Rattle.rule_item.proofs.twin.Given as goal
 
 abbrev pub invariant-loop-k : goal.invariant-loop-k
-invariant-loop-k l = (l.k ≤ l.j) × (l.d + l.k ≤ l.j + 1) × (rules.twin l.codes l.k l.d ≡ rules.twin l.codes l.j 1)
-
-abbrev pub decreases-loop-k : goal.decreases-loop-k
-decreases-loop-k l = l.k
+invariant-loop-k l = (l.d + l.k ≤ l.j + 1) × (rules.twin l.codes l.k l.d ≡ rules.twin l.codes l.j 1)

@@ -6,6 +6,3 @@ use Rattle.rule_search.proofs.count.Given as goal
 
 abbrev pub invariant-loop-j : goal.invariant-loop-j
 invariant-loop-j l = (l.n + l.from ≤ l.j) × (l.n + walks.sum (finding.one l.codes l.homes l.set l.h) l.j (l.to - l.j) ≡ finding.count l.codes l.homes l.set l.h l.from l.to)
-
-abbrev pub decreases-loop-j : goal.decreases-loop-j
-decreases-loop-j l = l.to - l.j

@@ -1,6 +1,5 @@
 use borrow.Author.Tests.{eq-eqb}
 use mathlib.Core.Path.{◌∙◌}
-use Prim.Native.Nat.{◌-◌}
 use Rattle.rule_search.proofs.Chain.{head-start, go_on}
 use Rattle.rule_search.proofs.Rest.{rest_stop, rest_end}
 use Rattle.rule_search.specs.Search as finding

@@ -1,11 +1,7 @@
-use Rattle.rule_sheets.proofs.Payload as formats
 use Rattle.rule_sheets.specs.Payload.{arg_of, spelled}
 use native.Mathlib.Omega.{arith}
 use borrow.Author.Tests.{ne_eqb}
 use Rattle.rule_sheets.proofs.arg_of.Goals as goal
-
-pub format_arg-requires : goal.format_arg-requires
-format_arg-requires c = rw c.part-in-72.ensures (omega (arith, formats.piece_most c.args.text.now c.word_at-in-72.result c.word_at-in-72-2.result))
 
 pub returns-in-70 : goal.returns-in-70
 unfolding arg_of

@@ -2,8 +2,7 @@ use Rattle.rule_sheets.proofs.Fills as fills
 use Rattle.rule_sheets.specs.Payload as payload
 use Rattle.rule_sheets.proofs.Walks as laws
 use lib.ListN.{length}
-use Prim.Native.Nat.{◌-◌}
-use mathlib.Core.Path.{refl, ◌∙◌}
+use mathlib.Core.Path.{◌∙◌}
 use native.Mathlib.Omega.{arith}
 use Rattle.rule_sheets.proofs.fill_args.Goals as goal
 
@@ -14,13 +13,10 @@ pub returns-then-codes-gt-ITEMS_MOST : goal.returns-then-codes-gt-ITEMS_MOST
 returns-then-codes-gt-ITEMS_MOST c = fills.args-items c.args.text.now c.args.starts.now c.args.ends.now c.args.codes.now c.args.toks.now c.args.args.now (omega arith) (omega arith)
 
 pub loop-j-init : goal.loop-j-init
-loop-j-init c = (omega arith, omega arith, omega arith, refl, fills.args-start c.args.text.now c.args.starts.now c.args.ends.now c.args.codes.now c.args.toks.now c.args.args.now (omega arith) (omega arith))
+loop-j-init c = fills.args-start c.args.text.now c.args.starts.now c.args.ends.now c.args.codes.now c.args.toks.now c.args.args.now (omega arith) (omega arith)
 
 pub loop-j-preserved : goal.loop-j-preserved
-loop-j-preserved c = (omega arith, omega arith, omega arith, c.put.auto.s ∙ c.loop-j.invariant.3, laws.filled_more (λ l i. payload.arg_of c.args.text.now c.args.starts.now c.args.ends.now c.args.codes.now c.args.toks.now i) c.loop-j.j (length c.args.codes.now) c.loop-j.args c.arg_of.result c.put.new.s (omega arith) c.arg_of.ensures.value c.put.ensures ∙ c.loop-j.invariant.4)
-
-pub shape_of-args : goal.shape_of-args
-shape_of-args c = c.loop-j.invariant.3
+loop-j-preserved c = laws.filled_more (λ l i. payload.arg_of c.args.text.now c.args.starts.now c.args.ends.now c.args.codes.now c.args.toks.now i) c.loop-j.j (length c.args.codes.now) c.loop-j.args c.arg_of.result c.put.new.s (omega arith) c.arg_of.ensures.value c.put.ensures ∙ c.loop-j.invariant
 
 pub returns : goal.returns
-returns c = laws.filled_end (λ l i. payload.arg_of c.args.text.now c.args.starts.now c.args.ends.now c.args.codes.now c.args.toks.now i) c.loop-j.j (length c.args.codes.now) c.loop-j.args (omega arith) ∙ c.loop-j.invariant.4
+returns c = laws.filled_end (λ l i. payload.arg_of c.args.text.now c.args.starts.now c.args.ends.now c.args.codes.now c.args.toks.now i) c.loop-j.j (length c.args.codes.now) c.loop-j.args (omega arith) ∙ c.loop-j.invariant

@@ -1,13 +1,9 @@
-use Rattle.base_ceilings.specs.Ceilings.{items_most, text_most}
 use Rattle.rule_sheets.specs.Payload as payload
 use Rattle.rule_sheets.specs.Walks as walks
 use lib.ListN.{length}
-use Prim.Native.Nat.{◌-◌, ◌≤◌}
+use Prim.Native.Nat.{◌-◌}
 use mathlib.Core.Path.{◌≡◌}
 use Rattle.rule_sheets.proofs.fill_args.Given as goal
 
 abbrev pub invariant-loop-j : goal.invariant-loop-j
-invariant-loop-j l = (l.j ≤ length l.codes) × (length l.codes ≤ items_most) × (length l.text ≤ text_most) × (length l.args ≡ length l.initial.args) × (walks.filled (λ l' i. payload.arg_of l.text l.starts l.ends l.codes l.toks i) l.j (length l.codes - l.j) l.args ≡ payload.args_of l.text l.starts l.ends l.codes l.toks l.initial.args)
-
-abbrev pub decreases-loop-j : goal.decreases-loop-j
-decreases-loop-j l = length l.codes - l.j
+invariant-loop-j l = walks.filled (λ l' i. payload.arg_of l.text l.starts l.ends l.codes l.toks i) l.j (length l.codes - l.j) l.args ≡ payload.args_of l.text l.starts l.ends l.codes l.toks l.initial.args

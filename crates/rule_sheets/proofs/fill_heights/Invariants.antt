@@ -1,13 +1,9 @@
-use Rattle.base_ceilings.specs.Ceilings.{items_most}
 use Rattle.rule_sheets.specs.Spans as spans
 use Rattle.rule_sheets.specs.Walks as walks
 use lib.ListN.{length}
-use Prim.Native.Nat.{◌-◌, ◌≤◌}
+use Prim.Native.Nat.{◌-◌}
 use mathlib.Core.Path.{◌≡◌}
 use Rattle.rule_sheets.proofs.fill_heights.Given as goal
 
 abbrev pub invariant-loop-j : goal.invariant-loop-j
-invariant-loop-j l = (l.j ≤ length l.codes) × (length l.codes ≤ items_most) × (length l.heights ≡ length l.initial.heights) × (walks.filled (spans.height_of l.codes l.starts) l.j (length l.codes - l.j) l.heights ≡ spans.heights_of l.codes l.starts l.initial.heights)
-
-abbrev pub decreases-loop-j : goal.decreases-loop-j
-decreases-loop-j l = length l.codes - l.j
+invariant-loop-j l = walks.filled (spans.height_of l.codes l.starts) l.j (length l.codes - l.j) l.heights ≡ spans.heights_of l.codes l.starts l.initial.heights

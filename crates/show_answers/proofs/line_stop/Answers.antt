@@ -1,16 +1,14 @@
 use Rattle.show_answers.proofs.Laws as laws
 use native.Mathlib.Omega.{arith}
-use Prim.Native.Nat.{◌-◌}
+use mathlib.Core.Path.{◌≡◌, ◌∙◌, sym}
+use lib.ListN.{length}
 use Rattle.show_answers.proofs.line_stop.Goals as goal
 
-pub loop-k-init : goal.loop-k-init
-loop-k-init c = (omega arith, omega arith)
-
-pub returns-then-s-k-eq10 : goal.returns-then-s-k-eq10
-returns-then-s-k-eq10 c = (omega (arith, c.loop-k.invariant.0), laws.stop_there c.args.s.now c.loop-k.k _ c.loop-k-test.true c.if-s-k-eq10.true c.loop-k.invariant.1)
+pub returns-then-b-eq10 : goal.returns-then-b-eq10
+returns-then-b-eq10 c = (omega arith, laws.stop_there c.args.s.now c.loop-k.k _ (omega arith) c.if-b-eq10.true c.loop-k.invariant)
 
 pub loop-k-preserved : goal.loop-k-preserved
-loop-k-preserved c = (omega (arith, c.loop-k-test.true), laws.stop_later c.args.s.now c.loop-k.k _ c.loop-k-test.true c.if-s-k-eq10.false c.loop-k.invariant.1)
+loop-k-preserved c = laws.stop_later c.args.s.now c.loop-k.k _ (omega arith) c.if-b-eq10.false c.loop-k.invariant
 
 pub returns : goal.returns
-returns c = (omega (arith, c.loop-k.invariant.0), laws.stop_end c.args.s.now c.loop-k.k _ (omega arith) c.loop-k.invariant.1)
+returns c = (omega arith, let q : c.loop-k.k ≡ length c.args.s.now = omega arith in sym q ∙ laws.stop_end c.args.s.now c.loop-k.k _ (omega arith) c.loop-k.invariant)

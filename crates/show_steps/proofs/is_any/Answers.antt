@@ -6,7 +6,6 @@ use Rattle.spec_machine.specs.Machine.{offered}
 use borrow.Author.Tests.{eq-eqb, ne_eqb}
 use mathlib.Core.Path.{sym, ◌∙◌}
 use native.Mathlib.Omega.{arith}
-use Prim.Native.Nat.{◌-◌}
 use Rattle.show_steps.proofs.is_any.Goals as goal
 
 pub returns-then-x-process : goal.returns-then-x-process

@@ -5,14 +5,13 @@ use Rattle.step_all.specs.Moving.{machine_in}
 use Rattle.spec_machine.specs.Machine.{offered}
 use mathlib.Core.Path.{sym, ◌∙◌}
 use native.Mathlib.Omega.{arith}
-use Prim.Native.Nat.{◌-◌}
 use Rattle.show_steps.proofs.put_others.Goals as goal
 
 pub returns-in-Beyond : goal.returns-in-Beyond
-returns-in-Beyond c = sym (laws.others_end c.args.t.now c.args.process _ [] _ (laws.listed_beyond c.loop-n.n (offered (machine_in c.args.t.now) c.args.s.now) listed_most _ (sym c.in-Beyond.is ∙ c.nth-o.ensures))) ∙ c.loop-n.invariant.1
+returns-in-Beyond c = sym (laws.others_end c.args.t.now c.args.process _ [] _ (laws.listed_beyond c.loop-n.n (offered (machine_in c.args.t.now) c.args.s.now) listed_most _ (sym c.in-Beyond.is ∙ c.nth-o.ensures))) ∙ c.loop-n.invariant
 
 pub loop-n-preserved : goal.loop-n-preserved
-loop-n-preserved c = (omega (arith, c.put_other-q.auto.out, c.loop-n.invariant.0), laws.others-more c.args.t.now c.args.process _ _ _ _ _ (laws.listed_there c.loop-n.n (offered (machine_in c.args.t.now) c.args.s.now) listed_most _ c.loop-n-test.true (sym c.in-Step.is ∙ c.nth-o.ensures)) c.put_other-q.ensures ∙ c.loop-n.invariant.1)
+loop-n-preserved c = laws.others-more c.args.t.now c.args.process _ _ _ _ _ (laws.listed_there c.loop-n.n (offered (machine_in c.args.t.now) c.args.s.now) listed_most _ c.loop-n-test.true (sym c.in-Step.is ∙ c.nth-o.ensures)) c.put_other-q.ensures ∙ c.loop-n.invariant
 
 pub returns : goal.returns
-returns c = sym (laws.others_end c.args.t.now c.args.process _ [] _ (laws.listed_end c.loop-n.n (offered (machine_in c.args.t.now) c.args.s.now) listed_most (omega arith))) ∙ c.loop-n.invariant.1
+returns c = sym (laws.others_end c.args.t.now c.args.process _ [] _ (laws.listed_end c.loop-n.n (offered (machine_in c.args.t.now) c.args.s.now) listed_most (omega arith))) ∙ c.loop-n.invariant

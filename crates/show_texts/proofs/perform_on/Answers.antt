@@ -4,7 +4,7 @@ use Rattle.show_texts.proofs.perform_on.Goals as goal
 
 pub returns-then-same : goal.returns-then-same
 unfolding command_status
-returns-then-same c = rw (sym c.same.ensures ∙ c.if-same.true) c.status.ensures
+returns-then-same c = rw (sym c.same.ensures ∙ c.if-same.true) c.status_of.ensures
 
 pub returns-then-same-2 : goal.returns-then-same-2
 unfolding command_status

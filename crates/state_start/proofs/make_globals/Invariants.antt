@@ -1,12 +1,8 @@
 use Rattle.state_start.specs.Starting.{global_made}
 use Rattle.state_layout.specs.Walks.{walk}
-use lib.ListN.{length}
 use mathlib.Core.Path.{◌≡◌}
-use Prim.Native.Nat.{◌≤◌, ◌-◌}
+use Prim.Native.Nat.{◌-◌}
 use Rattle.state_start.proofs.make_globals.Given as goal
 
 abbrev pub invariant-loop-j : goal.invariant-loop-j
-invariant-loop-j l = (l.j ≤ l.n) × (length l.s ≡ length l.initial.s) × (walk (global_made l.t) l.j (l.n - l.j) l.s ≡ walk (global_made l.t) 0 l.n l.initial.s)
-
-abbrev pub decreases-loop-j : goal.decreases-loop-j
-decreases-loop-j l = l.n - l.j
+invariant-loop-j l = walk (global_made l.t) l.j (l.n - l.j) l.s ≡ walk (global_made l.t) 0 l.n l.initial.s

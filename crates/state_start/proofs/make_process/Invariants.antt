@@ -1,12 +1,8 @@
 use Rattle.state_start.specs.Starting.{entered}
 use Rattle.state_layout.specs.Walks.{walk}
-use lib.ListN.{length}
 use mathlib.Core.Path.{◌≡◌}
-use Prim.Native.Nat.{◌≤◌, ◌-◌, ◌+◌}
+use Prim.Native.Nat.{◌-◌, ◌+◌}
 use Rattle.state_start.proofs.make_process.Given as goal
 
 abbrev pub invariant-loop-k : goal.invariant-loop-k
-invariant-loop-k l = (l.k ≤ l.n) × (length l.s ≡ length l.initial.s) × (walk (λ i x. entered l.t l.p (l.u + i) x) l.k (l.n - l.k) l.s ≡ walk (λ i x. entered l.t l.p (l.u + i) x) 0 l.n l.initial.s)
-
-abbrev pub decreases-loop-k : goal.decreases-loop-k
-decreases-loop-k l = l.n - l.k
+invariant-loop-k l = walk (λ i x. entered l.t l.p (l.u + i) x) l.k (l.n - l.k) l.s ≡ walk (λ i x. entered l.t l.p (l.u + i) x) 0 l.n l.initial.s

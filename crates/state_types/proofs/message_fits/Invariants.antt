@@ -1,10 +1,7 @@
-use Prim.Native.Nat.{◌≤◌, ◌-◌}
+use Prim.Native.Nat.{◌-◌}
 use mathlib.Core.Path.{◌≡◌}
 use Rattle.state_types.specs.Fits.{every, field_fits}
 use Rattle.state_types.proofs.message_fits.Given as goal
 
 abbrev pub invariant-loop-f : goal.invariant-loop-f
-invariant-loop-f l = (l.f ≤ l.n) × (every (field_fits l.t l.s l.c l.d l.m) l.f (l.n - l.f) ≡ every (field_fits l.t l.s l.c l.d l.m) 0 l.n)
-
-abbrev pub decreases-loop-f : goal.decreases-loop-f
-decreases-loop-f l = l.n - l.f
+invariant-loop-f l = every (field_fits l.t l.s l.c l.d l.m) l.f (l.n - l.f) ≡ every (field_fits l.t l.s l.c l.d l.m) 0 l.n

@@ -1,12 +1,8 @@
 use Rattle.state_used.specs.Shapes.{global_shaped}
-use Prim.Native.Nat.{◌≤◌, ◌-◌}
+use Prim.Native.Nat.{◌-◌}
 use mathlib.Core.Path.{◌≡◌}
-use lib.ListN.{length}
 use Rattle.state_layout.specs.Walks.{walk}
 use Rattle.state_used.proofs.shape_globals.Given as goal
 
 abbrev pub invariant-loop-j : goal.invariant-loop-j
-invariant-loop-j l = (l.j ≤ l.n) × (length l.x ≡ length l.initial.x) × (walk (global_shaped l.t l.s) l.j (l.n - l.j) l.x ≡ walk (global_shaped l.t l.s) 0 l.n l.initial.x)
-
-abbrev pub decreases-loop-j : goal.decreases-loop-j
-decreases-loop-j l = l.n - l.j
+invariant-loop-j l = walk (global_shaped l.t l.s) l.j (l.n - l.j) l.x ≡ walk (global_shaped l.t l.s) 0 l.n l.initial.x

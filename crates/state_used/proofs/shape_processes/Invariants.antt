@@ -1,12 +1,8 @@
 use Rattle.state_used.specs.Shapes.{process_shaped}
-use Prim.Native.Nat.{◌≤◌, ◌-◌}
+use Prim.Native.Nat.{◌-◌}
 use mathlib.Core.Path.{◌≡◌}
-use lib.ListN.{length}
 use Rattle.state_layout.specs.Walks.{walk}
 use Rattle.state_used.proofs.shape_processes.Given as goal
 
 abbrev pub invariant-loop-p : goal.invariant-loop-p
-invariant-loop-p l = (l.p ≤ l.n) × (length l.x ≡ length l.initial.x) × (walk (process_shaped l.t l.s) l.p (l.n - l.p) l.x ≡ walk (process_shaped l.t l.s) 0 l.n l.initial.x)
-
-abbrev pub decreases-loop-p : goal.decreases-loop-p
-decreases-loop-p l = l.n - l.p
+invariant-loop-p l = walk (process_shaped l.t l.s) l.p (l.n - l.p) l.x ≡ walk (process_shaped l.t l.s) 0 l.n l.initial.x

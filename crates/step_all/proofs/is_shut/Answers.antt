@@ -1,6 +1,6 @@
+use Rattle.std.specs.Prelude.{Ok}
 use native.Mathlib.Omega.{arith}
 use mathlib.Core.Path.{refl, ap}
-use Rattle.base_values.specs.declared.Answer.TheVariants.{Value}
 use Rattle.step_eval.proofs.Laws.{holds_value}
 use Rattle.step_all.proofs.Shut.{not-told, shut}
 use Rattle.step_all.proofs.is_shut.Goals as goal
@@ -27,4 +27,4 @@ pub returns-then-l-ne0 : goal.returns-then-l-ne0
 returns-then-l-ne0 c = not-told c.args.t.now c.args.s.now c.args.q
 
 pub returns : goal.returns
-returns c = shut c.args.t.now c.args.s.now c.args.q _ c.code.ensures c.if-code-ne-NAME.false c.link-m.ensures.value (omega arith) c.code-2.ensures c.if-code.false c.code-3.ensures c.if-code-2.false c.link-d.ensures.value c.code-c.ensures c.if-c.false c.if-c-eq-NAME.false c.link-l.ensures.value c.if-l-ne0.false c.slot.ensures (ap Value c.cell.ensures) (holds_value {x = Value c.cell.result} refl c.cell.type_inv)
+returns c = shut c.args.t.now c.args.s.now c.args.q _ c.code.ensures c.if-code-ne-NAME.false c.link-m.ensures.value (omega arith) c.code-2.ensures c.if-code.false c.code-3.ensures c.if-code-2.false c.link-d.ensures.value c.code-c.ensures c.if-c.false c.if-c-eq-NAME.false c.link-l.ensures.value c.if-l-ne0.false c.slot.ensures (ap Ok c.cell.ensures) (holds_value {x = Ok c.cell.result} refl c.cell.type_inv)

@@ -1,5 +1,4 @@
 use Rattle.step_eval.proofs.Laws.{too_high, nothing, number_arm, true_arm, false_arm, other_arm, plain_arm, index_arm, length_arm, unary_arm, decided_arm, lazy_arm, binary_arm, fault_arm, middle_arm, last_arm}
-use borrow.Fn.PlainCycle.{is}
 use Rattle.step_eval.proofs.+eval_at.Goals as goal
 
 pub returns-then-h-eq0 : goal.returns-then-h-eq0

@@ -6,13 +6,13 @@ use Prim.Native.Nat.{◌-◌, ◌+◌}
 use Rattle.step_messages.proofs.deliver.Goals as goal
 
 pub loop-k-init : goal.loop-k-init
-loop-k-init c = (omega arith, refl, refl)
+loop-k-init c = refl
 
 pub returns-then-code : goal.returns-then-code
-returns-then-code c = deliver_over c.args.t.now c.args.places.now c.args.values.now (fields_most - c.loop-k.k) c.loop-k.j c.loop-k.k c.loop-k.s c.code.ensures c.if-code.true ∙ c.loop-k.invariant.2
+returns-then-code c = deliver_over c.args.t.now c.args.places.now c.args.values.now (fields_most - c.loop-k.k) c.loop-k.j c.loop-k.k c.loop-k.s c.code.ensures c.if-code.true ∙ c.loop-k.invariant
 
 pub loop-k-preserved : goal.loop-k-preserved
-loop-k-preserved c = (omega arith, omega (arith, c.deliver_one.auto.s, c.loop-k.invariant.1), deliver_more c.args.t.now c.args.places.now c.args.values.now (fields_most - c.loop-k.k) (fields_most - (c.loop-k.k + 1)) c.loop-k.j c.loop-k.k c.loop-k.s (omega arith) c.code.ensures c.if-code.false c.link-m.ensures.value c.deliver_one.ensures ∙ c.loop-k.invariant.2)
+loop-k-preserved c = deliver_more c.args.t.now c.args.places.now c.args.values.now (fields_most - c.loop-k.k) (fields_most - (c.loop-k.k + 1)) c.loop-k.j c.loop-k.k c.loop-k.s (omega arith) c.code.ensures c.if-code.false c.link-m.ensures.value c.deliver_one.ensures ∙ c.loop-k.invariant
 
 pub returns : goal.returns
-returns c = deliver_end c.args.t.now c.args.places.now c.args.values.now (fields_most - c.loop-k.k) c.loop-k.j c.loop-k.k c.loop-k.s (omega arith) ∙ c.loop-k.invariant.2
+returns c = deliver_end c.args.t.now c.args.places.now c.args.values.now (fields_most - c.loop-k.k) c.loop-k.j c.loop-k.k c.loop-k.s (omega arith) ∙ c.loop-k.invariant

@@ -4,7 +4,4 @@ use Prim.Native.Nat.{◌≤◌, ◌-◌, ◌+◌}
 use Rattle.step_ready.proofs.channels_in.Given as goal
 
 abbrev pub invariant-loop-k : goal.invariant-loop-k
-invariant-loop-k l = (l.k ≤ l.n) × (l.c ≤ l.k) × (l.c + channels_from l.t (l.n - l.k) (l.u + l.k) ≡ channels_from l.t l.n l.u)
-
-abbrev pub decreases-loop-k : goal.decreases-loop-k
-decreases-loop-k l = l.n - l.k
+invariant-loop-k l = (l.c ≤ l.k) × (l.c + channels_from l.t (l.n - l.k) (l.u + l.k) ≡ channels_from l.t l.n l.u)

@@ -7,8 +7,8 @@ returns-then-not-has_room c = run_idle c.args.t.now c.args.p c.args.m c.args.s.n
 pub call-requires : goal.call-requires
 call-requires c = room-below c.args.t.now c.args.s.now c.link-u.result c.has_room.ensures (c.if-not-has_room.false)
 
-pub returns-in-Upto : goal.returns-in-Upto
-returns-in-Upto c = run_done c.args.t.now c.args.p c.args.m c.args.s.now c.link-u.ensures.value c.has_room.ensures (c.if-not-has_room.false) c.gather-g.ensures.value c.in-Upto.is c.gather-g.ensures.values_after c.call.ensures c.link.ensures.value c.move_to.ensures
+pub returns-in-Ok : goal.returns-in-Ok
+returns-in-Ok c = run_done c.args.t.now c.args.p c.args.m c.args.s.now c.link-u.ensures.value c.has_room.ensures (c.if-not-has_room.false) c.gather-g.ensures.value c.in-Ok.is c.gather-g.ensures.values_after c.call.ensures c.link.ensures.value c.move_to.ensures
 
-pub returns-in-Failed : goal.returns-in-Failed
-returns-in-Failed c = run-fault c.args.t.now c.args.p c.args.m c.args.s.now c.link-u.ensures.value c.has_room.ensures (c.if-not-has_room.false) c.gather-g.ensures.value c.in-Failed.is
+pub returns-in-Err : goal.returns-in-Err
+returns-in-Err c = run-fault c.args.t.now c.args.p c.args.m c.args.s.now c.link-u.ensures.value c.has_room.ensures (c.if-not-has_room.false) c.gather-g.ensures.value c.in-Err.is

@@ -7,8 +7,8 @@ returns-then-not-has_room c = set_run_none c.args.t.now c.args.p c.args.i c.args
 pub call-requires : goal.call-requires
 call-requires c = room-below c.args.t.now c.args.s.now c.link-u.result c.has_room.ensures (c.if-not-has_room.false)
 
-pub returns-in-Upto : goal.returns-in-Upto
-returns-in-Upto c = set_run_done c.args.t.now c.args.p c.args.i c.args.m c.args.e c.args.s.now c.link-u.ensures.value c.has_room.ensures (c.if-not-has_room.false) c.gather-g.ensures.value c.in-Upto.is c.gather-g.ensures.values_after c.processes-n.ensures.value c.call.ensures c.kept.type_inv c.kept.ensures c.store_at-in-Upto.ensures c.link-in-Upto.ensures.value c.move_to-in-Upto.ensures
+pub returns-in-Ok : goal.returns-in-Ok
+returns-in-Ok c = set_run_done c.args.t.now c.args.p c.args.i c.args.m c.args.e c.args.s.now c.link-u.ensures.value c.has_room.ensures (c.if-not-has_room.false) c.gather-g.ensures.value c.in-Ok.is c.gather-g.ensures.values_after c.processes-n.ensures.value c.call.ensures c.kept.type_inv c.kept.ensures c.store_at-in-Ok.ensures c.link-in-Ok.ensures.value c.move_to-in-Ok.ensures
 
-pub returns-in-Failed : goal.returns-in-Failed
-returns-in-Failed c = set_run_fault c.args.t.now c.args.p c.args.i c.args.m c.args.e c.args.s.now c.link-u.ensures.value c.has_room.ensures (c.if-not-has_room.false) c.gather-g.ensures.value c.in-Failed.is
+pub returns-in-Err : goal.returns-in-Err
+returns-in-Err c = set_run_fault c.args.t.now c.args.p c.args.i c.args.m c.args.e c.args.s.now c.link-u.ensures.value c.has_room.ensures (c.if-not-has_room.false) c.gather-g.ensures.value c.in-Err.is

@@ -1,4 +1,3 @@
-use lib.ListN.{length}
 use Prim.Native.Nat.{◌-◌, ◌*◌, ◌≤◌}
 use mathlib.Core.Path.{◌≡◌}
 use Rattle.base_ceilings.specs.Ceilings.{string_most}
@@ -9,7 +8,4 @@ use Rattle.table_layout.specs.Tables as spec
 use Rattle.table_layout.proofs.put_items.Given as goal
 
 abbrev pub invariant-loop-i : goal.invariant-loop-i
-invariant-loop-i l = (length l.out ≡ length l.initial.out) × (l.o ≤ string_most * l.i) × (l.k ≤ l.i) × (puts (spec.item_words l.o l.k (runs (entry_at l.text l.starts l.ends l.codes l.toks) l.i (l.n - l.i))) (pen l.out l.q) ≡ puts (spec.item_words 0 0 (runs (entry_at l.text l.starts l.ends l.codes l.toks) 0 l.n)) (pen l.initial.out l.p))
-
-abbrev pub decreases-loop-i : goal.decreases-loop-i
-decreases-loop-i l = l.n - l.i
+invariant-loop-i l = (l.o ≤ string_most * l.i) × (l.k ≤ l.i) × (puts (spec.item_words l.o l.k (runs (entry_at l.text l.starts l.ends l.codes l.toks) l.i (l.n - l.i))) (pen l.out l.q) ≡ puts (spec.item_words 0 0 (runs (entry_at l.text l.starts l.ends l.codes l.toks) 0 l.n)) (pen l.initial.out l.p))

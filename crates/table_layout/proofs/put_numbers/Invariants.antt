@@ -1,4 +1,3 @@
-use lib.ListN.{length}
 use Prim.Native.Nat.{◌-◌}
 use mathlib.Core.Path.{◌≡◌}
 use Rattle.base_pens.specs.Pen.{pen, puts}
@@ -8,7 +7,4 @@ use Rattle.table_layout.specs.Tables as spec
 use Rattle.table_layout.proofs.put_numbers.Given as goal
 
 abbrev pub invariant-loop-i : goal.invariant-loop-i
-invariant-loop-i l = (length l.out ≡ length l.initial.out) × (puts (spec.numbers (runs (entry_at l.text l.starts l.ends l.codes l.toks) l.i (l.n - l.i))) (pen l.out l.q) ≡ puts (spec.numbers (runs (entry_at l.text l.starts l.ends l.codes l.toks) 0 l.n)) (pen l.initial.out l.p))
-
-abbrev pub decreases-loop-i : goal.decreases-loop-i
-decreases-loop-i l = l.n - l.i
+invariant-loop-i l = puts (spec.numbers (runs (entry_at l.text l.starts l.ends l.codes l.toks) l.i (l.n - l.i))) (pen l.out l.q) ≡ puts (spec.numbers (runs (entry_at l.text l.starts l.ends l.codes l.toks) 0 l.n)) (pen l.initial.out l.p)

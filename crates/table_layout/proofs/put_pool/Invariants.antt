@@ -1,4 +1,3 @@
-use lib.ListN.{length}
 use Prim.Native.Nat.{◌-◌}
 use mathlib.Core.Path.{◌≡◌}
 use Rattle.base_pens.specs.Pack.{well, pour}
@@ -8,7 +7,4 @@ use Rattle.table_entries.specs.Entry.{joined, runs, bytes}
 use Rattle.table_layout.proofs.put_pool.Given as goal
 
 abbrev pub invariant-loop-i : goal.invariant-loop-i
-invariant-loop-i l = (length l.out ≡ length l.initial.out) × (pour (joined bytes (runs (entry_at l.text l.starts l.ends l.codes l.toks) l.i (l.n - l.i))) (well (pen l.out l.w.at) l.w.held l.w.a l.w.b l.w.c) ≡ pour (joined bytes (runs (entry_at l.text l.starts l.ends l.codes l.toks) 0 l.n)) (well (pen l.initial.out l.p) 0 0 0 0))
-
-abbrev pub decreases-loop-i : goal.decreases-loop-i
-decreases-loop-i l = l.n - l.i
+invariant-loop-i l = pour (joined bytes (runs (entry_at l.text l.starts l.ends l.codes l.toks) l.i (l.n - l.i))) (well (pen l.out l.w.at) l.w.held l.w.a l.w.b l.w.c) ≡ pour (joined bytes (runs (entry_at l.text l.starts l.ends l.codes l.toks) 0 l.n)) (well (pen l.initial.out l.p) 0 0 0 0)

@@ -1,11 +1,7 @@
 use Rattle.base_pens.specs.Pen.{pen, puts}
-use lib.ListN.{length, drop}
+use lib.ListN.{drop}
 use mathlib.Core.Path.{◌≡◌}
-use Prim.Native.Nat.{◌-◌}
 use Rattle.text_pens.proofs.put_all.Given as goal
 
-abbrev pub invariant-loop-k : goal.invariant-loop-k
-invariant-loop-k l = (length l.out ≡ length l.initial.out) × (puts (drop l.k l.s) (pen l.out l.q) ≡ puts l.s (pen l.initial.out l.initial.q))
-
-abbrev pub decreases-loop-k : goal.decreases-loop-k
-decreases-loop-k l = length l.s - l.k
+abbrev pub invariant-loop-b : goal.invariant-loop-b
+invariant-loop-b l = puts (drop l.b-index l.s) (pen l.out l.q) ≡ puts l.s (pen l.initial.out l.initial.q)

@@ -1,12 +1,8 @@
 use Rattle.text_pens.specs.Sheet.{spelled_by}
 use Rattle.base_pens.specs.Pen.{pen, puts}
-use lib.ListN.{length, drop}
+use lib.ListN.{drop}
 use mathlib.Core.Path.{◌≡◌}
-use Prim.Native.Nat.{◌-◌}
 use Rattle.text_pens.proofs.put_fixed.Given as goal
 
 abbrev pub invariant-loop-j : goal.invariant-loop-j
-invariant-loop-j l = (length l.out ≡ length l.initial.out) × (puts (drop l.j (spelled_by l.k)) (pen l.out l.q) ≡ puts (spelled_by l.k) (pen l.initial.out l.initial.q))
-
-abbrev pub decreases-loop-j : goal.decreases-loop-j
-decreases-loop-j l = l.n - l.j
+invariant-loop-j l = puts (drop l.j (spelled_by l.k)) (pen l.out l.q) ≡ puts (spelled_by l.k) (pen l.initial.out l.initial.q)

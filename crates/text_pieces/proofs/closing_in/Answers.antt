@@ -1,18 +1,16 @@
-use mathlib.Core.Bool.{false}
 use Rattle.text_pieces.proofs.Laws as laws
 use mathlib.Core.Path.{◌∙◌, sym}
-use Prim.Native.Nat.{◌-◌}
 use borrow.Author.Rules.{rules}
 use Rattle.text_pieces.proofs.closing_in.Goals as goal
 
 pub loop-i-init : goal.loop-i-init
-loop-i-init c = (search rules, laws.closing-start c.args.s.now)
+loop-i-init c = (laws.closing-start c.args.s.now)
 
 pub returns-then-closes : goal.returns-then-closes
-returns-then-closes c = sym (laws.closing-here c.loop-i.starred c.args.s.now c.loop-i.i (search rules) (sym c.closes.ensures ∙ c.if-closes.true)) ∙ c.loop-i.invariant.1
+returns-then-closes c = sym (laws.closing-here c.loop-i.starred c.args.s.now c.loop-i.i (search rules) (sym c.closes.ensures ∙ c.if-closes.true)) ∙ c.loop-i.invariant
 
 pub loop-i-preserved : goal.loop-i-preserved
-loop-i-preserved c = (search rules, sym (laws.closing-more c.loop-i.starred c.args.s.now c.loop-i.i (search rules) (sym c.closes.ensures ∙ c.if-closes.false)) ∙ c.loop-i.invariant.1)
+loop-i-preserved c = (sym (laws.closing-more c.loop-i.starred c.args.s.now c.loop-i.i (search rules) (sym c.closes.ensures ∙ c.if-closes.false)) ∙ c.loop-i.invariant)
 
 pub returns : goal.returns
-returns c = sym (laws.closing_end c.loop-i.starred c.args.s.now c.loop-i.i (search rules)) ∙ c.loop-i.invariant.1
+returns c = sym (laws.closing_end c.loop-i.starred c.args.s.now c.loop-i.i (search rules)) ∙ c.loop-i.invariant

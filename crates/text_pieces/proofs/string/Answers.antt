@@ -6,19 +6,19 @@ use borrow.Author.Tests.{lt-ltb, le-ltb}
 use Rattle.text_pieces.proofs.string.Goals as goal
 
 pub overflow_add-result : goal.overflow_add-result
-overflow_add-result c = omega (arith, laws.string_within c.quoted_from-q.result c.args.s.now c.in-Closed.n c.quoted_from-q.ensures c.in-Closed.is)
+overflow_add-result c = omega (arith, laws.string_within c.quoted_from.result c.args.s.now c.in-Closed.n c.quoted_from.ensures c.in-Closed.is)
 
 pub returns-then-n : goal.returns-then-n
-returns-then-n c = rw (← c.quoted_from-q.ensures, c.in-Closed.is, lt-ltb (string_most + 1) c.in-Closed.n c.if-n.true)
+returns-then-n c = rw (← c.quoted_from.ensures, c.in-Closed.is, lt-ltb (string_most + 1) c.in-Closed.n c.if-n.true)
 
 pub overflow_add-result-in-Spoiled : goal.overflow_add-result-in-Spoiled
-overflow_add-result-in-Spoiled c = omega (arith, laws.spoiled_within c.quoted_from-q.result c.args.s.now c.in-Spoiled.n c.quoted_from-q.ensures c.in-Spoiled.is)
+overflow_add-result-in-Spoiled c = omega (arith, laws.spoiled_within c.quoted_from.result c.args.s.now c.in-Spoiled.n c.quoted_from.ensures c.in-Spoiled.is)
 
 pub returns-else-n : goal.returns-else-n
-returns-else-n c = rw (← c.quoted_from-q.ensures, c.in-Closed.is, le-ltb (string_most + 1) c.in-Closed.n c.if-n.false)
+returns-else-n c = rw (← c.quoted_from.ensures, c.in-Closed.is, le-ltb (string_most + 1) c.in-Closed.n c.if-n.false)
 
 pub returns-in-Spoiled : goal.returns-in-Spoiled
-returns-in-Spoiled c = rw (← c.quoted_from-q.ensures, c.in-Spoiled.is)
+returns-in-Spoiled c = rw (← c.quoted_from.ensures, c.in-Spoiled.is)
 
 pub returns-in-Unclosed : goal.returns-in-Unclosed
-returns-in-Unclosed c = rw (← c.quoted_from-q.ensures, c.in-Unclosed.is)
+returns-in-Unclosed c = rw (← c.quoted_from.ensures, c.in-Unclosed.is)

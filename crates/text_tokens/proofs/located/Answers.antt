@@ -1,18 +1,18 @@
 use Rattle.text_tokens.proofs.Lines as laws
+use Rattle.std.proofs.lemmas.List.{take_min}
 use native.Mathlib.Omega.{arith}
-use mathlib.Core.Path.{◌∙◌, sym, refl}
-use Prim.Native.Nat.{◌-◌}
-use borrow.Author.Rules.{rules}
+use lib.ListN.{take}
+use mathlib.Core.Path.{◌∙◌, sym}
 use Rattle.text_tokens.proofs.located.Goals as goal
+use Rattle.text_tokens.proofs.located.Goals.{then-b-eq10, else-b-eq10}
 
-pub loop-i-init : goal.loop-i-init
-loop-i-init c = (search rules, omega arith, omega arith, refl)
-
-pub loop-i-preserved-then-text-i-eq10 : goal.loop-i-preserved-then-text-i-eq10
-loop-i-preserved-then-text-i-eq10 c = (search rules, search rules, search rules, sym (laws.new_line c.args.text.now c.args.place c.loop-i.i c.loop-i.line c.loop-i.column (omega arith) c.if-text-i-eq10.true) ∙ c.loop-i.invariant.3)
-
-pub loop-i-preserved : goal.loop-i-preserved
-loop-i-preserved c = (search rules, search rules, search rules, sym (laws.same_line c.args.text.now c.args.place c.loop-i.i c.loop-i.line c.loop-i.column (omega arith) c.if-text-i-eq10.false) ∙ c.loop-i.invariant.3)
+pub loop-b-preserved : goal.loop-b-preserved
+loop-b-preserved c = let l = c.loop-b in let t = take c.min-most.result c.args.text.now in
+    elim c.if-b-eq10.branch [
+      | then-b-eq10 w ↦ (omega arith, omega arith, rw (w.line-is, w.column-is) (sym (laws.new_line t l.b-index l.line l.column c.loop-b-test.true w.if-b-eq10.true) ∙ l.invariant.2))
+      | else-b-eq10 w ↦ (omega arith, omega arith, rw (w.line-is, w.column-is) (sym (laws.same_line t l.b-index l.line l.column c.loop-b-test.true w.if-b-eq10.false) ∙ l.invariant.2))
+    ]
 
 pub returns : goal.returns
-returns c = sym (laws.arrived c.args.text.now c.args.place c.loop-i.i c.loop-i.line c.loop-i.column (omega arith)) ∙ c.loop-i.invariant.3
+returns c = let l = c.loop-b in let t = take c.min-most.result c.args.text.now in
+    sym (laws.arrived t l.b-index l.line l.column c.loop-b-test.false) ∙ l.invariant.2 ∙ rw (c.min-most.ensures, take_min c.args.place c.args.text.now)

@@ -3,7 +3,6 @@ use Rattle.text_pieces.specs.declared.Piece.TheVariants.{Skip, Take, Stop}
 use Rattle.text_tokens.proofs.Scans as laws
 use native.Mathlib.Omega.{arith}
 use mathlib.Core.Path.{ap}
-use Prim.Native.Nat.{◌-◌}
 use borrow.Author.Rules.{rules}
 use Rattle.text_tokens.proofs.scan.Goals as goal
 

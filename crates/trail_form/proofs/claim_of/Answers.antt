@@ -1,5 +1,4 @@
 use Rattle.spec_text.specs.Find.{find}
-use Rattle.base_bytes.specs.Lists.{same}
 use Rattle.trail_form.proofs.claim_of.Goals as goal
 
 pub returns-then-same : goal.returns-then-same

@@ -1,12 +1,9 @@
 use Rattle.trail_form.specs.Records.{is_not}
 use Rattle.text_pieces.specs.Spans.{span}
-use lib.ListN.{length, drop}
+use lib.ListN.{drop}
 use mathlib.Core.Path.{◌≡◌}
-use Prim.Native.Nat.{◌+◌, ◌-◌, ◌≤◌}
+use Prim.Native.Nat.{◌+◌}
 use Rattle.trail_form.proofs.up_to.Given as goal
 
 abbrev pub invariant-loop-i : goal.invariant-loop-i
-invariant-loop-i l = (l.i ≤ length l.s) × (l.i + span (is_not l.c) (drop l.i l.s) ≡ span (is_not l.c) l.s)
-
-abbrev pub decreases-loop-i : goal.decreases-loop-i
-decreases-loop-i l = length l.s - l.i
+invariant-loop-i l = l.i + span (is_not l.c) (drop l.i l.s) ≡ span (is_not l.c) l.s

@@ -3,4 +3,4 @@ use Rattle.write_rows.proofs.lay_cells.Goals as goal
 
 pub returns : goal.returns
 unfolding cells rows
-returns c = c.copy_bytes.ensures
+returns c = c.copy.ensures

@@ -1,7 +1,7 @@
 use Rattle.write_texts.proofs.Stack as laws
-use mathlib.Core.Path.{refl}
+use mathlib.Core.Path.{◌≡◌, refl}
+use lib.ListN.{length}
 use native.Mathlib.Omega.{arith}
-use Prim.Native.Nat.{◌-◌}
 use Rattle.write_texts.proofs.flush.Goals as goal
 
 pub loop-p-init : goal.loop-p-init
@@ -19,12 +19,6 @@ overflow_sub-q c = omega (arith, c.loop-p.invariant.moved, c.loop-p.invariant.le
 pub bounds-toks-q : goal.bounds-toks-q
 bounds-toks-q c = omega (arith, c.loop-p.invariant.moved, c.loop-p.invariant.less, c.loop-p.invariant.size)
 
-pub overflow_add-p : goal.overflow_add-p
-overflow_add-p c = omega arith
-
-pub loop-p-smaller : goal.loop-p-smaller
-loop-p-smaller c = omega arith
-
 pub loop-p-preserved : goal.loop-p-preserved
 loop-p-preserved c = laws.flush_more c.args.stack.now c.args.sp c.args.toks.now c.args.tp _ _ _ c.loop-p.invariant _ _ _ c.loop-p-test.true (omega arith) (omega arith) refl c.is_token.ensures (c.if-not-is_token.false) refl
 
@@ -32,4 +26,4 @@ pub shape_of-toks : goal.shape_of-toks
 shape_of-toks c = c.loop-p.invariant.size
 
 pub returns : goal.returns
-returns c = laws.flush_end _ _ _ _ _ _ _ c.loop-p.invariant (omega arith)
+returns c = let e : c.loop-p.p ≡ length c.args.stack.now = omega (arith, c.loop-p.invariant.within) in rw e at (laws.flush_end _ _ _ _ _ _ _ c.loop-p.invariant (omega arith))

@@ -6,9 +6,6 @@ use Rattle.write_texts.proofs.lay.Goals as goal
 pub loop-k-init : goal.loop-k-init
 loop-k-init c = laws.lay_start c.args.stack.now c.args.sp c.args.r c.args.i
 
-pub overflow_add-k : goal.overflow_add-k
-overflow_add-k c = omega (arith, c.loop-k.invariant.most)
-
 pub cell-requires : goal.cell-requires
 cell-requires c = (c.requires.0, c.requires.3, omega (arith, c.loop-k.invariant.most))
 

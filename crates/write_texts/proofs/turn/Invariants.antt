@@ -3,6 +3,3 @@ use Rattle.write_texts.proofs.turn.Given as goal
 
 abbrev pub invariant-loop-i : goal.invariant-loop-i
 invariant-loop-i l = Going l.symbol l.codes l.stack l.sp l.toks l.tp l.i
-
-abbrev pub decreases-loop-i : goal.decreases-loop-i
-decreases-loop-i l = l.i

@@ -1,5 +1,5 @@
 use mathlib.Core.Path.{refl}
 use Rattle.show_lists.proofs.tally.is_expected.Goals as goal
 
-pub returns-in-Exactly : goal.returns-in-Exactly
-returns-in-Exactly c = rw c.in-Exactly.is refl
+pub returns-in-Some : goal.returns-in-Some
+returns-in-Some c = rw c.in-Some.is refl

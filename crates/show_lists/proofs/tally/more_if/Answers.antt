@@ -1,11 +1,11 @@
-use borrow.Author.Tests.{ne_eqb, eq-eqb}
+use Rattle.std.proofs.Common.{rules}
 use Rattle.show_lists.specs.Tally.{more_if}
 use Rattle.show_lists.proofs.tally.more_if.Goals as goal
 
-pub returns-then-status-x : goal.returns-then-status-x
+pub returns-then-eq : goal.returns-then-eq
 unfolding more_if
-returns-then-status-x c = rw (eq-eqb _ _ c.if-status-x.true) c.one_more.ensures
+returns-then-eq c = search rules
 
-pub returns-else-status-x : goal.returns-else-status-x
+pub returns-else-eq : goal.returns-else-eq
 unfolding more_if
-returns-else-status-x c = rw (ne_eqb _ _ c.if-status-x.false)
+returns-else-eq c = search rules

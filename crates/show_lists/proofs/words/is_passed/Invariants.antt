@@ -1,11 +1,7 @@
-use Prim.Native.Nat.{◌-◌}
 use mathlib.Core.Path.{◌≡◌}
-use lib.ListN.{length, drop}
+use lib.ListN.{drop}
 use Rattle.show_lists.specs.Words as spec
 use Rattle.show_lists.proofs.words.is_passed.Given as goal
 
-abbrev pub invariant-loop-k : goal.invariant-loop-k
-invariant-loop-k l = spec.is_passed (drop l.k l.line) ≡ spec.is_passed l.line
-
-abbrev pub decreases-loop-k : goal.decreases-loop-k
-decreases-loop-k l = length l.line - l.k
+abbrev pub invariant-loop-b : goal.invariant-loop-b
+invariant-loop-b l = spec.is_passed (drop l.b-index l.line) ≡ spec.is_passed l.line

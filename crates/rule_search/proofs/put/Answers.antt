@@ -1,7 +1,0 @@
-use native.Mathlib.Omega.{arith}
-use mathlib.Core.Path.{sym}
-use lib.Seq.{set_out}
-use Rattle.rule_search.proofs.put.Goals as goal
-
-pub returns-else-i-s : goal.returns-else-i-s
-returns-else-i-s c = sym (set_out c.args.s.now c.args.i c.args.v (omega arith))
