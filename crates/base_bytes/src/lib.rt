@@ -73,7 +73,16 @@ pub fn part(text: &[u8], from: usize, to: usize) -> &[u8]
 pub fn same(x: &[u8], y: &[u8]) -> bool
     ensures { result ≡ same x.now y.now }
 {
-    x == y
+    // As a loop, and not as `x == y`: of words of a few bytes thousands are compared, and the library's comparison costs more there than the words do.
+    if x.len() != y.len() {
+        return false;
+    }
+    for k in 0..x.len() {
+        if x[k] != y[k] {
+            return false;
+        }
+    }
+    true
 }
 
 // The first n of src over the first n of dst, as far as both reach; the rest of dst stays.

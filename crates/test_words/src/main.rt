@@ -12,17 +12,22 @@ fn is_accepted(text: &[u8]) -> bool {
 }
 
 // Is a token of this kind, from a place to a place, a keyword? It is looked up if it is a word.
-fn is_keyword(text: &[u8], kind: u8, from: u32, to: u32) -> bool {
+fn is_keyword(text: &[u8], kind: u8, from: usize, to: usize) -> bool {
     let is_word = base_bytes::both(base_kinds::BIT <= kind, kind <= base_kinds::NAME);
-    is_word && text_spellings::keyword(base_bytes::part(text, from as usize, to as usize)).is_some()
+    is_word && text_spellings::keyword(base_bytes::part(text, from, to)).is_some()
 }
 
-// How many of the tokens are keywords.
+// How many of the tokens are keywords. Zipped iterators would cost half as much again as the loop does, and more than the lookup that is to be timed.
 fn keywords(text: &[u8], kinds: &[u8], starts: &[u32], ends: &[u32]) -> usize {
-    let tokens = kinds.iter().zip(starts).zip(ends);
-    tokens
-        .filter(|((kind, from), to)| is_keyword(text, **kind, **from, **to))
-        .count()
+    let mut count: usize = 0;
+    for i in 0..kinds.len() {
+        let from = base_bytes::word_at(starts, i);
+        let to = base_bytes::word_at(ends, i);
+        if is_keyword(text, base_bytes::byte_at(kinds, i), from, to) {
+            count = count.wrapping_add(1);
+        }
+    }
+    count
 }
 
 fn read_often(text: &[u8]) -> usize {

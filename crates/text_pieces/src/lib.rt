@@ -194,23 +194,23 @@ fn string(s: &[u8]) -> Piece
     }
 }
 
-// Is it this byte, behind a star or not, that closes a comment?
-fn closes(starred: bool, b: u8) -> bool
-    ensures { result ≡ both starred (eqb b slash) }
+// Is it this byte, behind that one, that closes a comment?
+fn closes(before: u8, b: u8) -> bool
+    ensures { result ≡ both (eqb before star) (eqb b slash) }
 {
-    starred && b == b'/'
+    before == b'*' && b == b'/'
 }
 
 // Where a comment ends, from behind its opening `/*` on; it may never.
 fn closing_in(s: &[u8]) -> Option<usize>
     ensures { result ≡ closing false s.now }
 {
-    let mut starred = false;
+    let mut before: u8 = 0;
     for (i, b) in s.iter().enumerate() {
-        if closes(starred, *b) {
+        if closes(before, *b) {
             return Some(i + 1);
         }
-        starred = *b == b'*';
+        before = *b;
     }
     None
 }
